@@ -1,6 +1,10 @@
-// The values that every layer shares: byte strings and lists of numbers as small types of their own.
+// The values that every layer shares: the arithmetic of integers and their texts, byte strings and lists of numbers.
 #![tactic(auto)]
 
+mod arithmetic;
 mod list;
+mod numeral;
 
+pub use arithmetic::{add, floor_div, floor_mod, mul, neg, shl, shr, sub};
 pub use list::{Bytes, Numbers};
+pub use numeral::{read_integer, write_integer};

@@ -1,0 +1,3 @@
+pub mod WrappedLemmas
+pub mod FloorLemmas
+pub mod NumeralLemmas
