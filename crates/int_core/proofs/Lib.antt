@@ -1,3 +1,4 @@
 pub mod WrappedLemmas
 pub mod FloorLemmas
 pub mod NumeralLemmas
+pub mod SpellsLemmas

@@ -6,9 +6,9 @@ use Rattle.std.proofs.lemmas.List.Sums.{fold_more, prefix_len_passes}
 use Rattle.std.specs.Prelude.{ℤ, pos, negsuc, neg_ℤ, Some, nat_lt, FitsSigned, if◌then◌else◌}
 use Rattle.std.specs.Int.{w64, cast_signed, int_wrap}
 use Rattle.std.specs.Char.{digit_value, is_digit}
-use Rattle.std.specs.List.{AllPass}
+use Rattle.std.specs.List.{AllPass, prefix_len}
 use Rattle.int_core.specs.Arithmetic.{wrapped, neg}
-use Rattle.int_core.specs.Numeral.{signed, digits_len, digits_value, integer_within}
+use Rattle.int_core.specs.Numeral.{signed, digits_value, integer_within}
 use Rattle.int_core.proofs.WrappedLemmas.{wrapped-pos, wrapped-pos_below}
 use Rattle.int_core.proofs.FloorLemmas.{wrapped-neg}
 
@@ -54,7 +54,7 @@ minus_within (suc n) h =
     let fits : FitsSigned w64 (negsuc n) = record { sfits = omega arith } in
     rw within (ap Some (int_wrap_fits w64 (negsuc n) fits))
 
-pub digits_len_passes : (base : ℕ) (text : List ℕ) → AllPass (λ c. is_digit c base) (take (digits_len base text) text)
-digits_len_passes base text k d h =
-    let within : k < digits_len base text = omega (arith, length-take (digits_len base text) text) in
-    rw (get_or-take) (prefix_len_passes (λ c. is_digit c base) text k d within)
+pub prefix_len_passes_all : (p : ℕ → Bool) (text : List ℕ) → AllPass p (take (prefix_len p text) text)
+prefix_len_passes_all p text k d h =
+    let within : k < prefix_len p text = omega (arith, length-take (prefix_len p text) text) in
+    rw (get_or-take) (prefix_len_passes p text k d within)

@@ -1,11 +1,11 @@
 // The texts of integers: the numerals that arithmetic on strings reads, and decimal printing.
-ghost use Rattle.std.specs.Prelude.{◌≡◌, ◌++◌, ◌≤◌, ◌<◌, ◌-◌, ◌%◌, ◌^◌, min, length, drop, IfSome};
+ghost use Rattle.std.specs.Prelude.{◌≡◌, ◌++◌, ◌≤◌, ◌<◌, ◌-◌, ◌%◌, ◌^◌, ℤ, Some, min, length, drop, IfSome};
 ghost use Rattle.std.specs.Char.{is_digit, digit_value};
 ghost use Rattle.std.specs.Fmt.{signed_decimal};
 ghost use Rattle.std.specs.List.{AllPass, list_all, prefix_len};
 ghost use Rattle.std.specs.Option.{option_map};
 ghost use Rattle.int_core.specs.Arithmetic.{wrapped};
-ghost use Rattle.int_core.specs.Numeral.{signed, is_space, is_x, digits_len, digits_of, digits_value, integer_of, unsigned_of, decimal_of, hexadecimal_of, integer_within};
+ghost use Rattle.int_core.specs.Numeral.{signed, is_space, is_x, digits_len, digits_of, digits_value, SpellsInteger, integer_of, spaceless_of, unsigned_of, decimal_of, hexadecimal_of, integer_within};
 
 use crate::arithmetic::neg;
 use itoa::Buffer;
@@ -13,9 +13,19 @@ use itoa::Buffer;
 /// The integer that a text spells: white space, a sign, decimal digits of a value within 64 bits or `0x` and
 /// hexadecimal digits that wrap around, and white space (Lua 5.4 manual, 3.1 and 3.4.3).
 pub fn read_integer(text: &[u8]) -> Option<i64>
-    ensures { result ≡ integer_of text.now }
+    ensures found { IfSome result (SpellsInteger text.now) }
+    ensures only { (n : ℤ) → SpellsInteger text.now n → result ≡ Some n }
+
+    // The same, as callers compute it.
+    ensures value { result ≡ integer_of text.now }
 {
-    let (_, text) = text.split_at(space_len(text));
+    let (_, rest) = text.split_at(space_len(text));
+    spaceless(rest)
+}
+
+fn spaceless(text: &[u8]) -> Option<i64>
+    ensures { result ≡ spaceless_of text.now }
+{
     match text {
         [] => None,
         [b'-', rest @ ..] => unsigned(rest, true),

@@ -1,6 +1,7 @@
-use Rattle.int_core.proofs.NumeralLemmas.{digits_len_passes}
+use Rattle.std.specs.Char.{is_digit}
+use Rattle.int_core.proofs.NumeralLemmas.{prefix_len_passes_all}
 use Rattle.int_core.proofs.numeral.digits_of.Goals as goal
 
 pub returns-else-not-is_blank-clause-digits : goal.returns-else-not-is_blank-clause-digits
 returns-else-not-is_blank-clause-digits c =
-    rw (c.split_at.ensures.front, c.digits_len.ensures.value) (digits_len_passes c.args.radix c.args.text.now)
+    rw (c.split_at.ensures.front, c.digits_len.ensures.value) (prefix_len_passes_all (λ b. is_digit b c.args.radix) c.args.text.now)
