@@ -1,15 +1,15 @@
 -- The floor of a quotient and what is left beside it, by the signs.
-use Rattle.std.proofs.Common.{◌≡◌, ◌≢◌, ℕ, zero, suc, ◌+◌, ◌-◌, ◌*◌, ◌/◌, ◌%◌, ◌^◌, ◌<◌, ◌≤◌, Bool, true, false, min, ◌∙◌, sym, ap, refl, arith, inl, inr}
+use Rattle.std.proofs.Common.{◌≡◌, ◌≢◌, ℕ, zero, suc, ◌+◌, ◌-◌, ◌*◌, ◌/◌, ◌%◌, ◌^◌, ◌<◌, ◌≤◌, true, false, ◌∙◌, sym, ap, refl, arith, inl, inr}
 use Rattle.std.proofs.Math.IntN.{+ℤ_idl}
 use Rattle.std.proofs.Math.Nat.{div-le_self}
 use Rattle.std.proofs.lemmas.Bool.{cases_lt}
 use Rattle.std.proofs.lemmas.Bool.Decides.{nat_tests}
 use Rattle.std.proofs.lemmas.Int.{ints, int_wrap-mul_right, int_wrap-sub_right, int_wrap_fits}
 use Rattle.std.proofs.lemmas.Nat.{mod_below, div-add-mod', div-mul-add, mod-mul-add}
-use Rattle.std.specs.Prelude.{ℤ, pos, negsuc, ◌+ℤ◌, ◌-ℤ◌, ◌*ℤ◌, neg_ℤ, unsigned_abs, int_lt}
-use Rattle.std.specs.Int.{w64, cast_signed, cast_unsigned, int_wrap, div_ceil}
+use Rattle.std.specs.Prelude.{ℤ, pos, negsuc, ◌-ℤ◌, ◌*ℤ◌, neg_ℤ, unsigned_abs, int_lt}
+use Rattle.std.specs.Int.{w64, cast_signed, int_wrap, div_ceil}
 use Rattle.std.specs.Int.RustNames.{FitsSigned}
-use Rattle.int_core.specs.Arithmetic.{add, sub, mul, neg, floor_over, floor_quotient, floor_div, floor_mod}
+use Rattle.int_core.specs.Arithmetic.{sub, mul, neg, floor_quotient, floor_div, floor_mod}
 use Rattle.int_core.proofs.WrappedLemmas.{wrapped-pos_below}
 use mathlib.Core.Bool.{beq}
 
@@ -19,11 +19,11 @@ div_ceil-suc n m h =
     let r = n % m in
     elim (cases_lt (suc r) m) [
       | inl below ↦
-        let whole : suc n ≡ q * m + suc r = omega (arith, div-add-mod' n m) in
-        rw whole (omega (arith, div-mul-add q m (suc r) below, mod-mul-add q m (suc r) below))
+          let whole : suc n ≡ q * m + suc r = omega (arith, div-add-mod' n m) in
+          rw whole (omega (arith, div-mul-add q m (suc r) below, mod-mul-add q m (suc r) below))
       | inr above ↦
-        let whole : suc n ≡ suc q * m + 0 = omega (arith, div-add-mod' n m) in
-        rw whole (omega (arith, div-mul-add (suc q) m 0 h, mod-mul-add (suc q) m 0 h))
+          let whole : suc n ≡ suc q * m + 0 = omega (arith, div-add-mod' n m) in
+          rw whole (omega (arith, div-mul-add (suc q) m 0 h, mod-mul-add (suc q) m 0 h))
     ]
 
 pub wrapped-neg : (z : ℤ) → int_wrap w64 (neg_ℤ (int_wrap w64 z)) ≡ int_wrap w64 (neg_ℤ z)
@@ -73,10 +73,15 @@ floor_mod-negsuc-pos a b h = omega (arith, ints)
 pub floor_mod-negsuc : (a : ℤ) (b : ℕ) → floor_mod a (negsuc b) ≡ neg_ℤ (floor_mod (neg_ℤ a) (pos (suc b)))
 floor_mod-negsuc a b = omega (arith, ints)
 
--- over a positive divisor what is left lies from 0 up to the divisor
-floor_mod-pos : (a : ℤ) (b : ℕ) → 0 < b → (r : ℕ) × (r < b) × (floor_mod a (pos b) ≡ pos r)
+-- so the quotient is the floor: over a positive divisor what is left lies from 0 up to the divisor, and over a negative one from 0 down to it
+pub floor_mod-pos : (a : ℤ) (b : ℕ) → 0 < b → (r : ℕ) × (r < b) × (floor_mod a (pos b) ≡ pos r)
 floor_mod-pos (pos a) b h = (a % b, mod_below a b h, floor_mod-pos-pos a b h)
 floor_mod-pos (negsuc a) b h = (b - 1 - a % b, omega arith, floor_mod-negsuc-pos a b h)
+
+pub floor_mod-neg : (a : ℤ) (b : ℕ) → (r : ℕ) × (r < suc b) × (floor_mod a (negsuc b) ≡ neg_ℤ (pos r))
+floor_mod-neg a b =
+    let left = floor_mod-pos (neg_ℤ a) (suc b) (omega arith) in
+    (left.0, left.1, floor_mod-negsuc a b ∙ ap neg_ℤ left.2)
 
 fits_neg : (r : ℕ) → r ≤ 2 ^ 63 → FitsSigned w64 (neg_ℤ (pos r))
 fits_neg zero h = record { sfits = omega arith }
@@ -87,8 +92,8 @@ floor_mod_fits a (pos b) nonzero fits =
     let left = floor_mod-pos a b (pos_nonzero b nonzero) in
     rw left.2 (record { sfits = omega (arith, left.1, fits.sfits) })
 floor_mod_fits a (negsuc b) nonzero fits =
-    let left = floor_mod-pos (neg_ℤ a) (suc b) (omega arith) in
-    rw (floor_mod-negsuc a b, left.2) (fits_neg left.0 (omega (arith, left.1, fits.sfits)))
+    let left = floor_mod-neg a b in
+    rw left.2 (fits_neg left.0 (omega (arith, left.1, fits.sfits)))
 
 -- by wrapping steps the same comes, since it fits
 pub floor_mod-steps : (a b : ℤ) → b ≢ pos 0 → FitsSigned w64 b → sub a (mul b (floor_div a b)) ≡ floor_mod a b

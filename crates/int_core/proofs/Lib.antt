@@ -2,3 +2,4 @@ pub mod WrappedLemmas
 pub mod FloorLemmas
 pub mod NumeralLemmas
 pub mod SpellsLemmas
+pub mod RowsLemmas

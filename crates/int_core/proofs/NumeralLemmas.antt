@@ -3,7 +3,7 @@ use Rattle.std.proofs.Common.{◌≡◌, ℕ, zero, suc, ◌+◌, ◌-◌, ◌*�
 use Rattle.std.proofs.lemmas.Bool.Decides.{nat_tests}
 use Rattle.std.proofs.lemmas.Int.{int_wrap_fits}
 use Rattle.std.proofs.lemmas.List.Sums.{fold_more, prefix_len_passes}
-use Rattle.std.specs.Prelude.{ℤ, pos, negsuc, neg_ℤ, Some, nat_lt, FitsSigned, if◌then◌else◌}
+use Rattle.std.specs.Prelude.{pos, negsuc, neg_ℤ, Some, nat_lt, FitsSigned, if◌then◌else◌}
 use Rattle.std.specs.Int.{w64, cast_signed, int_wrap}
 use Rattle.std.specs.Char.{digit_value, is_digit}
 use Rattle.std.specs.List.{AllPass, prefix_len}

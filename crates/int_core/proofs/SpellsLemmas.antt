@@ -1,12 +1,12 @@
 -- The computed integer of a text is the one that the text spells.
-use Rattle.std.proofs.Common.{◌≡◌, ℕ, zero, suc, ◌+◌, ◌*◌, ◌<◌, ◌≤◌, ◌⊎◌, Bool, true, false, ◌&&◌, ◌||◌, nat_lt, eqb, List, [], ◌∷◌, ◌++◌, length, take, drop, refl, sym, ◌∙◌, ap, subst, inl, inr, arith, append_assoc}
+use Rattle.std.proofs.Common.{◌≡◌, ℕ, ◌+◌, ◌≤◌, ◌⊎◌, Bool, true, false, ◌&&◌, nat_lt, eqb, List, [], ◌∷◌, ◌++◌, length, take, drop, refl, sym, ◌∙◌, ap, subst, inl, inr, arith, append_assoc}
 use Rattle.std.proofs.Math.Seq.{take-append_seam, drop-append_seam}
 use Rattle.std.proofs.lemmas.Bool.Decides.{nat_tests, eqb_tells}
 use Rattle.std.proofs.lemmas.List.{take-append-drop}
 use Rattle.std.proofs.lemmas.List.Folds.{length-prefix_len}
-use Rattle.std.proofs.lemmas.List.Sums.{AllPass-from_list_all, list_all-from_AllPass, prefix_len_passes}
-use Rattle.std.specs.Prelude.{ℤ, pos, negsuc, neg_ℤ, FitsSigned, Option, Some, None, IfSome, option_map, if◌then◌else◌}
-use Rattle.std.specs.Char.{digit_value, is_digit}
+use Rattle.std.proofs.lemmas.List.Sums.{AllPass-from_list_all, list_all-from_AllPass}
+use Rattle.std.specs.Prelude.{ℤ, pos, negsuc, FitsSigned, Option, Some, None, IfSome, option_map, if◌then◌else◌}
+use Rattle.std.specs.Char.{is_digit}
 use Rattle.std.specs.Int.{w64}
 use Rattle.std.specs.List.{AllPass, list_all, prefix_len}
 use Rattle.std.specs.Option.{option_and_then}
@@ -60,8 +60,10 @@ digits_of-given base text digits true test e =
       whole = sym (take-append-drop n text) ∙ ap (λ d. d ++ drop n text) same;
       are = rw (← same) (record {
         some = rw (length-prefix_len (λ c. is_digit c base) text) (grind (arith, nat_tests));
-        all = prefix_len_passes_all (λ c. is_digit c base) text });
-      space_after = AllPass-from_list_all is_space (drop n text) blank }
+        all = prefix_len_passes_all (λ c. is_digit c base) text;
+      });
+      space_after = AllPass-from_list_all is_space (drop n text) blank;
+    }
 
 digits_of-found : (base : ℕ) (text digits : List ℕ) → digits_of base text ≡ Some digits → HasDigits base text digits
 digits_of-found base text digits e = digits_of-given base text digits _ refl e
@@ -109,7 +111,8 @@ decimal-given negative text digits has true test =
       after = has.after;
       whole = has.whole;
       spelled = inl (record { digits = has.are; value = refl; fits = fits-given _ test });
-      space_after = has.space_after }
+      space_after = has.space_after;
+    }
 
 decimal-of : (negative : Bool) (text : List ℕ) (found : Option (List ℕ)) → digits_of 10 text ≡ found → IfSome (option_and_then (λ digits. integer_within negative (digits_value 10 digits)) found) (IsUnsigned negative text)
 decimal-of negative text None e = tt
@@ -129,7 +132,8 @@ hexadecimal-of negative c d text x (Some digits) e =
       after = has.after;
       whole = ap (λ t. c ∷ d ∷ t) has.whole;
       spelled = inr (record { mark = d; rest = digits; whole = ap (λ k. k ∷ d ∷ digits) zero_is; is_x = mark_is; digits = has.are; value = refl });
-      space_after = has.space_after }
+      space_after = has.space_after;
+    }
 
 unsigned-given : (negative : Bool) (c d : ℕ) (text : List ℕ) (b : Bool) → is_x c d ≡ b → IfSome (if b then hexadecimal_of negative text else decimal_of negative (c ∷ d ∷ text)) (IsUnsigned negative (c ∷ d ∷ text))
 unsigned-given negative c d text false x = decimal-of negative (c ∷ d ∷ text) _ refl
@@ -185,7 +189,8 @@ with-space before text space (Some n) h =
       space_before = space;
       signed = h.is_sign;
       spelled = u.spelled;
-      space_after = u.space_after }
+      space_after = u.space_after;
+    }
 
 -- what the computed integer says of the text
 pub integer_of-found : (text : List ℕ) → IfSome (integer_of text) (SpellsInteger text)

@@ -1,6 +1,6 @@
 -- What wrapping leaves of naturals, and what shifts make of the bits.
 use Rattle.std.proofs.Common.{◌≡◌, ℕ, ◌*◌, ◌/◌, ◌%◌, ◌^◌, ◌<◌, ◌≤◌, min, ◌∙◌, sym, ap, refl, arith}
-use Rattle.std.proofs.Math.Nat.{mod-eq_of_lt, min-eq_left, min-eq_right}
+use Rattle.std.proofs.Math.Nat.{mod-eq_of_lt}
 use Rattle.std.proofs.lemmas.Int.{int_wrap-mul_right, wrapping_mul-bits, to_z-of_z}
 use Rattle.std.proofs.lemmas.Nat.{pow_below, shr_le}
 use Rattle.std.proofs.Math.IntN.{*ℤ-zero}

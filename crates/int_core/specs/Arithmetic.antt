@@ -1,5 +1,5 @@
 -- The operations on the language's integers, which have 64 bits and wrap around (Lua 5.4 manual, 3.4.1 and 3.4.2).
-use Rattle.std.specs.Prelude.{ℕ, suc, ◌*◌, ◌/◌, ◌^◌, min, ℤ, pos, negsuc, neg_ℤ, ◌+ℤ◌, ◌-ℤ◌, ◌*ℤ◌}
+use Rattle.std.specs.Prelude.{ℕ, suc, ◌/◌, ◌^◌, min, ℤ, pos, negsuc, neg_ℤ, ◌+ℤ◌, ◌-ℤ◌, ◌*ℤ◌}
 use Rattle.std.specs.Int.{w64, cast_unsigned, int_wrap}
 
 -- the integer from -2^63 to 2^63 - 1 that equals z modulo 2^64

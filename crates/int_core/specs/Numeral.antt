@@ -69,9 +69,9 @@ digits_len base text = prefix_len (λ c. is_digit c base) text
 -- the digits of a text that is digits and white space
 abbrev pub digits_of : ℕ → List ℕ → Option (List ℕ)
 digits_of base text =
-  if nat_lt 0 (digits_len base text) && list_all is_space (drop (digits_len base text) text)
-  then Some (take (digits_len base text) text)
-  else None
+    if nat_lt 0 (digits_len base text) && list_all is_space (drop (digits_len base text) text)
+    then Some (take (digits_len base text) text)
+    else None
 
 -- the number n with its sign, where that is an integer of 64 bits
 abbrev pub integer_within : Bool → ℕ → Option ℤ
@@ -93,9 +93,9 @@ unsigned_of negative text = decimal_of negative text
 abbrev pub spaceless_of : List ℕ → Option ℤ
 spaceless_of [] = None
 spaceless_of (c ∷ text) =
-  if c == 45 then unsigned_of true text
-  else if c == 43 then unsigned_of false text
-  else unsigned_of false (c ∷ text)
+    if c == 45 then unsigned_of true text
+    else if c == 43 then unsigned_of false text
+    else unsigned_of false (c ∷ text)
 
 -- the integer that a text spells
 abbrev pub integer_of : List ℕ → Option ℤ

@@ -34,14 +34,22 @@ pub fn neg(a: i64) -> i64
 pub fn shl(a: i64, count: i64) -> i64
     ensures { result ≡ shl a count }
 {
-    if count < 0 { moved_down(a, count.unsigned_abs()) } else { moved_up(a, count.unsigned_abs()) }
+    if count < 0 {
+        moved_down(a, count.unsigned_abs())
+    } else {
+        moved_up(a, count.unsigned_abs())
+    }
 }
 
 /// `a >> count`, where zeros come in: a negative count shifts to the left.
 pub fn shr(a: i64, count: i64) -> i64
     ensures { result ≡ shr a count }
 {
-    if count < 0 { moved_up(a, count.unsigned_abs()) } else { moved_down(a, count.unsigned_abs()) }
+    if count < 0 {
+        moved_up(a, count.unsigned_abs())
+    } else {
+        moved_down(a, count.unsigned_abs())
+    }
 }
 
 fn moved_up(a: i64, places: u64) -> i64
@@ -53,7 +61,11 @@ fn moved_up(a: i64, places: u64) -> i64
 fn moved_down(a: i64, places: u64) -> i64
     ensures { result ≡ moved_down a places }
 {
-    if places < 64 { (a.cast_unsigned() >> places).cast_signed() } else { 0 }
+    if places < 64 {
+        (a.cast_unsigned() >> places).cast_signed()
+    } else {
+        0
+    }
 }
 
 /// `a // b`, the floor of the quotient.

@@ -94,7 +94,9 @@ fn digits_len(text: &[u8], radix: u32) -> usize
     ensures value { result ≡ digits_len radix text.now }
     ensures within { result ≤ length text.now }
 {
-    text.iter().take_while(|byte| char::from(**byte).is_digit(radix)).count()
+    text.iter()
+        .take_while(|byte| char::from(**byte).is_digit(radix))
+        .count()
 }
 
 /// The digits of a text that is digits and white space.
@@ -105,7 +107,11 @@ fn digits_of(text: &[u8], radix: u32) -> Option<&[u8]>
     ensures digits { IfSome result (λ digits. AllPass (λ c. is_digit c radix) digits.now) }
 {
     let (digits, rest) = text.split_at(digits_len(text, radix));
-    if digits.is_empty() || !is_blank(rest) { None } else { Some(digits) }
+    if digits.is_empty() || !is_blank(rest) {
+        None
+    } else {
+        Some(digits)
+    }
 }
 
 fn is_x(first: u8, mark: u8) -> bool
@@ -151,7 +157,11 @@ fn within_range(value: u64, negative: bool) -> Option<i64>
     ensures { result ≡ integer_within negative value }
 {
     if negative {
-        if value <= 1 << 63 { Some(with_sign(value, negative)) } else { None }
+        if value <= 1 << 63 {
+            Some(with_sign(value, negative))
+        } else {
+            None
+        }
     } else {
         i64::try_from(value).ok()
     }

@@ -1,7 +1,6 @@
-use Rattle.std.proofs.Common.{◌≡◌, ◌/◌, Bool, true, false, ◌∙◌, ap, refl}
+use Rattle.std.proofs.Common.{◌∙◌, ap, refl}
 use Rattle.std.proofs.lemmas.Int.{to_z-of_z}
-use Rattle.std.specs.Prelude.{ℤ, unsigned_abs, int_lt}
-use Rattle.std.specs.Int.{w64, cast_signed, cast_unsigned, div_ceil}
+use Rattle.std.specs.Int.{w64, cast_signed}
 use Rattle.std.specs.Int.RustNames.{FitsSigned}
 use Rattle.int_core.specs.Arithmetic.{neg}
 use Rattle.int_core.proofs.FloorLemmas.{floor_div-same_sign, floor_div-other_sign}

@@ -1,5 +1,4 @@
 use Rattle.std.proofs.Common.{◌<◌, get_or}
-use Rattle.std.specs.Char.{digit_value}
 use Rattle.int_core.proofs.NumeralLemmas.{wrapped-more, digit-below}
 use Rattle.int_core.proofs.numeral.wrapped_value.Goals as goal
 
