@@ -34,10 +34,11 @@ pub fn neg(a: i64) -> i64
 pub fn shl(a: i64, count: i64) -> i64
     ensures { result ≡ shl a count }
 {
+    let places = count.unsigned_abs();
     if count < 0 {
-        moved_down(a, count.unsigned_abs())
+        moved_down(a, places)
     } else {
-        moved_up(a, count.unsigned_abs())
+        moved_up(a, places)
     }
 }
 
@@ -45,10 +46,11 @@ pub fn shl(a: i64, count: i64) -> i64
 pub fn shr(a: i64, count: i64) -> i64
     ensures { result ≡ shr a count }
 {
+    let places = count.unsigned_abs();
     if count < 0 {
-        moved_up(a, count.unsigned_abs())
+        moved_up(a, places)
     } else {
-        moved_down(a, count.unsigned_abs())
+        moved_down(a, places)
     }
 }
 
