@@ -47,10 +47,10 @@ pub fn shr(a: i64, count: i64) -> i64
     ensures { result ≡ shr a count }
 {
     let places = count.unsigned_abs();
-    if count < 0 {
-        moved_up(a, places)
-    } else {
+    if count >= 0 {
         moved_down(a, places)
+    } else {
+        moved_up(a, places)
     }
 }
 
