@@ -22,13 +22,25 @@ pub record Counted (before now : Schedule) : Type 0 where
   pub calls : now.calls ≡ min (before.calls + 1) (2 ^ 64 - 1)
   pub failing : now.failing ≡ before.failing
 
+-- which calls of a source in memory are to fail, and its counts
+abbrev pub source_schedule : MemSource → Schedule
+source_schedule source = source.schedule
+
 -- the bytes that a source in memory has not given yet
 abbrev pub bytes_left : MemSource → List ℕ
 bytes_left source = drop source.next source.bytes
 
+-- which calls of a sink in memory are to fail, and its counts
+abbrev pub sink_schedule : MemSink → Schedule
+sink_schedule sink = sink.schedule
+
 -- the bytes that a sink in memory was given
 abbrev pub bytes_written : MemSink → List ℕ
 bytes_written sink = sink.written.items
+
+-- which calls of files in memory are to fail, and their counts
+abbrev pub files_schedule : MemFiles → Schedule
+files_schedule files = files.schedule
 
 -- the files in memory, by the bytes of their names
 abbrev pub files_held : MemFiles → FileMap

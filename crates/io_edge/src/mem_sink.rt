@@ -14,12 +14,12 @@ pub struct MemSink {
 
 impl MemSink {
     ghost use Rattle.std.specs.Prelude.{◌≡◌, []};
-    ghost use Rattle.io_edge.specs.Schedules.{bytes_written, untouched};
+    ghost use Rattle.io_edge.specs.Schedules.{bytes_written, sink_schedule, untouched};
 
     /// An empty sink. `failing` lists the numbers of the calls that are to fail, from 0.
     pub fn new(alloc: Global, failing: Numbers) -> MemSink
         ensures written { bytes_written result ≡ [] }
-        ensures schedule { result.schedule ≡ untouched failing }
+        ensures schedule { sink_schedule result ≡ untouched failing }
     {
         MemSink {
             written: Vec::new(alloc),
@@ -36,7 +36,7 @@ impl MemSink {
 
     /// How many calls of `write` there have been, which stops at 2^64 - 1.
     pub fn calls(&self) -> u64
-        ensures { result ≡ self.now.schedule.calls }
+        ensures { result ≡ (sink_schedule self.now).calls }
     {
         self.schedule.calls()
     }
@@ -45,21 +45,21 @@ impl MemSink {
 impl Sink for MemSink {
     ghost use Rattle.std.specs.Prelude.{◌≡◌, ◌<◌, ◌≤◌, ◌++◌, Some, IfOk, IsErr, IsTrue, OnErr, length, is_err, take};
     ghost use Rattle.io_edge.specs.Causes.{HasCause};
-    ghost use Rattle.io_edge.specs.Schedules.{Counted, bytes_written, is_listed};
+    ghost use Rattle.io_edge.specs.Schedules.{Counted, bytes_written, is_listed, sink_schedule};
 
-    ghost faults = { λ sink. sink.schedule.faults };
+    ghost faults = { λ sink. (sink_schedule sink).faults };
 
     ghost written = { λ sink. Some (bytes_written sink) };
 
     /// Also fails, as a counted fault, where there is no memory for the bytes.
     fn write(&mut self, bytes: &[u8]) -> Result<usize, Failed>
-        ensures cause { HasCause self.old.schedule.faults self.new.schedule.faults (is_err result) }
+        ensures cause { HasCause (sink_schedule self.old).faults (sink_schedule self.new).faults (is_err result) }
         ensures within { IfOk result (λ count. count ≤ length bytes.now) }
         ensures some { IfOk result (λ count. 0 < length bytes.now → 0 < count) }
         ensures appended { IfOk result (λ count. bytes_written self.new ≡ bytes_written self.old ++ take count bytes.now) }
         ensures failed { OnErr result (bytes_written self.new ≡ bytes_written self.old) }
-        ensures listed { IsTrue (is_listed self.old.schedule) → IsErr result }
-        ensures counted { Counted self.old.schedule self.new.schedule }
+        ensures listed { IsTrue (is_listed (sink_schedule self.old)) → IsErr result }
+        ensures counted { Counted (sink_schedule self.old) (sink_schedule self.new) }
     {
         self.schedule.begin_call()?;
         match self.written.extend_from_slice(bytes) {

@@ -17,12 +17,12 @@ pub struct MemSource {
 
 impl MemSource {
     ghost use Rattle.std.specs.Prelude.{◌≡◌};
-    ghost use Rattle.io_edge.specs.Schedules.{bytes_left, untouched};
+    ghost use Rattle.io_edge.specs.Schedules.{bytes_left, source_schedule, untouched};
 
     /// A source of these bytes. `failing` lists the numbers of the calls that are to fail, from 0.
     pub fn new(bytes: Bytes, failing: Numbers) -> MemSource
         ensures left { bytes_left result ≡ bytes }
-        ensures schedule { result.schedule ≡ untouched failing }
+        ensures schedule { source_schedule result ≡ untouched failing }
     {
         MemSource {
             bytes,
@@ -40,7 +40,7 @@ impl MemSource {
 
     /// How many calls of `read` there have been, which stops at 2^64 - 1.
     pub fn calls(&self) -> u64
-        ensures { result ≡ self.now.schedule.calls }
+        ensures { result ≡ (source_schedule self.now).calls }
     {
         self.schedule.calls()
     }
@@ -51,20 +51,20 @@ impl Source for MemSource {
     ghost use Rattle.std.specs.Option.{option_map};
     ghost use Rattle.io_edge.specs.Causes.{HasCause};
     ghost use Rattle.io_edge.specs.Content.{MayEndTelling};
-    ghost use Rattle.io_edge.specs.Schedules.{Counted, bytes_left, is_listed};
+    ghost use Rattle.io_edge.specs.Schedules.{Counted, bytes_left, is_listed, source_schedule};
 
-    ghost faults = { λ source. source.schedule.faults };
+    ghost faults = { λ source. (source_schedule source).faults };
 
     ghost left = { λ source. Some (bytes_left source) };
 
     fn read(&mut self, buf: &mut [u8]) -> Result<usize, Failed>
-        ensures cause { HasCause self.old.schedule.faults self.new.schedule.faults (is_err result) }
+        ensures cause { HasCause (source_schedule self.old).faults (source_schedule self.new).faults (is_err result) }
         ensures within { IfOk result (λ count. count ≤ length buf.new) }
         ensures taken { IfOk result (λ count. bytes_left self.old ≡ take count buf.new ++ bytes_left self.new) }
         ensures end { IfOk result (λ count. count ≡ 0 → 0 < length buf.new → bytes_left self.old ≡ []) }
         ensures failed { OnErr result (bytes_left self.new ≡ bytes_left self.old) }
-        ensures listed { is_err result ≡ is_listed self.old.schedule }
-        ensures counted { Counted self.old.schedule self.new.schedule }
+        ensures listed { is_err result ≡ is_listed (source_schedule self.old) }
+        ensures counted { Counted (source_schedule self.old) (source_schedule self.new) }
     {
         self.schedule.begin_call()?;
         let rest = &self.bytes.as_slice()[self.next..];
