@@ -3,7 +3,7 @@ ghost use Rattle.std.specs.Prelude.{◌≡◌, is_err, true};
 ghost use Rattle.io_edge.specs.Causes.{HasCause};
 ghost use Rattle.io_edge.specs.Schedules.{Counted, is_listed, untouched};
 
-use crate::fault::Failed;
+use crate::fault::{Failed, FaultCount};
 use int_core::Numbers;
 
 /// The calls that are to fail, by their numbers from 0, and the counts of calls and of faults so far.
@@ -11,7 +11,7 @@ use int_core::Numbers;
 pub(crate) struct Schedule {
     failing: Numbers,
     calls: u64,
-    faults: u64,
+    faults: FaultCount,
 }
 
 impl Schedule {
@@ -22,7 +22,7 @@ impl Schedule {
         Schedule {
             failing,
             calls: 0,
-            faults: 0,
+            faults: FaultCount::new(),
         }
     }
 
@@ -44,13 +44,12 @@ impl Schedule {
         if listed { Err(self.fail()) } else { Ok(()) }
     }
 
-    /// Counts a fault.
+    /// Counts a fault that no number asked for.
     pub(crate) fn fail(&mut self) -> Failed
         ensures cause { HasCause self.old.faults self.new.faults true }
         ensures calls { self.new.calls ≡ self.old.calls }
         ensures failing { self.new.failing ≡ self.old.failing }
     {
-        self.faults = self.faults.saturating_add(1);
-        Failed
+        self.faults.fail()
     }
 }
