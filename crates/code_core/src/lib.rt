@@ -6,3 +6,6 @@ mod opcode;
 
 pub use instruction::Instruction;
 pub use opcode::{OPCODES, Opcode};
+
+#[cfg(test)]
+mod tests;
