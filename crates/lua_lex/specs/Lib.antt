@@ -1,0 +1,5 @@
+pub mod Words
+pub mod Classes
+pub mod Runs
+pub mod Lexical
+pub mod Answers

@@ -39,6 +39,13 @@ impl Model for Tokens {
 }
 
 impl Tokens {
+    /// The list of these tokens.
+    pub fn of(items: Vec<(Token, u32)>) -> Tokens
+        ensures { result ≡ items.items }
+    {
+        Tokens { items }
+    }
+
     /// How many tokens there are, the end token included.
     pub fn len(&self) -> usize
         ensures { result ≡ length self.now }

@@ -1,0 +1,34 @@
+-- One step of a count of ends of lines.
+use Rattle.std.proofs.Common.{◌≡◌, ℕ, ◌+◌, ◌<◌, List, [], ◌∷◌, length, get_or, drop, Bool, true, false, refl, ap, sym, ◌∙◌, arith, take, ◌-◌, ◌≤◌, length-drop}
+use Rattle.std.specs.Prelude.{Option, Some, None}
+use Rattle.std.specs.Option.{unwrap_or}
+use Rattle.std.specs.List.{position_or_len}
+use Rattle.std.proofs.lemmas.List.Sums.{position_or_len_is}
+use Rattle.memchr.specs.Find.{IsFirstByte, is_byte2}
+use Rattle.lua_lex.specs.Classes.{is_line_end, is_pair, end_len, line_ends}
+
+pub line_ends-end : (text : List ℕ) → is_line_end (get_or text 0 0) ≡ true → line_ends text ≡ 1 + line_ends (drop (end_len text) text)
+line_ends-end [] h = absurd cc
+line_ends-end (byte ∷ []) h = rw h refl
+line_ends-end (byte ∷ next ∷ text) h = by_pair (is_pair byte next) refl where
+  by_pair : (both : Bool) → is_pair byte next ≡ both → line_ends (byte ∷ next ∷ text) ≡ 1 + line_ends (drop (end_len (byte ∷ next ∷ text)) (byte ∷ next ∷ text))
+  by_pair true both = rw (h, both) refl
+  by_pair false both = rw (h, both) refl
+
+pub line_ends-other : (text : List ℕ) → is_line_end (get_or text 0 0) ≡ false → line_ends text ≡ line_ends (drop 1 text)
+line_ends-other [] h = refl
+line_ends-other (byte ∷ []) h = rw h refl
+line_ends-other (byte ∷ next ∷ text) h = rw h refl
+
+-- the text in front of what is left
+pub take-front : (text : List ℕ) (len : ℕ) → len ≤ length text → take (length text - length (drop len text)) text ≡ take len text
+take-front text len h = let same : length text - length (drop len text) ≡ len = omega (arith, length-drop len text) in ap (λ n. take n text) same
+
+false-from_not : (b : Bool) → (b ≡ true → ⊥) → b ≡ false
+false-from_not true h = absurd (h refl)
+false-from_not false h = refl
+
+-- the first byte of `\n` and `\r`
+pub first_line_end : (text : List ℕ) (found : Option ℕ) → IsFirstByte (is_byte2 10 13) text found → unwrap_or found (length text) ≡ position_or_len is_line_end text
+first_line_end text None h = sym (position_or_len_is is_line_end text (length text) 0 (omega arith) (λ k low. false-from_not (is_line_end (get_or text k 0)) (h k (omega arith) low)) (λ low. absurd (omega arith)))
+first_line_end text (Some at) h = sym (position_or_len_is is_line_end text at 0 (omega (arith, h.0.high)) (λ k low. false-from_not (is_line_end (get_or text k 0)) (h.0.before k (omega arith) low)) (λ low. h.1))

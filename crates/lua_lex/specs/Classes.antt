@@ -1,0 +1,38 @@
+-- Classes of bytes, and how many ends of lines a text has (Lua 5.4 manual, 3.1).
+use Rattle.std.specs.Prelude.{ℕ, ◌+◌, Bool, ◌==◌, ◌||◌, ◌&&◌, not, nat_le, List, [], ◌∷◌, slice_index, if◌then◌else◌}
+use Rattle.std.specs.Char.{is_ascii_alphabetic, is_ascii_digit}
+
+-- `\n` and `\r`
+abbrev pub is_line_end : ℕ → Bool
+is_line_end byte = byte == 10 || byte == 13
+
+-- space, tab, vertical tab, form feed, `\n` and `\r`
+abbrev pub is_space : ℕ → Bool
+is_space byte = byte == 32 || (nat_le 9 byte && nat_le byte 13)
+
+-- a letter or `_`
+abbrev pub is_name_start : ℕ → Bool
+is_name_start byte = is_ascii_alphabetic byte || byte == 95
+
+abbrev pub is_name_byte : ℕ → Bool
+is_name_byte byte = is_name_start byte || is_ascii_digit byte
+
+-- what a numeral goes on with
+abbrev pub is_numeral_byte : ℕ → Bool
+is_numeral_byte byte = is_name_byte byte || byte == 46
+
+-- two different bytes of `\n` and `\r` are one end of line
+abbrev pub is_pair : ℕ → ℕ → Bool
+is_pair byte next = is_line_end next && not (next == byte)
+
+-- how many bytes the end of line has that a text begins with
+abbrev pub end_len : List ℕ → ℕ
+end_len text = if is_pair (slice_index text 0) (slice_index text 1) then 2 else 1
+
+-- how many ends of lines a text has: `\n`, `\r`, `\r\n` and `\n\r` each count as one
+abbrev pub line_ends : List ℕ → ℕ
+line_ends [] = 0
+line_ends (byte ∷ []) = if is_line_end byte then 1 else 0
+line_ends (byte ∷ next ∷ text) =
+    if is_line_end byte then (if is_pair byte next then 1 + line_ends text else 1 + line_ends (next ∷ text))
+    else line_ends (next ∷ text)

@@ -1,0 +1,123 @@
+-- What the tokens of a source are, and which place of it is refused (Lua 5.4 manual, 3.1).
+use Rattle.std.specs.Prelude.{◌≡◌, ◌≢◌, ℕ, ◌+◌, ◌-◌, ◌≤◌, ◌^◌, ℤ, pos, Bool, ◌==◌, ◌||◌, ◌&&◌, nat_le, nat_eq, List, [], ◌∷◌, ◌++◌, codes, length, take, drop, slice_index, Option, None, Some, if◌then◌else◌, take_while}
+use Rattle.std.specs.List.{prefix_len, position_or_len, starts_with, list_all}
+use Rattle.std.specs.Str.Parse.{digits_value}
+use Rattle.std.specs.Char.{is_ascii_digit}
+use Rattle.lua_lex.specs.declared.token.Token.{Token}
+use Rattle.lua_lex.specs.declared.token.Token.TheVariants as made
+use Rattle.lua_lex.specs.declared.kind.Kind.{Kind}
+use Rattle.lua_lex.specs.declared.kind.Kind.TheVariants.{End, Space, Comment, LongComment, Word, Numeral, ShortString, LongString, Symbol}
+use Rattle.lua_lex.specs.Words.{keywords, marks, place_of}
+use Rattle.lua_lex.specs.Classes.{is_line_end, is_space, is_name_start, is_name_byte, is_numeral_byte, line_ends}
+
+-- a numeral begins with a digit, or with `.` and a digit
+abbrev pub begins_numeral : List ℕ → Bool
+begins_numeral text = is_ascii_digit (slice_index text 0) || (slice_index text 0 == 46 && is_ascii_digit (slice_index text 1))
+
+-- an opening long bracket: `[`, any number of `=`, `[`
+abbrev pub opens_long : List ℕ → Bool
+opens_long text = slice_index text 0 == 91 && slice_index text (1 + prefix_len (λ byte. byte == 61) (drop 1 text)) == 91
+
+abbrev pub begins_comment : List ℕ → Bool
+begins_comment text = slice_index text 0 == 45 && slice_index text 1 == 45
+
+-- what a comment is by what follows its `--`
+abbrev pub comment_kind : List ℕ → Kind
+comment_kind text = if opens_long (drop 2 text) then LongComment else Comment
+
+-- what stands at the front of a text, by its first bytes
+unfoldable pub kind_of : List ℕ → Kind
+kind_of text =
+    if length text == 0 then End
+    else if is_space (slice_index text 0) then Space
+    else if is_name_start (slice_index text 0) then Word
+    else if begins_numeral text then Numeral
+    else if slice_index text 0 == 34 || slice_index text 0 == 39 then ShortString
+    else if begins_comment text then comment_kind text
+    else if opens_long text then LongString
+    else Symbol
+
+-- how many bytes a kind has at least
+abbrev pub least_len : Kind → ℕ
+least_len End = 0
+least_len Comment = 2
+least_len LongComment = 2
+least_len _ = 1
+
+-- The text goes on as the rest behind one piece that is skipped: a byte of white space, or a comment up to the end of its line.
+abbrev pub SkipsOf : Kind → List ℕ → List ℕ → Type 0
+SkipsOf Space text rest = rest ≡ drop 1 text
+SkipsOf Comment text rest = rest ≡ drop (2 + position_or_len is_line_end (drop 2 text)) text
+SkipsOf _ text rest = ⊥
+
+abbrev pub Skips : List ℕ → List ℕ → Type 0
+Skips text rest = SkipsOf (kind_of text) text rest
+
+-- between the text and the rest all is skipped
+pub data Gap : List ℕ → List ℕ → Type 0 where
+  nothing : {text : List ℕ} → Gap text text
+  piece : {text between rest : List ℕ} → Skips text between → Gap between rest → Gap text rest
+
+-- a keyword, or else a name
+abbrev pub word_token : List ℕ → Option ℕ → Token
+word_token word (Some number) = made.Keyword number
+word_token word None = made.Name word
+
+-- the integer that a numeral stands for: decimal digits with a value below 2 ^ 63
+abbrev pub integer_of : List ℕ → Option ℤ
+integer_of numeral =
+    if list_all is_ascii_digit numeral && nat_le (digits_value 10 numeral) 9223372036854775807 then Some (pos (digits_value 10 numeral))
+    else None
+
+-- the longest mark at the front of the text
+pub record IsMark (text : List ℕ) (number : ℕ) (rest : List ℕ) : Type 0 where
+  pub spelling : List ℕ
+  pub place : place_of marks spelling ≡ Some number
+  pub whole : text ≡ spelling ++ rest
+  pub longest : (other after : List ℕ) (place : ℕ) → place_of marks other ≡ Some place → text ≡ other ++ after → length other ≤ length spelling
+
+-- The token stands at the front of the text, and the rest follows it. A word and a numeral are the longest runs of their bytes.
+abbrev pub IsTokenOf : Kind → List ℕ → Token → List ℕ → Type 0
+IsTokenOf Word text token rest =
+    (token ≡ word_token (take_while is_name_byte text) (place_of keywords (take_while is_name_byte text)))
+    × (rest ≡ drop (prefix_len is_name_byte text) text)
+IsTokenOf Numeral text token rest =
+    (value : ℤ) × (integer_of (take_while is_numeral_byte text) ≡ Some value) × (token ≡ made.Int value)
+    × (rest ≡ drop (prefix_len is_numeral_byte text) text)
+IsTokenOf Symbol text token rest = (number : ℕ) × IsMark text number rest × (token ≡ made.Mark number)
+IsTokenOf _ text token rest = ⊥
+
+abbrev pub IsToken : List ℕ → Token → List ℕ → Type 0
+IsToken text token rest = IsTokenOf (kind_of text) text token rest
+
+-- the line of the rest of a text that begins on a line
+abbrev pub line_of : ℕ → List ℕ → List ℕ → ℕ
+line_of line text rest = line + line_ends (take (length text - length rest) text)
+
+-- The tokens of a text that begins on a line: skipped text and a token in turn, each with the line of its first byte, and the end.
+pub data TokensFrom : ℕ → List ℕ → List (Token × ℕ) → Type 0 where
+  ends : {line : ℕ} {text : List ℕ} → Gap text [] → TokensFrom line text ((made.End, line_of line text []) ∷ [])
+  goes_on : {line : ℕ} {text : List ℕ} (start rest : List ℕ) (token : Token) (list : List (Token × ℕ)) →
+      Gap text start → IsToken start token rest →
+      TokensFrom (line_of (line_of line text start) start rest) rest list →
+      TokensFrom line text ((token, line_of line text start) ∷ list)
+
+abbrev pub TokensOf : List ℕ → List (Token × ℕ) → Type 0
+TokensOf source list = TokensFrom 1 source list
+
+-- a text that is neither at its end, nor skipped, nor a token
+pub record IsRefused (text : List ℕ) : Type 0 where
+  pub goes_on : text ≢ []
+  pub no_gap : (rest : List ℕ) → Skips text rest → ⊥
+  pub no_token : (token : Token) (rest : List ℕ) → IsToken text token rest → ⊥
+
+-- the line of the first place that is refused in a text that begins on a line
+pub data BadFrom : ℕ → List ℕ → ℕ → Type 0 where
+  here : {line : ℕ} {text : List ℕ} (start : List ℕ) → Gap text start → IsRefused start → BadFrom line text (line_of line text start)
+  later : {line : ℕ} {text : List ℕ} {bad : ℕ} (start rest : List ℕ) (token : Token) →
+      Gap text start → IsToken start token rest →
+      BadFrom (line_of (line_of line text start) start rest) rest bad →
+      BadFrom line text bad
+
+abbrev pub BadToken : List ℕ → ℕ → Type 0
+BadToken source line = BadFrom 1 source line

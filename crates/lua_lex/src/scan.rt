@@ -1,0 +1,72 @@
+// The token at the front of a text.
+ghost use Rattle.std.specs.Prelude.{◌≡◌, ◌≤◌, ◌<◌, ℕ, List, length, drop, take, IfOk, IfSome, IfNone};
+ghost use Rattle.lua_lex.specs.declared.kind.Kind.TheVariants as kind;
+ghost use Rattle.lua_lex.specs.declared.token.Token.{Token};
+ghost use Rattle.lua_lex.specs.Lexical.{kind_of, IsToken, IsTokenOf, IsMark};
+
+use crate::class::{Class, run_len};
+use crate::kind::{Kind, kind_of};
+use crate::numeral::integer_of;
+use crate::token::Token;
+use crate::words::{LONGEST_MARK, keyword_number, mark_number};
+use int_core::Bytes;
+use std::alloc::{AllocError, Global};
+
+/// The token at the front of the text with how many bytes it has, if one stands there.
+pub fn token_at(alloc: Global, text: &[u8]) -> Result<Option<(Token, usize)>, AllocError>
+    ensures found { IfOk result (λ answer. IfSome answer (λ found. IsToken text.now found.0 (drop found.1 text.now))) }
+    ensures bound { IfOk result (λ answer. IfSome answer (λ found. (0 < found.1) × (found.1 ≤ length text.now))) }
+    ensures none { IfOk result (λ answer. IfNone answer ((token : Token) (rest : List ℕ) → IsToken text.now token rest → ⊥)) }
+{
+    match kind_of(text) {
+        Kind::Word => Ok(Some(word(alloc, text)?)),
+        Kind::Numeral => Ok(numeral(text)),
+        Kind::Symbol => Ok(mark(text)),
+        _ => Ok(None),
+    }
+}
+
+// The keyword or the name at the front.
+#[tactic(auto, unfolding(crate::specs::Lexical::kind_of))]
+fn word(alloc: Global, text: &[u8]) -> Result<(Token, usize), AllocError>
+    requires { kind_of text.now ≡ kind.Word }
+    ensures found { IfOk result (λ found. IsTokenOf kind.Word text.now found.0 (drop found.1 text.now)) }
+    ensures bound { IfOk result (λ found. (0 < found.1) × (found.1 ≤ length text.now)) }
+{
+    let len = run_len(text, Class::Name);
+    let spelling = &text[..len];
+    let token = match keyword_number(spelling) {
+        Some(number) => Token::Keyword(number),
+        None => Token::Name(Bytes::of(spelling.to_vec(alloc)?)),
+    };
+    Ok((token, len))
+}
+
+// The numeral at the front, if it is accepted.
+#[tactic(auto, unfolding(crate::specs::Lexical::kind_of))]
+fn numeral(text: &[u8]) -> Option<(Token, usize)>
+    requires { kind_of text.now ≡ kind.Numeral }
+    ensures found { IfSome result (λ found. IsTokenOf kind.Numeral text.now found.0 (drop found.1 text.now)) }
+    ensures bound { IfSome result (λ found. (0 < found.1) × (found.1 ≤ length text.now)) }
+    ensures none { IfNone result ((token : Token) (rest : List ℕ) → IsTokenOf kind.Numeral text.now token rest → ⊥) }
+{
+    let len = run_len(text, Class::Numeral);
+    let value = integer_of(&text[..len])?;
+    Some((Token::Int(value), len))
+}
+
+// The longest mark at the front, if there is one.
+fn mark(text: &[u8]) -> Option<(Token, usize)>
+    ensures found { IfSome result (λ found. IsTokenOf kind.Symbol text.now found.0 (drop found.1 text.now)) }
+    ensures bound { IfSome result (λ found. (0 < found.1) × (found.1 ≤ length text.now)) }
+    ensures none { IfNone result ((token : Token) (rest : List ℕ) → IsTokenOf kind.Symbol text.now token rest → ⊥) }
+{
+    let mut len = text.len().min(LONGEST_MARK);
+    while len > 0 {
+        if let Some(number) = mark_number(&text[..len]) {
+            return Some((Token::Mark(number), len));
+        }
+        len -= 1;
+    }
+    None
+}

@@ -1,0 +1,65 @@
+// The keywords and the other fixed tokens, numbered by their places in two lists.
+ghost use Rattle.std.specs.Prelude.{◌≡◌, ◌<◌, length, nat_eq};
+ghost use Rattle.std.specs.List.{position_from};
+ghost use Rattle.std.specs.Cmp.Lexicographic.{pointwise};
+ghost use Rattle.lua_lex.specs.Words.{keywords, marks, place_of};
+
+/// The keywords (Lua 5.4 manual, 3.1).
+pub const KEYWORDS: [&[u8]; 22] = [
+    b"and",
+    b"break",
+    b"do",
+    b"else",
+    b"elseif",
+    b"end",
+    b"false",
+    b"for",
+    b"function",
+    b"goto",
+    b"if",
+    b"in",
+    b"local",
+    b"nil",
+    b"not",
+    b"or",
+    b"repeat",
+    b"return",
+    b"then",
+    b"true",
+    b"until",
+    b"while",
+];
+
+/// The other fixed tokens.
+pub const MARKS: [&[u8]; 31] = [
+    b"+", b"-", b"*", b"%", b"//", b"&", b"~", b"|", b"<<", b">>", b"#", b"==", b"~=", b"<=",
+    b">=", b"<", b">", b"=", b"(", b")", b"{", b"}", b"[", b"]", b"::", b";", b":", b",", b".",
+    b"..", b"...",
+];
+
+/// How many bytes the longest mark has.
+pub const LONGEST_MARK: usize = 3;
+
+/// The place of a word among the keywords.
+#[tactic(auto, unfolding(crate::specs::Words::keywords))]
+pub fn keyword_number(word: &[u8]) -> Option<u8>
+    ensures { result ≡ place_of keywords word.now }
+{
+    place_of(&KEYWORDS, word)
+}
+
+/// The place of a spelling among the marks.
+#[tactic(auto, unfolding(crate::specs::Words::marks))]
+pub fn mark_number(spelling: &[u8]) -> Option<u8>
+    ensures { result ≡ place_of marks spelling.now }
+{
+    place_of(&MARKS, spelling)
+}
+
+fn place_of(words: &[&[u8]], word: &[u8]) -> Option<u8>
+    requires { length words.now < 256 }
+    ensures { result ≡ position_from (λ other. pointwise nat_eq other.now word.now) 0 words.now }
+{
+    let place = words.iter().position(|other| *other == word)?;
+    Some(place as u8)
+}
