@@ -1,5 +1,5 @@
 // All the tokens of a source.
-ghost use Rattle.std.specs.Prelude.{◌≡◌, ◌<◌, ◌↔◌, ℕ, List, length, IfOk, Err};
+ghost use Rattle.std.specs.Prelude.{◌≡◌, ◌+◌, ◌<◌, ◌≤◌, ◌↔◌, ℕ, List, length, IfOk, Err};
 ghost use Rattle.lua_lex.specs.declared.token.Token.{Token};
 ghost use Rattle.lua_lex.specs.declared.source.LexFault.TheVariants.{Limit, Memory};
 ghost use Rattle.lua_lex.specs.Lexical.{TokensOf, BadToken};
@@ -55,6 +55,9 @@ pub fn tokens(alloc: Global, source: &[u8]) -> Result<Tokens, LexFault>
     ensures only_refused { OnRefused result (λ line. (other : ℕ) → BadToken source.now other → other ≡ line) }
     ensures not_refused { IfOk result (λ list. (line : ℕ) → BadToken source.now line → ⊥) }
     ensures no_tokens { OnRefused result (λ line. (list : List (Token × ℕ)) → TokensOf source.now list → ⊥) }
+
+    // Each token but the end has a byte of its own.
+    ensures count { IfOk result (λ list. length list ≤ length source.now + 1) }
 {
     if source.len() > MAX_SOURCE {
         return Err(LexFault::Limit);

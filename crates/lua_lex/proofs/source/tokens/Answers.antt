@@ -1,5 +1,5 @@
 -- The tokens so far and what is left determine the tokens of the source.
-use Rattle.std.proofs.Common.{◌≡◌, ◌++◌, ◌∷◌, [], ◌+◌, ◌<◌, ◌≤◌, length, length-drop, drop, sym, ◌∙◌, subst, ap, rules, arith, ℕ, List, Some, None, IfSome, IfNone, refl}
+use Rattle.std.proofs.Common.{◌≡◌, ◌++◌, ◌∷◌, [], ◌+◌, ◌<◌, ◌≤◌, length, length-drop, length-append, drop, sym, ◌∙◌, subst, ap, rules, arith, ℕ, List, Some, None, IfSome, IfNone, refl}
 use Rattle.std.proofs.lemmas.Bool.Decides.{nat_tests}
 use Rattle.std.proofs.lemmas.List.{nil_from_length}
 use Rattle.lua_lex.specs.declared.token.Token.{Token}
@@ -81,9 +81,11 @@ loop-text-preserved c =
     let line : c.line_behind-line.result ≡ line_of c.loop-text.line text start = line_to c.loop-text.line text start c.gap_len-gap.result c.line_behind-line.result c.behind-text.ensures c.line_behind-line.ensures.value in
     let line_after : c.line_behind-line-in-loop-text.result ≡ line_of (line_of c.loop-text.line text start) start rest = line_to c.line_behind-line.result start rest c.in-Some.len c.line_behind-line-in-loop-text.result c.behind-text-in-loop-text.ensures c.line_behind-line-in-loop-text.ensures.value ∙ ap (λ n. line_of n start rest) line in
     let items : c.push-in-loop-text.new.self.items ≡ c.loop-text.items.items ++ (token, line_of c.loop-text.line text start) ∷ [] = c.in_ok-push-2.ensures.items ∙ ap (λ n. c.loop-text.items.items ++ (token, n) ∷ []) line in
+    let not_empty : 0 < c.in-Some.len = search rules in
     let more = next c.args.source.now c.loop-text.items.items c.loop-text.line text start rest token c.loop-text.invariant.front gap is_token in
     record {
       front = subst (λ ts. IsFront c.args.source.now ts c.line_behind-line-in-loop-text.result rest) (sym items) (subst (λ n. IsFront c.args.source.now (c.loop-text.items.items ++ (token, line_of c.loop-text.line text start) ∷ []) n rest) (sym line_after) more);
       bound = omega (arith, c.loop-text.invariant.bound, c.gap_len-gap.ensures.bound, c.line_behind-line.ensures.bound, c.line_behind-line-in-loop-text.ensures.bound, ap length c.behind-text.ensures, length-drop c.gap_len-gap.result text, ap length c.behind-text-in-loop-text.ensures, length-drop c.in-Some.len start);
+      count = omega (arith, c.loop-text.invariant.count, ap length items, length-append c.loop-text.items.items ((token, line_of c.loop-text.line text start) ∷ []), ap length c.behind-text.ensures, length-drop c.gap_len-gap.result text, ap length c.behind-text-in-loop-text.ensures, length-drop c.in-Some.len start, not_empty);
       short = c.loop-text.invariant.short;
     }

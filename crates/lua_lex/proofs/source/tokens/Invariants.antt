@@ -6,6 +6,7 @@ abbrev pub invariant-loop-text : goal.invariant-loop-text
 invariant-loop-text l = record {
   front : IsFront l.source l.items.items l.line l.text;
   bound : l.line + length l.text ≤ 1 + length l.source;
+  count : length l.items.items + length l.text ≤ length l.source;
   short : length l.source ≤ 1048576;
 }
 
