@@ -1,0 +1,1 @@
+local x = 6 local y = x * 7 print(y - x)

@@ -1,0 +1,14 @@
+pub mod Takes
+pub mod ScopeLemmas
+pub mod ReadingLemmas
+pub mod Chain
+pub mod Atoms
+pub mod Statements
+pub mod ScriptLemmas
+pub mod Registers
+pub mod Rows
+pub mod Runs
+pub mod ScriptRuns
+pub mod SpellsLemmas
+pub mod OutputLemmas
+pub mod ProgramLemmas

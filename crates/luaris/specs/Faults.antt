@@ -1,0 +1,43 @@
+-- How the faults of the layers below are handed on, and which status each has.
+use Rattle.std.specs.Prelude.{ℕ, Result, Ok, Err}
+use Rattle.lua_lex.specs.declared.source.LexFault.{LexFault}
+use Rattle.lua_lex.specs.declared.source.LexFault.TheVariants.{Refused as LexRefused, Limit as LexLimit, Memory as LexMemory}
+use Rattle.luaris.specs.declared.fault.CompileFault.{CompileFault}
+use Rattle.luaris.specs.declared.fault.CompileFault.TheVariants.{Refused as CompileRefused, Memory as CompileMemory}
+use Rattle.luaris.specs.declared.fault.SourceFault.{SourceFault}
+use Rattle.luaris.specs.declared.fault.SourceFault.TheVariants.{Refused, Limit, Memory}
+use Rattle.io_edge.specs.declared.fault.FileFault.{FileFault}
+use Rattle.io_edge.specs.declared.fault.FileFault.TheVariants.{Failed as FileFailed, Absent as FileAbsent, Memory as FileMemory}
+use Rattle.luaris.specs.declared.fault.Fault.{Fault}
+use Rattle.luaris.specs.declared.fault.Fault.TheVariants as fault
+
+abbrev pub fault_of_lexer : LexFault → SourceFault
+fault_of_lexer (LexRefused line) = Refused line
+fault_of_lexer LexLimit = Limit
+fault_of_lexer LexMemory = Memory
+
+abbrev pub fault_of_compiler : CompileFault → SourceFault
+fault_of_compiler (CompileRefused line) = Refused line
+fault_of_compiler CompileMemory = Memory
+
+abbrev pub fault_of_source : SourceFault → Fault
+fault_of_source (Refused line) = fault.Refused line
+fault_of_source Limit = fault.Limit
+fault_of_source Memory = fault.Memory
+
+abbrev pub fault_of_file : FileFault → Fault
+fault_of_file FileFailed = fault.Device
+fault_of_file FileAbsent = fault.Absent
+fault_of_file FileMemory = fault.Memory
+
+abbrev pub status_of_fault : Fault → ℕ
+status_of_fault fault.Words = 2
+status_of_fault (fault.Refused line) = 5
+status_of_fault fault.Limit = 5
+status_of_fault fault.Device = 6
+status_of_fault fault.Memory = 9
+status_of_fault fault.Absent = 11
+
+abbrev pub status_of : Result (Unit {0}) Fault → ℕ
+status_of (Ok done) = 0
+status_of (Err fault) = status_of_fault fault

@@ -1,0 +1,9 @@
+pub mod Expression
+pub mod Script
+pub mod Code
+pub mod Taking
+pub mod Answers
+pub mod Straight
+pub mod Outcomes
+pub mod Faults
+pub mod Program

@@ -1,0 +1,158 @@
+// Why a script is not run to its end.
+ghost use Rattle.std.specs.Prelude.{◌≡◌};
+ghost use Rattle.luaris.specs.Faults.{fault_of_lexer, fault_of_compiler, fault_of_source, fault_of_file, status_of_fault};
+
+use io_edge::{Failed, FileFault};
+use lua_lex::LexFault;
+use std::alloc::{AllocError, AllocFailed};
+use thiserror::Error;
+
+/// Why tokens are not compiled.
+#[derive(Debug, Drop, Error)]
+pub enum CompileFault {
+    /// They are no straight script.
+    #[error("source refused at line {line}")]
+    Refused { line: u32 },
+    /// Memory ran out.
+    #[error("out of memory")]
+    Memory,
+}
+
+/// Why a source is not run.
+#[derive(Debug, Drop, Error)]
+pub enum SourceFault {
+    /// It is no straight script.
+    #[error("source refused at line {line}")]
+    Refused { line: u32 },
+    /// It has more than 1,048,576 bytes.
+    #[error("source refused by rule 13 at line 1")]
+    Limit,
+    /// Memory ran out.
+    #[error("out of memory")]
+    Memory,
+}
+
+/// Why a run has another status than 0.
+#[derive(Debug, Drop, Error)]
+pub enum Fault {
+    /// The words are no command.
+    #[error("wrong words")]
+    Words,
+    /// The source is no straight script.
+    #[error("source refused at line {line}")]
+    Refused { line: u32 },
+    /// The source has more than 1,048,576 bytes.
+    #[error("source refused by rule 13 at line 1")]
+    Limit,
+    /// A device failed, which its count tells.
+    #[error("device fault")]
+    Device,
+    /// Memory ran out.
+    #[error("out of memory")]
+    Memory,
+    /// There is no file of that name.
+    #[error("no such file")]
+    Absent,
+}
+
+impl Fault {
+    /// The status that the program ends with.
+    pub fn status(&self) -> u8
+        ensures { result ≡ status_of_fault self.now }
+    {
+        match self {
+            Fault::Words => 2,
+            Fault::Refused { line: _ } | Fault::Limit => 5,
+            Fault::Device => 6,
+            Fault::Memory => 9,
+            Fault::Absent => 11,
+        }
+    }
+}
+
+impl<T: Drop> From<AllocFailed<T>> for Fault {
+    ghost use Rattle.luaris.specs.declared.fault.Fault.TheVariants.{Memory};
+
+    ghost from_gives = { λ _ made. made ≡ Memory };
+
+    fn from(_: AllocFailed<T>) -> Fault {
+        Fault::Memory
+    }
+}
+
+impl From<Failed> for Fault {
+    ghost use Rattle.luaris.specs.declared.fault.Fault.TheVariants.{Device};
+
+    ghost from_gives = { λ _ made. made ≡ Device };
+
+    fn from(_: Failed) -> Fault {
+        Fault::Device
+    }
+}
+
+impl From<FileFault> for Fault {
+    ghost from_gives = { λ fault made. made ≡ fault_of_file fault };
+
+    fn from(fault: FileFault) -> Fault {
+        match fault {
+            FileFault::Failed => Fault::Device,
+            FileFault::Absent => Fault::Absent,
+            FileFault::Memory => Fault::Memory,
+        }
+    }
+}
+
+impl From<SourceFault> for Fault {
+    ghost from_gives = { λ fault made. made ≡ fault_of_source fault };
+
+    fn from(fault: SourceFault) -> Fault {
+        match fault {
+            SourceFault::Refused { line } => Fault::Refused { line },
+            SourceFault::Limit => Fault::Limit,
+            SourceFault::Memory => Fault::Memory,
+        }
+    }
+}
+
+impl From<AllocError> for CompileFault {
+    ghost use Rattle.luaris.specs.declared.fault.CompileFault.TheVariants.{Memory};
+
+    ghost from_gives = { λ _ fault. fault ≡ Memory };
+
+    fn from(_: AllocError) -> CompileFault {
+        CompileFault::Memory
+    }
+}
+
+impl From<AllocError> for SourceFault {
+    ghost use Rattle.luaris.specs.declared.fault.SourceFault.TheVariants.{Memory};
+
+    ghost from_gives = { λ _ fault. fault ≡ Memory };
+
+    fn from(_: AllocError) -> SourceFault {
+        SourceFault::Memory
+    }
+}
+
+impl From<LexFault> for SourceFault {
+    ghost from_gives = { λ fault made. made ≡ fault_of_lexer fault };
+
+    fn from(fault: LexFault) -> SourceFault {
+        match fault {
+            LexFault::Refused { line } => SourceFault::Refused { line },
+            LexFault::Limit => SourceFault::Limit,
+            LexFault::Memory => SourceFault::Memory,
+        }
+    }
+}
+
+impl From<CompileFault> for SourceFault {
+    ghost from_gives = { λ fault made. made ≡ fault_of_compiler fault };
+
+    fn from(fault: CompileFault) -> SourceFault {
+        match fault {
+            CompileFault::Refused { line } => SourceFault::Refused { line },
+            CompileFault::Memory => SourceFault::Memory,
+        }
+    }
+}

@@ -1,0 +1,268 @@
+// The program over devices in memory.
+use crate::program::luaris;
+use int_core::{Bytes, Numbers};
+use io_edge::{Files, MemFiles, MemSink, MemSource};
+use std::alloc::{AllocError, Global};
+use std::process::Abort;
+use std::test::Fail;
+
+/// What a call answered, and what it wrote.
+#[derive(Drop)]
+struct Outcome {
+    status: u8,
+    out: MemSink,
+    err: MemSink,
+}
+
+fn no_failures(alloc: Global) -> Numbers {
+    Numbers::of(Vec::new(alloc))
+}
+
+fn failing(alloc: Global, call: u64) -> Result<Numbers, AllocError> {
+    Ok(Numbers::of(Vec::from_slice(alloc, &[call])?))
+}
+
+/// The words that a line has, with spaces between.
+fn words(alloc: Global, line: &str) -> Result<Vec<String>, Fail> {
+    let mut words = Vec::new(alloc);
+    for word in line.split(' ') {
+        words.push(String::from_str(alloc, word)?)?;
+    }
+    Ok(words)
+}
+
+/// Runs `s.lua` with this text, over devices that do not fail.
+fn run(alloc: Global, source: &[u8]) -> Result<Outcome, Fail> {
+    let mut files = MemFiles::new(alloc, no_failures(alloc));
+    files.put("s.lua", source)?;
+    let mut input = MemSource::new(Bytes::of(Vec::new(alloc)), no_failures(alloc));
+    let mut out = MemSink::new(alloc, no_failures(alloc));
+    let mut err = MemSink::new(alloc, no_failures(alloc));
+    let words = words(alloc, "run s.lua")?;
+    let status = luaris(
+        alloc,
+        words.as_slice(),
+        &mut files,
+        &mut input,
+        &mut out,
+        &mut err,
+    );
+    Ok(Outcome { status, out, err })
+}
+
+fn check(rt: &impl Abort, outcome: &Outcome, status: u8, out: &str, err: &str) {
+    assert_eq!(rt; outcome.status, status);
+    assert!(rt; outcome.out.written() == out.as_bytes());
+    assert!(rt; outcome.err.written() == err.as_bytes());
+}
+
+#[test]
+fn straight_scripts_print(rt: HostRuntime) -> Result<(), Fail> {
+    let cases = [
+        ("", "return\n"),
+        ("-- nothing\n", "return\n"),
+        ("local x = 6 local y = x * 7 print(y - x)", "36\nreturn\n"),
+        (
+            "print(9223372036854775807+1)",
+            "-9223372036854775808\nreturn\n",
+        ),
+        (
+            "local a = 1 local a = a + 1 print(a) local b = a print(b * b)",
+            "2\n4\nreturn\n",
+        ),
+        ("print(2 + 3 * 4 - (5 - 6) * 7)", "21\nreturn\n"),
+        (
+            "print(0 - 9223372036854775807 - 2)",
+            "9223372036854775807\nreturn\n",
+        ),
+        (
+            "print(10 - 3 - 2)\r\nprint(((((7)))))\n\rprint(007)",
+            "5\n7\n7\nreturn\n",
+        ),
+    ];
+    for (source, printed) in cases {
+        let outcome = run(rt.alloc(), source.as_bytes())?;
+        check(&rt, &outcome, 0, printed, "");
+    }
+    Ok(())
+}
+
+#[test]
+fn other_sources_are_refused(rt: HostRuntime) -> Result<(), Fail> {
+    let cases = [
+        ("print(1) local = 2", "luaris: source refused at line 1\n"),
+        (
+            "print(9223372036854775808)",
+            "luaris: source refused at line 1\n",
+        ),
+        ("print(1/2)", "luaris: source refused at line 1\n"),
+        ("print(1)\n\n  $", "luaris: source refused at line 3\n"),
+        ("print(x)", "luaris: source refused at line 1\n"),
+        ("local print = 1", "luaris: source refused at line 1\n"),
+        ("local x = 1 x = 2", "luaris: source refused at line 1\n"),
+        ("print(1", "luaris: source refused at line 1\n"),
+    ];
+    for (source, line) in cases {
+        let outcome = run(rt.alloc(), source.as_bytes())?;
+        check(&rt, &outcome, 5, "", line);
+    }
+    Ok(())
+}
+
+/// A script with so many opening brackets round a numeral, and as many closing ones.
+fn bracketed(alloc: Global, depth: usize) -> Result<Vec<u8>, AllocError> {
+    let mut source = Vec::from_slice(alloc, b"print(")?;
+    source.extend_from_slice(vec![in alloc; b'('; depth]?.as_slice())?;
+    source.extend_from_slice(b"1")?;
+    source.extend_from_slice(vec![in alloc; b')'; depth]?.as_slice())?;
+    source.extend_from_slice(b")")?;
+    Ok(source)
+}
+
+#[test]
+fn limits_are_where_they_are_said_to_be(rt: HostRuntime) -> Result<(), Fail> {
+    let alloc = rt.alloc();
+    let longest = vec![in alloc; b' '; 1_048_576]?;
+    check(&rt, &run(alloc, longest.as_slice())?, 0, "return\n", "");
+    let too_long = vec![in alloc; b' '; 1_048_577]?;
+    check(
+        &rt,
+        &run(alloc, too_long.as_slice())?,
+        5,
+        "",
+        "luaris: source refused by rule 13 at line 1\n",
+    );
+    check(
+        &rt,
+        &run(alloc, bracketed(alloc, 40)?.as_slice())?,
+        0,
+        "1\nreturn\n",
+        "",
+    );
+    check(
+        &rt,
+        &run(alloc, bracketed(alloc, 41)?.as_slice())?,
+        5,
+        "",
+        "luaris: source refused at line 1\n",
+    );
+    let mut most = Vec::new(alloc);
+    for _ in 0..100 {
+        most.extend_from_slice(b"local x = 1\n")?;
+    }
+    check(&rt, &run(alloc, most.as_slice())?, 0, "return\n", "");
+    most.extend_from_slice(b"local x = 1\n")?;
+    check(
+        &rt,
+        &run(alloc, most.as_slice())?,
+        5,
+        "",
+        "luaris: source refused at line 101\n",
+    );
+    Ok(())
+}
+
+#[test]
+fn many_numerals_have_constants_of_their_own(rt: HostRuntime) -> Result<(), Fail> {
+    let alloc = rt.alloc();
+    let mut source = Vec::from_slice(alloc, b"print(0")?;
+    for _ in 0..140_000 {
+        source.extend_from_slice(b"+1")?;
+    }
+    source.extend_from_slice(b"+5)")?;
+    check(
+        &rt,
+        &run(alloc, source.as_slice())?,
+        0,
+        "140005\nreturn\n",
+        "",
+    );
+    Ok(())
+}
+
+#[test]
+fn words_and_files_decide_before_the_source(rt: HostRuntime) -> Result<(), Fail> {
+    let alloc = rt.alloc();
+    let cases = [
+        ("", 2, "luaris: wrong words\n"),
+        ("run", 2, "luaris: wrong words\n"),
+        ("walk s.lua", 2, "luaris: wrong words\n"),
+        ("run -s.lua", 2, "luaris: wrong words\n"),
+        ("run s.lua more", 2, "luaris: wrong words\n"),
+        ("run gone.lua", 11, "luaris: no such file\n"),
+    ];
+    for (line, status, told) in cases {
+        let mut files = MemFiles::new(alloc, no_failures(alloc));
+        files.put("s.lua", b"print(1)")?;
+        let mut input = MemSource::new(Bytes::of(Vec::new(alloc)), no_failures(alloc));
+        let mut out = MemSink::new(alloc, no_failures(alloc));
+        let mut err = MemSink::new(alloc, no_failures(alloc));
+        let words = words(alloc, line)?;
+        let answer = luaris(
+            alloc,
+            words.as_slice(),
+            &mut files,
+            &mut input,
+            &mut out,
+            &mut err,
+        );
+        check(
+            &rt,
+            &Outcome {
+                status: answer,
+                out,
+                err,
+            },
+            status,
+            "",
+            told,
+        );
+    }
+    Ok(())
+}
+
+/// Runs `print(1)` over devices of which one call fails: of the files, the output and standard error.
+fn run_failing(
+    alloc: Global,
+    files_call: u64,
+    out_call: u64,
+    err_call: u64,
+) -> Result<Outcome, Fail> {
+    let mut files = MemFiles::new(alloc, failing(alloc, files_call)?);
+    files.put("s.lua", b"print(1)")?;
+    let mut input = MemSource::new(Bytes::of(Vec::new(alloc)), failing(alloc, 0)?);
+    let mut out = MemSink::new(alloc, failing(alloc, out_call)?);
+    let mut err = MemSink::new(alloc, failing(alloc, err_call)?);
+    let words = words(alloc, "run s.lua")?;
+    let status = luaris(
+        alloc,
+        words.as_slice(),
+        &mut files,
+        &mut input,
+        &mut out,
+        &mut err,
+    );
+    Ok(Outcome { status, out, err })
+}
+
+#[test]
+fn failing_devices_are_told(rt: HostRuntime) -> Result<(), Fail> {
+    let alloc = rt.alloc();
+    check(&rt, &run_failing(alloc, 9, 9, 9)?, 0, "1\nreturn\n", "");
+    check(
+        &rt,
+        &run_failing(alloc, 1, 9, 9)?,
+        6,
+        "",
+        "luaris: device fault\n",
+    );
+    check(
+        &rt,
+        &run_failing(alloc, 9, 0, 9)?,
+        6,
+        "",
+        "luaris: device fault\n",
+    );
+    check(&rt, &run_failing(alloc, 1, 9, 0)?, 6, "", "");
+    Ok(())
+}
