@@ -1,3 +1,5 @@
 pub mod Causes
 pub mod Content
+pub mod Lines
+pub mod Parts
 pub mod Schedules

@@ -4,6 +4,7 @@
 mod device;
 mod fault;
 mod host;
+mod lines;
 mod mem_files;
 mod mem_sink;
 mod mem_source;
@@ -13,6 +14,7 @@ mod schedule;
 pub use device::{Files, Sink, Source};
 pub use fault::{Failed, FileFault};
 pub use host::{HostFiles, HostSink, HostSource, OutputStream};
+pub use lines::{LineFault, LineReader};
 pub use mem_files::MemFiles;
 pub use mem_sink::MemSink;
 pub use mem_source::MemSource;

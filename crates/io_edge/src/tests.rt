@@ -1,7 +1,7 @@
 // What no clause says: that calls succeed where there is memory, and what the system answers.
 use super::{
-    Failed, FileFault, Files, HostFiles, HostSink, HostSource, MemFiles, MemSink, MemSource,
-    OutputStream, Sink, Source, write_all,
+    Failed, FileFault, Files, HostFiles, HostSink, HostSource, LineFault, LineReader, MemFiles,
+    MemSink, MemSource, OutputStream, Sink, Source, write_all,
 };
 use int_core::{Bytes, Numbers};
 use std::alloc::Global;
@@ -80,6 +80,44 @@ fn files_in_memory_fail_at_the_listed_calls(rt: HostRuntime) -> Result<(), Fail>
     assert_eq!(rt; files.calls(), 8);
     assert_eq!(rt; files.file("a"), Some(b"new".as_slice()));
     assert_eq!(rt; files.file("c"), None);
+    Ok(())
+}
+
+#[test]
+fn lines_end_before_line_feeds_and_at_the_end(rt: HostRuntime) -> Result<(), Fail> {
+    let alloc = rt.alloc();
+    let longest = vec![in alloc; b'x'; 1 << 20]?;
+    let too_long = vec![in alloc; b'x'; (1 << 20) + 1]?;
+    let inputs: [(&[u8], &[u64], &[Result<Option<&[u8]>, LineFault>]); 4] = [
+        (
+            b"ab\n\nz",
+            &[],
+            &[Ok(Some(b"ab")), Ok(Some(b"")), Ok(Some(b"z")), Ok(None)],
+        ),
+        (
+            b"\r\n",
+            &[2],
+            &[Ok(Some(b"\r")), Ok(None), Err(LineFault::Failed)],
+        ),
+        (
+            longest.as_slice(),
+            &[],
+            &[Ok(Some(longest.as_slice())), Ok(None)],
+        ),
+        (too_long.as_slice(), &[], &[Err(LineFault::Limit)]),
+    ];
+    for (input, failing, lines) in inputs {
+        let bytes = Bytes::of(Vec::from_slice(alloc, input)?);
+        let mut source = MemSource::new(bytes, numbers(alloc, failing)?);
+        let mut reader = LineReader::new(alloc)?;
+        for wanted in lines {
+            let line = reader.next_line(&mut source);
+            let line = line
+                .as_ref()
+                .map(|line| line.as_ref().map(|line| line.as_slice()));
+            assert_eq!(rt; line.map_err(|fault| *fault), *wanted);
+        }
+    }
     Ok(())
 }
 

@@ -1,4 +1,4 @@
-use Rattle.std.proofs.Common.{length, ◌-◌, ◌≡◌, ◌++◌, ◌≤◌, take, ℕ}
+use Rattle.std.proofs.Common.{length, ◌-◌, ◌≡◌, ◌++◌, ◌≤◌, take}
 use Rattle.std.specs.Option.{option_map}
 use Rattle.io_edge.proofs.output.write_all.Given as goal
 

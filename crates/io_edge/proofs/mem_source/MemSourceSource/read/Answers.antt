@@ -1,5 +1,5 @@
 -- The bytes given and the bytes left are those that were left before.
-use Rattle.std.proofs.Common.{rules, arith, ◌≡◌, ◌++◌, ◌+◌, take, length}
+use Rattle.std.proofs.Common.{arith, ◌≡◌, ◌++◌, ◌+◌, take, length}
 use Rattle.std.proofs.Math.ListN.{drop}
 use Rattle.std.proofs.lemmas.Grind.{common_steps}
 use Rattle.std.proofs.lemmas.List.{drop-drop, take-append-drop, take_at}
