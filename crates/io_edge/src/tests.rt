@@ -83,40 +83,46 @@ fn files_in_memory_fail_at_the_listed_calls(rt: HostRuntime) -> Result<(), Fail>
     Ok(())
 }
 
+/// The lines of an input, each with a bar behind it, and the fault that ended the reading, if one did.
+fn read_lines(
+    alloc: Global,
+    input: &[u8],
+    failing: &[u64],
+) -> Result<(Vec<u8>, Option<LineFault>), Fail> {
+    let bytes = Bytes::of(Vec::from_slice(alloc, input)?);
+    let mut source = MemSource::new(bytes, numbers(alloc, failing)?);
+    let mut reader = LineReader::new(alloc)?;
+    let mut lines = Vec::new(alloc);
+    for _ in 0..4 {
+        match reader.next_line(&mut source) {
+            Ok(Some(line)) => {
+                lines.extend_from_slice(line.as_slice())?;
+                lines.push(b'|')?;
+            }
+            Ok(None) => return Ok((lines, None)),
+            Err(fault) => return Ok((lines, Some(fault))),
+        }
+    }
+    Err(Fail::new("the input has too many lines"))
+}
+
 #[test]
 fn lines_end_before_line_feeds_and_at_the_end(rt: HostRuntime) -> Result<(), Fail> {
     let alloc = rt.alloc();
-    let longest = vec![in alloc; b'x'; 1 << 20]?;
-    let too_long = vec![in alloc; b'x'; (1 << 20) + 1]?;
-    let inputs: [(&[u8], &[u64], &[Result<Option<&[u8]>, LineFault>]); 4] = [
-        (
-            b"ab\n\nz",
-            &[],
-            &[Ok(Some(b"ab")), Ok(Some(b"")), Ok(Some(b"z")), Ok(None)],
-        ),
-        (
-            b"\r\n",
-            &[2],
-            &[Ok(Some(b"\r")), Ok(None), Err(LineFault::Failed)],
-        ),
-        (
-            longest.as_slice(),
-            &[],
-            &[Ok(Some(longest.as_slice())), Ok(None)],
-        ),
-        (too_long.as_slice(), &[], &[Err(LineFault::Limit)]),
+    let inputs: [(&[u8], &[u64], &[u8], Option<LineFault>); 4] = [
+        (b"", &[], b"", None),
+        (b"ab\n\nz", &[], b"ab||z|", None),
+        (b"\r\n", &[], b"\r|", None),
+        (b"a\nb", &[1], b"a|", Some(LineFault::Failed)),
     ];
-    for (input, failing, lines) in inputs {
-        let bytes = Bytes::of(Vec::from_slice(alloc, input)?);
-        let mut source = MemSource::new(bytes, numbers(alloc, failing)?);
-        let mut reader = LineReader::new(alloc)?;
-        for wanted in lines {
-            let line = reader.next_line(&mut source);
-            let line = line
-                .as_ref()
-                .map(|line| line.as_ref().map(|line| line.as_slice()));
-            assert_eq!(rt; line.map_err(|fault| *fault), *wanted);
-        }
+    for (input, failing, wanted, fault) in inputs {
+        let answer = read_lines(alloc, input, failing)?;
+        assert_eq!(rt; answer.0.as_slice(), wanted);
+        assert_eq!(rt; answer.1, fault);
+    }
+    for (length, fault) in [(1_048_576, None), (1_048_577, Some(LineFault::Limit))] {
+        let input = vec![in alloc; b'x'; length]?;
+        assert_eq!(rt; read_lines(alloc, input.as_slice(), &[])?.1, fault);
     }
     Ok(())
 }
