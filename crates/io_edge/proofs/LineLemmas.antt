@@ -1,8 +1,13 @@
 -- The lines of a text that begins with bytes of which none is a line feed.
-use Rattle.std.proofs.Common.{◌≡◌, ◌≢◌, ◌<◌, ◌++◌, ◌==◌, ◌∷◌, ℕ, List, [], suc, refl, ap, arith, length, Bool, true, false, ◌∙◌}
+use Rattle.std.proofs.Common.{Option, None, Some, ◌≡◌, ◌≢◌, ◌<◌, ◌++◌, ◌==◌, ◌∷◌, ℕ, List, [], suc, refl, ap, arith, length, Bool, true, false, ◌∙◌}
 use Rattle.std.specs.Bool.{if◌then◌else◌}
 use Rattle.std.proofs.lemmas.Bool.Decides.{nat_tests}
-use Rattle.io_edge.specs.Lines.{IsUnbroken, lengthened, lines_of}
+use Rattle.io_edge.specs.Lines.{ahead, IsUnbroken, lengthened, lines_of}
+
+-- a reader at the beginning of an input gives what the source has left
+pub ahead-fresh : (left : Option (List ℕ)) → ahead record { pending = []; taken = 0 } left ≡ left
+ahead-fresh None = refl
+ahead-fresh (Some rest) = refl
 
 -- what follows the first byte is unbroken too
 unbroken_tail : (byte : ℕ) (bytes : List ℕ) → IsUnbroken (byte ∷ bytes) → IsUnbroken bytes

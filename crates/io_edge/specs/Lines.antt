@@ -32,7 +32,8 @@ abbrev pub TakesLine : Option (List ℕ) → Option (List ℕ) → Option (List 
 TakesLine None before now = (now ≡ before) × IfSome before (λ text. text ≡ [])
 TakesLine (Some line) before now = option_map lines_of before ≡ option_map (λ text. line ∷ lines_of text) now
 
--- how many bytes stand before the next line, once a line or none was taken
+-- how many bytes stand before the next line, once a line or none was taken; behind a last line without a line feed
+-- there is no next one
 abbrev pub taken_with : ℕ → Option (List ℕ) → ℕ
 taken_with taken None = taken
 taken_with taken (Some line) = taken + length line + 1

@@ -1,4 +1,7 @@
 // The standard streams and the file system as devices, which tell nothing of what they hold.
+//
+// No contract can say what the system takes or gives. So a body that reads or writes nothing, or the wrong stream,
+// or that answers `Absent` for every file, would be proved too: that these don't is shown by running them.
 ghost use Rattle.std.specs.Prelude.{◌≡◌, None};
 ghost use Rattle.std.specs.Io.{WritesAtMost};
 

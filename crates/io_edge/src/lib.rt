@@ -1,15 +1,20 @@
 // The devices of a program: what it reads from, what it writes to, and its files, which fail only by counted faults.
 #![tactic(auto)]
 
-mod device;
 mod fault;
-mod host;
+
+mod device;
+
 mod lines;
+mod output;
+
+mod schedule;
+
 mod mem_files;
 mod mem_sink;
 mod mem_source;
-mod output;
-mod schedule;
+
+mod host;
 
 pub use device::{Files, Sink, Source};
 pub use fault::{Failed, FileFault};

@@ -148,7 +148,7 @@ fn a_file_that_was_put_is_read_back(rt: HostRuntime) -> Result<(), Fail> {
         Some(FileFault::Absent)
     );
 
-    // A folder is not an absent file, neither in the place of one nor on the way.
+    // A folder in the place of a file is not an absent file.
     assert_eq!(rt;
         files.get(alloc, folder.as_str()).err(),
         Some(FileFault::Failed)
