@@ -1,20 +1,15 @@
 // The devices of a program: what it reads from, what it writes to, and its files, which fail only by counted faults.
 #![tactic(auto)]
 
-mod fault;
-
 mod device;
-
+mod fault;
+mod host;
 mod lines;
-mod output;
-
-mod schedule;
-
 mod mem_files;
 mod mem_sink;
 mod mem_source;
-
-mod host;
+mod output;
+mod schedule;
 
 pub use device::{Files, Sink, Source};
 pub use fault::{Failed, FileFault};
