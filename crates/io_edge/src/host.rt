@@ -4,6 +4,7 @@
 // or that answers `Absent` for every file, would be proved too: that these don't is shown by running them.
 ghost use Rattle.std.specs.Prelude.{◌≡◌, None};
 ghost use Rattle.std.specs.Io.{WritesAtMost};
+ghost use Rattle.io_edge.specs.Host.{input_faults, stream_faults, stream_of, system_faults};
 
 use crate::device::{Files, Sink, Source};
 use crate::fault::{Failed, FaultCount, FileFault};
@@ -49,7 +50,7 @@ pub struct HostFiles {
 impl HostSource {
     /// Standard input, which has not failed yet.
     pub fn new(runtime: HostRuntime) -> HostSource
-        ensures { ⟦<HostSource as Source>⟧.faults result ≡ 0 }
+        ensures { input_faults result ≡ 0 }
     {
         HostSource {
             runtime,
@@ -59,7 +60,7 @@ impl HostSource {
 }
 
 impl Source for HostSource {
-    ghost faults = { λ source. source.faults };
+    ghost faults = { input_faults };
 
     ghost left = { λ _. None };
 
@@ -74,7 +75,8 @@ impl Source for HostSource {
 impl HostSink {
     /// The given stream, which has not failed yet.
     pub fn new(runtime: HostRuntime, stream: OutputStream) -> HostSink
-        ensures { ⟦<HostSink as Sink>⟧.faults result ≡ 0 }
+        ensures faults { stream_faults result ≡ 0 }
+        ensures stream { stream_of result ≡ stream }
     {
         HostSink {
             runtime,
@@ -95,7 +97,7 @@ impl HostSink {
 }
 
 impl Sink for HostSink {
-    ghost faults = { λ sink. sink.faults };
+    ghost faults = { stream_faults };
 
     ghost written = { λ _. None };
 
@@ -111,7 +113,7 @@ impl Sink for HostSink {
 impl HostFiles {
     /// The file system, which has not failed yet.
     pub fn new(runtime: HostRuntime) -> HostFiles
-        ensures { ⟦<HostFiles as Files>⟧.faults result ≡ 0 }
+        ensures { system_faults result ≡ 0 }
     {
         HostFiles {
             runtime,
@@ -133,7 +135,7 @@ impl HostFiles {
 }
 
 impl Files for HostFiles {
-    ghost faults = { λ files. files.faults };
+    ghost faults = { system_faults };
 
     ghost held = { λ _. None };
 
