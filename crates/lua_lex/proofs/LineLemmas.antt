@@ -1,11 +1,11 @@
 -- One step of a count of ends of lines.
-use Rattle.std.proofs.Common.{◌≡◌, ℕ, ◌+◌, ◌<◌, List, [], ◌∷◌, length, get_or, drop, Bool, true, false, refl, ap, sym, ◌∙◌, arith, take, ◌-◌, ◌≤◌, length-drop}
-use Rattle.std.specs.Prelude.{Option, Some, None}
+use Rattle.std.proofs.Common.{◌≡◌, ℕ, ◌+◌, ◌<◌, List, [], ◌∷◌, length, get_or, drop, ◌++◌, one-add, get_or-drop, Bool, true, false, refl, ap, sym, ◌∙◌, arith, take, ◌-◌, ◌≤◌, length-drop}
+use Rattle.std.specs.Prelude.{Option, Some, None, not}
 use Rattle.std.specs.Option.{unwrap_or}
 use Rattle.std.specs.List.{position_or_len}
-use Rattle.std.proofs.lemmas.List.Sums.{position_or_len_is}
+use Rattle.std.proofs.lemmas.List.Sums.{position_or_len_is, passes_at_first}
 use Rattle.memchr.specs.Find.{IsFirstByte, is_byte2}
-use Rattle.lua_lex.specs.Classes.{is_line_end, is_pair, end_len, line_ends}
+use Rattle.lua_lex.specs.Classes.{is_line_end, is_pair, end_len, line_ends, read_lines}
 
 pub line_ends-end : (text : List ℕ) → is_line_end (get_or text 0 0) ≡ true → line_ends text ≡ 1 + line_ends (drop (end_len text) text)
 line_ends-end [] h = absurd cc
@@ -32,3 +32,18 @@ false-from_not false h = refl
 pub first_line_end : (text : List ℕ) (found : Option ℕ) → IsFirstByte (is_byte2 10 13) text found → unwrap_or found (length text) ≡ position_or_len is_line_end text
 first_line_end text None h = sym (position_or_len_is is_line_end text (length text) 0 (omega arith) (λ k low. false-from_not (is_line_end (get_or text k 0)) (h k (omega arith) low)) (λ low. absurd (omega arith)))
 first_line_end text (Some at) h = sym (position_or_len_is is_line_end text at 0 (omega (arith, h.0.high)) (λ k low. false-from_not (is_line_end (get_or text k 0)) (h.0.before k (omega arith) low)) (λ low. h.1))
+
+-- up to the first end of line there is none
+pub line_ends-plain : (text : List ℕ) → line_ends (drop (position_or_len is_line_end text) text) ≡ line_ends text
+line_ends-plain [] = refl
+line_ends-plain (byte ∷ text) = by_first (line_ends-plain text) (is_line_end byte) refl where
+  by_first : line_ends (drop (position_or_len is_line_end text) text) ≡ line_ends text → (ends : Bool) → is_line_end byte ≡ ends → line_ends (drop (position_or_len is_line_end (byte ∷ text)) (byte ∷ text)) ≡ line_ends (byte ∷ text)
+  by_first later true h = rw h refl
+  by_first later false h = let none = line_ends-other (byte ∷ text) h in rw (h, one-add) (later ∙ sym none)
+
+-- the first end of line is one
+pub at_line_end : (text : List ℕ) (at : ℕ) → at + position_or_len is_line_end (drop at text) < length text → is_line_end (get_or text (at + position_or_len is_line_end (drop at text)) 0) ≡ true
+at_line_end text at h =
+    let len = position_or_len is_line_end (drop at text) in
+    let within : len < length (drop at text) = omega (arith, length-drop at text) in
+    ap is_line_end (sym (get_or-drop at text len 0)) ∙ passes_at_first is_line_end (drop at text) 0 within

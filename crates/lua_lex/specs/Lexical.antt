@@ -1,6 +1,7 @@
 -- What the tokens of a source are, and which place of it is refused (Lua 5.4 manual, 3.1).
-use Rattle.std.specs.Prelude.{◌≡◌, ◌≢◌, ℕ, ◌+◌, ◌-◌, ◌≤◌, ◌^◌, ℤ, pos, Bool, ◌==◌, ◌||◌, ◌&&◌, nat_le, nat_eq, List, [], ◌∷◌, ◌++◌, codes, length, take, drop, slice_index, Option, None, Some, if◌then◌else◌, take_while}
+use Rattle.std.specs.Prelude.{◌≡◌, ◌≢◌, ℕ, ◌+◌, ◌-◌, ◌≤◌, ◌^◌, ◌%◌, ℤ, pos, Bool, ◌==◌, ◌||◌, ◌&&◌, nat_lt, List, [], ◌∷◌, ◌++◌, codes, length, take, drop, slice_index, Option, None, Some, if◌then◌else◌, take_while}
 use Rattle.std.specs.List.{prefix_len, position_or_len, starts_with, list_all}
+use Rattle.std.specs.Int.{cast_signed, w64}
 use Rattle.std.specs.Str.Parse.{digits_value}
 use Rattle.std.specs.Char.{is_ascii_digit}
 use Rattle.lua_lex.specs.declared.token.Token.{Token}
@@ -8,15 +9,13 @@ use Rattle.lua_lex.specs.declared.token.Token.TheVariants as made
 use Rattle.lua_lex.specs.declared.kind.Kind.{Kind}
 use Rattle.lua_lex.specs.declared.kind.Kind.TheVariants.{End, Space, Comment, LongComment, Word, Numeral, ShortString, LongString, Symbol}
 use Rattle.lua_lex.specs.Words.{keywords, marks, place_of}
-use Rattle.lua_lex.specs.Classes.{is_line_end, is_space, is_name_start, is_name_byte, is_numeral_byte, line_ends}
+use Rattle.lua_lex.specs.Classes.{is_line_end, is_space, is_name_start, is_name_byte, is_numeral_byte, is_hex_digit, line_ends, read_lines, behind_line_end}
+use Rattle.lua_lex.specs.Brackets.{opens_long, LongBracket}
+use Rattle.lua_lex.specs.Strings.{Quoted}
 
 -- a numeral begins with a digit, or with `.` and a digit
 abbrev pub begins_numeral : List ℕ → Bool
 begins_numeral text = is_ascii_digit (slice_index text 0) || (slice_index text 0 == 46 && is_ascii_digit (slice_index text 1))
-
--- an opening long bracket: `[`, any number of `=`, `[`
-abbrev pub opens_long : List ℕ → Bool
-opens_long text = slice_index text 0 == 91 && slice_index text (1 + prefix_len (λ byte. byte == 61) (drop 1 text)) == 91
 
 abbrev pub begins_comment : List ℕ → Bool
 begins_comment text = slice_index text 0 == 45 && slice_index text 1 == 45
@@ -37,17 +36,11 @@ kind_of text =
     else if opens_long text then LongString
     else Symbol
 
--- how many bytes a kind has at least
-abbrev pub least_len : Kind → ℕ
-least_len End = 0
-least_len Comment = 2
-least_len LongComment = 2
-least_len _ = 1
-
--- The text goes on as the rest behind one piece that is skipped: a byte of white space, or a comment up to the end of its line.
+-- The text goes on as the rest behind one piece that is skipped: a byte of white space, or a comment up to the end of its line or of its long bracket.
 abbrev pub SkipsOf : Kind → List ℕ → List ℕ → Type 0
 SkipsOf Space text rest = rest ≡ drop 1 text
 SkipsOf Comment text rest = rest ≡ drop (2 + position_or_len is_line_end (drop 2 text)) text
+SkipsOf LongComment text rest = (content : List ℕ) × LongBracket (drop 2 text) content rest
 SkipsOf _ text rest = ⊥
 
 abbrev pub Skips : List ℕ → List ℕ → Type 0
@@ -63,10 +56,17 @@ abbrev pub word_token : List ℕ → Option ℕ → Token
 word_token word (Some number) = made.Keyword number
 word_token word None = made.Name word
 
--- the integer that a numeral stands for: decimal digits with a value below 2 ^ 63
+-- `0x` or `0X` and hexadecimal digits
+abbrev pub is_hexadecimal : List ℕ → Bool
+is_hexadecimal numeral =
+    slice_index numeral 0 == 48 && (slice_index numeral 1 == 120 || slice_index numeral 1 == 88)
+    && (nat_lt 2 (length numeral) && list_all is_hex_digit (drop 2 numeral))
+
+-- The integer that a numeral stands for: hexadecimal digits wrap modulo 2 ^ 64, and decimal ones have a value below 2 ^ 63.
 abbrev pub integer_of : List ℕ → Option ℤ
 integer_of numeral =
-    if list_all is_ascii_digit numeral && nat_le (digits_value 10 numeral) 9223372036854775807 then Some (pos (digits_value 10 numeral))
+    if is_hexadecimal numeral then Some (cast_signed w64 (digits_value 16 (drop 2 numeral) % 2 ^ 64))
+    else if list_all is_ascii_digit numeral && nat_lt (digits_value 10 numeral) (2 ^ 63) then Some (pos (digits_value 10 numeral))
     else None
 
 -- the longest mark at the front of the text
@@ -84,6 +84,10 @@ IsTokenOf Word text token rest =
 IsTokenOf Numeral text token rest =
     (value : ℤ) × (integer_of (take_while is_numeral_byte text) ≡ Some value) × (token ≡ made.Int value)
     × (rest ≡ drop (prefix_len is_numeral_byte text) text)
+IsTokenOf ShortString text token rest =
+    (content : List ℕ) × Quoted (slice_index text 0) (drop 1 text) content rest × (token ≡ made.Str content)
+IsTokenOf LongString text token rest =
+    (content : List ℕ) × LongBracket text content rest × (token ≡ made.Str (read_lines (behind_line_end content)))
 IsTokenOf Symbol text token rest = (number : ℕ) × IsMark text number rest × (token ≡ made.Mark number)
 IsTokenOf _ text token rest = ⊥
 

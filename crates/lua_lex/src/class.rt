@@ -1,18 +1,52 @@
 // Classes of bytes, and the longest run of one.
-ghost use Rattle.std.specs.Prelude.{◌≡◌, ◌≤◌, length};
+ghost use Rattle.std.specs.Prelude.{◌≡◌, ◌≤◌, ◌==◌, ◌<◌, length, slice_index};
+ghost use Rattle.std.specs.Char.{is_ascii_digit, digit_value};
 ghost use Rattle.std.specs.List.{prefix_len};
-ghost use Rattle.lua_lex.specs.Classes.{is_line_end, is_space, is_name_start, is_name_byte, is_numeral_byte};
-ghost use Rattle.lua_lex.specs.Runs.{is_in};
+ghost use Rattle.lua_lex.specs.Classes.{is_line_end, is_space, is_name_start, is_name_byte, is_hex_digit};
+ghost use Rattle.lua_lex.specs.Inner.{is_in};
 
 /// The bytes that a run is made of.
 #[derive(Clone, Copy, Debug, PartialEq, Eq)]
 pub enum Class {
+    /// White space.
+    Space,
     /// What a name goes on with.
     Name,
     /// What a numeral goes on with.
     Numeral,
-    /// The sign `=`, in a long bracket.
+    /// Decimal digits.
+    Digit,
+    /// Hexadecimal digits.
+    HexDigit,
+    /// The sign `=` of a long bracket.
     Equals,
+}
+
+/// How many bytes of the class stand at the front.
+pub fn run_len(text: &[u8], class: Class) -> usize
+    ensures run { result ≡ prefix_len (is_in class) text.now }
+    ensures bound { result ≤ length text.now }
+{
+    let mut len = 0;
+    while len < text.len() && class.holds(text[len]) {
+        len += 1;
+    }
+    len
+}
+
+/// Whether this byte, which is not 0, stands at the place.
+pub fn is_byte_at(text: &[u8], at: usize, byte: u8) -> bool
+    requires { 0 < byte }
+    ensures { result ≡ (slice_index text.now at == byte) }
+{
+    at < text.len() && text[at] == byte
+}
+
+/// Whether a byte of the class, which 0 is not of, stands at the place.
+pub fn is_class_at(text: &[u8], at: usize, class: Class) -> bool
+    ensures { result ≡ is_in class (slice_index text.now at) }
+{
+    at < text.len() && class.holds(text[at])
 }
 
 /// Whether the byte is `\n` or `\r`.
@@ -36,29 +70,33 @@ pub fn is_name_start(byte: u8) -> bool
     byte.is_ascii_alphabetic() || byte == b'_'
 }
 
+/// The value of a digit below 36, or 36 where the byte is none.
+pub fn digit_value(byte: u8) -> u8
+    ensures value { result ≡ digit_value byte }
+    ensures bound { result ≤ 36 }
+{
+    match byte {
+        b'0'..=b'9' => byte - b'0',
+        b'a'..=b'z' => byte - b'a' + 10,
+        b'A'..=b'Z' => byte - b'A' + 10,
+        _ => 36,
+    }
+}
+
 impl Class {
     /// Whether the byte is of the class.
     pub fn holds(self, byte: u8) -> bool
         ensures { result ≡ is_in self byte }
     {
         match self {
+            Class::Space => is_space(byte),
             Class::Name => is_name_byte(byte),
             Class::Numeral => is_name_byte(byte) || byte == b'.',
+            Class::Digit => byte.is_ascii_digit(),
+            Class::HexDigit => digit_value(byte) < 16,
             Class::Equals => byte == b'=',
         }
     }
-}
-
-/// How many bytes of the class stand at the front.
-pub fn run_len(text: &[u8], class: Class) -> usize
-    ensures run { result ≡ prefix_len (is_in class) text.now }
-    ensures bound { result ≤ length text.now }
-{
-    let mut len = 0;
-    while len < text.len() && class.holds(text[len]) {
-        len += 1;
-    }
-    len
 }
 
 fn is_name_byte(byte: u8) -> bool

@@ -1,11 +1,10 @@
 // Skipped text: white space and comments.
-ghost use Rattle.std.specs.Prelude.{◌≡◌, ◌+◌, ◌≤◌, ◌<◌, ℕ, List, length, drop, IfSome, IfNone};
-ghost use Rattle.std.specs.List.{position_or_len};
-ghost use Rattle.lua_lex.specs.Classes.{is_line_end};
+ghost use Rattle.std.specs.Prelude.{◌≤◌, ◌<◌, ℕ, List, length, drop, IfSome, IfNone};
 ghost use Rattle.lua_lex.specs.Lexical.{Gap, Skips};
 
 use crate::kind::{Kind, kind_of};
-use crate::line::behind;
+use crate::line::{behind, line_len};
+use crate::bracket::long_bracket;
 use memchr::memchr2;
 
 /// How many bytes at the front of the text are skipped.
@@ -30,14 +29,10 @@ fn piece_len(text: &[u8]) -> Option<usize>
     match kind_of(text) {
         Kind::Space => Some(1),
         Kind::Comment => Some(2 + line_len(behind(text, 2))),
+        Kind::LongComment => {
+            let (_, len) = long_bracket(behind(text, 2))?;
+            Some(2 + len)
+        }
         _ => None,
     }
-}
-
-// How many bytes stand in front of the first end of a line.
-fn line_len(text: &[u8]) -> usize
-    ensures value { result ≡ position_or_len is_line_end text.now }
-    ensures bound { result ≤ length text.now }
-{
-    memchr2(b'\n', b'\r', text).unwrap_or(text.len())
 }

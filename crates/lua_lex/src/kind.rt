@@ -1,9 +1,12 @@
 // What stands at the front of a text, by its first bytes.
-ghost use Rattle.std.specs.Prelude.{◌≡◌, ◌≤◌, ◌<◌, length, slice_index, drop, ◌==◌};
+ghost use Rattle.std.specs.Prelude.{◌≡◌, ◌≤◌, length};
 ghost use Rattle.std.specs.Char.{is_ascii_digit};
-ghost use Rattle.lua_lex.specs.Lexical.{kind_of, begins_numeral, begins_comment, comment_kind, least_len, opens_long};
+ghost use Rattle.lua_lex.specs.Inner.{Begins};
+ghost use Rattle.lua_lex.specs.Lexical.{kind_of, begins_numeral, begins_comment, comment_kind};
 
-use crate::class::{Class, is_name_start, is_space, run_len};
+use crate::bracket::opens_long;
+use crate::class::{Class, is_byte_at, is_class_at, is_name_start, is_space};
+use crate::line::behind;
 
 /// What stands at the front of a text.
 #[derive(Clone, Copy, Debug, PartialEq, Eq)]
@@ -32,7 +35,7 @@ pub enum Kind {
 #[tactic(auto, unfolding(crate::specs::Lexical::kind_of))]
 pub fn kind_of(text: &[u8]) -> Kind
     ensures value { result ≡ kind_of text.now }
-    ensures room { least_len result ≤ length text.now }
+    ensures begins { Begins result text.now }
 {
     if text.is_empty() {
         return Kind::End;
@@ -59,9 +62,9 @@ pub fn kind_of(text: &[u8]) -> Kind
 fn comment_kind(text: &[u8]) -> Kind
     requires { 2 ≤ length text.now }
     ensures value { result ≡ comment_kind text.now }
-    ensures room { least_len result ≤ length text.now }
+    ensures begins { Begins result text.now }
 {
-    if opens_long(&text[2..]) {
+    if opens_long(behind(text, 2)) {
         Kind::LongComment
     } else {
         Kind::Comment
@@ -72,31 +75,11 @@ fn comment_kind(text: &[u8]) -> Kind
 fn begins_numeral(text: &[u8]) -> bool
     ensures { result ≡ begins_numeral text.now }
 {
-    is_digit_at(text, 0) || (is_byte_at(text, 0, b'.') && is_digit_at(text, 1))
+    is_class_at(text, 0, Class::Digit) || (is_byte_at(text, 0, b'.') && is_class_at(text, 1, Class::Digit))
 }
 
 fn begins_comment(text: &[u8]) -> bool
     ensures { result ≡ begins_comment text.now }
 {
     is_byte_at(text, 0, b'-') && is_byte_at(text, 1, b'-')
-}
-
-// Whether the text begins with an opening long bracket.
-fn opens_long(text: &[u8]) -> bool
-    ensures { result ≡ opens_long text.now }
-{
-    is_byte_at(text, 0, b'[') && is_byte_at(text, 1 + run_len(&text[1..], Class::Equals), b'[')
-}
-
-fn is_digit_at(text: &[u8], at: usize) -> bool
-    ensures { result ≡ is_ascii_digit (slice_index text.now at) }
-{
-    at < text.len() && text[at].is_ascii_digit()
-}
-
-fn is_byte_at(text: &[u8], at: usize, byte: u8) -> bool
-    requires { 0 < byte }
-    ensures { result ≡ (slice_index text.now at == byte) }
-{
-    at < text.len() && text[at] == byte
 }

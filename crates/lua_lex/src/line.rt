@@ -1,9 +1,11 @@
 // A place in a text: what is left behind it, and its line.
 ghost use Rattle.std.specs.Prelude.{◌≡◌, ◌+◌, ◌≤◌, ◌<◌, ◌^◌, length, drop};
-ghost use Rattle.lua_lex.specs.Classes.{line_ends, end_len};
+ghost use Rattle.std.specs.List.{position_or_len};
+ghost use Rattle.lua_lex.specs.Classes.{is_line_end, line_ends, end_len};
 ghost use Rattle.lua_lex.specs.Lexical.{line_of};
 
 use crate::class::is_line_end;
+use memchr::memchr2;
 
 /// The text behind its first bytes.
 pub fn behind(text: &[u8], len: usize) -> &[u8]
@@ -23,26 +25,16 @@ pub fn line_behind(line: u32, text: &[u8], len: usize) -> u32
     line + line_ends(&text[..len]) as u32
 }
 
-// How many ends of lines the text has.
-fn line_ends(text: &[u8]) -> usize
-    ensures count { result ≡ line_ends text.now }
+/// How many bytes stand in front of the first end of a line.
+pub fn line_len(text: &[u8]) -> usize
+    ensures value { result ≡ position_or_len is_line_end text.now }
     ensures bound { result ≤ length text.now }
 {
-    let mut count = 0;
-    let mut at = 0;
-    while at < text.len() {
-        if is_line_end(text[at]) {
-            count += 1;
-            at += end_len(text, at);
-        } else {
-            at += 1;
-        }
-    }
-    count
+    memchr2(b'\n', b'\r', text).unwrap_or(text.len())
 }
 
-// How many bytes the end of a line at a place has: two different ones are one end.
-fn end_len(text: &[u8], at: usize) -> usize
+/// How many bytes the end of a line at a place has: two different ones are one end.
+pub fn end_len(text: &[u8], at: usize) -> usize
     requires { at < length text.now }
     ensures value { result ≡ end_len (drop at text.now) }
     ensures bound { at + result ≤ length text.now }
@@ -53,4 +45,19 @@ fn end_len(text: &[u8], at: usize) -> usize
     } else {
         1
     }
+}
+
+// How many ends of lines the text has.
+fn line_ends(text: &[u8]) -> usize
+    ensures count { result ≡ line_ends text.now }
+    ensures bound { result ≤ length text.now }
+{
+    let mut count = 0;
+    let mut at = line_len(text);
+    while at < text.len() {
+        count += 1;
+        at += end_len(text, at);
+        at += line_len(behind(text, at));
+    }
+    count
 }

@@ -1,6 +1,6 @@
 use Rattle.std.proofs.Common.{length, drop, ◌-◌, ◌≡◌, ◌≤◌, ◌+◌}
 use Rattle.std.specs.List.{prefix_len}
-use Rattle.lua_lex.specs.Runs.{is_in}
+use Rattle.lua_lex.specs.Inner.{is_in}
 use Rattle.lua_lex.proofs.class.run_len.Given as goal
 
 abbrev pub invariant-loop-len : goal.invariant-loop-len

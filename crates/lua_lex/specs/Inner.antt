@@ -1,0 +1,33 @@
+-- What the private functions say: the bytes of a run's class, and what is known of a text by its kind.
+use Rattle.std.specs.Prelude.{◌≡◌, ℕ, ◌<◌, ◌≤◌, Bool, true, List, length, drop, ◌+◌, ◌==◌, ◌&&◌, slice_index}
+use Rattle.std.specs.Char.{is_ascii_digit}
+use Rattle.lua_lex.specs.declared.class.Class.{Class}
+use Rattle.lua_lex.specs.declared.class.Class.TheVariants as class
+use Rattle.lua_lex.specs.declared.kind.Kind.{Kind}
+use Rattle.lua_lex.specs.declared.kind.Kind.TheVariants.{End, Comment, LongComment, LongString}
+use Rattle.lua_lex.specs.Classes.{is_space, is_name_byte, is_numeral_byte, is_hex_digit, is_equals}
+use Rattle.lua_lex.specs.Brackets.{level_of, opens_long}
+
+abbrev pub is_in : Class → ℕ → Bool
+is_in class.Space byte = is_space byte
+is_in class.Name byte = is_name_byte byte
+is_in class.Numeral byte = is_numeral_byte byte
+is_in class.Digit byte = is_ascii_digit byte
+is_in class.HexDigit byte = is_hex_digit byte
+is_in class.Equals byte = is_equals byte
+
+abbrev pub Begins : Kind → List ℕ → Type 0
+Begins End text = Unit {0}
+Begins Comment text = 2 ≤ length text
+Begins LongComment text = (2 ≤ length text) × (opens_long (drop 2 text) ≡ true)
+Begins LongString text = opens_long text ≡ true
+Begins _ text = 0 < length text
+
+-- the text begins with the closing long bracket of the level
+abbrev pub closes : ℕ → List ℕ → Bool
+closes level text = slice_index text 0 == 93 && (level_of text == level && slice_index text (1 + level) == 93)
+
+-- the first closing long bracket of the level stands at this place
+pub record IsContent (text : List ℕ) (level len : ℕ) : Type 0 where
+  pub closed : closes level (drop len text) ≡ true
+  pub before : (at : ℕ) → at < len → closes level (drop at text) ≡ true → ⊥
