@@ -1,5 +1,5 @@
 -- One step of a count of ends of lines.
-use Rattle.std.proofs.Common.{◌≡◌, ℕ, ◌+◌, ◌<◌, List, [], ◌∷◌, length, get_or, drop, ◌++◌, one-add, get_or-drop, Bool, true, false, refl, ap, sym, ◌∙◌, arith, take, ◌-◌, ◌≤◌, length-drop}
+use Rattle.std.proofs.Common.{◌≡◌, ℕ, ◌+◌, ◌<◌, List, [], ◌∷◌, length, get_or, drop, ◌++◌, one-add, get_or-drop, drop-drop, add-zero, append_assoc, Bool, true, false, refl, ap, sym, ◌∙◌, arith, take, ◌-◌, ◌≤◌, length-drop}
 use Rattle.std.specs.Prelude.{Option, Some, None, not}
 use Rattle.std.specs.Option.{unwrap_or}
 use Rattle.std.specs.List.{position_or_len}
@@ -47,3 +47,38 @@ at_line_end text at h =
     let len = position_or_len is_line_end (drop at text) in
     let within : len < length (drop at text) = omega (arith, length-drop at text) in
     ap is_line_end (sym (get_or-drop at text len 0)) ∙ passes_at_first is_line_end (drop at text) 0 within
+
+-- one step of a reading by lines
+pub read_lines-end : (text : List ℕ) → is_line_end (get_or text 0 0) ≡ true → read_lines text ≡ 10 ∷ read_lines (drop (end_len text) text)
+read_lines-end [] h = absurd cc
+read_lines-end (byte ∷ []) h = rw h refl
+read_lines-end (byte ∷ next ∷ text) h = by_pair (is_pair byte next) refl where
+  by_pair : (both : Bool) → is_pair byte next ≡ both → read_lines (byte ∷ next ∷ text) ≡ 10 ∷ read_lines (drop (end_len (byte ∷ next ∷ text)) (byte ∷ next ∷ text))
+  by_pair true both = rw (h, both) refl
+  by_pair false both = rw (h, both) refl
+
+read_lines-other : (byte : ℕ) (text : List ℕ) → is_line_end byte ≡ false → read_lines (byte ∷ text) ≡ byte ∷ read_lines text
+read_lines-other byte [] h = rw h refl
+read_lines-other byte (next ∷ text) h = rw h refl
+
+-- up to the first end of line a text is read as it stands
+pub read_lines-plain : (text : List ℕ) → read_lines text ≡ take (position_or_len is_line_end text) text ++ read_lines (drop (position_or_len is_line_end text) text)
+read_lines-plain [] = refl
+read_lines-plain (byte ∷ text) = by_first (read_lines-plain text) (is_line_end byte) refl where
+  by_first : read_lines text ≡ take (position_or_len is_line_end text) text ++ read_lines (drop (position_or_len is_line_end text) text) → (ends : Bool) → is_line_end byte ≡ ends → read_lines (byte ∷ text) ≡ take (position_or_len is_line_end (byte ∷ text)) (byte ∷ text) ++ read_lines (drop (position_or_len is_line_end (byte ∷ text)) (byte ∷ text))
+  by_first later true h = rw h refl
+  by_first later false h = read_lines-other byte text h ∙ rw (h, one-add) (ap (λ t. byte ∷ t) later)
+
+-- an end of line more, and what stands up to the next
+pub read_lines-step : (out text : List ℕ) (at end len : ℕ) → is_line_end (get_or text at 0) ≡ true → end ≡ end_len (drop at text) → len ≡ position_or_len is_line_end (drop (at + end) text) → ((out ++ 10 ∷ []) ++ take len (drop (at + end) text)) ++ read_lines (drop (at + end + len) text) ≡ out ++ read_lines (drop at text)
+read_lines-step out text at end len ends end_is len_is =
+    let rest = drop (at + end) text in
+    let first : get_or (drop at text) 0 0 ≡ get_or text at 0 = get_or-drop at text 0 0 ∙ ap (λ i. get_or text i 0) (add-zero at) in
+    let behind : drop (end_len (drop at text)) (drop at text) ≡ rest = drop-drop (end_len (drop at text)) at text ∙ ap (λ n. drop (at + n) text) (sym end_is) in
+    let plain : take len rest ++ read_lines (drop len rest) ≡ read_lines rest = ap (λ n. take n rest ++ read_lines (drop n rest)) len_is ∙ sym (read_lines-plain rest) in
+    append_assoc (out ++ 10 ∷ []) (take len rest) (read_lines (drop (at + end + len) text))
+    ∙ append_assoc out (10 ∷ []) (take len rest ++ read_lines (drop (at + end + len) text))
+    ∙ ap (λ t. out ++ 10 ∷ (take len rest ++ read_lines t)) (sym (drop-drop len (at + end) text))
+    ∙ ap (λ t. out ++ 10 ∷ t) plain
+    ∙ ap (λ t. out ++ 10 ∷ read_lines t) (sym behind)
+    ∙ ap (λ t. out ++ t) (sym (read_lines-end (drop at text) (ap is_line_end first ∙ ends)))

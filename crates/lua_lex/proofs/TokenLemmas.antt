@@ -2,11 +2,14 @@
 use Rattle.std.proofs.Common.{◌≡◌, ℕ, ◌+◌, ◌≤◌, List, [], ◌∷◌, ◌++◌, length, take, drop, Option, Some, None, refl, ap, sym, ◌∙◌, subst, arith}
 use Rattle.std.proofs.lemmas.List.{take_at, drop_at}
 use Rattle.lua_lex.specs.declared.token.Token.{Token}
-use Rattle.lua_lex.specs.declared.token.Token.TheVariants.{Int, Mark}
+use Rattle.lua_lex.specs.declared.token.Token.TheVariants.{Int, Str, Mark}
 use Rattle.lua_lex.specs.declared.kind.Kind.{Kind}
 use Rattle.lua_lex.specs.declared.kind.Kind.TheVariants.{End, Space, Comment, LongComment, Word, Numeral, ShortString, LongString, Symbol}
+use Rattle.lua_lex.specs.Classes.{read_lines, behind_line_end}
 use Rattle.lua_lex.specs.Words.{marks, place_of}
 use Rattle.lua_lex.specs.Lexical.{kind_of, Skips, SkipsOf, Gap, nothing, piece, IsMark, IsToken, IsTokenOf}
+use Rattle.lua_lex.proofs.BracketLemmas.{one_bracket}
+use Rattle.lua_lex.proofs.StringLemmas.{one_quoted}
 
 pub record Same (token other : Token) (rest rest' : List ℕ) : Type 0 where
   pub tokens : token ≡ other
@@ -35,8 +38,12 @@ one_token_of End text token other rest rest' t u = absurd t
 one_token_of Space text token other rest rest' t u = absurd t
 one_token_of Comment text token other rest rest' t u = absurd t
 one_token_of LongComment text token other rest rest' t u = absurd t
-one_token_of ShortString text token other rest rest' t u = absurd t
-one_token_of LongString text token other rest rest' t u = absurd t
+one_token_of ShortString text token other rest rest' t u =
+    let same = one_quoted t.1 u.1 in
+    record { tokens = t.2 ∙ ap Str same.contents ∙ sym u.2; rests = same.rests }
+one_token_of LongString text token other rest rest' t u =
+    let same = one_bracket text t.0 u.0 rest rest' t.1 u.1 in
+    record { tokens = t.2 ∙ ap (λ c. Str (read_lines (behind_line_end c))) same.contents ∙ sym u.2; rests = same.rests }
 
 pub one_token : (text : List ℕ) (token other : Token) (rest rest' : List ℕ) → IsToken text token rest → IsToken text other rest' → Same token other rest rest'
 one_token text = one_token_of (kind_of text) text
@@ -44,7 +51,7 @@ one_token text = one_token_of (kind_of text) text
 one_skip_of : (kind : Kind) (text rest rest' : List ℕ) → SkipsOf kind text rest → SkipsOf kind text rest' → rest ≡ rest'
 one_skip_of Space text rest rest' s t = s ∙ sym t
 one_skip_of Comment text rest rest' s t = s ∙ sym t
-one_skip_of LongComment text rest rest' s t = absurd s
+one_skip_of LongComment text rest rest' s t = (one_bracket (drop 2 text) s.0 t.0 rest rest' s.1 t.1).rests
 one_skip_of End text rest rest' s t = absurd s
 one_skip_of Word text rest rest' s t = absurd s
 one_skip_of Numeral text rest rest' s t = absurd s

@@ -1,11 +1,12 @@
 // A place in a text: what is left behind it, and its line.
-ghost use Rattle.std.specs.Prelude.{◌≡◌, ◌+◌, ◌≤◌, ◌<◌, ◌^◌, length, drop};
+ghost use Rattle.std.specs.Prelude.{◌≡◌, ◌+◌, ◌≤◌, ◌<◌, ◌^◌, ◌++◌, length, take, drop, IfOk};
 ghost use Rattle.std.specs.List.{position_or_len};
-ghost use Rattle.lua_lex.specs.Classes.{is_line_end, line_ends, end_len};
+ghost use Rattle.lua_lex.specs.Classes.{is_line_end, line_ends, end_len, read_lines, behind_line_end};
 ghost use Rattle.lua_lex.specs.Lexical.{line_of};
 
 use crate::class::is_line_end;
 use memchr::memchr2;
+use std::alloc::{AllocError, Global};
 
 /// The text behind its first bytes.
 pub fn behind(text: &[u8], len: usize) -> &[u8]
@@ -45,6 +46,42 @@ pub fn end_len(text: &[u8], at: usize) -> usize
     } else {
         1
     }
+}
+
+/// The text without the end of line that it begins with, if it does.
+pub fn behind_line_end(text: &[u8]) -> &[u8]
+    ensures { result.now ≡ behind_line_end text.now }
+{
+    if !text.is_empty() && is_line_end(text[0]) {
+        behind(text, end_len(text, 0))
+    } else {
+        text
+    }
+}
+
+/// The text with each end of line read as `\n`.
+pub fn read_lines(alloc: Global, text: &[u8]) -> Result<Vec<u8>, AllocError>
+    ensures { IfOk result (λ read. read.items ≡ read_lines text.now) }
+{
+    let mut out = Vec::new(alloc);
+    let mut at = push_line(&mut out, text)?;
+    while at < text.len() {
+        out.push(b'\n')?;
+        at += end_len(text, at);
+        at += push_line(&mut out, behind(text, at))?;
+    }
+    Ok(out)
+}
+
+// Adds what stands in front of the first end of line, and says how many bytes that is.
+fn push_line(out: &mut Vec<u8>, text: &[u8]) -> Result<usize, AllocError>
+    ensures value { IfOk result (λ len. len ≡ position_or_len is_line_end text.now) }
+    ensures bound { IfOk result (λ len. len ≤ length text.now) }
+    ensures pushed { IfOk result (λ len. out.new.items ≡ out.old.items ++ take len text.now) }
+{
+    let len = line_len(text);
+    out.extend_from_slice(&text[..len])?;
+    Ok(len)
 }
 
 // How many ends of lines the text has.

@@ -1,12 +1,16 @@
 // The token at the front of a text.
-ghost use Rattle.std.specs.Prelude.{◌≡◌, ◌≤◌, ◌<◌, ℕ, List, length, drop, take, IfOk, IfSome, IfNone};
+ghost use Rattle.std.specs.Prelude.{◌≡◌, ◌≤◌, ◌<◌, ℕ, List, length, drop, take, true, IfOk, IfSome, IfNone};
 ghost use Rattle.lua_lex.specs.declared.kind.Kind.TheVariants as kind;
 ghost use Rattle.lua_lex.specs.declared.token.Token.{Token};
+ghost use Rattle.lua_lex.specs.Brackets.{opens_long};
 ghost use Rattle.lua_lex.specs.Lexical.{kind_of, IsToken, IsTokenOf, IsMark};
 
+use crate::bracket::long_bracket;
 use crate::class::{Class, run_len};
 use crate::kind::{Kind, kind_of};
+use crate::line::{behind_line_end, read_lines};
 use crate::numeral::integer_of;
+use crate::quoted::quoted;
 use crate::token::Token;
 use crate::words::{LONGEST_MARK, keyword_number, mark_number};
 use int_core::Bytes;
@@ -21,6 +25,8 @@ pub fn token_at(alloc: Global, text: &[u8]) -> Result<Option<(Token, usize)>, Al
     match kind_of(text) {
         Kind::Word => Ok(Some(word(alloc, text)?)),
         Kind::Numeral => Ok(numeral(text)),
+        Kind::ShortString => short_string(alloc, text),
+        Kind::LongString => long_string(alloc, text),
         Kind::Symbol => Ok(mark(text)),
         _ => Ok(None),
     }
@@ -53,6 +59,33 @@ fn numeral(text: &[u8]) -> Option<(Token, usize)>
     let len = run_len(text, Class::Numeral);
     let value = integer_of(&text[..len])?;
     Some((Token::Int(value), len))
+}
+
+// The string between quotes at the front, if there is one.
+fn short_string(alloc: Global, text: &[u8]) -> Result<Option<(Token, usize)>, AllocError>
+    requires { 0 < length text.now }
+    ensures found { IfOk result (λ answer. IfSome answer (λ found. IsTokenOf kind.ShortString text.now found.0 (drop found.1 text.now))) }
+    ensures bound { IfOk result (λ answer. IfSome answer (λ found. (0 < found.1) × (found.1 ≤ length text.now))) }
+    ensures none { IfOk result (λ answer. IfNone answer ((token : Token) (rest : List ℕ) → IsTokenOf kind.ShortString text.now token rest → ⊥)) }
+{
+    let Some((content, len)) = quoted(alloc, text)? else {
+        return Ok(None);
+    };
+    Ok(Some((Token::Str(Bytes::of(content)), len)))
+}
+
+// The string between long brackets at the front, if it is closed.
+fn long_string(alloc: Global, text: &[u8]) -> Result<Option<(Token, usize)>, AllocError>
+    requires { opens_long text.now ≡ true }
+    ensures found { IfOk result (λ answer. IfSome answer (λ found. IsTokenOf kind.LongString text.now found.0 (drop found.1 text.now))) }
+    ensures bound { IfOk result (λ answer. IfSome answer (λ found. (0 < found.1) × (found.1 ≤ length text.now))) }
+    ensures none { IfOk result (λ answer. IfNone answer ((token : Token) (rest : List ℕ) → IsTokenOf kind.LongString text.now token rest → ⊥)) }
+{
+    let Some((content, len)) = long_bracket(text) else {
+        return Ok(None);
+    };
+    let bytes = read_lines(alloc, behind_line_end(content))?;
+    Ok(Some((Token::Str(Bytes::of(bytes)), len)))
 }
 
 // The longest mark at the front, if there is one.

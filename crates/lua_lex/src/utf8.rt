@@ -7,7 +7,6 @@ use std::alloc::AllocError;
 /// Adds the UTF-8 of a number at the end.
 #[tactic(auto, unfolding(crate::specs::Utf8::extended_utf8))]
 pub fn push_utf8(out: &mut Vec<u8>, value: u32) -> Result<(), AllocError>
-    requires { value < 2 ^ 31 }
     ensures { OnOk result (out.new.items ≡ out.old.items ++ extended_utf8 value) }
 {
     match value {

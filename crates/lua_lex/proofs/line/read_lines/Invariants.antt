@@ -1,0 +1,13 @@
+use Rattle.std.proofs.Common.{length, get_or, drop, ◌-◌, ◌≡◌, ◌≤◌, ◌<◌, ◌++◌, true}
+use Rattle.lua_lex.specs.Classes.{is_line_end, read_lines}
+use Rattle.lua_lex.proofs.line.read_lines.Given as goal
+
+abbrev pub invariant-loop-at : goal.invariant-loop-at
+invariant-loop-at l = record {
+  in_range : l.at ≤ length l.text;
+  at_end : l.at < length l.text → is_line_end (get_or l.text l.at 0) ≡ true;
+  whole : l.out.items ++ read_lines (drop l.at l.text) ≡ read_lines l.text;
+}
+
+abbrev pub decreases-loop-at : goal.decreases-loop-at
+decreases-loop-at l = length l.text - l.at
