@@ -122,7 +122,7 @@ pub part_plain : (quote : ℕ) (whole content text : List ℕ) (at : ℕ) → Is
 part_plain quote whole content text at part is =
     let byte : get_or (drop at text) 0 0 ≡ get_or text at 0 = get_or-drop at text 0 0 ∙ ap (λ n. get_or text n 0) (add-zero at) in
     let element : IsElementOf (element_of quote (drop at text)) (drop at text) (get_or text at 0 ∷ []) (drop (at + 1) text) =
-        subst (λ kind. IsElementOf kind (drop at text) (get_or text at 0 ∷ []) (drop (at + 1) text)) (sym is) (ap (λ b. b ∷ []) (sym byte), sym (drop-drop 1 at text)) in
+    subst (λ kind. IsElementOf kind (drop at text) (get_or text at 0 ∷ []) (drop (at + 1) text)) (sym is) (ap (λ b. b ∷ []) (sym byte), sym (drop-drop 1 at text)) in
     part_next quote whole content (drop at text) (get_or text at 0 ∷ []) (drop (at + 1) text) part element
 
 -- an escape

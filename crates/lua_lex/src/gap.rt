@@ -2,9 +2,9 @@
 ghost use Rattle.std.specs.Prelude.{◌≤◌, ◌<◌, ℕ, List, length, drop, IfSome, IfNone};
 ghost use Rattle.lua_lex.specs.Lexical.{Gap, Skips};
 
+use crate::bracket::long_bracket;
 use crate::kind::{Kind, kind_of};
 use crate::line::{behind, line_len};
-use crate::bracket::long_bracket;
 use memchr::memchr2;
 
 /// How many bytes at the front of the text are skipped.

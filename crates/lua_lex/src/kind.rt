@@ -75,7 +75,8 @@ fn comment_kind(text: &[u8]) -> Kind
 fn begins_numeral(text: &[u8]) -> bool
     ensures { result ≡ begins_numeral text.now }
 {
-    is_class_at(text, 0, Class::Digit) || (is_byte_at(text, 0, b'.') && is_class_at(text, 1, Class::Digit))
+    is_class_at(text, 0, Class::Digit)
+        || (is_byte_at(text, 0, b'.') && is_class_at(text, 1, Class::Digit))
 }
 
 fn begins_comment(text: &[u8]) -> bool

@@ -1,29 +1,21 @@
 // The tokens of a source text (Lua 5.4 manual, 3.1).
 #![tactic(auto)]
 
-mod token;
-
-pub mod keyword;
-pub mod mark;
-mod words;
-
-mod class;
-mod line;
-
 mod bracket;
-mod kind;
-
-mod gap;
-
-mod numeral;
-
+mod class;
 mod escape;
-mod utf8;
-
+mod gap;
+pub mod keyword;
+mod kind;
+mod line;
+pub mod mark;
+mod numeral;
 mod quoted;
-
 mod scan;
 mod source;
+mod token;
+mod utf8;
+mod words;
 
 pub use source::{LexFault, MAX_SOURCE, tokens};
 pub use token::{Token, Tokens};

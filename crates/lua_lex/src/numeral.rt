@@ -29,7 +29,9 @@ pub fn value_below(digits: &[u8], radix: u64, limit: u64) -> Option<u64>
 {
     let mut value: u64 = 0;
     for byte in digits {
-        value = value.checked_mul(radix)?.checked_add(u64::from(digit_value(*byte)))?;
+        value = value
+            .checked_mul(radix)?
+            .checked_add(u64::from(digit_value(*byte)))?;
     }
     if value < limit { Some(value) } else { None }
 }
@@ -57,7 +59,9 @@ fn wrapped_value(digits: &[u8]) -> u64
 {
     let mut value: u64 = 0;
     for byte in digits {
-        value = value.wrapping_mul(16).wrapping_add(u64::from(digit_value(*byte)));
+        value = value
+            .wrapping_mul(16)
+            .wrapping_add(u64::from(digit_value(*byte)));
     }
     value
 }

@@ -25,7 +25,7 @@ loop-at-preserved c =
     let next = at + end in
     let len : c.in_ok-at-2.field-0 ≡ position_or_len is_line_end (drop next text) = c.in_ok-at-2.ensures.value ∙ ap (position_or_len is_line_end) c.behind.ensures in
     let items : c.push_line-in-loop-at.new.out.items ≡ (c.loop-at.out.items ++ 10 ∷ []) ++ take c.in_ok-at-2.field-0 (drop next text) =
-        c.in_ok-at-2.ensures.pushed ∙ ap (λ t. c.push.new.self.items ++ take c.in_ok-at-2.field-0 t) c.behind.ensures ∙ ap (λ l. l ++ take c.in_ok-at-2.field-0 (drop next text)) c.in_ok-push.ensures.items in
+    c.in_ok-at-2.ensures.pushed ∙ ap (λ t. c.push.new.self.items ++ take c.in_ok-at-2.field-0 t) c.behind.ensures ∙ ap (λ l. l ++ take c.in_ok-at-2.field-0 (drop next text)) c.in_ok-push.ensures.items in
     record {
       in_range = omega (arith, c.in_ok-at-2.ensures.bound, ap length c.behind.ensures, length-drop next text, c.end_len.ensures.bound);
       at_end = λ h. ap (λ n. is_line_end (get_or text (next + n) 0)) len ∙ at_line_end text next (subst (λ n. next + n < length text) len h);
