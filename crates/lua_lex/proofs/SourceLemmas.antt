@@ -2,7 +2,13 @@
 use Rattle.std.proofs.Common.{◌≡◌, ℕ, ◌+◌, ◌≤◌, List, [], ◌∷◌, ◌++◌, length, refl, ap, sym, ◌∙◌, subst, append_assoc, arith}
 use Rattle.lua_lex.specs.declared.token.Token.{Token}
 use Rattle.lua_lex.specs.declared.token.Token.TheVariants.{End}
-use Rattle.lua_lex.specs.Lexical.{Gap, IsToken, IsRefused, line_of, TokensFrom, ends, goes_on, TokensOf, BadFrom, here, later, BadToken}
+use Rattle.std.specs.Prelude.{Bool, true, false, Option, Some, None, take_while}
+use Rattle.lua_lex.specs.declared.kind.Kind.{Kind}
+use Rattle.lua_lex.specs.declared.kind.Kind.TheVariants as kind
+use Rattle.lua_lex.specs.declared.kind.Kind.TheVariants.{Space, Comment, LongComment, Word, Numeral, ShortString, LongString, Symbol}
+use Rattle.lua_lex.specs.Words.{keywords, place_of}
+use Rattle.lua_lex.specs.Classes.{is_name_byte}
+use Rattle.lua_lex.specs.Lexical.{kind_of, word_token, is_end, EndsOnce, IsTokenOf, Gap, IsToken, IsRefused, line_of, TokensFrom, ends, goes_on, TokensOf, BadFrom, here, later, BadToken}
 use Rattle.lua_lex.proofs.TokenLemmas.{Same, one_token, not_both, Stops, one_gap, end_stops, no_end_token}
 
 -- The front of the source has these tokens, and the text is left, which begins on this line.
@@ -100,3 +106,24 @@ stuck_none source front line text start f gap refused all h = no_tokens start ga
 
 pub stuck_only : (source : List ℕ) (front : List (Token × ℕ)) (line : ℕ) (text start : List ℕ) → IsFront source front line text → Gap text start → IsRefused start → (at : ℕ) → BadToken source at → at ≡ line_of line text start
 stuck_only source front line text start f gap refused at h = bad_here start gap refused (f.only_bad at h)
+
+-- a token is not the end
+not_end_of : (at : Kind) (text rest : List ℕ) (token : Token) → IsTokenOf at text token rest → is_end token ≡ false
+not_end_of Word text rest token t = by_place (place_of keywords (take_while is_name_byte text)) t.0 where
+  by_place : (place : Option ℕ) → token ≡ word_token (take_while is_name_byte text) place → is_end token ≡ false
+  by_place (Some number) is = ap is_end is
+  by_place None is = ap is_end is
+not_end_of Numeral text rest token t = ap is_end t.2
+not_end_of ShortString text rest token t = ap is_end t.2
+not_end_of LongString text rest token t = ap is_end t.2
+not_end_of Symbol text rest token t = ap is_end t.2
+not_end_of kind.End text rest token t = absurd t
+not_end_of Space text rest token t = absurd t
+not_end_of Comment text rest token t = absurd t
+not_end_of LongComment text rest token t = absurd t
+
+pub ends_once : {line : ℕ} {text : List ℕ} {list : List (Token × ℕ)} → TokensFrom line text list → EndsOnce list
+ends_once (ends gap) = refl
+ends_once (goes_on start rest token list gap t more) =
+    let other : EndsOnce list = ends_once more in
+    rw (not_end_of (kind_of start) start rest token t) other

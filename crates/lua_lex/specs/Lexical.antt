@@ -1,5 +1,5 @@
 -- What the tokens of a source are, and which place of it is refused (Lua 5.4 manual, 3.1).
-use Rattle.std.specs.Prelude.{◌≡◌, ◌≢◌, ℕ, ◌+◌, ◌-◌, ◌≤◌, ◌^◌, ◌%◌, ℤ, pos, Bool, ◌==◌, ◌||◌, ◌&&◌, nat_lt, List, [], ◌∷◌, ◌++◌, codes, length, take, drop, slice_index, Option, None, Some, if◌then◌else◌, take_while}
+use Rattle.std.specs.Prelude.{◌≡◌, ◌≢◌, ℕ, ◌+◌, ◌-◌, ◌≤◌, ◌^◌, ◌%◌, ℤ, pos, Bool, true, false, ◌==◌, ◌||◌, ◌&&◌, nat_lt, List, [], ◌∷◌, ◌++◌, codes, length, take, drop, slice_index, Option, None, Some, if◌then◌else◌, take_while}
 use Rattle.std.specs.List.{prefix_len, position_or_len, starts_with, list_all}
 use Rattle.std.specs.Int.{cast_signed, w64}
 use Rattle.std.specs.Str.Parse.{digits_value}
@@ -125,3 +125,16 @@ pub data BadFrom : ℕ → List ℕ → ℕ → Type 0 where
 
 abbrev pub BadToken : List ℕ → ℕ → Type 0
 BadToken source line = BadFrom 1 source line
+
+-- in a list of tokens the end stands last, and nowhere else
+abbrev pub is_end : Token → Bool
+is_end made.End = true
+is_end _ = false
+
+abbrev pub LastWhere : Bool → List (Token × ℕ) → Type 0 → Type 0
+LastWhere true list others = list ≡ []
+LastWhere false list others = others
+
+abbrev pub EndsOnce : List (Token × ℕ) → Type 0
+EndsOnce [] = ⊥
+EndsOnce (pair ∷ list) = LastWhere (is_end pair.0) list (EndsOnce list)

@@ -2,7 +2,7 @@
 ghost use Rattle.std.specs.Prelude.{◌≡◌, ◌+◌, ◌<◌, ◌≤◌, ◌↔◌, ℕ, List, length, IfOk, Err};
 ghost use Rattle.lua_lex.specs.declared.token.Token.{Token};
 ghost use Rattle.lua_lex.specs.declared.source.LexFault.TheVariants.{Limit, Memory};
-ghost use Rattle.lua_lex.specs.Lexical.{TokensOf, BadToken};
+ghost use Rattle.lua_lex.specs.Lexical.{TokensOf, BadToken, EndsOnce};
 ghost use Rattle.lua_lex.specs.Answers.{OnRefused};
 
 use crate::gap::gap_len;
@@ -10,18 +10,22 @@ use crate::line::{behind, line_behind};
 use crate::scan::token_at;
 use crate::token::{Token, Tokens};
 use std::alloc::{AllocError, AllocFailed, Global};
+use thiserror::Error;
 
 /// The greatest number of bytes in a source.
 pub const MAX_SOURCE: usize = 1_048_576;
 
 /// Why a source has no tokens.
-#[derive(Debug, PartialEq, Eq, Drop)]
+#[derive(Debug, PartialEq, Eq, Drop, Error)]
 pub enum LexFault {
     /// A place of the source is refused, the first of them on this line.
+    #[error("source refused at line {line}")]
     Refused { line: u32 },
     /// The source has more than `MAX_SOURCE` bytes.
+    #[error("source of more than {MAX_SOURCE} bytes")]
     Limit,
     /// Memory ran out.
+    #[error("out of memory")]
     Memory,
 }
 
@@ -55,6 +59,9 @@ pub fn tokens(alloc: Global, source: &[u8]) -> Result<Tokens, LexFault>
     ensures only_refused { OnRefused result (λ line. (other : ℕ) → BadToken source.now other → other ≡ line) }
     ensures not_refused { IfOk result (λ list. (line : ℕ) → BadToken source.now line → ⊥) }
     ensures no_tokens { OnRefused result (λ line. (list : List (Token × ℕ)) → TokensOf source.now list → ⊥) }
+
+    // The end stands last, and nowhere else.
+    ensures ends { IfOk result EndsOnce }
 
     // Each token but the end has a byte of its own.
     ensures count { IfOk result (λ list. length list ≤ length source.now + 1) }

@@ -4,8 +4,8 @@ use Rattle.std.proofs.lemmas.Bool.Decides.{nat_tests}
 use Rattle.std.proofs.lemmas.List.{nil_from_length}
 use Rattle.lua_lex.specs.declared.token.Token.{Token}
 use Rattle.lua_lex.specs.declared.token.Token.TheVariants.{End}
-use Rattle.lua_lex.specs.Lexical.{Gap, IsToken, IsRefused, Skips, line_of, ends, here, TokensOf, BadToken}
-use Rattle.lua_lex.proofs.SourceLemmas.{IsFront, next, end_only, end_not_bad, stuck_none, stuck_only}
+use Rattle.lua_lex.specs.Lexical.{Gap, IsToken, IsRefused, Skips, line_of, ends, here, TokensOf, BadToken, EndsOnce}
+use Rattle.lua_lex.proofs.SourceLemmas.{IsFront, ends_once, next, end_only, end_not_bad, stuck_none, stuck_only}
 use Rattle.lua_lex.proofs.source.tokens.Goals as goal
 use Rattle.lua_lex.proofs.source.tokens.Goals.{After-is_empty, After-of, After-drop-items-in_default}
 
@@ -89,3 +89,7 @@ loop-text-preserved c =
       count = omega (arith, c.loop-text.invariant.count, ap length items, length-append c.loop-text.items.items ((token, line_of c.loop-text.line text start) ∷ []), ap length c.behind-text.ensures, length-drop c.gap_len-gap.result text, ap length c.behind-text-in-loop-text.ensures, length-drop c.in-Some.len start, not_empty);
       short = c.loop-text.invariant.short;
     }
+
+pub returns-then-is_empty-clause-ends : goal.returns-then-is_empty-clause-ends
+returns-then-is_empty-clause-ends c =
+    subst EndsOnce (sym (list_is (goal.at.returns-then-is_empty-clause-ends c).After-of)) (ends_once (c.loop-text.invariant.front.leads _ (ends (end_gap (goal.at.returns-then-is_empty-clause-ends c).After-of))))
