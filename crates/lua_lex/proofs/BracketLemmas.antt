@@ -1,5 +1,5 @@
 -- The first closing long bracket of a level.
-use Rattle.std.proofs.Common.{◌≡◌, ℕ, zero, suc, ◌+◌, ◌-◌, ◌<◌, ◌≤◌, List, [], ◌∷◌, ◌++◌, length, take, drop, get_or, replicate, Bool, true, false, cond, refl, ap, sym, ◌∙◌, subst, arith, one-add, drop-drop, take-append-drop, length-append, length-take-le, length-drop, append_assoc, get_or-drop, eq-eqb, ⊎_elim}
+use Rattle.std.proofs.Common.{◌≡◌, ℕ, zero, suc, ◌+◌, ◌-◌, ◌≤◌, List, [], ◌∷◌, ◌++◌, length, take, drop, get_or, replicate, Bool, true, false, refl, ap, sym, ◌∙◌, arith, one-add, drop-drop, take-append-drop, length-take-le, length-drop, append_assoc, get_or-drop, eq-eqb, ⊎_elim}
 use Rattle.std.specs.Prelude.{◌&&◌, ◌==◌}
 use Rattle.std.specs.List.{prefix_len}
 use Rattle.std.proofs.lemmas.Bool.{cases_lt}

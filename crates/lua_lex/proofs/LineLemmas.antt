@@ -1,6 +1,6 @@
 -- One step of a count of ends of lines.
 use Rattle.std.proofs.Common.{◌≡◌, ℕ, ◌+◌, ◌<◌, List, [], ◌∷◌, length, get_or, drop, ◌++◌, one-add, get_or-drop, drop-drop, add-zero, append_assoc, Bool, true, false, refl, ap, sym, ◌∙◌, arith, take, ◌-◌, ◌≤◌, length-drop}
-use Rattle.std.specs.Prelude.{Option, Some, None, not}
+use Rattle.std.specs.Prelude.{Option, Some, None}
 use Rattle.std.specs.Option.{unwrap_or}
 use Rattle.std.specs.List.{position_or_len}
 use Rattle.std.proofs.lemmas.List.Sums.{position_or_len_is, passes_at_first}

@@ -1,15 +1,15 @@
 -- What is read of a source so far, and what that leaves.
-use Rattle.std.proofs.Common.{◌≡◌, ℕ, ◌+◌, ◌≤◌, List, [], ◌∷◌, ◌++◌, length, refl, ap, sym, ◌∙◌, subst, append_assoc, arith}
+use Rattle.std.proofs.Common.{◌≡◌, ℕ, List, [], ◌∷◌, ◌++◌, refl, ap, sym, ◌∙◌, subst, append_assoc}
 use Rattle.lua_lex.specs.declared.token.Token.{Token}
 use Rattle.lua_lex.specs.declared.token.Token.TheVariants.{End}
-use Rattle.std.specs.Prelude.{Bool, true, false, Option, Some, None, take_while}
+use Rattle.std.specs.Prelude.{false, Option, Some, None, take_while}
 use Rattle.lua_lex.specs.declared.kind.Kind.{Kind}
 use Rattle.lua_lex.specs.declared.kind.Kind.TheVariants as kind
 use Rattle.lua_lex.specs.declared.kind.Kind.TheVariants.{Space, Comment, LongComment, Word, Numeral, ShortString, LongString, Symbol}
 use Rattle.lua_lex.specs.Words.{keywords, place_of}
 use Rattle.lua_lex.specs.Classes.{is_name_byte}
 use Rattle.lua_lex.specs.Lexical.{kind_of, word_token, is_end, EndsOnce, IsTokenOf, Gap, IsToken, IsRefused, line_of, TokensFrom, ends, goes_on, TokensOf, BadFrom, here, later, BadToken}
-use Rattle.lua_lex.proofs.TokenLemmas.{Same, one_token, not_both, Stops, one_gap, end_stops, no_end_token}
+use Rattle.lua_lex.proofs.TokenLemmas.{one_token, not_both, Stops, one_gap, end_stops, no_end_token}
 
 -- The front of the source has these tokens, and the text is left, which begins on this line.
 pub record IsFront (source : List ℕ) (front : List (Token × ℕ)) (line : ℕ) (text : List ℕ) : Type 0 where

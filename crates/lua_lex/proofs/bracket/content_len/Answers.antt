@@ -1,6 +1,6 @@
 -- Up to the place of the next `]` nothing closes.
-use Rattle.std.proofs.Common.{◌≡◌, ℕ, ◌+◌, ◌-◌, ◌<◌, ◌≤◌, List, drop, length, get_or, true, false, sym, ap, ◌∙◌, subst, arith, ⊎_elim, length-drop}
-use Rattle.std.specs.Prelude.{◌==◌, Option, Some, None}
+use Rattle.std.proofs.Common.{◌≡◌, ℕ, ◌+◌, ◌-◌, ◌<◌, List, drop, length, true, false, sym, ap, ◌∙◌, subst, arith, ⊎_elim, length-drop}
+use Rattle.std.specs.Prelude.{◌==◌, Some, None}
 use Rattle.std.proofs.lemmas.Bool.{cases_lt, false≢true}
 use Rattle.std.proofs.lemmas.List.{get_or_past}
 use Rattle.memchr.specs.Find.{IsFirstByte, is_byte}

@@ -1,4 +1,4 @@
-use Rattle.std.proofs.Common.{◌≡◌, ap, sym, ◌∙◌, rules}
+use Rattle.std.proofs.Common.{◌≡◌, rules}
 use Rattle.std.specs.Prelude.{slice_get, None}
 use Rattle.lua_lex.proofs.StringLemmas.{no_escape_in}
 use Rattle.lua_lex.proofs.escape.escape_at.Goals as goal

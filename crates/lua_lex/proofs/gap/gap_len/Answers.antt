@@ -1,5 +1,5 @@
 -- A piece more is skipped.
-use Rattle.std.proofs.Common.{sym, ◌∙◌, arith, drop, subst, drop-drop, length-drop, ap, length}
+use Rattle.std.proofs.Common.{sym, arith, drop, subst, drop-drop, length-drop, ap, length}
 use Rattle.lua_lex.specs.Lexical.{Gap, nothing, piece, Skips}
 use Rattle.lua_lex.proofs.gap.gap_len.Goals as goal
 

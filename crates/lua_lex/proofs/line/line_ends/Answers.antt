@@ -1,5 +1,5 @@
 -- Each step passes one end of line and what stands up to the next.
-use Rattle.std.proofs.Common.{◌≡◌, ◌<◌, ℕ, ◌+◌, get_or, drop, length, sym, ap, ◌∙◌, subst, arith, true, get_or-drop, drop-drop, length-drop, add-zero, zero-add}
+use Rattle.std.proofs.Common.{◌≡◌, ◌<◌, ◌+◌, get_or, drop, length, sym, ap, ◌∙◌, subst, arith, get_or-drop, drop-drop, length-drop, add-zero, zero-add}
 use Rattle.std.specs.List.{position_or_len}
 use Rattle.lua_lex.specs.Classes.{is_line_end, end_len, line_ends}
 use Rattle.lua_lex.proofs.LineLemmas.{line_ends-end, line_ends-plain, at_line_end}

@@ -1,4 +1,4 @@
-use Rattle.std.proofs.Common.{◌≡◌, ◌∙◌}
+use Rattle.std.proofs.Common.{◌∙◌}
 use Rattle.lua_lex.proofs.LineLemmas.{first_line_end}
 use Rattle.lua_lex.proofs.line.line_len.Goals as goal
 

@@ -1,5 +1,5 @@
 -- Each step reads one end of line and what stands up to the next.
-use Rattle.std.proofs.Common.{◌≡◌, ◌<◌, ℕ, ◌+◌, ◌++◌, ◌∷◌, [], get_or, take, drop, length, sym, ap, ◌∙◌, subst, arith, length-drop, zero-add}
+use Rattle.std.proofs.Common.{◌≡◌, ◌<◌, ◌+◌, ◌++◌, ◌∷◌, [], get_or, take, drop, length, sym, ap, ◌∙◌, subst, arith, length-drop, zero-add}
 use Rattle.std.specs.List.{position_or_len}
 use Rattle.lua_lex.specs.Classes.{is_line_end, read_lines}
 use Rattle.lua_lex.proofs.LineLemmas.{at_line_end, read_lines-plain, read_lines-step}

@@ -1,8 +1,5 @@
 -- What does not fit 64 bits is not below the limit.
-use Rattle.std.proofs.Common.{◌≡◌, ℕ, ◌+◌, ◌*◌, ◌^◌, ◌<◌, ◌≤◌, List, take, get_or, length, ap, sym, ◌∙◌, subst, arith}
-use Rattle.std.specs.Prelude.{IfNone}
-use Rattle.std.specs.Char.{digit_value}
-use Rattle.std.specs.Str.Parse.{digits_value}
+use Rattle.std.proofs.Common.{◌+◌, ◌*◌, ◌^◌, ◌<◌, ap, arith}
 use Rattle.std.proofs.lemmas.Int.Digits.{digits_value_more}
 use Rattle.std.proofs.lemmas.Str.Parse.{digits_value-take-le}
 use Rattle.lua_lex.proofs.numeral.value_below.Goals as goal

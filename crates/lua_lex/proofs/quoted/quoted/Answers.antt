@@ -3,7 +3,7 @@ use Rattle.std.proofs.Common.{◌≡◌, ◌<◌, ◌≤◌, ℕ, ◌+◌, ◌++
 use Rattle.lua_lex.specs.declared.escape.Meaning.{Meaning}
 use Rattle.lua_lex.specs.declared.quoted.Element.{Element}
 use Rattle.lua_lex.specs.Strings.{element_of, meaning_bytes, IsEscape, Quoted}
-use Rattle.lua_lex.proofs.StringLemmas.{IsPart, part_end, part_plain, part_escape, part_no_escape, part_unfinished}
+use Rattle.lua_lex.proofs.StringLemmas.{IsPart, part_end, part_plain, part_escape, part_no_escape}
 use Rattle.lua_lex.proofs.quoted.quoted.Goals as goal
 
 here : (quote : ℕ) (text rest : List ℕ) (at : ℕ) (kind : Element) → rest ≡ drop at text → kind ≡ element_of quote rest → element_of quote (drop at text) ≡ kind

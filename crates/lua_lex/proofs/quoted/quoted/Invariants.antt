@@ -1,4 +1,4 @@
-use Rattle.std.proofs.Common.{◌≡◌, ◌≤◌, ◌-◌, length, get_or, drop}
+use Rattle.std.proofs.Common.{◌≤◌, ◌-◌, length, get_or, drop}
 use Rattle.lua_lex.proofs.StringLemmas.{IsPart}
 use Rattle.lua_lex.proofs.quoted.quoted.Given as goal
 

@@ -1,4 +1,4 @@
-use Rattle.std.proofs.Common.{◌≡◌, sym, ◌∙◌, rules, take, Some, refl, subst, ℕ, arith}
+use Rattle.std.proofs.Common.{◌≡◌, rules, take, Some, refl, subst, arith}
 use Rattle.lua_lex.specs.Words.{marks, place_of}
 use Rattle.lua_lex.proofs.WordLemmas.{NoneFrom, longest_mark, no_mark}
 use Rattle.lua_lex.proofs.scan.mark.Goals as goal

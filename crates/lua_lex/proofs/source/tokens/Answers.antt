@@ -1,8 +1,7 @@
 -- The tokens so far and what is left determine the tokens of the source.
-use Rattle.std.proofs.Common.{◌≡◌, ◌++◌, ◌∷◌, [], ◌+◌, ◌<◌, ◌≤◌, length, length-drop, length-append, drop, sym, ◌∙◌, subst, ap, rules, arith, ℕ, List, Some, None, IfSome, IfNone, refl}
+use Rattle.std.proofs.Common.{◌≡◌, ◌++◌, ◌∷◌, [], ◌<◌, ◌≤◌, length, length-drop, length-append, drop, sym, ◌∙◌, subst, ap, rules, arith, ℕ, List}
 use Rattle.std.proofs.lemmas.Bool.Decides.{nat_tests}
 use Rattle.std.proofs.lemmas.List.{nil_from_length}
-use Rattle.lua_lex.specs.declared.token.Token.{Token}
 use Rattle.lua_lex.specs.declared.token.Token.TheVariants.{End}
 use Rattle.lua_lex.specs.Lexical.{Gap, IsToken, IsRefused, Skips, line_of, ends, here, TokensOf, BadToken, EndsOnce}
 use Rattle.lua_lex.proofs.SourceLemmas.{IsFront, ends_once, next, end_only, end_not_bad, stuck_none, stuck_only}

@@ -1,4 +1,4 @@
-use Rattle.std.proofs.Common.{◌≡◌, ◌∙◌, arith}
+use Rattle.std.proofs.Common.{◌∙◌, arith}
 use Rattle.lua_lex.proofs.StringLemmas.{continuation-push}
 use Rattle.lua_lex.proofs.utf8.push_sequence.Goals as goal
 

@@ -1,5 +1,5 @@
 -- The place of the first equal word is what `position` found.
-use Rattle.std.proofs.Common.{◌≡◌, ap, sym, ◌∙◌, rules, tests, nat_eq, None, Some}
+use Rattle.std.proofs.Common.{◌≡◌, sym, ◌∙◌, rules, tests, nat_eq}
 use Rattle.std.specs.List.{position_from}
 use Rattle.std.specs.Cmp.Lexicographic.{pointwise}
 use Rattle.std.proofs.lemmas.Iterator.{YieldsList-from_slice}
