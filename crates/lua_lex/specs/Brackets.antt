@@ -1,4 +1,5 @@
 -- Long brackets, in which literal strings and comments stand (Lua 5.4 manual, 3.1).
+-- Bytes stand by their numbers: `=` is 61, `[` 91 and `]` 93.
 use Rattle.std.specs.Prelude.{◌≡◌, ℕ, ◌+◌, ◌≤◌, Bool, ◌==◌, ◌&&◌, List, [], ◌∷◌, ◌++◌, length, drop, slice_index, replicate}
 use Rattle.std.specs.List.{prefix_len}
 use Rattle.lua_lex.specs.Classes.{is_equals}

@@ -1,4 +1,5 @@
 -- Classes of bytes, and the ends of lines in a text (Lua 5.4 manual, 3.1).
+-- Bytes stand by their numbers: `.` is 46, `=` 61 and `_` 95.
 use Rattle.std.specs.Prelude.{ℕ, ◌+◌, Bool, ◌==◌, ◌||◌, ◌&&◌, not, nat_le, List, [], ◌∷◌, drop, slice_index, if◌then◌else◌}
 use Rattle.std.specs.Char.{is_ascii_alphabetic, is_ascii_digit, is_digit}
 

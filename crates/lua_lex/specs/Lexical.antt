@@ -1,4 +1,5 @@
 -- What the tokens of a source are, and which place of it is refused (Lua 5.4 manual, 3.1).
+-- Bytes stand by their numbers: `"` is 34, `'` 39, `-` 45, `.` 46, `0` 48, `X` 88 and `x` 120.
 use Rattle.std.specs.Prelude.{◌≡◌, ◌≢◌, ℕ, ◌+◌, ◌-◌, ◌≤◌, ◌^◌, ◌%◌, ℤ, pos, Bool, true, false, ◌==◌, ◌||◌, ◌&&◌, nat_lt, List, [], ◌∷◌, ◌++◌, length, take, drop, slice_index, Option, None, Some, if◌then◌else◌, take_while}
 use Rattle.std.specs.List.{prefix_len, position_or_len, list_all}
 use Rattle.std.specs.Int.{cast_signed, w64}

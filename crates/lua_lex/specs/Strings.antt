@@ -1,4 +1,5 @@
 -- Literal strings between quotes, and their escapes (Lua 5.4 manual, 3.1).
+-- Bytes stand by their numbers: `"` is 34, `'` 39, `\` 92, `{` 123, `}` 125, and the letters `a` to `z` are 97 to 122.
 use Rattle.std.specs.Prelude.{◌≡◌, ℕ, ◌+◌, ◌*◌, ◌<◌, ◌^◌, true, ◌==◌, List, [], ◌∷◌, ◌++◌, length, take, drop, min, slice_index, Option, Some, None, if◌then◌else◌}
 use Rattle.std.specs.List.{prefix_len}
 use Rattle.std.specs.Char.{is_ascii_digit, digit_value}

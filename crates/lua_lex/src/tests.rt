@@ -1,5 +1,5 @@
 // What no clause says: outside cases, with values from the Lua 5.4 manual, 3.1.
-use crate::{KEYWORDS, LexFault, MARKS, MAX_SOURCE, Token, keyword, mark, tokens};
+use crate::{LexFault, MAX_SOURCE, Token, keyword, mark, tokens};
 use std::alloc::Global;
 use std::test::Fail;
 
@@ -43,6 +43,67 @@ const STRINGS: [(&[u8], &[u8]); 19] = [
     (b"[[\r\na\rb\n\rc\r\n]]", b"a\nb\nc\n"),
     (b"[=[]]]=]", b"]]"),
     (b"[==[\\n]=]]==]", b"\\n]=]"),
+];
+
+// The keywords and their numbers.
+const KEYWORD_NUMBERS: [(&[u8], u8); 22] = [
+    (b"and", keyword::AND),
+    (b"break", keyword::BREAK),
+    (b"do", keyword::DO),
+    (b"else", keyword::ELSE),
+    (b"elseif", keyword::ELSEIF),
+    (b"end", keyword::END),
+    (b"false", keyword::FALSE),
+    (b"for", keyword::FOR),
+    (b"function", keyword::FUNCTION),
+    (b"goto", keyword::GOTO),
+    (b"if", keyword::IF),
+    (b"in", keyword::IN),
+    (b"local", keyword::LOCAL),
+    (b"nil", keyword::NIL),
+    (b"not", keyword::NOT),
+    (b"or", keyword::OR),
+    (b"repeat", keyword::REPEAT),
+    (b"return", keyword::RETURN),
+    (b"then", keyword::THEN),
+    (b"true", keyword::TRUE),
+    (b"until", keyword::UNTIL),
+    (b"while", keyword::WHILE),
+];
+
+// The other fixed tokens and their numbers.
+const MARK_NUMBERS: [(&[u8], u8); 31] = [
+    (b"+", mark::PLUS),
+    (b"-", mark::MINUS),
+    (b"*", mark::STAR),
+    (b"%", mark::PERCENT),
+    (b"//", mark::FLOOR_DIVISION),
+    (b"&", mark::AMPERSAND),
+    (b"~", mark::TILDE),
+    (b"|", mark::BAR),
+    (b"<<", mark::SHIFT_LEFT),
+    (b">>", mark::SHIFT_RIGHT),
+    (b"#", mark::LENGTH),
+    (b"==", mark::EQUAL),
+    (b"~=", mark::NOT_EQUAL),
+    (b"<=", mark::LESS_EQUAL),
+    (b">=", mark::GREATER_EQUAL),
+    (b"<", mark::LESS),
+    (b">", mark::GREATER),
+    (b"=", mark::ASSIGN),
+    (b"(", mark::OPEN_ROUND),
+    (b")", mark::CLOSE_ROUND),
+    (b"{", mark::OPEN_CURLY),
+    (b"}", mark::CLOSE_CURLY),
+    (b"[", mark::OPEN_SQUARE),
+    (b"]", mark::CLOSE_SQUARE),
+    (b"::", mark::LABEL),
+    (b";", mark::SEMICOLON),
+    (b":", mark::COLON),
+    (b",", mark::COMMA),
+    (b".", mark::DOT),
+    (b"..", mark::CONCAT),
+    (b"...", mark::DOTS),
 ];
 
 // Sources and the line of their refusal, or 0 where they have tokens.
@@ -128,8 +189,15 @@ fn refusals_have_their_lines(rt: HostRuntime) -> Result<(), Fail> {
 
 #[test]
 fn words_and_marks_have_their_places(rt: HostRuntime) -> Result<(), Fail> {
-    assert_eq!(rt; KEYWORDS[keyword::WHILE as usize], b"while".as_slice());
-    assert_eq!(rt; MARKS[mark::DOTS as usize], b"...".as_slice());
+    for (source, number) in &KEYWORD_NUMBERS {
+        assert_eq!(rt;
+            tokens(rt.alloc(), source)?.token(0),
+            &Token::Keyword(*number)
+        );
+    }
+    for (source, number) in &MARK_NUMBERS {
+        assert_eq!(rt; tokens(rt.alloc(), source)?.token(0), &Token::Mark(*number));
+    }
     let list = tokens(rt.alloc(), b"local x1=6-- six\r\nprint(x1)<<=...")?;
     assert_eq!(rt; list.len(), 12);
     assert_eq!(rt; list.token(0), &Token::Keyword(keyword::LOCAL));
