@@ -1,0 +1,8 @@
+// Pools of objects: a list that grows at its end, and is cut back to a mark.
+#![tactic(auto)]
+
+mod pool;
+#[cfg(test)]
+mod tests;
+
+pub use pool::Pool;
