@@ -1,3 +1,5 @@
 pub mod Runs
 pub mod Balanced
 pub mod Tries
+pub mod Parts
+pub mod Readings

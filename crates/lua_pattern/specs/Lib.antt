@@ -4,3 +4,7 @@ pub mod ClassBytes
 pub mod Ways
 pub mod Ends
 pub mod Firsts
+pub mod Bytes
+pub mod Scope
+pub mod Reading
+pub mod Outcomes

@@ -3,8 +3,13 @@
 
 mod answer;
 mod class;
+mod cursor;
 mod item;
 mod matching;
 mod plain;
+mod reading;
+pub mod rule;
+mod scope;
+mod set;
 
 pub use answer::{Capture, Match, PatternFault};
