@@ -3,3 +3,4 @@ pub mod Balanced
 pub mod Tries
 pub mod Parts
 pub mod Readings
+pub mod Told

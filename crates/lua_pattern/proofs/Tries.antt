@@ -1,5 +1,5 @@
 -- The matches of a list of items by the ways of the first one, and tries of several places one after another.
-use Rattle.std.proofs.Common.{◌≡◌, ◌⊎◌, inl, inr, ℕ, zero, suc, ◌+◌, ◌-◌, min, set, Result, Ok, Err, IfOk, add-one, subst, ◌<◌, ◌≤◌, true, false, List, [], ◌∷◌, ◌++◌, length, drop, reverse, None, Some, Option, refl, sym, ap, ◌∙◌, arith}
+use Rattle.std.proofs.Common.{◌≡◌, ◌⊎◌, inl, inr, ℕ, zero, suc, ◌+◌, ◌-◌, min, set, Result, Ok, Err, IfOk, IfSome, add-one, subst, ◌<◌, ◌≤◌, true, false, List, [], ◌∷◌, ◌++◌, length, drop, reverse, None, Some, Option, refl, sym, ap, ◌∙◌, arith}
 use Rattle.std.specs.Prelude.{slice_get, is_some}
 use Rattle.std.specs.List.{flat_map, range_with_len, All}
 use Rattle.std.specs.Option.{option_to_list}
@@ -15,7 +15,7 @@ use Rattle.lua_pattern.specs.declared.item.Item.TheVariants.{Plain, Repeated, Op
 use Rattle.lua_pattern.specs.declared.item.Plain.{Plain as PlainItem}
 use Rattle.lua_pattern.specs.declared.item.Repeat.{Repeat}
 use Rattle.lua_pattern.specs.Ends.{ends}
-use Rattle.lua_pattern.specs.Firsts.{IsFirst, IsBefore, AreBefore}
+use Rattle.lua_pattern.specs.Firsts.{AreBefore, IsBefore, IsFirst, IsInside}
 use Rattle.lua_pattern.specs.Ways.{Found, ways, places, plain_end, ended, is_class_at, run_of}
 use Rattle.lua_pattern.proofs.Balanced.{range-more}
 use Rattle.lua_pattern.proofs.Runs.{run_more, run_none}
@@ -167,3 +167,9 @@ given_up (Some end) was new same back none first = cc
 pub kept_found : (found : Option ℕ) {told matches : List Found} (was before new : List Capture) → matches ≡ told → is_some found ≡ true → IsFirst told found was new → IsFirst matches found before new
 kept_found None was before new same some first = cc
 kept_found (Some end) was before new same some first = ap (λ matches. slice_get matches 0) same ∙ first
+
+-- what is found from a later place on is found from a place before it
+pub inside_later : {E : Type 0} (r : Result (Option ℕ) E) (length at next : ℕ) (captures : List Capture) → at ≤ next → IfOk r (λ end. IfSome end (λ place. IsInside length next place captures)) → IfOk r (λ end. IfSome end (λ place. IsInside length at place captures))
+inside_later (Err fault) length at next captures order inside = tt
+inside_later (Ok None) length at next captures order inside = tt
+inside_later (Ok (Some place)) length at next captures order inside = (omega (arith, inside.0, order), inside.1, inside.2)

@@ -17,3 +17,7 @@ IsBefore place (Position at) = at ≤ place
 
 abbrev pub AreBefore : ℕ → List Capture → Type 0
 AreBefore place captures = All (IsBefore place) captures
+
+-- a match from a place on ends within so many bytes, and its captures lie before its end
+abbrev pub IsInside : ℕ → ℕ → ℕ → List Capture → Type 0
+IsInside length at end captures = (at ≤ end) × (end ≤ length) × AreBefore end captures

@@ -8,3 +8,4 @@ pub mod Bytes
 pub mod Scope
 pub mod Reading
 pub mod Outcomes
+pub mod Answer

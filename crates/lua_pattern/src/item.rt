@@ -41,3 +41,15 @@ pub enum Item {
     /// `()`: the place is captured.
     Place,
 }
+
+impl Item {
+    ghost use Rattle.std.specs.Prelude.{◌≡◌};
+    ghost use Rattle.lua_pattern.specs.Answer.{is_counted};
+
+    /// Whether it is one of the captures and quantifiers of which a pattern has at most 200.
+    pub(crate) fn is_counted(&self) -> bool
+        ensures { result ≡ is_counted self.now }
+    {
+        matches!(self, Item::Repeated(..) | Item::Open | Item::Place)
+    }
+}

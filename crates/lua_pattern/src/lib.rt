@@ -4,6 +4,7 @@
 mod answer;
 mod class;
 mod cursor;
+mod find;
 mod item;
 mod matching;
 mod plain;
@@ -13,3 +14,4 @@ mod scope;
 mod set;
 
 pub use answer::{Capture, Match, PatternFault};
+pub use find::find_at;

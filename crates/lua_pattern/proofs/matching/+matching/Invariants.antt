@@ -28,7 +28,7 @@ decreases-repeated l = 3 * length l.rest.now + 3
 -- the items that are left have the same matches from here as all have from the start
 abbrev pub invariant-first_match-loop-item : goal.invariant-first_match-loop-item
 invariant-first_match-loop-item l =
-    (l.at ≤ length l.subject) × (length l.left ≤ length l.initial.left) × (l.captures.items ≡ l.initial.captures.items) × AreBefore l.at l.captures.items × (ends l.subject l.left l.at l.captures.items ≡ ends l.subject l.initial.left l.initial.at l.initial.captures.items)
+    (l.at ≤ length l.subject) × (length l.left ≤ length l.initial.left) × (l.captures.items ≡ l.initial.captures.items) × AreBefore l.at l.captures.items × (ends l.subject l.left l.at l.captures.items ≡ ends l.subject l.initial.left l.initial.at l.initial.captures.items) × (l.initial.at ≤ l.at)
 
 abbrev pub decreases-first_match-loop-item : goal.decreases-first_match-loop-item
 decreases-first_match-loop-item l = length l.left
