@@ -1,17 +1,23 @@
 // Patterns of Lua: a pattern is read into items, and the items are matched by going back over single tries.
 #![tactic(auto)]
 
-mod answer;
+// What a pattern spells.
 mod class;
-mod cursor;
-mod find;
 mod item;
-mod matching;
-mod plain;
+// How it is read.
+mod cursor;
 mod reading;
 pub mod rule;
 mod scope;
 mod set;
+// How it is matched.
+mod matching;
+mod plain;
+// What is answered.
+mod answer;
+mod find;
+#[cfg(test)]
+mod tests;
 
 pub use answer::{Capture, Match, PatternFault};
 pub use find::find_at;
