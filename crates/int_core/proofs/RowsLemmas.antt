@@ -3,8 +3,8 @@ use Rattle.std.proofs.Common.{◌≡◌, ℕ, zero, suc, ◌+◌, ◌<◌, ◌�
 use Rattle.std.proofs.lemmas.Bool.{cases_lt}
 use Rattle.std.proofs.lemmas.List.Filters.{length-filter_both}
 use Rattle.std.specs.Prelude.{ℤ, pos, Option, Some, None}
-use Rattle.std.specs.Map.{lookup}
-use Rattle.int_core.specs.Rows.{Values, is_nil, get, behind, IsBorder, border_from, border}
+use Rattle.std.specs.Map.{keys_of, lookup}
+use Rattle.int_core.specs.Rows.{Values, is_nil, has_row, get, behind, IsBorder, border_from, border}
 
 -- what holds of the values where `same` is equality and each integer is a value of its own
 pub record AreValues {V : Type 0} (values : Values V) : Type 0 where
@@ -14,6 +14,18 @@ pub record AreValues {V : Type 0} (values : Values V) : Type 0 where
 
 integers_differ : (n m : ℕ) → m < n → pos (n + 1) ≡ pos (m + 1) → ⊥
 integers_differ n m below e = let same : n + 1 ≡ m + 1 = cc in omega arith
+
+module _ {V : Type 0} (values : Values V) where
+  -- a key without a row is not found
+  pub lookup-absent : (rows : List (V × V)) (key : V) → has_row values rows key ≡ false → lookup (values.same key) rows ≡ None
+  lookup-absent [] key absent = refl
+  lookup-absent (row ∷ rows) key absent =
+      let skips : values.same key row.0 ≡ false = grind (arith) in
+      let rest : has_row values rows key ≡ false = grind (arith) in
+      rw skips (lookup-absent rows key rest)
+
+  pub get-absent : (rows : List (V × V)) (key : V) → has_row values rows key ≡ false → get values rows key ≡ values.nil
+  get-absent rows key absent = rw (lookup-absent rows key absent) refl
 
 module _ {V : Type 0} (values : Values V) (laws : AreValues values) where
   -- the rows without those of a key

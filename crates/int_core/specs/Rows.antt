@@ -1,8 +1,8 @@
 -- A table as a list of rows (key, value) with distinct keys (Lua 5.4 manual, 2.1, 3.4.7 and 6.1).
 -- A row whose value is nil is cleared: no key is found there, and it keeps its place until a new key comes while cleared rows outnumber the others.
-use Rattle.std.specs.Prelude.{◌≡◌, ℕ, zero, suc, ◌+◌, ◌<◌, Bool, true, false, not, if◌then◌else◌, nat_lt, List, [], ◌∷◌, ◌++◌, length, map, filter, count_by, find, position, drop, Option, Some, unwrap_or, option_map, ℤ, pos}
+use Rattle.std.specs.Prelude.{◌≡◌, ℕ, zero, suc, ◌+◌, ◌<◌, Bool, true, false, not, if◌then◌else◌, nat_lt, List, [], ◌∷◌, ◌++◌, length, filter, count_by, find, position, drop, Option, Some, unwrap_or, option_map, ℤ, pos}
 use Rattle.std.specs.List.{IsDistinct, list_any}
-use Rattle.std.specs.Map.{keys_of, lookup}
+use Rattle.std.specs.Map.{keys_of, lookup, set_value}
 
 -- what a table asks of its values: which are equal, which one is nil, and which one an integer is
 pub record Values (V : Type 0) : Type 0 where
@@ -20,21 +20,17 @@ module _ {V : Type 0} (values : Values V) where
   abbrev pub is_filled : V × V → Bool
   is_filled row = not (is_nil row.1)
 
-  -- no key has two rows, and none is nil
+  abbrev pub has_row : List (V × V) → V → Bool
+  has_row rows key = list_any (values.same key) (keys_of rows)
+
+  -- no key has two rows, and nil has none
   pub record AreRows (rows : List (V × V)) : Type 0 where
     pub distinct : IsDistinct values.same (keys_of rows)
-    pub no_nil : list_any (λ row. is_nil row.0) rows ≡ false
-
-  abbrev pub has_row : List (V × V) → V → Bool
-  has_row rows key = list_any (λ row. values.same key row.0) rows
+    pub no_nil : has_row rows values.nil ≡ false
 
   -- the value of the key's row, or nil
   abbrev pub get : List (V × V) → V → V
   get rows key = unwrap_or (lookup (values.same key) rows) values.nil
-
-  -- the rows, with another value in the key's row
-  abbrev pub replaced : List (V × V) → V → V → List (V × V)
-  replaced rows key value = map (λ row. if values.same key row.0 then (row.0, value) else row) rows
 
   -- the rows that stay where a new key comes
   abbrev pub kept : List (V × V) → List (V × V)
@@ -43,7 +39,7 @@ module _ {V : Type 0} (values : Values V) where
   -- a key that has a row takes the value there, cleared or not; nil for a new key does nothing; another new key goes last
   abbrev pub set : List (V × V) → V → V → List (V × V)
   set rows key value =
-      if has_row rows key then replaced rows key value
+      if has_row rows key then set_value (values.same key) rows value
       else if is_nil value then rows
       else kept rows ++ (key, value) ∷ []
 
@@ -51,7 +47,7 @@ module _ {V : Type 0} (values : Values V) where
   abbrev pub rows_after : List (V × V) → V → Option (List (V × V))
   rows_after rows key =
       if is_nil key then Some rows
-      else option_map (λ at. drop (at + 1) rows) (position (λ row. values.same key row.0) rows)
+      else option_map (λ at. drop (at + 1) rows) (position (values.same key) (keys_of rows))
 
   -- the first filled row after the key's row, or none at the end; and nothing where the key has no row
   abbrev pub next : List (V × V) → V → Option (Option (V × V))

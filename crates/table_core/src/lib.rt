@@ -1,6 +1,8 @@
 // The values of a running program, and its tables.
 #![tactic(auto)]
 
+mod table;
 mod value;
 
+pub use table::{NoSuchKey, Table};
 pub use value::{CellId, CoroId, FuncId, Key, ProtoId, StrId, TableId, Value};

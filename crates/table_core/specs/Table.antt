@@ -1,0 +1,16 @@
+-- What contracts see of a table (Lua 5.4 manual, 2.1 and 2.4).
+use Rattle.std.specs.Prelude.{◌≡◌, ℕ, List, Option, count_by}
+use Rattle.int_core.specs.Rows.{AreRows, is_cleared}
+use Rattle.table_core.specs.declared.value.Value.{Value}
+use Rattle.table_core.specs.declared.value.TableId.{TableId}
+use Rattle.table_core.specs.Value.{lua_values}
+
+-- the rows in their order, cleared ones included, and the metatable
+pub record Contents : Type 0 where
+  pub rows : List (Value × Value)
+  pub metatable : Option TableId
+
+-- what a table keeps: its rows are rows, and it knows how many of them are cleared
+pub record IsKept (rows : List (Value × Value)) (cleared : ℕ) : Type 0 where
+  pub are_rows : AreRows lua_values rows
+  pub counted : cleared ≡ count_by (is_cleared lua_values) rows
