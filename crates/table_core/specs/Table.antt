@@ -1,5 +1,5 @@
 -- What contracts see of a table (Lua 5.4 manual, 2.1 and 2.4).
-use Rattle.std.specs.Prelude.{◌≡◌, ℕ, List, Option, count_by}
+use Rattle.std.specs.Prelude.{◌≡◌, ◌<◌, ◌^◌, ℕ, List, Option, count_by, length}
 use Rattle.int_core.specs.Rows.{AreRows, is_cleared}
 use Rattle.table_core.specs.declared.value.Value.{Value}
 use Rattle.table_core.specs.declared.value.TableId.{TableId}
@@ -10,7 +10,8 @@ pub record Contents : Type 0 where
   pub rows : List (Value × Value)
   pub metatable : Option TableId
 
--- what a table keeps: its rows are rows, and it knows how many of them are cleared
+-- what a table keeps: its rows are rows, fewer than 2^63, and it knows how many of them are cleared
 pub record IsKept (rows : List (Value × Value)) (cleared : ℕ) : Type 0 where
   pub are_rows : AreRows lua_values rows
   pub counted : cleared ≡ count_by (is_cleared lua_values) rows
+  pub few : length rows < 2 ^ 63

@@ -1,13 +1,16 @@
 // A table: rows in the order of insertion, found by their keys, and a metatable.
-ghost use Rattle.std.specs.Prelude.{◌≡◌, ◌≢◌, ◌↔◌, ◌<◌, ℕ, pos, [], ◌∷◌, ◌++◌, length, IsTrue, IsOk, OnOk, OnErr, Some, None, slice_get};
+ghost use Rattle.std.specs.Prelude.{◌≡◌, ◌≢◌, ◌↔◌, ◌<◌, ◌≤◌, ◌-◌, ◌^◌, ℕ, true, false, Ok, drop, find, if◌then◌else◌, pos, [], ◌∷◌, ◌++◌, length, IsTrue, IsOk, IfOk, OnOk, OnSome, IfNone, OnErr, Some, None, slice_get};
 ghost use Rattle.std.specs.Result.{result_ok};
-ghost use Rattle.int_core.specs.Rows.{AreRows, IsBorder, get, has_row, set, next, border};
-ghost use Rattle.table_core.specs.Value.{lua_values};
+ghost use Rattle.std.specs.List.{IsDistinct, list_any};
+ghost use Rattle.std.specs.Map.{keys_of, lookup, set_value};
+ghost use Rattle.int_core.specs.Rows.{AreRows, IsBorder, is_filled, get, has_row, behind, kept, set, next, border};
+ghost use Rattle.table_core.specs.Value.{is_nil, lua_values, value_eq};
 
 use crate::value::{Key, TableId, Value};
 use indexmap::IndexMap;
 use std::alloc::{AllocError, Global};
 use std::marker::Model;
+use std::mem;
 
 /// The key that `next` was given has no row.
 #[derive(Debug, Clone, Copy, PartialEq, Eq)]
@@ -17,7 +20,7 @@ pub struct NoSuchKey;
 /// A row whose value is nil is cleared, and keeps its place until a new key comes while cleared rows outnumber the others.
 #[derive(Debug, Drop)]
 pub struct Table {
-    rows: IndexMap<Key, Value>,
+    rows: IndexMap<Value, Value>,
     /// How many rows are cleared.
     cleared: usize,
     metatable: Option<TableId>,
@@ -46,15 +49,94 @@ impl Table {
     pub fn get(&self, key: Value) -> Value
         ensures { result ≡ get lua_values self.now.rows key }
     {
-        match Key::of(key) {
-            Some(key) => self.rows.get(&key).copied().unwrap_or(Value::Nil),
-            None => Value::Nil,
+        self.rows.get(&key).copied().unwrap_or(Value::Nil)
+    }
+
+    /// Puts a value at a key. A key that has a row keeps its place, also where the row was cleared; a new key goes last,
+    /// and nil for a new key does nothing. Only a new key with a value takes memory, and a refusal changes nothing.
+    pub fn set(&mut self, key: Key, value: Value) -> Result<(), AllocError>
+        ensures ok { OnOk result (self.new.rows ≡ set lua_values self.old.rows key value) }
+        ensures metatable { self.new.metatable ≡ self.old.metatable }
+        ensures err { OnErr result (self.new ≡ self.old) }
+        ensures nil { value ≡ Value.Nil → IsOk result }
+        ensures present { IsTrue (has_row lua_values self.old.rows key) → IsOk result }
+    {
+        match replace(&mut self.rows, key.value(), value) {
+            Some(was) => {
+                self.cleared = self.cleared - nil_count(was) + nil_count(value);
+                Ok(())
+            }
+            None if value == Value::Nil => Ok(()),
+            None => self.append(key, value),
         }
+    }
+
+    /// Puts a new key last, and drops the cleared rows where they outnumbered the others.
+    fn append(&mut self, key: Key, value: Value) -> Result<(), AllocError>
+        requires absent { has_row lua_values self.old.rows key ≡ false }
+        requires filled { is_nil value ≡ false }
+        ensures ok { OnOk result (self.new.rows ≡ kept lua_values self.old.rows ++ (key, value) ∷ []) }
+        ensures metatable { self.new.metatable ≡ self.old.metatable }
+        ensures err { OnErr result (self.new ≡ self.old) }
+    {
+        let rows = insert_last(&mut self.rows, key.value(), value)?;
+        if rows - self.cleared <= self.cleared {
+            self.rows.retain(|_, value| *value != Value::Nil);
+            self.cleared = 0;
+        }
+        Ok(())
+    }
+
+    /// The first filled row after a key's row, or from the start for nil; `None` at the end (Lua 5.4 manual, 6.1).
+    pub fn next(&self, key: Value) -> Result<Option<(Key, Value)>, NoSuchKey>
+        ensures { result_ok result ≡ next lua_values self.now.rows key }
+    {
+        if key == Value::Nil {
+            return Ok(self.first_filled(0));
+        }
+        let at = self.rows.get_index_of(&key).ok_or(NoSuchKey)?;
+        Ok(self.first_filled(at + 1))
+    }
+
+    fn first_filled(&self, from: usize) -> Option<(Key, Value)>
+        requires { from ≤ length self.now.rows }
+        ensures { result ≡ find (is_filled lua_values) (drop from self.now.rows) }
+    {
+        for at in from..self.rows() {
+            let (key, value) = self.row(at);
+            if value != Value::Nil {
+                return Some((key, value));
+            }
+        }
+        None
+    }
+
+    /// The border (Lua 5.4 manual, 3.4.7): the least integer of at least 0 behind which there is no value.
+    pub fn border(&self) -> i64
+        ensures value { result ≡ pos (border lua_values self.now.rows) }
+        ensures least { (n : ℕ) × (result ≡ pos n) × IsBorder lua_values self.now.rows n }
+    {
+        let most = self.rows();
+        for n in 0..most {
+            if self.behind(n) == Value::Nil {
+                return n as i64;
+            }
+        }
+        most as i64
+    }
+
+    /// The value at the integer behind `n`.
+    fn behind(&self, n: usize) -> Value
+        requires { n < 2 ^ 63 - 1 }
+        ensures { result ≡ behind lua_values self.now.rows n }
+    {
+        self.get(Value::Int(n as i64 + 1))
     }
 
     /// How many rows there are, cleared ones included.
     pub fn rows(&self) -> usize
         ensures len { result ≡ length self.now.rows }
+        ensures small { result < 2 ^ 63 }
         ensures are_rows { AreRows lua_values self.now.rows }
     {
         self.rows.len()
@@ -66,7 +148,22 @@ impl Table {
         ensures { slice_get self.now.rows at ≡ Some result }
     {
         let (key, value) = self.rows.get_index(at).unwrap();
-        (*key, *value)
+        (Key::of(*key).unwrap(), *value)
+    }
+
+    /// Puts a row last, as it is, and answers false where the key has a row already. A refusal changes nothing.
+    pub fn push_row(&mut self, key: Key, value: Value) -> Result<bool, AllocError>
+        ensures there { (result ≡ Ok false) ↔ IsTrue (has_row lua_values self.old.rows key) }
+        ensures added { result ≡ Ok true → self.new.rows ≡ self.old.rows ++ (key, value) ∷ [] }
+        ensures kept { result ≢ Ok true → self.new ≡ self.old }
+        ensures metatable { self.new.metatable ≡ self.old.metatable }
+    {
+        if holds(&self.rows, key.value()) {
+            return Ok(false);
+        }
+        insert_last(&mut self.rows, key.value(), value)?;
+        self.cleared += nil_count(value);
+        Ok(true)
     }
 
     /// The metatable (Lua 5.4 manual, 2.4).
@@ -82,4 +179,47 @@ impl Table {
     {
         self.metatable = metatable;
     }
+}
+
+/// Whether a key has a row.
+fn holds(rows: &IndexMap<Value, Value>, key: Value) -> bool
+    ensures { result ≡ list_any (value_eq key) (keys_of rows.now.entries) }
+{
+    rows.contains_key(&key)
+}
+
+/// Puts a value at a key that is there, and answers the value that it had.
+fn replace(rows: &mut IndexMap<Value, Value>, key: Value, value: Value) -> Option<Value>
+    ensures was { result ≡ lookup (value_eq key) rows.old.entries }
+    ensures now { OnSome result (rows.new.entries ≡ set_value (value_eq key) rows.old.entries value) }
+    ensures absent { IfNone result (rows.new.entries ≡ rows.old.entries) }
+{
+    match rows.get_mut(&key) {
+        Some(place) => Some(mem::replace(place, value)),
+        None => None,
+    }
+}
+
+/// Puts a new row last, and answers how many rows there are then.
+fn insert_last(
+    rows: &mut IndexMap<Value, Value>,
+    key: Value,
+    value: Value,
+) -> Result<usize, AllocError>
+    requires { list_any (value_eq key) (keys_of rows.old.entries) ≡ false }
+    ensures added { OnOk result (rows.new.entries ≡ rows.old.entries ++ (key, value) ∷ []) }
+    ensures distinct { OnOk result (IsDistinct value_eq (keys_of rows.new.entries)) }
+    ensures len { IfOk result (λ n. n ≡ length rows.new.entries) }
+    ensures small { IfOk result (λ n. n < 2 ^ 63) }
+    ensures err { OnErr result (rows.new.entries ≡ rows.old.entries) }
+{
+    rows.insert(key, value)?;
+    Ok(rows.len())
+}
+
+/// 1 for nil, and 0 for another value.
+fn nil_count(value: Value) -> usize
+    ensures { result ≡ (if is_nil value then 1 else 0) }
+{
+    usize::from(value == Value::Nil)
 }
