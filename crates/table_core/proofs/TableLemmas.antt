@@ -46,10 +46,10 @@ count-set_value test (row ∷ rows) was w found = by (test row.0) refl (count-se
   where
     by : (b : Bool) → test row.0 ≡ b → (lookup test rows ≡ Some was → count_by (is_cleared lua_values) (set_value test rows w) + tally was ≡ count_by (is_cleared lua_values) rows + tally w) → count_by (is_cleared lua_values) (set_value test (row ∷ rows) w) + tally was ≡ count_by (is_cleared lua_values) (row ∷ rows) + tally w
     by true e rest =
-      let same : row.1 ≡ was = let f = rw e at found in cc in
-      rw e (omega (arith, count-cons (row.0, w) rows, count-cons row rows, ap tally same))
+        let same : row.1 ≡ was = let f = rw e at found in cc in
+        rw e (omega (arith, count-cons (row.0, w) rows, count-cons row rows, ap tally same))
     by false e rest =
-      rw e (omega (arith, count-cons row (set_value test rows w), count-cons row rows, rest (rw e at found)))
+        rw e (omega (arith, count-cons row (set_value test rows w), count-cons row rows, rest (rw e at found)))
 
 pub tally-le : (rows : Rows) (cleared : ℕ) (test : Value → Bool) (was : Value) → IsKept rows cleared → lookup test rows ≡ Some was → tally was ≤ cleared
 tally-le rows cleared test was is found =
@@ -57,19 +57,22 @@ tally-le rows cleared test was is found =
 
 pub IsKept-set_value : (rows : Rows) (cleared : ℕ) (test : Value → Bool) (was w : Value) → IsKept rows cleared → lookup test rows ≡ Some was → IsKept (set_value test rows w) (cleared - tally was + tally w)
 IsKept-set_value rows cleared test was w is found = record {
-    are_rows = record {
-      distinct = rw (keys-set_value test rows w) is.are_rows.distinct;
-      no_nil = rw (keys-set_value test rows w) is.are_rows.no_nil };
-    counted = omega (arith, is.counted, count-set_value test rows was w found, tally-le rows cleared test was is found);
-    few = rw (length-set_value test rows w) is.few }
+  are_rows = record {
+    distinct = rw (keys-set_value test rows w) is.are_rows.distinct;
+    no_nil = rw (keys-set_value test rows w) is.are_rows.no_nil;
+  };
+  counted = omega (arith, is.counted, count-set_value test rows was w found, tally-le rows cleared test was is found);
+  few = rw (length-set_value test rows w) is.few;
+}
 
 -- ---- a new row
 
 pub IsKept-append : (rows : Rows) (cleared : ℕ) (key w : Value) → IsKept rows cleared → (key ≡ Nil → ⊥) → IsDistinct value_eq (keys_of (rows ++ (key, w) ∷ [])) → length (rows ++ (key, w) ∷ []) < 2 ^ 63 → IsKept (rows ++ (key, w) ∷ []) (cleared + tally w)
 IsKept-append rows cleared key w is not_nil distinct few = record {
-    are_rows = record { distinct = distinct; no_nil = no_nil };
-    counted = rw (sum_by-append (λ row. cond (is_cleared lua_values row) 1 0) rows ((key, w) ∷ [])) (omega (arith, is.counted));
-    few = few }
+  are_rows = record { distinct = distinct; no_nil = no_nil };
+  counted = rw (sum_by-append (λ row. cond (is_cleared lua_values row) 1 0) rows ((key, w) ∷ [])) (omega (arith, is.counted));
+  few = few;
+}
   where
     no_nil : has_row lua_values (rows ++ (key, w) ∷ []) Nil ≡ false
     no_nil = rw (map-append (λ (row : Value × Value). row.0) rows ((key, w) ∷ []), list_any-append (value_eq Nil) (keys_of rows) (key ∷ []), is.are_rows.no_nil, nil-other key not_nil) refl
@@ -87,8 +90,8 @@ filter-no_nil p (row ∷ rows) none = by (p row) refl (filter-no_nil p rows (gri
   where
     by : (b : Bool) → p row ≡ b → has_row lua_values (filter p rows) Nil ≡ false → has_row lua_values (filter p (row ∷ rows)) Nil ≡ false
     by true e rest =
-      let here : value_eq Nil row.0 ≡ false = grind (arith) in
-      rw (e, here) rest
+        let here : value_eq Nil row.0 ≡ false = grind (arith) in
+        rw (e, here) rest
     by false e rest = rw e rest
 
 filter-counted : (rows : Rows) → count_by (is_cleared lua_values) (filter (is_filled lua_values) rows) ≡ 0
@@ -104,21 +107,22 @@ both-length rows = omega (arith, length-filter_both (is_cleared lua_values) (is_
 
 pub IsKept-filter : (rows : Rows) (cleared : ℕ) → IsKept rows cleared → IsDistinct value_eq (keys_of (filter (is_filled lua_values) rows)) → IsKept (filter (is_filled lua_values) rows) 0
 IsKept-filter rows cleared is distinct = record {
-    are_rows = record { distinct = distinct; no_nil = filter-no_nil (is_filled lua_values) rows is.are_rows.no_nil };
-    counted = sym (filter-counted rows);
-    few = omega (arith, is.few, length-filter (is_filled lua_values) rows, count_by-le-length (is_filled lua_values) rows) }
+  are_rows = record { distinct = distinct; no_nil = filter-no_nil (is_filled lua_values) rows is.are_rows.no_nil };
+  counted = sym (filter-counted rows);
+  few = omega (arith, is.few, length-filter (is_filled lua_values) rows, count_by-le-length (is_filled lua_values) rows);
+}
 
 -- the rows that stay, by the number of the rows with the new one
 pub kept-crowded : (rows : Rows) (cleared n : ℕ) → IsKept rows cleared → n ≡ length rows + 1 → n - cleared ≤ cleared → kept lua_values rows ≡ filter (is_filled lua_values) rows
 kept-crowded rows cleared n is len crowded =
     let fewer : nat_lt (count_by (is_filled lua_values) rows) (count_by (is_cleared lua_values) rows) ≡ true =
-      let below : count_by (is_filled lua_values) rows < count_by (is_cleared lua_values) rows = omega (arith, both-length rows, is.counted) in grind (arith, nat_tests) in
+    let below : count_by (is_filled lua_values) rows < count_by (is_cleared lua_values) rows = omega (arith, both-length rows, is.counted) in grind (arith, nat_tests) in
     rw fewer refl
 
 pub kept-roomy : (rows : Rows) (cleared n : ℕ) → IsKept rows cleared → n ≡ length rows + 1 → cleared < n - cleared → kept lua_values rows ≡ rows
 kept-roomy rows cleared n is len roomy =
     let enough : nat_lt (count_by (is_filled lua_values) rows) (count_by (is_cleared lua_values) rows) ≡ false =
-      let above : count_by (is_cleared lua_values) rows ≤ count_by (is_filled lua_values) rows = omega (arith, both-length rows, is.counted) in grind (arith, nat_tests) in
+    let above : count_by (is_cleared lua_values) rows ≤ count_by (is_filled lua_values) rows = omega (arith, both-length rows, is.counted) in grind (arith, nat_tests) in
     rw enough refl
 
 pub filter-new : (rows : Rows) (key w : Value) → is_nil w ≡ false → filter (is_filled lua_values) (rows ++ (key, w) ∷ []) ≡ filter (is_filled lua_values) rows ++ (key, w) ∷ []

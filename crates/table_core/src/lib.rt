@@ -2,6 +2,8 @@
 #![tactic(auto)]
 
 mod table;
+#[cfg(test)]
+mod tests;
 mod value;
 
 pub use table::{NoSuchKey, Table};

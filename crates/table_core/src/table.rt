@@ -42,7 +42,11 @@ impl Table {
         ensures rows { result.rows ≡ [] }
         ensures metatable { result.metatable ≡ None }
     {
-        Table { rows: IndexMap::new(alloc), cleared: 0, metatable: None }
+        Table {
+            rows: IndexMap::new(alloc),
+            cleared: 0,
+            metatable: None,
+        }
     }
 
     /// The value at a key, or nil where no filled row has it.
