@@ -1,5 +1,5 @@
 -- What a write, a new row and the dropping of cleared rows do to what a table keeps.
-use Rattle.std.proofs.Common.{◌≡◌, ℕ, zero, suc, ◌+◌, ◌-◌, ◌<◌, ◌≤◌, ◌^◌, Bool, true, false, not, cond, nat_lt, ◌||◌, List, [], ◌∷◌, ◌++◌, length, drop, filter, refl, sym, ◌∙◌, ap, subst, arith, add-one, length-append, rules}
+use Rattle.std.proofs.Common.{◌≡◌, ℕ, zero, suc, ◌+◌, ◌-◌, ◌<◌, ◌≤◌, ◌^◌, Bool, true, false, cond, nat_lt, List, [], ◌∷◌, ◌++◌, length, drop, filter, refl, sym, ◌∙◌, ap, subst, arith, add-one, length-append, rules}
 use Rattle.std.proofs.lemmas.Bool.Decides.{nat_tests}
 use Rattle.std.proofs.lemmas.List.{map-append}
 use Rattle.std.proofs.lemmas.List.Elements.{filter-append}
@@ -9,9 +9,9 @@ use Rattle.std.proofs.lemmas.List.Sums.{count_by-le-length, length-filter, sum_b
 use Rattle.std.proofs.lemmas.Map.Made.{is_some-lookup}
 use Rattle.std.proofs.lemmas.Map.{keys-set_value, length-set_value}
 use Rattle.std.specs.Prelude.{pos, Option, Some, None, if◌then◌else◌, count_by, find, slice_get, is_some, IsSome}
-use Rattle.std.specs.List.{IsDistinct, list_any}
+use Rattle.std.specs.List.{IsDistinct}
 use Rattle.std.specs.Map.{keys_of, lookup, set_value}
-use Rattle.int_core.specs.Rows.{is_cleared, is_filled, has_row, kept, set, behind, border, border_from, AreRows, IsBorder}
+use Rattle.int_core.specs.Rows.{is_cleared, is_filled, has_row, kept, set, behind, border, border_from, IsBorder}
 use Rattle.int_core.proofs.RowsLemmas.{border-is}
 use Rattle.table_core.specs.declared.value.Value.{Value}
 use Rattle.table_core.specs.declared.value.Value.TheVariants.{Nil, Int}

@@ -1,5 +1,5 @@
 -- Raw equality is equality, and each integer is a value of its own.
-use Rattle.std.proofs.Common.{◌≡◌, Bool, true, false, refl, sym, ap, true≢false, arith}
+use Rattle.std.proofs.Common.{◌≡◌, true, false, refl, sym, ap, true≢false, arith}
 use Rattle.std.proofs.lemmas.Bool.Decides.{nat_tests}
 use Rattle.int_core.proofs.RowsLemmas.{AreValues}
 use Rattle.table_core.specs.declared.value.Value.{Value}

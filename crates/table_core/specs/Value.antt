@@ -1,5 +1,5 @@
 -- Which values are equal, and what a table needs of them (Lua 5.4 manual, 2.1 and 3.4.4).
-use Rattle.std.specs.Prelude.{ℕ, ◌+◌, ◌*◌, ◌%◌, ◌^◌, Bool, true, false, ◌==◌, ℤ}
+use Rattle.std.specs.Prelude.{ℕ, ◌+◌, ◌*◌, ◌%◌, ◌^◌, Bool, true, false, ◌==◌}
 use Rattle.std.specs.Int.{w64, cast_unsigned, from_bool}
 use Rattle.std.specs.Ordering.{int_eq}
 use Rattle.int_core.specs.Rows.{Values}

@@ -1,7 +1,7 @@
-use Rattle.std.proofs.Common.{◌≡◌, ◌+◌, ◌<◌, ◌≤◌, ◌^◌, true, false, length, refl, sym, ◌∙◌, ap, arith}
+use Rattle.std.proofs.Common.{◌≡◌, ◌<◌, ◌≤◌, ◌^◌, true, false, length, refl, sym, ◌∙◌, ap, arith}
 use Rattle.std.proofs.lemmas.Int.{to_z_pos}
 use Rattle.std.specs.Prelude.{pos}
-use Rattle.std.specs.Int.{w64, cast_signed}
+use Rattle.std.specs.Int.{w64}
 use Rattle.int_core.specs.Rows.{behind, border}
 use Rattle.table_core.specs.Value.{is_nil, lua_values}
 use Rattle.table_core.proofs.TableLemmas.{border-step, border-ends, border-full, border-least}

@@ -1,4 +1,4 @@
-use Rattle.std.proofs.Common.{◌≡◌, ℕ, ◌+◌, ◌<◌, ◌^◌, length}
+use Rattle.std.proofs.Common.{◌≡◌, ℕ, ◌+◌, length}
 use Rattle.int_core.specs.Rows.{border, border_from}
 use Rattle.table_core.specs.Value.{lua_values}
 use Rattle.table_core.proofs.table.Table.border.Given as goal

@@ -1,4 +1,4 @@
-use Rattle.std.proofs.Common.{◌≡◌, ◌≤◌, drop, find, length}
+use Rattle.std.proofs.Common.{◌≡◌, drop, find}
 use Rattle.int_core.specs.Rows.{is_filled}
 use Rattle.table_core.specs.Value.{lua_values}
 use Rattle.table_core.proofs.table.Table.first_filled.Given as goal

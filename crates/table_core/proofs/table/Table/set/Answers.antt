@@ -1,4 +1,4 @@
-use Rattle.std.proofs.Common.{◌≡◌, true, false, None, ◌∙◌, sym, ap, arith, rules}
+use Rattle.std.proofs.Common.{◌≡◌, false, None, ◌∙◌, sym, rules}
 use Rattle.std.specs.Map.{lookup}
 use Rattle.table_core.proofs.TableLemmas.{IsKept-set_value, tally-le, absent-by_lookup, set-present, set-nil, set-new}
 use Rattle.table_core.specs.Value.{is_nil, value_eq}
