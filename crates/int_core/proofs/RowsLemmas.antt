@@ -1,10 +1,12 @@
 -- The least border of a table, and that it is the one computed.
-use Rattle.std.proofs.Common.{◌≡◌, ℕ, zero, suc, ◌+◌, ◌<◌, ◌≤◌, Bool, true, false, not, cond, List, [], ◌∷◌, length, filter, refl, sym, ◌∙◌, ap, arith, inl, inr, true≢false, below_more}
+use Rattle.std.proofs.Common.{◌≡◌, ℕ, zero, suc, ◌+◌, ◌<◌, ◌≤◌, Bool, true, false, not, cond, List, [], ◌∷◌, ◌++◌, length, filter, refl, sym, ◌∙◌, ap, arith, inl, inr, true≢false, below_more}
 use Rattle.std.proofs.lemmas.Bool.{cases_lt}
 use Rattle.std.proofs.lemmas.List.Filters.{length-filter_both}
 use Rattle.std.specs.Prelude.{ℤ, pos, Option, Some, None}
-use Rattle.std.specs.Map.{keys_of, lookup}
-use Rattle.int_core.specs.Rows.{Values, is_nil, has_row, get, behind, IsBorder, border_from, border}
+use Rattle.std.proofs.lemmas.Map.Keys.{IsDistinct-head, IsDistinct-tail}
+use Rattle.std.specs.List.{AllByRecursion, IsDistinct}
+use Rattle.std.specs.Map.{keys_of, lookup, set_value}
+use Rattle.int_core.specs.Rows.{Values, is_nil, is_filled, has_row, get, behind, IsBorder, border_from, border}
 
 -- what holds of the values where `same` is equality and each integer is a value of its own
 pub record AreValues {V : Type 0} (values : Values V) : Type 0 where
@@ -62,7 +64,7 @@ module _ {V : Type 0} (values : Values V) (laws : AreValues values) where
   found-filled key rows filled (Some value) e = (value, e)
 
   -- as many integers as have values, so many rows there are at least
-  filled_fit : (n : ℕ) (rows : List (V × V)) → ((m : ℕ) → m < n → is_nil values (behind values rows m) ≡ false) → n ≤ length rows
+  pub filled_fit : (n : ℕ) (rows : List (V × V)) → ((m : ℕ) → m < n → is_nil values (behind values rows m) ≡ false) → n ≤ length rows
   filled_fit zero rows filled = omega arith
   filled_fit (suc n) rows filled =
       let key : V = values.integer (pos (n + 1)) in
@@ -84,6 +86,10 @@ module _ {V : Type 0} (values : Values V) (laws : AreValues values) where
       by true e rest = rw e (record { ends = e; filled = filled })
       by false e rest = rw e (rest (below_more _ n filled e))
 
+  -- where each integer up to the number of rows has a value, that number is the border
+  pub border-length : (rows : List (V × V)) → ((m : ℕ) → m < length rows → is_nil values (behind values rows m) ≡ false) → IsBorder values rows (length rows)
+  border-length rows filled = border_from-is rows 0 (length rows) (omega arith) filled
+
   -- the computed border is the least one
   pub border-is : (rows : List (V × V)) → IsBorder values rows (border values rows)
   border-is rows = border_from-is rows (length rows) 0 (omega arith) (λ m below. absurd (omega arith))
@@ -98,3 +104,66 @@ module _ {V : Type 0} (values : Values V) (laws : AreValues values) where
           | inr level ↦ omega arith
         ]
       ]
+
+  -- ---- what a key finds after a write
+
+  pub lookup-set_value_same : (test : V → Bool) (rows : List (V × V)) (was w : V) → lookup test rows ≡ Some was → lookup test (set_value test rows w) ≡ Some w
+  lookup-set_value_same test [] was w found = cc
+  lookup-set_value_same test (row ∷ rows) was w found = by (test row.0) refl (lookup-set_value_same test rows was w)
+    where
+      by : (b : Bool) → test row.0 ≡ b → (lookup test rows ≡ Some was → lookup test (set_value test rows w) ≡ Some w) → lookup test (set_value test (row ∷ rows) w) ≡ Some w
+      by true e rest = rw e (rw e refl)
+      by false e rest = rw e (rw e (rest (rw e at found)))
+
+  pub lookup-set_value_other : (key other : V) → (key ≡ other → ⊥) → (rows : List (V × V)) (w : V) → lookup (values.same other) (set_value (values.same key) rows w) ≡ lookup (values.same other) rows
+  lookup-set_value_other key other differ [] w = refl
+  lookup-set_value_other key other differ (row ∷ rows) w = by (values.same key row.0) refl (lookup-set_value_other key other differ rows w)
+    where
+      by : (b : Bool) → values.same key row.0 ≡ b → lookup (values.same other) (set_value (values.same key) rows w) ≡ lookup (values.same other) rows → lookup (values.same other) (set_value (values.same key) (row ∷ rows) w) ≡ lookup (values.same other) (row ∷ rows)
+      by true e rest =
+          let skips : values.same other row.0 ≡ false = other_differs key other row.0 differ e _ refl in
+          rw e (rw skips refl)
+      by false e rest = rw e (ap (λ found. cond (values.same other row.0) (Some row.1) found) rest)
+
+  pub lookup-append_same : (rows : List (V × V)) (key w : V) → has_row values rows key ≡ false → lookup (values.same key) (rows ++ (key, w) ∷ []) ≡ Some w
+  lookup-append_same [] key w absent = rw (laws.same_refl key) refl
+  lookup-append_same (row ∷ rows) key w absent =
+      let skips : values.same key row.0 ≡ false = grind (arith) in
+      let rest : has_row values rows key ≡ false = grind (arith) in
+      rw skips (lookup-append_same rows key w rest)
+
+  pub lookup-append_other : (key other : V) → (key ≡ other → ⊥) → (rows : List (V × V)) (w : V) → lookup (values.same other) (rows ++ (key, w) ∷ []) ≡ lookup (values.same other) rows
+  lookup-append_other key other differ [] w =
+      let skips : values.same other key ≡ false = other_differs key other key differ (laws.same_refl key) _ refl in
+      rw skips refl
+  lookup-append_other key other differ (row ∷ rows) w = ap (λ found. cond (values.same other row.0) (Some row.1) found) (lookup-append_other key other differ rows w)
+
+  -- where no key after a row is its own, that key has no row there
+  absent-after : (key : V) (rows : List (V × V)) → AllByRecursion (λ k. values.same key k ≡ false) (keys_of rows) → has_row values rows key ≡ false
+  absent-after key [] all = refl
+  absent-after key (row ∷ rows) all = rw all.0 (absent-after key rows all.1)
+
+  absent-filter : (p : V × V → Bool) (rows : List (V × V)) (key : V) → has_row values rows key ≡ false → has_row values (filter p rows) key ≡ false
+  absent-filter p [] key absent = refl
+  absent-filter p (row ∷ rows) key absent = by (p row) refl (absent-filter p rows key (grind (arith)))
+    where
+      by : (b : Bool) → p row ≡ b → has_row values (filter p rows) key ≡ false → has_row values (filter p (row ∷ rows)) key ≡ false
+      by true e rest =
+          let here : values.same key row.0 ≡ false = grind (arith) in
+          rw (e, here) rest
+      by false e rest = rw e rest
+
+  -- dropping the cleared rows changes no value
+  pub get-filter : (rows : List (V × V)) (key : V) → IsDistinct values.same (keys_of rows) → get values (filter (is_filled values) rows) key ≡ get values rows key
+  get-filter [] key distinct = refl
+  get-filter (row ∷ rows) key distinct = by (is_nil values row.1) refl (values.same key row.0) refl (get-filter rows key (IsDistinct-tail values.same row.0 (keys_of rows) distinct))
+    where
+      by : (b : Bool) → is_nil values row.1 ≡ b → (d : Bool) → values.same key row.0 ≡ d → get values (filter (is_filled values) rows) key ≡ get values rows key → get values (filter (is_filled values) (row ∷ rows)) key ≡ get values (row ∷ rows) key
+      by false nil true here rest = rw nil (rw here refl)
+      by false nil false here rest = rw nil (rw here rest)
+      by true nil false here rest = rw nil (rw here rest)
+      by true nil true here rest =
+          let after = IsDistinct-head values.same row.0 (keys_of rows) distinct in
+          let absent : has_row values rows key ≡ false = rw (laws.same_equal key row.0 here) (absent-after row.0 rows after) in
+          rw nil (rw here (get-absent values (filter (is_filled values) rows) key (absent-filter (is_filled values) rows key absent) ∙ sym (laws.same_equal row.1 values.nil nil)))
+
