@@ -166,4 +166,3 @@ module _ {V : Type 0} (values : Values V) (laws : AreValues values) where
           let after = IsDistinct-head values.same row.0 (keys_of rows) distinct in
           let absent : has_row values rows key ≡ false = rw (laws.same_equal key row.0 here) (absent-after row.0 rows after) in
           rw nil (rw here (get-absent values (filter (is_filled values) rows) key (absent-filter (is_filled values) rows key absent) ∙ sym (laws.same_equal row.1 values.nil nil)))
-

@@ -1,5 +1,5 @@
 -- How a run that found its file ends.
-use Rattle.std.proofs.Common.{Result, Ok, Err, OnOk, ◌≡◌, inl, inr, ℕ, List, [], ◌++◌, length, take, Option, Some, None, IsSome, IfSome, true, refl, sym, ap, subst, ◌∙◌, arith, append-nil}
+use Rattle.std.proofs.Common.{Result, Ok, Err, OnOk, OnErr, IfErr, ◌≡◌, inl, inr, ℕ, List, [], ◌++◌, length, take, Option, Some, None, IsSome, IfSome, true, refl, sym, ap, subst, ◌∙◌, arith, append-nil}
 use Rattle.std.specs.Option.{option_map}
 use Rattle.std.specs.Prelude.{is_err}
 use Rattle.io_edge.specs.declared.fault.Failed.{Failed}
@@ -9,7 +9,7 @@ use Rattle.io_edge.specs.Content.{FileMap, GrowsByFront, MayEndTelling}
 use Rattle.luaris.specs.Straight.{Straight, IsNoScript, output_of}
 use Rattle.luaris.specs.declared.fault.SourceFault.{SourceFault}
 use Rattle.luaris.specs.declared.fault.SourceFault.TheVariants.{Refused, Limit, Memory}
-use Rattle.luaris.specs.Faults.{status_of_fault, fault_of_source}
+use Rattle.luaris.specs.Faults.{status_of, status_of_fault, fault_of_source}
 use Rattle.luaris.specs.declared.fault.Fault.{Fault}
 use Rattle.luaris.specs.declared.fault.Fault.TheVariants as fault
 use Rattle.luaris.specs.Outcomes.{IsOutput, SourceAnswers, FaultFits, line_of_fault}
@@ -132,6 +132,11 @@ returned_run name source text f k k' held written written' found output stays wr
   files_kept = keeps_telling held;
   files_same = λ other. refl;
 }
+
+-- a run that comes to its output
+pub written_run : (name source text : List ℕ) (f k k' : ℕ) (held : Option FileMap) (written written' : Option (List ℕ)) (result : Result (Unit {0}) Fault) → IfSome held (λ files. files name ≡ Some source) → IsOutput source text → HasCause k k' (is_err result) → OnOk result (written' ≡ option_map (λ before. before ++ text) written) → OnErr result (GrowsByFront text written written') → IfErr result (λ made. made ≡ fault.Device) → IsRun (Some name) (record { faults = f; faults' = f; content = held; content' = held }) (record { faults = k; faults' = k'; content = written; content' = written' }) (status_of result)
+written_run name source text f k k' held written written' (Ok done) found output cause wrote front device = returned_run name source text f k k' held written written' found output cause.only wrote
+written_run name source text f k k' held written written' (Err fault) found output cause wrote front device = rw device (failed_run name source text f k k' held written written' found output cause front)
 
 -- a run that the source stops
 pub stopped_run : (name source : List ℕ) (f k : ℕ) (held : Option FileMap) (written : Option (List ℕ)) (fault : SourceFault) → IfSome held (λ files. files name ≡ Some source) → SourceAnswers source (Err fault) → IsRun (Some name) (record { faults = f; faults' = f; content = held; content' = held }) (record { faults = k; faults' = k; content = written; content' = written }) (status_of_fault (fault_of_source fault))

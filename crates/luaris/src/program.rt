@@ -1,7 +1,8 @@
 // The program over its devices.
-ghost use Rattle.std.specs.Prelude.{◌≡◌, ◌++◌, map, string_bytes, is_err, OnOk, IfErr, List, ℕ};
+ghost use Rattle.std.specs.Prelude.{◌≡◌, ◌++◌, map, string_bytes, is_err, OnErr, OnOk, IfErr, List, ℕ};
 ghost use Rattle.std.specs.Option.{option_map};
 ghost use Rattle.io_edge.specs.Causes.{HasCause};
+ghost use Rattle.io_edge.specs.Content.{GrowsByFront};
 ghost use Rattle.luaris.specs.Faults.{status_of};
 ghost use Rattle.luaris.specs.Outcomes.{FaultFits, line_of_fault};
 ghost use Rattle.luaris.specs.Program.{script_name, HasSource, IsRun, IsReported, refused_line};
@@ -54,7 +55,18 @@ fn run<F: Files, K: Sink>(
     };
     let source = files.get(alloc, name)?;
     let text = output(alloc, source.as_slice())?;
-    Ok(write_all(out, text.as_slice())?)
+    write_output(out, text.as_slice())
+}
+
+/// Writes all of the output.
+fn write_output<K: Sink>(out: &mut K, text: &[u8]) -> Result<(), Fault>
+    ensures cause { HasCause (K.faults out.old) (K.faults out.new) (is_err result) }
+    ensures written { OnOk result (K.written out.new ≡ option_map (λ before. before ++ text.now) (K.written out.old)) }
+    ensures front { OnErr result (GrowsByFront text.now (K.written out.old) (K.written out.new)) }
+    ensures device { IfErr result (λ fault. fault ≡ Fault.Device) }
+{
+    write_all(out, text)?;
+    Ok(())
 }
 
 /// Writes the line of a fault, without taking memory.
