@@ -1,0 +1,127 @@
+-- The definitions tried on the chunk that luac writes for `print("hi")` with its debug information stripped, whole and altered.
+use Rattle.std.proofs.Common.{◌≡◌, ℕ, true, List, [], ◌∷◌, Some, None, refl, drop}
+use Rattle.code_core.specs.declared.proto.Const.TheVariants.{Str}
+use Rattle.code_core.specs.Prototype.{Prototype, none}
+use Rattle.code_core.specs.Writable.{is_writable}
+use Rattle.chunk_format.specs.Spelling.{chunk}
+use Rattle.chunk_format.specs.Reading.{read_function, chunk_kind}
+use Rattle.chunk_format.specs.Grammar.{ChunkOf, WholeOf, BeginsWith}
+use Rattle.chunk_format.proofs.SpelledFunctions.{chunk_spelled, whole_spelled}
+
+unfoldable pub print_hi : Prototype
+print_hi = record {
+  own = record {
+    source = None;
+    line_defined = 0;
+    last_line = 0;
+    params = 0;
+    vararg = true;
+    stack = 2;
+    code = record { 0 = 0x51 } ∷ record { 0 = 0x0b } ∷ record { 0 = 0x8083 } ∷ record { 0 = 0x01020044 } ∷ record { 0 = 0x01010046 } ∷ [];
+    constants = Str (112 ∷ 114 ∷ 105 ∷ 110 ∷ 116 ∷ []) ∷ Str (104 ∷ 105 ∷ []) ∷ [];
+    upvalues = record { in_stack = true; index = 0; kind = 0 } ∷ [];
+    line_info = [];
+    abs_lines = [];
+    locals = [];
+    up_names = [];
+  };
+  inner = none;
+}
+
+abbrev pub print_hi_bytes : List ℕ
+print_hi_bytes =
+    27 ∷ 76 ∷ 117 ∷ 97 ∷ 84 ∷ 0 ∷ 25 ∷ 147 ∷ 13 ∷ 10 ∷ 26 ∷ 10 ∷ 4 ∷ 8 ∷ 8 ∷ 120 ∷ 86 ∷ 0 ∷ 0 ∷ 0 ∷
+    0 ∷ 0 ∷ 0 ∷ 0 ∷ 0 ∷ 0 ∷ 0 ∷ 0 ∷ 40 ∷ 119 ∷ 64 ∷ 1 ∷ 128 ∷ 128 ∷ 128 ∷ 0 ∷ 1 ∷ 2 ∷ 133 ∷ 81 ∷
+    0 ∷ 0 ∷ 0 ∷ 11 ∷ 0 ∷ 0 ∷ 0 ∷ 131 ∷ 128 ∷ 0 ∷ 0 ∷ 68 ∷ 0 ∷ 2 ∷ 1 ∷ 70 ∷ 0 ∷ 1 ∷ 1 ∷ 130 ∷
+    4 ∷ 134 ∷ 112 ∷ 114 ∷ 105 ∷ 110 ∷ 116 ∷ 4 ∷ 131 ∷ 104 ∷ 105 ∷ 129 ∷ 1 ∷ 0 ∷ 0 ∷ 128 ∷ 128 ∷ 128 ∷ 128 ∷ 128 ∷
+    []
+
+pub print_hi_is_writable : is_writable print_hi ≡ true
+unfolding print_hi
+print_hi_is_writable = refl
+
+print_hi_chunk : chunk print_hi ≡ print_hi_bytes
+unfolding print_hi
+print_hi_chunk = refl
+
+pub begins_with_print_hi : BeginsWith ChunkOf print_hi 80 print_hi_bytes
+unfolding print_hi
+begins_with_print_hi = record { front = print_hi_bytes; rest = []; whole = refl; spells = chunk_spelled print_hi refl; counted = refl }
+
+pub begins_with_function : BeginsWith WholeOf print_hi 48 (drop 32 print_hi_bytes)
+unfolding print_hi
+begins_with_function = record { front = drop 32 print_hi_bytes; rest = []; whole = refl; spells = whole_spelled print_hi refl; counted = refl }
+
+-- the kinds of what is left of the chunk behind a cut, or with one byte changed
+
+another_signature : chunk_kind (
+    28 ∷ 76 ∷ 117 ∷ 97 ∷ 84 ∷ 0 ∷ 25 ∷ 147 ∷ 13 ∷ 10 ∷ 26 ∷ 10 ∷ 4 ∷ 8 ∷ 8 ∷ 120 ∷ 86 ∷ 0 ∷ 0 ∷ 0 ∷
+    0 ∷ 0 ∷ 0 ∷ 0 ∷ 0 ∷ 0 ∷ 0 ∷ 0 ∷ 40 ∷ 119 ∷ 64 ∷ 1 ∷ 128 ∷ 128 ∷ 128 ∷ 0 ∷ 1 ∷ 2 ∷ 133 ∷ 81 ∷
+    0 ∷ 0 ∷ 0 ∷ 11 ∷ 0 ∷ 0 ∷ 0 ∷ 131 ∷ 128 ∷ 0 ∷ 0 ∷ 68 ∷ 0 ∷ 2 ∷ 1 ∷ 70 ∷ 0 ∷ 1 ∷ 1 ∷ 130 ∷
+    4 ∷ 134 ∷ 112 ∷ 114 ∷ 105 ∷ 110 ∷ 116 ∷ 4 ∷ 131 ∷ 104 ∷ 105 ∷ 129 ∷ 1 ∷ 0 ∷ 0 ∷ 128 ∷ 128 ∷ 128 ∷ 128 ∷ 128 ∷
+    []) ≡ Some 1
+unfolding read_function
+another_signature = refl
+
+another_version : chunk_kind (
+    27 ∷ 76 ∷ 117 ∷ 97 ∷ 83 ∷ 0 ∷ 25 ∷ 147 ∷ 13 ∷ 10 ∷ 26 ∷ 10 ∷ 4 ∷ 8 ∷ 8 ∷ 120 ∷ 86 ∷ 0 ∷ 0 ∷ 0 ∷
+    0 ∷ 0 ∷ 0 ∷ 0 ∷ 0 ∷ 0 ∷ 0 ∷ 0 ∷ 40 ∷ 119 ∷ 64 ∷ 1 ∷ 128 ∷ 128 ∷ 128 ∷ 0 ∷ 1 ∷ 2 ∷ 133 ∷ 81 ∷
+    0 ∷ 0 ∷ 0 ∷ 11 ∷ 0 ∷ 0 ∷ 0 ∷ 131 ∷ 128 ∷ 0 ∷ 0 ∷ 68 ∷ 0 ∷ 2 ∷ 1 ∷ 70 ∷ 0 ∷ 1 ∷ 1 ∷ 130 ∷
+    4 ∷ 134 ∷ 112 ∷ 114 ∷ 105 ∷ 110 ∷ 116 ∷ 4 ∷ 131 ∷ 104 ∷ 105 ∷ 129 ∷ 1 ∷ 0 ∷ 0 ∷ 128 ∷ 128 ∷ 128 ∷ 128 ∷ 128 ∷
+    []) ≡ Some 2
+unfolding read_function
+another_version = refl
+
+another_format : chunk_kind (
+    27 ∷ 76 ∷ 117 ∷ 97 ∷ 84 ∷ 1 ∷ 25 ∷ 147 ∷ 13 ∷ 10 ∷ 26 ∷ 10 ∷ 4 ∷ 8 ∷ 8 ∷ 120 ∷ 86 ∷ 0 ∷ 0 ∷ 0 ∷
+    0 ∷ 0 ∷ 0 ∷ 0 ∷ 0 ∷ 0 ∷ 0 ∷ 0 ∷ 40 ∷ 119 ∷ 64 ∷ 1 ∷ 128 ∷ 128 ∷ 128 ∷ 0 ∷ 1 ∷ 2 ∷ 133 ∷ 81 ∷
+    0 ∷ 0 ∷ 0 ∷ 11 ∷ 0 ∷ 0 ∷ 0 ∷ 131 ∷ 128 ∷ 0 ∷ 0 ∷ 68 ∷ 0 ∷ 2 ∷ 1 ∷ 70 ∷ 0 ∷ 1 ∷ 1 ∷ 130 ∷
+    4 ∷ 134 ∷ 112 ∷ 114 ∷ 105 ∷ 110 ∷ 116 ∷ 4 ∷ 131 ∷ 104 ∷ 105 ∷ 129 ∷ 1 ∷ 0 ∷ 0 ∷ 128 ∷ 128 ∷ 128 ∷ 128 ∷ 128 ∷
+    []) ≡ Some 3
+unfolding read_function
+another_format = refl
+
+another_size : chunk_kind (
+    27 ∷ 76 ∷ 117 ∷ 97 ∷ 84 ∷ 0 ∷ 25 ∷ 147 ∷ 13 ∷ 10 ∷ 26 ∷ 10 ∷ 8 ∷ 8 ∷ 8 ∷ 120 ∷ 86 ∷ 0 ∷ 0 ∷ 0 ∷
+    0 ∷ 0 ∷ 0 ∷ 0 ∷ 0 ∷ 0 ∷ 0 ∷ 0 ∷ 40 ∷ 119 ∷ 64 ∷ 1 ∷ 128 ∷ 128 ∷ 128 ∷ 0 ∷ 1 ∷ 2 ∷ 133 ∷ 81 ∷
+    0 ∷ 0 ∷ 0 ∷ 11 ∷ 0 ∷ 0 ∷ 0 ∷ 131 ∷ 128 ∷ 0 ∷ 0 ∷ 68 ∷ 0 ∷ 2 ∷ 1 ∷ 70 ∷ 0 ∷ 1 ∷ 1 ∷ 130 ∷
+    4 ∷ 134 ∷ 112 ∷ 114 ∷ 105 ∷ 110 ∷ 116 ∷ 4 ∷ 131 ∷ 104 ∷ 105 ∷ 129 ∷ 1 ∷ 0 ∷ 0 ∷ 128 ∷ 128 ∷ 128 ∷ 128 ∷ 128 ∷
+    []) ≡ Some 4
+unfolding read_function
+another_size = refl
+
+a_vararg_of_2 : chunk_kind (
+    27 ∷ 76 ∷ 117 ∷ 97 ∷ 84 ∷ 0 ∷ 25 ∷ 147 ∷ 13 ∷ 10 ∷ 26 ∷ 10 ∷ 4 ∷ 8 ∷ 8 ∷ 120 ∷ 86 ∷ 0 ∷ 0 ∷ 0 ∷
+    0 ∷ 0 ∷ 0 ∷ 0 ∷ 0 ∷ 0 ∷ 0 ∷ 0 ∷ 40 ∷ 119 ∷ 64 ∷ 1 ∷ 128 ∷ 128 ∷ 128 ∷ 0 ∷ 2 ∷ 2 ∷ 133 ∷ 81 ∷
+    0 ∷ 0 ∷ 0 ∷ 11 ∷ 0 ∷ 0 ∷ 0 ∷ 131 ∷ 128 ∷ 0 ∷ 0 ∷ 68 ∷ 0 ∷ 2 ∷ 1 ∷ 70 ∷ 0 ∷ 1 ∷ 1 ∷ 130 ∷
+    4 ∷ 134 ∷ 112 ∷ 114 ∷ 105 ∷ 110 ∷ 116 ∷ 4 ∷ 131 ∷ 104 ∷ 105 ∷ 129 ∷ 1 ∷ 0 ∷ 0 ∷ 128 ∷ 128 ∷ 128 ∷ 128 ∷ 128 ∷
+    []) ≡ Some 8
+unfolding read_function
+a_vararg_of_2 = refl
+
+a_number_over : chunk_kind (
+    27 ∷ 76 ∷ 117 ∷ 97 ∷ 84 ∷ 0 ∷ 25 ∷ 147 ∷ 13 ∷ 10 ∷ 26 ∷ 10 ∷ 4 ∷ 8 ∷ 8 ∷ 120 ∷ 86 ∷ 0 ∷ 0 ∷ 0 ∷
+    0 ∷ 0 ∷ 0 ∷ 0 ∷ 0 ∷ 0 ∷ 0 ∷ 0 ∷ 40 ∷ 119 ∷ 64 ∷ 1 ∷ 128 ∷ 128 ∷ 128 ∷ 0 ∷ 1 ∷ 2 ∷ 5 ∷ 81 ∷
+    0 ∷ 0 ∷ 0 ∷ 11 ∷ 0 ∷ 0 ∷ 0 ∷ 131 ∷ 128 ∷ 0 ∷ 0 ∷ 68 ∷ 0 ∷ 2 ∷ 1 ∷ 70 ∷ 0 ∷ 1 ∷ 1 ∷ 130 ∷
+    4 ∷ 134 ∷ 112 ∷ 114 ∷ 105 ∷ 110 ∷ 116 ∷ 4 ∷ 131 ∷ 104 ∷ 105 ∷ 129 ∷ 1 ∷ 0 ∷ 0 ∷ 128 ∷ 128 ∷ 128 ∷ 128 ∷ 128 ∷
+    []) ≡ Some 7
+unfolding read_function
+a_number_over = refl
+
+a_float : chunk_kind (
+    27 ∷ 76 ∷ 117 ∷ 97 ∷ 84 ∷ 0 ∷ 25 ∷ 147 ∷ 13 ∷ 10 ∷ 26 ∷ 10 ∷ 4 ∷ 8 ∷ 8 ∷ 120 ∷ 86 ∷ 0 ∷ 0 ∷ 0 ∷
+    0 ∷ 0 ∷ 0 ∷ 0 ∷ 0 ∷ 0 ∷ 0 ∷ 0 ∷ 40 ∷ 119 ∷ 64 ∷ 1 ∷ 128 ∷ 128 ∷ 128 ∷ 0 ∷ 1 ∷ 2 ∷ 133 ∷ 81 ∷
+    0 ∷ 0 ∷ 0 ∷ 11 ∷ 0 ∷ 0 ∷ 0 ∷ 131 ∷ 128 ∷ 0 ∷ 0 ∷ 68 ∷ 0 ∷ 2 ∷ 1 ∷ 70 ∷ 0 ∷ 1 ∷ 1 ∷ 130 ∷
+    19 ∷ 134 ∷ 112 ∷ 114 ∷ 105 ∷ 110 ∷ 116 ∷ 4 ∷ 131 ∷ 104 ∷ 105 ∷ 129 ∷ 1 ∷ 0 ∷ 0 ∷ 128 ∷ 128 ∷ 128 ∷ 128 ∷ 128 ∷
+    []) ≡ Some 5
+unfolding read_function
+a_float = refl
+
+an_unknown_tag : chunk_kind (
+    27 ∷ 76 ∷ 117 ∷ 97 ∷ 84 ∷ 0 ∷ 25 ∷ 147 ∷ 13 ∷ 10 ∷ 26 ∷ 10 ∷ 4 ∷ 8 ∷ 8 ∷ 120 ∷ 86 ∷ 0 ∷ 0 ∷ 0 ∷
+    0 ∷ 0 ∷ 0 ∷ 0 ∷ 0 ∷ 0 ∷ 0 ∷ 0 ∷ 40 ∷ 119 ∷ 64 ∷ 1 ∷ 128 ∷ 128 ∷ 128 ∷ 0 ∷ 1 ∷ 2 ∷ 133 ∷ 81 ∷
+    0 ∷ 0 ∷ 0 ∷ 11 ∷ 0 ∷ 0 ∷ 0 ∷ 131 ∷ 128 ∷ 0 ∷ 0 ∷ 68 ∷ 0 ∷ 2 ∷ 1 ∷ 70 ∷ 0 ∷ 1 ∷ 1 ∷ 130 ∷
+    32 ∷ 134 ∷ 112 ∷ 114 ∷ 105 ∷ 110 ∷ 116 ∷ 4 ∷ 131 ∷ 104 ∷ 105 ∷ 129 ∷ 1 ∷ 0 ∷ 0 ∷ 128 ∷ 128 ∷ 128 ∷ 128 ∷ 128 ∷
+    []) ≡ Some 8
+unfolding read_function
+an_unknown_tag = refl

@@ -1,0 +1,12 @@
+pub mod Steps
+pub mod Functions
+pub mod Kept
+pub mod Exact
+pub mod Bases
+pub mod Formats
+pub mod Constants
+pub mod Wholes
+pub mod Chunks
+pub mod Spelled
+pub mod SpelledFunctions
+pub mod Examples
