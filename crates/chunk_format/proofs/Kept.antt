@@ -1,7 +1,8 @@
 -- The functions that are written.
-use Rattle.std.proofs.Common.{◌≡◌, ℕ, suc, ◌++◌, ◌∙◌, Bool, List, [], ◌∷◌, Option, None, Result, Ok, Err, OnOk, refl, ap, arith, length, append_assoc, ◌<◌, true, false, ◌&&◌}
+use Rattle.std.proofs.Common.{◌≡◌, ℕ, suc, ◌++◌, ◌∙◌, Bool, List, [], ◌∷◌, Option, None, Result, Ok, Err, OnOk, refl, ap, arith, length, append_assoc, ◌<◌, true}
 use Rattle.std.specs.Prelude.{if◌then◌else◌, nat_le}
 use Rattle.std.proofs.lemmas.Bool.Decides.{nat_tests}
+use Rattle.code_core.proofs.CheckedLemmas.{rest_of, first_of_two}
 use Rattle.code_core.specs.Writable.{Writable, parts_fit, lists_fit, list_fits, number_fits, name_fits, byte_fits}
 use Rattle.code_core.specs.Prototype.{Prototype, prototypes, list_of}
 use Rattle.chunk_format.specs.Spelling.{all_kept, kept, kept_parts, number, head, lists, details, inner, functions, function}
@@ -32,14 +33,6 @@ function-kept parent strip p before headed listed behind a b c =
 
 pub append_five : (s a b c d e : List ℕ) → ((((s ++ a) ++ b) ++ c) ++ d) ++ e ≡ s ++ (a ++ (b ++ (c ++ (d ++ e))))
 append_five s a b c d e = simp append_assoc
-
-rest_of : (a : Bool) {b : Bool} → (a && b) ≡ true → b ≡ true
-rest_of true h = h
-rest_of false h = absurd (cc)
-
-first_of_two : (a b : Bool) → (a && b) ≡ true → a ≡ true
-first_of_two true b h = refl
-first_of_two false b h = absurd (cc)
 
 pub upvalues_few : (p : Prototype) → Writable p → length p.own.upvalues < 256
 upvalues_few p h =

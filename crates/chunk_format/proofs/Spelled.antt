@@ -6,6 +6,7 @@ use Rattle.std.specs.List.{list_all, flat_map}
 use Rattle.std.proofs.lemmas.Bool.Decides.{nat_tests, Decides-ltb, eqb_tells}
 use Rattle.byteorder.specs.Endian.{little_number, little_bytes}
 use Rattle.byteorder.specs.Numbers.{little_number-reads_back, length-bytes_low_first}
+use Rattle.code_core.proofs.CheckedLemmas.{rest_of, first_of_two}
 use Rattle.code_core.specs.Writable.{number_fits, string_fits, name_fits, constant_fits, upvalue_fits, line_fits, local_fits, word_fits, change_fits, byte_fits, signed_fits, greatest_string}
 use Rattle.code_core.specs.declared.instruction.Instruction.{Instruction}
 use Rattle.code_core.specs.declared.proto.Const.{Const}
@@ -29,14 +30,6 @@ then_last x front a b = record { first = x; front = front; back = []; whole = sy
 
 pub gives : {A : Type 0} (x : A) → Gives x x []
 gives x = record { value = refl; nothing = refl }
-
-pub rest_of : (a : Bool) {b : Bool} → (a && b) ≡ true → b ≡ true
-rest_of true h = h
-rest_of false h = absurd (cc)
-
-pub first_of_two : (a b : Bool) → (a && b) ≡ true → a ≡ true
-first_of_two true b h = refl
-first_of_two false b h = absurd (cc)
 
 -- numbers
 

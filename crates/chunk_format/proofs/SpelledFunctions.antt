@@ -5,6 +5,7 @@ use Rattle.std.specs.Cmp.Lexicographic.{pointwise, same_text}
 use Rattle.std.specs.List.{list_all}
 use Rattle.std.proofs.lemmas.Bool.Decides.{nat_tests, Decides-ltb}
 use Rattle.code_core.specs.Prototype.{Parts, Prototype, Prototypes, none, more, prototypes, list_of, count, function_count}
+use Rattle.code_core.proofs.CheckedLemmas.{rest_of, first_of_two}
 use Rattle.code_core.specs.Writable.{Writable, all_fit, keeps_source, parts_fit, lists_fit, entries_fit, list_fits, number_fits, name_fits, byte_fits, constant_fits, upvalue_fits, line_fits, local_fits, word_fits, change_fits, depth, greatest_depth}
 use Rattle.chunk_format.specs.Header.{signature, version, format, sizes}
 use Rattle.chunk_format.proofs.Chunks.{exact_chunk}
@@ -12,7 +13,7 @@ use Rattle.chunk_format.specs.Reading.{read, read_chunk, Head, Lists, Details}
 use Rattle.chunk_format.specs.Spelling as spelled
 use Rattle.chunk_format.specs.Spelling.{is_same_name, kept, kept_parts, all_kept}
 use Rattle.chunk_format.specs.Grammar.{SourceOf, HeadOf, ListsOf, DetailsOf, TimesOf, BodyOf, FunctionOf, WholeOf, HeaderOf, ChunkOf, InstructionOf, ConstantOf, UpvalueOf, ChangeOf, AbsLineOf, LocalOf, NameOf}
-use Rattle.chunk_format.proofs.Spelled.{then_rest, then_last, gives, rest_of, first_of_two, number_spelled, number_of_fitting, name_spelled, instruction_spelled, constant_spelled, upvalue_spelled, change_spelled, abs_line_spelled, local_spelled, list_spelled}
+use Rattle.chunk_format.proofs.Spelled.{then_rest, then_last, gives, number_spelled, number_of_fitting, name_spelled, instruction_spelled, constant_spelled, upvalue_spelled, change_spelled, abs_line_spelled, local_spelled, list_spelled}
 
 -- the parts of a function
 
