@@ -4,7 +4,7 @@ use std::alloc::{AllocError, Global};
 use std::test::Fail;
 
 /// Subject, pattern, place and result: the end, and each capture as `start-end` or `@place`.
-const MATCHES: [(&str, &str, usize, &str); 89] = [
+static MATCHES: [(&str, &str, usize, &str); 89] = [
     // Single bytes, and nothing at all.
     ("hello", "", 0, "0"),
     ("hello", "", 5, "5"),
@@ -106,7 +106,7 @@ const MATCHES: [(&str, &str, usize, &str); 89] = [
 ];
 
 /// Patterns that are refused whatever the subject is, each with the number of its rule.
-const REFUSALS: [(&str, &str); 26] = [
+static REFUSALS: [(&str, &str); 26] = [
     ("%", "rule 1"),
     ("a%", "rule 1"),
     ("(a%", "rule 1"),
@@ -137,7 +137,7 @@ const REFUSALS: [(&str, &str); 26] = [
 
 #[test]
 fn matches_are_those_of_the_manual(rt: HostRuntime) -> Result<(), Fail> {
-    for (subject, pattern, at, want) in MATCHES {
+    for (subject, pattern, at, want) in MATCHES.iter().copied() {
         assert!(rt; at <= subject.len());
         let answer = find_at(rt.alloc(), subject.as_bytes(), pattern.as_bytes(), at);
         let told = text_of(rt.alloc(), &answer)?;
@@ -148,7 +148,7 @@ fn matches_are_those_of_the_manual(rt: HostRuntime) -> Result<(), Fail> {
 
 #[test]
 fn a_pattern_is_refused_by_the_first_rule_that_it_breaks(rt: HostRuntime) -> Result<(), Fail> {
-    for (pattern, want) in REFUSALS {
+    for (pattern, want) in REFUSALS.iter().copied() {
         let answer = find_at(rt.alloc(), b"", pattern.as_bytes(), 0);
         let told = text_of(rt.alloc(), &answer)?;
         assert_eq!(rt; told.as_str(), want, "{pattern}");
