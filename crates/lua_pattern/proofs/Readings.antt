@@ -1,15 +1,14 @@
 -- The items of a pattern, one after another, and the bytes that an item leaves.
-use Rattle.std.proofs.Common.{◌≡◌, ℕ, zero, suc, ◌+◌, ◌-◌, ◌≤◌, Bool, true, false, cond, List, [], ◌∷◌, ◌++◌, length, drop, Option, Some, None, Result, Ok, Err, refl, sym, ap, ◌∙◌, subst, append_assoc, append-nil, arith}
+use Rattle.std.proofs.Common.{◌≡◌, ℕ, zero, suc, ◌-◌, ◌≤◌, Bool, true, false, cond, List, [], ◌∷◌, ◌++◌, length, Option, Some, None, Result, Ok, Err, refl, sym, ap, ◌∙◌, subst, append_assoc, append-nil, arith}
 use Rattle.lua_pattern.specs.declared.class.Class.{Class}
 use Rattle.lua_pattern.specs.declared.class.Class.TheVariants.{Any, Alone, Among}
 use Rattle.lua_pattern.specs.declared.class.Part.{Part}
 use Rattle.lua_pattern.specs.declared.class.Part.TheVariants.{Byte}
 use Rattle.lua_pattern.specs.declared.item.Item.{Item}
 use Rattle.lua_pattern.specs.declared.rule.TheConstants.{UNFINISHED_CAPTURE}
-use Rattle.lua_pattern.specs.Bytes.{begins_with}
 use Rattle.lua_pattern.specs.Classes.{part_named}
-use Rattle.lua_pattern.specs.Reading.{PartsRead, Read, SetRead, balanced_at, class_at, class_of_set, close_at, dollar_at, escape_at, first_parts, frontier_at, frontier_of_set, item_at, items_from, items_of, joined, more_of, open_at, parts_from, part_at, reference_at, scope_of, set_at, set_from, set_of, with_part}
-use Rattle.lua_pattern.specs.Scope.{Scope, empty_scope, is_closed}
+use Rattle.lua_pattern.specs.Reading.{PartsRead, Read, SetRead, balanced_at, class_at, class_of_set, close_at, dollar_at, escape_at, first_parts, frontier_at, frontier_of_set, item_at, items_from, joined, more_of, open_at, parts_from, part_at, reference_at, scope_of, set_at, set_from, set_of, with_part}
+use Rattle.lua_pattern.specs.Scope.{Scope, is_closed}
 use Rattle.lua_pattern.specs.Outcomes.{IsRead, IsRefused}
 use Rattle.lua_pattern.specs.declared.answer.PatternFault.{PatternFault}
 use Rattle.lua_pattern.specs.declared.answer.PatternFault.TheVariants.{Malformed, TooComplex, Memory}

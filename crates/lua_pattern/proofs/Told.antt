@@ -1,12 +1,11 @@
 -- From the items of a pattern to the answer for it.
-use Rattle.std.proofs.Common.{◌≡◌, ℕ, ◌<◌, ◌≤◌, true, false, cond, List, [], Option, Some, None, Result, Ok, Err, refl, sym, ap, ◌∙◌, arith}
-use Rattle.std.specs.Prelude.{count_by, nat_lt, slice_get}
+use Rattle.std.proofs.Common.{◌≡◌, ℕ, ◌<◌, ◌≤◌, cond, List, [], Option, Some, None, Ok, Err, sym, ap, ◌∙◌}
+use Rattle.std.specs.Prelude.{count_by, slice_get}
 use Rattle.std.proofs.lemmas.Bool.{lt-ltb, le-ltb}
-use Rattle.lua_pattern.specs.declared.answer.Match.{Match}
 use Rattle.lua_pattern.specs.declared.answer.PatternFault.{PatternFault}
 use Rattle.lua_pattern.specs.declared.answer.PatternFault.TheVariants.{Malformed, TooComplex, Memory}
 use Rattle.lua_pattern.specs.declared.item.Item.{Item}
-use Rattle.lua_pattern.specs.Answer.{IsAnswer, answer_by, answer_of, first_found, found_of, is_counted}
+use Rattle.lua_pattern.specs.Answer.{IsAnswer, answer_by, answer_of, first_found, is_counted}
 use Rattle.lua_pattern.specs.Ends.{ends}
 use Rattle.lua_pattern.specs.Firsts.{IsFirst}
 use Rattle.lua_pattern.specs.declared.answer.Capture.{Capture}

@@ -1,8 +1,7 @@
 -- The matches of a list of items by the ways of the first one, and tries of several places one after another.
 use Rattle.std.proofs.Common.{◌≡◌, ◌⊎◌, inl, inr, ℕ, zero, suc, ◌+◌, ◌-◌, min, set, Result, Ok, Err, IfOk, IfSome, add-one, subst, ◌<◌, ◌≤◌, true, false, List, [], ◌∷◌, ◌++◌, length, drop, reverse, None, Some, Option, refl, sym, ap, ◌∙◌, arith}
 use Rattle.std.specs.Prelude.{slice_get, is_some}
-use Rattle.std.specs.List.{flat_map, range_with_len, All}
-use Rattle.std.specs.Option.{option_to_list}
+use Rattle.std.specs.List.{flat_map, range_with_len}
 use Rattle.std.proofs.lemmas.List.{append-nil, reverse-append, set-set, set-get_or}
 use Rattle.std.proofs.lemmas.Option.{get_or_from_slice_get}
 use Rattle.std.proofs.lemmas.List.Folds.{flat_map-map}
@@ -16,7 +15,7 @@ use Rattle.lua_pattern.specs.declared.item.Plain.{Plain as PlainItem}
 use Rattle.lua_pattern.specs.declared.item.Repeat.{Repeat}
 use Rattle.lua_pattern.specs.Ends.{ends}
 use Rattle.lua_pattern.specs.Firsts.{AreBefore, IsBefore, IsFirst, IsInside}
-use Rattle.lua_pattern.specs.Ways.{Found, ways, places, plain_end, ended, is_class_at, run_of}
+use Rattle.lua_pattern.specs.Ways.{Found, places, plain_end, ended, is_class_at, run_of}
 use Rattle.lua_pattern.proofs.Balanced.{range-more}
 use Rattle.lua_pattern.proofs.Runs.{run_more, run_none}
 
@@ -89,7 +88,7 @@ module _ (behind : ℕ → List Found) (before after : List Capture) where
       ap (λ n. flat_map behind (reverse (range_with_len first n))) one_more ∙ ap (flat_map behind) (reverse-range-more first (tries - 1))
 
   split_first : (place more : ℕ) → flat_map behind (range_with_len place (more + 1)) ≡ behind place ++ flat_map behind (range_with_len (place + 1) more)
-  split_first place more = rw add-one refl
+  split_first place more = ap (λ n. flat_map behind (range_with_len place n)) (add-one more)
 
   found_first : (end : Option ℕ) (xs ys : List Found) → is_some end ≡ true → IsFirst xs end before after → IsFirst (xs ++ ys) end before after
   found_first None xs ys some first = cc

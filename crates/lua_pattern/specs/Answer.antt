@@ -1,12 +1,11 @@
 -- What a search for a pattern at a place answers.
-use Rattle.std.specs.Prelude.{◌≡◌, ℕ, ◌≤◌, ◌+◌, Bool, true, false, nat_lt, if◌then◌else◌, List, [], slice_get, count_by, Option, Some, None, Result, Ok, Err, ⊤}
+use Rattle.std.specs.Prelude.{◌≡◌, ℕ, Bool, true, false, nat_lt, if◌then◌else◌, List, [], slice_get, count_by, Option, Some, None, Result, Ok, Err, ⊤}
 use Rattle.lua_pattern.specs.declared.answer.Match.{Match}
 use Rattle.lua_pattern.specs.declared.answer.PatternFault.{PatternFault}
 use Rattle.lua_pattern.specs.declared.answer.PatternFault.TheVariants.{Malformed, TooComplex, Memory}
 use Rattle.lua_pattern.specs.declared.item.Item.{Item}
 use Rattle.lua_pattern.specs.declared.item.Item.TheVariants.{Plain, Repeated, Open, Close, Place}
 use Rattle.lua_pattern.specs.Ends.{ends}
-use Rattle.lua_pattern.specs.Firsts.{IsInside}
 use Rattle.lua_pattern.specs.Reading.{items_of}
 use Rattle.lua_pattern.specs.Ways.{Found}
 

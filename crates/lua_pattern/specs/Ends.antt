@@ -10,3 +10,7 @@ abbrev pub ends : List ℕ → List Item → ℕ → List Capture → List Found
 ends subject [] at captures = record { end = at; captures = captures } ∷ []
 ends subject (item ∷ rest) at captures =
     flat_map (λ way. ends subject rest way.end way.captures) (ways subject item at captures)
+
+-- the matches of items at each of some places, one after another
+abbrev pub ends_at : List ℕ → List Item → List ℕ → List Capture → List Found
+ends_at subject items places captures = flat_map (λ place. ends subject items place captures) places

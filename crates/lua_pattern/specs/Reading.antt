@@ -1,5 +1,5 @@
 -- How the bytes of a pattern spell its items, and the first rule that a pattern breaks (Lua 5.4 manual, 6.4.1, "Pattern Item" and "Pattern").
-use Rattle.std.specs.Prelude.{ℕ, zero, suc, ◌+◌, ◌-◌, Bool, true, false, ◌==◌, ◌&&◌, not, nat_le, if◌then◌else◌, List, [], ◌∷◌, length, drop, slice_index, Option, Some, None, Result, Ok, Err}
+use Rattle.std.specs.Prelude.{ℕ, zero, suc, ◌-◌, Bool, true, false, ◌==◌, ◌&&◌, not, nat_le, if◌then◌else◌, List, [], ◌∷◌, length, drop, slice_index, Option, Some, None, Result, Ok, Err}
 use Rattle.lua_pattern.specs.declared.class.Class.{Class}
 use Rattle.lua_pattern.specs.declared.class.Class.TheVariants.{Any, Alone, Among}
 use Rattle.lua_pattern.specs.declared.class.Part.{Part}

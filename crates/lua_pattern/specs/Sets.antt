@@ -1,5 +1,5 @@
 -- Which bytes a class of a pattern takes in, sets among them (Lua 5.4 manual, 6.4.1, "Character Class").
-use Rattle.std.specs.Prelude.{ℕ, Bool, true, not, if◌then◌else◌, List}
+use Rattle.std.specs.Prelude.{ℕ, Bool, not, if◌then◌else◌, List}
 use Rattle.std.specs.List.{list_any}
 use Rattle.lua_pattern.specs.declared.class.Part.{Part}
 use Rattle.lua_pattern.specs.Classes.{part_has}

@@ -1,5 +1,5 @@
 -- How one item of a pattern can match at a place (Lua 5.4 manual, 6.4.1, "Pattern Item" and "Captures").
-use Rattle.std.specs.Prelude.{ℕ, zero, suc, ◌+◌, ◌-◌, min, Bool, false, ◌==◌, ◌&&◌, not, nat_eq, if◌then◌else◌, List, [], ◌∷◌, ◌++◌, map, length, take, drop, reverse, slice_get, slice_index, slice_set, count_by, find, Option, Some, None}
+use Rattle.std.specs.Prelude.{ℕ, zero, suc, ◌+◌, ◌-◌, min, Bool, false, ◌==◌, ◌&&◌, not, nat_eq, if◌then◌else◌, List, [], ◌∷◌, ◌++◌, map, length, take, drop, reverse, slice_get, slice_index, count_by, find, Option, Some, None}
 use Rattle.std.specs.List.{range_with_len, prefix_len, starts_with}
 use Rattle.std.specs.Option.{option_map, option_map_or, option_and_then, option_to_list}
 use Rattle.lua_pattern.specs.declared.answer.Capture.{Capture}

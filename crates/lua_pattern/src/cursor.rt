@@ -28,7 +28,8 @@ impl<'a> Cursor<'a> {
 
     /// Takes the next byte, if there is one.
     pub fn next_byte(&mut self) -> Option<u8>
-        ensures { MatchOption result ((self.old ≡ []) × (self.new ≡ [])) (λ byte. self.old ≡ byte ∷ self.new) }
+        ensures { MatchOption result ((self.old ≡ []) × (self.new ≡ []))
+            (λ byte. self.old ≡ byte ∷ self.new) }
     {
         match self.rest.split_first() {
             Some((byte, rest)) => {

@@ -23,7 +23,8 @@ pub fn find_at(
 ) -> Result<Option<Match>, PatternFault>
     requires { at ≤ length subject.now }
     ensures answer { IsAnswer result (answer_of subject.now pattern.now at) }
-    ensures inside { IfOk result (λ found. IfSome found (λ match. IsInside (length subject.now) at match.end match.captures.items)) }
+    ensures inside { IfOk result (λ found. IfSome found
+        (λ match. IsInside (length subject.now) at match.end match.captures.items)) }
 {
     let items = read_pattern(alloc, pattern)?;
     if counted(&items) > MAX_COUNTED {

@@ -1,7 +1,7 @@
 // The first match of a list of items, found by going back over single tries.
 ghost use Rattle.std.specs.Prelude.{◌≡◌, ℕ, ◌+◌, ◌≤◌, List, [], ◌∷◌, ◌++◌, length, reverse, drop, slice_get, IfOk, IfSome};
-ghost use Rattle.std.specs.List.{flat_map, range_with_len};
-ghost use Rattle.lua_pattern.specs.Ends.{ends};
+ghost use Rattle.std.specs.List.{range_with_len};
+ghost use Rattle.lua_pattern.specs.Ends.{ends, ends_at};
 ghost use Rattle.lua_pattern.specs.Firsts.{AreBefore, IsBefore, IsFirst, IsInside};
 ghost use Rattle.lua_pattern.specs.Ways.{ended, run_of};
 ghost use Rattle.lua_pattern.specs.declared.item.Item.TheVariants.{Repeated};
@@ -22,8 +22,10 @@ pub(crate) fn first_match(
 ) -> Result<Option<usize>, AllocError>
     requires place { at ≤ length subject.now }
     requires captured { AreBefore at captures.old.items }
-    ensures first { IfOk result (λ end. IsFirst (ends subject.now items.now at captures.old.items) end captures.old.items captures.new.items) }
-    ensures inside { IfOk result (λ end. IfSome end (λ place. IsInside (length subject.now) at place captures.new.items)) }
+    ensures first { IfOk result (λ end. IsFirst (ends subject.now items.now at captures.old.items)
+        end captures.old.items captures.new.items) }
+    ensures inside { IfOk result (λ end. IfSome end
+        (λ place. IsInside (length subject.now) at place captures.new.items)) }
 {
     let mut at = at;
     let mut left = items;
@@ -60,8 +62,11 @@ fn repeated(
 ) -> Result<Option<usize>, AllocError>
     requires place { at ≤ length subject.now }
     requires captured { AreBefore at captures.old.items }
-    ensures first { IfOk result (λ end. IsFirst (ends subject.now (Repeated class.now repeat ∷ rest.now) at captures.old.items) end captures.old.items captures.new.items) }
-    ensures inside { IfOk result (λ end. IfSome end (λ place. IsInside (length subject.now) at place captures.new.items)) }
+    ensures first { IfOk result
+        (λ end. IsFirst (ends subject.now (Repeated class.now repeat ∷ rest.now) at captures.old.items)
+        end captures.old.items captures.new.items) }
+    ensures inside { IfOk result (λ end. IfSome end
+        (λ place. IsInside (length subject.now) at place captures.new.items)) }
 {
     match repeat {
         Repeat::Optional => {
@@ -95,8 +100,11 @@ fn longest_first(
 ) -> Result<Option<usize>, AllocError>
     requires places { first + tries ≤ length subject.now + 1 }
     requires captured { AreBefore first captures.old.items }
-    ensures first { IfOk result (λ end. IsFirst (flat_map (λ place. ends subject.now rest.now place captures.old.items) (reverse (range_with_len first tries))) end captures.old.items captures.new.items) }
-    ensures inside { IfOk result (λ end. IfSome end (λ place. IsInside (length subject.now) first place captures.new.items)) }
+    ensures first { IfOk result
+        (λ end. IsFirst (ends_at subject.now rest.now (reverse (range_with_len first tries)) captures.old.items)
+        end captures.old.items captures.new.items) }
+    ensures inside { IfOk result (λ end. IfSome end
+        (λ place. IsInside (length subject.now) first place captures.new.items)) }
 {
     let mut tries = tries;
     while tries > 0 {
@@ -120,8 +128,12 @@ fn shortest_first(
 ) -> Result<Option<usize>, AllocError>
     requires place { at ≤ length subject.now }
     requires captured { AreBefore at captures.old.items }
-    ensures first { IfOk result (λ end. IsFirst (flat_map (λ place. ends subject.now rest.now place captures.old.items) (range_with_len at (run_of class.now (drop at subject.now) + 1))) end captures.old.items captures.new.items) }
-    ensures inside { IfOk result (λ end. IfSome end (λ place. IsInside (length subject.now) at place captures.new.items)) }
+    ensures first { IfOk result
+        (λ end. IsFirst (ends_at subject.now rest.now
+        (range_with_len at (run_of class.now (drop at subject.now) + 1)) captures.old.items)
+        end captures.old.items captures.new.items) }
+    ensures inside { IfOk result (λ end. IfSome end
+        (λ place. IsInside (length subject.now) at place captures.new.items)) }
 {
     let mut place = at;
     loop {
@@ -148,8 +160,11 @@ fn captured(
     requires place { at ≤ length subject.now }
     requires captured { AreBefore at captures.old.items }
     requires capture { IsBefore at capture }
-    ensures first { IfOk result (λ end. IsFirst (ends subject.now rest.now at (captures.old.items ++ capture ∷ [])) end captures.old.items captures.new.items) }
-    ensures inside { IfOk result (λ end. IfSome end (λ place. IsInside (length subject.now) at place captures.new.items)) }
+    ensures first { IfOk result
+        (λ end. IsFirst (ends subject.now rest.now at (captures.old.items ++ capture ∷ []))
+        end captures.old.items captures.new.items) }
+    ensures inside { IfOk result (λ end. IfSome end
+        (λ place. IsInside (length subject.now) at place captures.new.items)) }
 {
     captures.push(capture)?;
     let end = first_match(subject, rest, at, captures)?;
@@ -170,8 +185,11 @@ fn closed(
 ) -> Result<Option<usize>, AllocError>
     requires place { at ≤ length subject.now }
     requires captured { AreBefore at captures.old.items }
-    ensures first { IfOk result (λ end. IsFirst (ends subject.now rest.now at (ended captures.old.items number at)) end captures.old.items captures.new.items) }
-    ensures inside { IfOk result (λ end. IfSome end (λ place. IsInside (length subject.now) at place captures.new.items)) }
+    ensures first { IfOk result
+        (λ end. IsFirst (ends subject.now rest.now at (ended captures.old.items number at))
+        end captures.old.items captures.new.items) }
+    ensures inside { IfOk result (λ end. IfSome end
+        (λ place. IsInside (length subject.now) at place captures.new.items)) }
 {
     match capture_at(captures, number) {
         Some(Capture::Text { start, end }) => {

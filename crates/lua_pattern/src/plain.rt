@@ -61,7 +61,8 @@ pub(crate) fn run_at(subject: &[u8], class: &Class, at: usize) -> usize
 /// The place behind the balanced text that begins at a place.
 fn balanced_end(subject: &[u8], opening: u8, closing: u8, at: usize) -> Option<usize>
     requires { at ≤ length subject.now }
-    ensures value { result ≡ option_map (λ count. at + count) (balanced_len opening closing (drop at subject.now)) }
+    ensures value { result
+        ≡ option_map (λ count. at + count) (balanced_len opening closing (drop at subject.now)) }
     ensures forward { IfSome result (λ end. at ≤ end) }
     ensures within { IfSome result (λ end. end ≤ length subject.now) }
 {

@@ -23,7 +23,7 @@ pub(crate) fn read_pattern(alloc: Global, pattern: &[u8]) -> Result<Vec<Item>, P
 {
     let mut cursor = Cursor::new(pattern);
     let mut scope = Scope::new(alloc);
-    let mut items = Vec::new(alloc);
+    let mut items = Vec::with_capacity(alloc, pattern.len())?;
     while let Some(byte) = cursor.next_byte() {
         let item = read_item(alloc, byte, &mut cursor, &mut scope)?;
         items.push(item)?;
@@ -134,7 +134,8 @@ fn read_reference(digit: u8, scope: &Scope) -> Result<Item, PatternFault>
 
 /// Reads the quantifier behind a class, if there is one.
 fn read_quantifier(class: Class, cursor: &mut Cursor) -> Item
-    ensures { (scope : Captures) → class_at class scope cursor.old ≡ Ok (record { item = result; scope = scope; rest = cursor.new }) }
+    ensures { (scope : Captures) → class_at class scope cursor.old
+        ≡ Ok (record { item = result; scope = scope; rest = cursor.new }) }
 {
     let repeat = match cursor.ahead(0) {
         Some(b'*') => Repeat::ZeroOrMore,

@@ -1,6 +1,6 @@
-use Rattle.std.proofs.Common.{◌≡◌, ◌<◌, ◌≤◌, [], Ok, Err, Some, None, refl, sym, ap, ◌∙◌, arith, rules}
+use Rattle.std.proofs.Common.{◌≡◌, Err, ap, ◌∙◌, arith, rules}
 use Rattle.std.specs.Prelude.{count_by}
-use Rattle.lua_pattern.specs.Answer.{answer_of, is_counted}
+use Rattle.lua_pattern.specs.Answer.{is_counted}
 use Rattle.lua_pattern.proofs.Told.{complex_answer, none_answer, refused_answer, some_answer}
 use Rattle.lua_pattern.proofs.find.find_at.Goals as goal
 

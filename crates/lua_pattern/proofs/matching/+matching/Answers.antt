@@ -1,15 +1,14 @@
-use Rattle.std.proofs.Common.{set, ◌≡◌, ℕ, ◌+◌, ◌-◌, ◌≤◌, ◌<◌, List, [], ◌∷◌, ◌++◌, length, reverse, drop, Some, None, Ok, IfOk, true, false, refl, sym, ap, ◌∙◌, subst, inl, inr, arith, rules}
-use Rattle.std.specs.Prelude.{slice_get, is_some}
+use Rattle.std.proofs.Common.{set, ◌≡◌, ℕ, ◌+◌, ◌-◌, List, [], length, reverse, drop, Some, None, true, refl, sym, ap, ◌∙◌, subst, inl, inr, arith}
+use Rattle.std.specs.Prelude.{slice_get}
 use Rattle.std.proofs.lemmas.List.{nil_from_length}
 use Rattle.lua_pattern.specs.Ends.{ends}
-use Rattle.lua_pattern.specs.Firsts.{AreBefore, IsBefore, IsFirst}
+use Rattle.lua_pattern.specs.Firsts.{IsFirst}
 use Rattle.std.specs.List.{range_with_len}
-use Rattle.lua_pattern.specs.Ways.{Found, ended, is_class_at, run_of, places, plain_end}
-use Rattle.lua_pattern.specs.declared.item.Repeat.TheVariants.{Optional, ZeroOrMore, OneOrMore, Lazy}
+use Rattle.lua_pattern.specs.Ways.{Found, is_class_at, run_of, places, plain_end}
+use Rattle.lua_pattern.specs.declared.item.Repeat.TheVariants.{Optional, ZeroOrMore, OneOrMore}
 use Rattle.lua_pattern.specs.declared.answer.Capture.TheVariants.{Text, Position}
-use Rattle.lua_pattern.specs.declared.item.Item.TheVariants.{Plain, Repeated, Open, Close, Place}
 use Rattle.lua_pattern.proofs.Runs.{run_more, run_none, is_there}
-use Rattle.lua_pattern.proofs.Tries.{retold, from_left, ends-plain_some, ends-plain_none, ends-open, ends-place, ends-close, ends-repeated, repeated_by, longest_found, longest_more, shortest_more, shortest_none, optional_tries, ended-text, ended-position, ended-none, put_back, given_up, inside_later, kept_found}
+use Rattle.lua_pattern.proofs.Tries.{retold, from_left, ends-plain_none, ends-open, ends-place, ends-close, repeated_by, longest_found, longest_more, shortest_more, shortest_none, optional_tries, ended-text, ended-position, ended-none, put_back, given_up, inside_later, kept_found}
 use Rattle.lua_pattern.proofs.matching.+matching.Goals as goal
 use Rattle.lua_pattern.proofs.matching.+matching.Goals.{repeated-then-is_class_at, repeated-else-is_class_at}
 

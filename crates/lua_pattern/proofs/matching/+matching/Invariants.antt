@@ -1,4 +1,4 @@
-use Rattle.std.proofs.Common.{◌≡◌, ℕ, ◌+◌, ◌-◌, ◌*◌, ◌<◌, ◌≤◌, length, drop, reverse}
+use Rattle.std.proofs.Common.{◌≡◌, ◌+◌, ◌-◌, ◌*◌, ◌≤◌, length, drop, reverse}
 use Rattle.std.specs.List.{flat_map, range_with_len}
 use Rattle.lua_pattern.specs.Ends.{ends}
 use Rattle.lua_pattern.specs.Firsts.{AreBefore}

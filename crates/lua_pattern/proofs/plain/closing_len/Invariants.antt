@@ -1,5 +1,5 @@
-use Rattle.std.proofs.Common.{◌≡◌, ℕ, ◌+◌, ◌-◌, ◌<◌, ◌≤◌, eqb, not, ◌&&◌, length, take, None}
-use Rattle.std.specs.Prelude.{count_by, find, ◌==◌}
+use Rattle.std.proofs.Common.{◌≡◌, ◌+◌, ◌<◌, ◌≤◌, None}
+use Rattle.std.specs.Prelude.{find, ◌==◌}
 use Rattle.std.specs.List.{range_with_len}
 use Rattle.lua_pattern.specs.Ways.{open_after}
 use Rattle.lua_pattern.proofs.plain.closing_len.Given as goal

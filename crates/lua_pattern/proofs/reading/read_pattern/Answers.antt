@@ -1,13 +1,11 @@
-use Rattle.std.proofs.Common.{◌≡◌, ◌∷◌, ◌<◌, [], true, false, length, Ok, Err, IfErr, refl, sym, ap, ◌∙◌, arith, rules}
-use Rattle.lua_pattern.specs.Outcomes.{IsRefused}
-use Rattle.lua_pattern.specs.Reading.{items_of}
+use Rattle.std.proofs.Common.{◌≡◌, ◌∷◌, [], true, false, length, Err, sym, ap, ◌∙◌, arith, rules}
 use Rattle.lua_pattern.specs.Scope.{is_closed}
 use Rattle.lua_pattern.proofs.Readings.{end_of_item, length-end, no_more_items, one_item, refused_item, unfinished_capture}
 use Rattle.lua_pattern.proofs.reading.read_pattern.Goals as goal
 
 pub returns-in_err-item-clause-refused : goal.returns-in_err-item-clause-refused
 returns-in_err-item-clause-refused c =
-    let same : c.from_residual.result ≡ Err c.in_err-item.field-0.0 = search rules in
+    let same : c.from_residual-in_err-item.result ≡ Err c.in_err-item.field-0.0 = search rules in
     rw same (refused_item c.in_err-item.field-0.0 c.loop-byte.items.items c.loop-byte.scope _ c.loop-byte.cursor c.next_byte.new.self _ c.in-Some.byte c.loop-byte.invariant c.in-Some.ensures c.in_err-item.ensures)
 
 pub loop-byte-smaller : goal.loop-byte-smaller
