@@ -1,7 +1,6 @@
 pub mod LineLemmas
 pub mod BracketLemmas
 pub mod WordLemmas
-pub mod NumeralLemmas
 pub mod StringLemmas
 pub mod TokenLemmas
 pub mod SourceLemmas

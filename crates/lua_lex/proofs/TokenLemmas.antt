@@ -5,7 +5,9 @@ use Rattle.lua_lex.specs.declared.token.Token.{Token}
 use Rattle.lua_lex.specs.declared.token.Token.TheVariants.{Int, Str, Mark}
 use Rattle.lua_lex.specs.declared.kind.Kind.{Kind}
 use Rattle.lua_lex.specs.declared.kind.Kind.TheVariants.{End, Space, Comment, LongComment, Word, Numeral, ShortString, LongString, Symbol}
-use Rattle.lua_lex.specs.Classes.{read_lines, behind_line_end}
+use Rattle.std.specs.Prelude.{take_while}
+use Rattle.int_core.proofs.SpellsLemmas.{SpellsInteger-same}
+use Rattle.lua_lex.specs.Classes.{is_numeral_byte, read_lines, behind_line_end}
 use Rattle.lua_lex.specs.Words.{marks, place_of}
 use Rattle.lua_lex.specs.Lexical.{kind_of, Skips, SkipsOf, Gap, nothing, piece, IsMark, IsToken, IsTokenOf}
 use Rattle.lua_lex.proofs.BracketLemmas.{one_bracket}
@@ -29,7 +31,7 @@ one_mark text number number' rest rest' m n =
 one_token_of : (kind : Kind) (text : List ℕ) (token other : Token) (rest rest' : List ℕ) → IsTokenOf kind text token rest → IsTokenOf kind text other rest' → Same token other rest rest'
 one_token_of Word text token other rest rest' t u = record { tokens = t.0 ∙ sym u.0; rests = t.1 ∙ sym u.1 }
 one_token_of Numeral text token other rest rest' t u =
-    let values : t.0 ≡ u.0 = (let same = sym t.1 ∙ u.1 in cc) in
+    let values = SpellsInteger-same (take_while is_numeral_byte text) t.0 u.0 t.1 u.1 in
     record { tokens = t.2 ∙ ap Int values ∙ sym u.2; rests = t.3 ∙ sym u.3 }
 one_token_of Symbol text token other rest rest' t u =
     let same = one_mark text t.0 u.0 rest rest' t.1 u.1 in

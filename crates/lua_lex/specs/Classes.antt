@@ -1,15 +1,11 @@
 -- Classes of bytes, and the ends of lines in a text (Lua 5.4 manual, 3.1).
 -- Bytes stand by their numbers: `.` is 46, `=` 61 and `_` 95.
-use Rattle.std.specs.Prelude.{ℕ, ◌+◌, Bool, ◌==◌, ◌||◌, ◌&&◌, not, nat_le, List, [], ◌∷◌, drop, slice_index, if◌then◌else◌}
+use Rattle.std.specs.Prelude.{ℕ, ◌+◌, Bool, ◌==◌, ◌||◌, ◌&&◌, not, List, [], ◌∷◌, drop, slice_index, if◌then◌else◌}
 use Rattle.std.specs.Char.{is_ascii_alphabetic, is_ascii_digit, is_digit}
 
 -- `\n` and `\r`
 abbrev pub is_line_end : ℕ → Bool
 is_line_end byte = byte == 10 || byte == 13
-
--- space, tab, vertical tab, form feed, `\n` and `\r`
-abbrev pub is_space : ℕ → Bool
-is_space byte = byte == 32 || (nat_le 9 byte && nat_le byte 13)
 
 -- a letter or `_`
 abbrev pub is_name_start : ℕ → Bool

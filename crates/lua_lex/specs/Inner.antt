@@ -1,11 +1,12 @@
 -- What the private functions say: the bytes of a run's class, and what is known of a text by its kind.
 use Rattle.std.specs.Prelude.{◌≡◌, ℕ, ◌<◌, ◌≤◌, Bool, true, List, length, drop, ◌+◌, ◌==◌, ◌&&◌, slice_index}
 use Rattle.std.specs.Char.{is_ascii_digit}
+use Rattle.int_core.specs.Numeral.{is_space}
 use Rattle.lua_lex.specs.declared.class.Class.{Class}
 use Rattle.lua_lex.specs.declared.class.Class.TheVariants as class
 use Rattle.lua_lex.specs.declared.kind.Kind.{Kind}
 use Rattle.lua_lex.specs.declared.kind.Kind.TheVariants.{End, Comment, LongComment, LongString}
-use Rattle.lua_lex.specs.Classes.{is_space, is_name_byte, is_numeral_byte, is_hex_digit, is_equals}
+use Rattle.lua_lex.specs.Classes.{is_name_byte, is_numeral_byte, is_hex_digit, is_equals}
 use Rattle.lua_lex.specs.Brackets.{level_of, opens_long}
 
 abbrev pub is_in : Class → ℕ → Bool

@@ -1,16 +1,15 @@
 -- What the tokens of a source are, and which place of it is refused (Lua 5.4 manual, 3.1).
--- Bytes stand by their numbers: `"` is 34, `'` 39, `-` 45, `.` 46, `0` 48, `X` 88 and `x` 120.
-use Rattle.std.specs.Prelude.{◌≡◌, ◌≢◌, ℕ, ◌+◌, ◌-◌, ◌≤◌, ◌^◌, ◌%◌, ℤ, pos, Bool, true, false, ◌==◌, ◌||◌, ◌&&◌, nat_lt, List, [], ◌∷◌, ◌++◌, length, take, drop, slice_index, Option, None, Some, if◌then◌else◌, take_while}
-use Rattle.std.specs.List.{prefix_len, position_or_len, list_all}
-use Rattle.std.specs.Int.{cast_signed, w64}
-use Rattle.std.specs.Str.Parse.{digits_value}
+-- Bytes stand by their numbers: `"` is 34, `'` 39, `-` 45 and `.` 46.
+use Rattle.std.specs.Prelude.{◌≡◌, ◌≢◌, ℕ, ◌+◌, ◌-◌, ◌≤◌, ℤ, Bool, true, false, ◌==◌, ◌||◌, ◌&&◌, List, [], ◌∷◌, ◌++◌, length, take, drop, slice_index, Option, None, Some, if◌then◌else◌, take_while}
+use Rattle.std.specs.List.{prefix_len, position_or_len}
 use Rattle.std.specs.Char.{is_ascii_digit}
+use Rattle.int_core.specs.Numeral.{is_space, SpellsInteger}
 use Rattle.lua_lex.specs.declared.token.Token.{Token}
 use Rattle.lua_lex.specs.declared.token.Token.TheVariants as made
 use Rattle.lua_lex.specs.declared.kind.Kind.{Kind}
 use Rattle.lua_lex.specs.declared.kind.Kind.TheVariants.{End, Space, Comment, LongComment, Word, Numeral, ShortString, LongString, Symbol}
 use Rattle.lua_lex.specs.Words.{keywords, marks, place_of}
-use Rattle.lua_lex.specs.Classes.{is_line_end, is_space, is_name_start, is_name_byte, is_numeral_byte, is_hex_digit, line_ends, read_lines, behind_line_end}
+use Rattle.lua_lex.specs.Classes.{is_line_end, is_name_start, is_name_byte, is_numeral_byte, line_ends, read_lines, behind_line_end}
 use Rattle.lua_lex.specs.Brackets.{opens_long, LongBracket}
 use Rattle.lua_lex.specs.Strings.{Quoted}
 
@@ -57,19 +56,6 @@ abbrev pub word_token : List ℕ → Option ℕ → Token
 word_token word (Some number) = made.Keyword number
 word_token word None = made.Name word
 
--- `0x` or `0X` and hexadecimal digits
-abbrev pub is_hexadecimal : List ℕ → Bool
-is_hexadecimal numeral =
-    slice_index numeral 0 == 48 && (slice_index numeral 1 == 120 || slice_index numeral 1 == 88)
-    && (nat_lt 2 (length numeral) && list_all is_hex_digit (drop 2 numeral))
-
--- The integer that a numeral stands for: hexadecimal digits wrap modulo 2 ^ 64, and decimal ones have a value below 2 ^ 63.
-abbrev pub integer_of : List ℕ → Option ℤ
-integer_of numeral =
-    if is_hexadecimal numeral then Some (cast_signed w64 (digits_value 16 (drop 2 numeral) % 2 ^ 64))
-    else if list_all is_ascii_digit numeral && nat_lt (digits_value 10 numeral) (2 ^ 63) then Some (pos (digits_value 10 numeral))
-    else None
-
 -- the longest mark at the front of the text
 pub record IsMark (text : List ℕ) (number : ℕ) (rest : List ℕ) : Type 0 where
   pub spelling : List ℕ
@@ -77,13 +63,13 @@ pub record IsMark (text : List ℕ) (number : ℕ) (rest : List ℕ) : Type 0 wh
   pub whole : text ≡ spelling ++ rest
   pub longest : (other after : List ℕ) (place : ℕ) → place_of marks other ≡ Some place → text ≡ other ++ after → length other ≤ length spelling
 
--- The token stands at the front of the text, and the rest follows it. A word and a numeral are the longest runs of their bytes.
+-- The token stands at the front of the text, and the rest follows it. A word and a numeral are the longest runs of their bytes; a numeral begins with a digit or `.`, so white space and a sign are never part of what it spells.
 abbrev pub IsTokenOf : Kind → List ℕ → Token → List ℕ → Type 0
 IsTokenOf Word text token rest =
     (token ≡ word_token (take_while is_name_byte text) (place_of keywords (take_while is_name_byte text)))
     × (rest ≡ drop (prefix_len is_name_byte text) text)
 IsTokenOf Numeral text token rest =
-    (value : ℤ) × (integer_of (take_while is_numeral_byte text) ≡ Some value) × (token ≡ made.Int value)
+    (value : ℤ) × SpellsInteger (take_while is_numeral_byte text) value × (token ≡ made.Int value)
     × (rest ≡ drop (prefix_len is_numeral_byte text) text)
 IsTokenOf ShortString text token rest =
     (content : List ℕ) × Quoted (slice_index text 0) (drop 1 text) content rest × (token ≡ made.Str content)

@@ -4,13 +4,14 @@ use Rattle.std.specs.Prelude.{◌≡◌, ℕ, ◌+◌, ◌*◌, ◌<◌, ◌^◌
 use Rattle.std.specs.List.{prefix_len}
 use Rattle.std.specs.Char.{is_ascii_digit, digit_value}
 use Rattle.std.specs.Str.Parse.{digits_value}
+use Rattle.int_core.specs.Numeral.{is_space}
 use Rattle.lua_lex.specs.declared.escape.Escape.{Escape}
 use Rattle.lua_lex.specs.declared.escape.Escape.TheVariants.{Letter, LineEnd, Space, Hexadecimal, Decimal, Unicode, Unknown}
 use Rattle.lua_lex.specs.declared.escape.Meaning.{Meaning}
 use Rattle.lua_lex.specs.declared.escape.Meaning.TheVariants.{Nothing, Byte, Character}
 use Rattle.lua_lex.specs.declared.quoted.Element.{Element}
 use Rattle.lua_lex.specs.declared.quoted.Element.TheVariants.{Close, Backslash, Plain, Unfinished}
-use Rattle.lua_lex.specs.Classes.{is_line_end, end_len, is_space, is_hex_digit}
+use Rattle.lua_lex.specs.Classes.{is_line_end, end_len, is_hex_digit}
 use Rattle.lua_lex.specs.Utf8.{extended_utf8}
 
 -- what stands for itself behind a backslash, or for a control byte

@@ -1,9 +1,11 @@
 // Classes of bytes, and the longest run of one.
 ghost use Rattle.std.specs.Prelude.{◌≡◌, ◌≤◌, ◌==◌, ◌<◌, length, slice_index};
-ghost use Rattle.std.specs.Char.{is_ascii_digit, digit_value};
 ghost use Rattle.std.specs.List.{prefix_len};
-ghost use Rattle.lua_lex.specs.Classes.{is_line_end, is_space, is_name_start, is_name_byte, is_hex_digit};
+ghost use Rattle.int_core.specs.Numeral.{is_space};
+ghost use Rattle.lua_lex.specs.Classes.{is_line_end, is_name_start, is_name_byte, is_hex_digit};
 ghost use Rattle.lua_lex.specs.Inner.{is_in};
+
+use crate::digits::digit_value;
 
 /// The bytes that a run is made of.
 #[derive(Clone, Copy, Debug, PartialEq, Eq)]
@@ -68,19 +70,6 @@ pub fn is_name_start(byte: u8) -> bool
     ensures { result ≡ is_name_start byte }
 {
     byte.is_ascii_alphabetic() || byte == b'_'
-}
-
-/// The value of a digit below 36, or 36 where the byte is none.
-pub fn digit_value(byte: u8) -> u8
-    ensures value { result ≡ digit_value byte }
-    ensures bound { result ≤ 36 }
-{
-    match byte {
-        b'0'..=b'9' => byte - b'0',
-        b'a'..=b'z' => byte - b'a' + 10,
-        b'A'..=b'Z' => byte - b'A' + 10,
-        _ => 36,
-    }
 }
 
 impl Class {

@@ -4,9 +4,9 @@ ghost use Rattle.lua_lex.specs.declared.escape.Meaning.{Meaning};
 ghost use Rattle.lua_lex.specs.declared.escape.Escape.TheVariants as escape;
 ghost use Rattle.lua_lex.specs.Strings.{escape_of, letter_value, IsEscape, IsEscapeOf};
 
-use crate::class::{Class, digit_value, is_byte_at, is_class_at, is_line_end, run_len};
+use crate::class::{Class, is_byte_at, is_class_at, is_line_end, run_len};
+use crate::digits::{digit_value, value_below};
 use crate::line::{behind, end_len};
-use crate::numeral::value_below;
 
 /// What a byte behind a backslash begins.
 #[derive(Clone, Copy, Debug, PartialEq, Eq)]

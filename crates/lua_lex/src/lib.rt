@@ -1,21 +1,30 @@
 // The tokens of a source text (Lua 5.4 manual, 3.1).
 #![tactic(auto)]
 
-mod bracket;
-mod class;
-mod escape;
-mod gap;
+// Tokens, and the numbers of words and marks.
 pub mod keyword;
-mod kind;
-mod line;
 pub mod mark;
-mod numeral;
+mod token;
+mod words;
+
+// Bytes, digits and places.
+mod class;
+mod digits;
+mod line;
+
+// What stands at the front of a text, and what of it is skipped.
+mod bracket;
+mod gap;
+mod kind;
+
+// Literal strings between quotes.
+mod escape;
 mod quoted;
+mod utf8;
+
+// One token, and the list of them.
 mod scan;
 mod source;
-mod token;
-mod utf8;
-mod words;
 
 pub use source::{LexFault, MAX_SOURCE, tokens};
 pub use token::{Token, Tokens};

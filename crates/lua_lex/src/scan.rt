@@ -9,11 +9,10 @@ use crate::bracket::long_bracket;
 use crate::class::{Class, run_len};
 use crate::kind::{Kind, kind_of};
 use crate::line::{behind_line_end, read_lines};
-use crate::numeral::integer_of;
 use crate::quoted::quoted;
 use crate::token::Token;
 use crate::words::{LONGEST_MARK, keyword_number, mark_number};
-use int_core::Bytes;
+use int_core::{Bytes, read_integer};
 use std::alloc::{AllocError, Global};
 
 /// The token at the front of the text with how many bytes it has, if one stands there.
@@ -57,7 +56,7 @@ fn numeral(text: &[u8]) -> Option<(Token, usize)>
     ensures none { IfNone result ((token : Token) (rest : List ℕ) → IsTokenOf kind.Numeral text.now token rest → ⊥) }
 {
     let len = run_len(text, Class::Numeral);
-    let value = integer_of(&text[..len])?;
+    let value = read_integer(&text[..len])?;
     Some((Token::Int(value), len))
 }
 

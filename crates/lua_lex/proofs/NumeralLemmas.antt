@@ -1,1 +1,0 @@
--- Digits and their value.
