@@ -174,20 +174,3 @@ set-nil rows key w none nil = rw (absent-by_lookup rows key none, nil) refl
 
 pub set-new : (rows : Rows) (key w : Value) → lookup (value_eq key) rows ≡ None → is_nil w ≡ false → set lua_values rows key w ≡ kept lua_values rows ++ (key, w) ∷ []
 set-new rows key w none filled = rw (absent-by_lookup rows key none, filled) refl
-
--- ---- the border
-
-pub border-step : (rows : Rows) (left n : ℕ) → left + n ≡ length rows → n < length rows → is_nil (behind lua_values rows n) ≡ false → border lua_values rows ≡ border_from lua_values rows left n → (more : ℕ) × (more + (n + 1) ≡ length rows) × (border lua_values rows ≡ border_from lua_values rows more (n + 1))
-border-step rows zero n len inside filled so_far = absurd (omega arith)
-border-step rows (suc more) n len inside filled so_far = (more, omega arith, so_far ∙ rw filled refl)
-
-pub border-ends : (rows : Rows) (left n : ℕ) → is_nil (behind lua_values rows n) ≡ true → border lua_values rows ≡ border_from lua_values rows left n → border lua_values rows ≡ n
-border-ends rows zero n nil so_far = so_far
-border-ends rows (suc more) n nil so_far = so_far ∙ rw nil refl
-
-pub border-full : (rows : Rows) (left n : ℕ) → left + n ≡ length rows → length rows ≤ n → border lua_values rows ≡ border_from lua_values rows left n → border lua_values rows ≡ length rows
-border-full rows zero n len past so_far = so_far ∙ omega arith
-border-full rows (suc more) n len past so_far = absurd (omega arith)
-
-pub border-least : (rows : Rows) (n : ℕ) → border lua_values rows ≡ n → IsBorder lua_values rows n
-border-least rows n same = subst (IsBorder lua_values rows) same (border-is lua_values lua_values-AreValues rows)

@@ -1,6 +1,8 @@
 // The values of a running program, and its tables.
 #![tactic(auto)]
 
+mod border;
+mod rows;
 mod table;
 #[cfg(test)]
 mod tests;

@@ -1,16 +1,15 @@
 // A table: rows in the order of insertion, found by their keys, and a metatable.
-ghost use Rattle.std.specs.Prelude.{◌≡◌, ◌≢◌, ◌↔◌, ◌<◌, ◌≤◌, ◌-◌, ◌^◌, ℕ, true, false, Ok, drop, find, if◌then◌else◌, pos, [], ◌∷◌, ◌++◌, length, IsTrue, IsOk, IfOk, OnOk, OnSome, IfNone, OnErr, Some, None, slice_get};
+ghost use Rattle.std.specs.Prelude.{◌≡◌, ◌≢◌, ◌↔◌, ◌<◌, ◌≤◌, ◌+◌, ◌-◌, ◌^◌, ℕ, true, false, Ok, drop, find, if◌then◌else◌, pos, [], ◌∷◌, ◌++◌, length, IsTrue, IsOk, IfOk, OnOk, OnSome, IfNone, MatchOption, OnErr, Some, None, slice_get};
 ghost use Rattle.std.specs.Result.{result_ok};
-ghost use Rattle.std.specs.List.{IsDistinct, list_any};
-ghost use Rattle.std.specs.Map.{keys_of, lookup, set_value};
 ghost use Rattle.int_core.specs.Rows.{AreRows, IsBorder, is_filled, get, has_row, behind, kept, set, next, border};
 ghost use Rattle.table_core.specs.Value.{is_nil, lua_values, value_eq};
 
+use crate::border::mended;
+use crate::rows::{holds, insert_last, replace, value_at};
 use crate::value::{Key, TableId, Value};
 use indexmap::IndexMap;
 use std::alloc::{AllocError, Global};
 use std::marker::Model;
-use std::mem;
 
 /// The key that `next` was given has no row.
 #[derive(Debug, Clone, Copy, PartialEq, Eq)]
@@ -23,17 +22,21 @@ pub struct Table {
     rows: IndexMap<Value, Value>,
     /// How many rows are cleared.
     cleared: usize,
+    /// The border, which each write mends.
+    border: usize,
     metatable: Option<TableId>,
 }
 
 impl Model for Table {
+    ghost use Rattle.int_core.specs.Rows.{IsBorder};
     ghost use Rattle.table_core.specs.Table.{Contents, IsKept};
+    ghost use Rattle.table_core.specs.Value.{lua_values};
 
     ghost Value = { Contents };
 
     ghost view = { λ table. record { rows = table.rows.entries; metatable = table.metatable } };
 
-    ghost invariant = { λ table. IsKept table.rows.entries table.cleared };
+    ghost invariant = { λ table. IsKept table.rows.entries table.cleared × IsBorder lua_values table.rows.entries table.border };
 }
 
 impl Table {
@@ -45,6 +48,7 @@ impl Table {
         Table {
             rows: IndexMap::new(alloc),
             cleared: 0,
+            border: 0,
             metatable: None,
         }
     }
@@ -53,7 +57,7 @@ impl Table {
     pub fn get(&self, key: Value) -> Value
         ensures { result ≡ get lua_values self.now.rows key }
     {
-        self.rows.get(&key).copied().unwrap_or(Value::Nil)
+        value_at(&self.rows, key)
     }
 
     /// Puts a value at a key. A key that has a row keeps its place, also where the row was cleared; a new key goes last,
@@ -65,9 +69,11 @@ impl Table {
         ensures nil { value ≡ Value.Nil → IsOk result }
         ensures present { IsTrue (has_row lua_values self.old.rows key) → IsOk result }
     {
-        match replace(&mut self.rows, key.value(), value) {
+        let key = key.value();
+        match replace(&mut self.rows, key, value) {
             Some(was) => {
                 self.cleared = self.cleared - nil_count(was) + nil_count(value);
+                self.border = mended(&self.rows, self.border, key, value);
                 Ok(())
             }
             None if value == Value::Nil => Ok(()),
@@ -76,14 +82,16 @@ impl Table {
     }
 
     /// Puts a new key last, and drops the cleared rows where they outnumbered the others.
-    fn append(&mut self, key: Key, value: Value) -> Result<(), AllocError>
+    fn append(&mut self, key: Value, value: Value) -> Result<(), AllocError>
+        requires not_nil { key ≢ Value.Nil }
         requires absent { has_row lua_values self.old.rows key ≡ false }
         requires filled { is_nil value ≡ false }
         ensures ok { OnOk result (self.new.rows ≡ kept lua_values self.old.rows ++ (key, value) ∷ []) }
         ensures metatable { self.new.metatable ≡ self.old.metatable }
         ensures err { OnErr result (self.new ≡ self.old) }
     {
-        let rows = insert_last(&mut self.rows, key.value(), value)?;
+        let rows = insert_last(&mut self.rows, key, value)?;
+        self.border = mended(&self.rows, self.border, key, value);
         if rows - self.cleared <= self.cleared {
             self.rows.retain(|_, value| *value != Value::Nil);
             self.cleared = 0;
@@ -120,21 +128,7 @@ impl Table {
         ensures value { result ≡ pos (border lua_values self.now.rows) }
         ensures least { (n : ℕ) × (result ≡ pos n) × IsBorder lua_values self.now.rows n }
     {
-        let most = self.rows();
-        for n in 0..most {
-            if self.behind(n) == Value::Nil {
-                return n as i64;
-            }
-        }
-        most as i64
-    }
-
-    /// The value at the integer behind `n`.
-    fn behind(&self, n: usize) -> Value
-        requires { n < 2 ^ 63 - 1 }
-        ensures { result ≡ behind lua_values self.now.rows n }
-    {
-        self.get(Value::Int(n as i64 + 1))
+        self.border as i64
     }
 
     /// How many rows there are, cleared ones included.
@@ -162,11 +156,13 @@ impl Table {
         ensures kept { result ≢ Ok true → self.new ≡ self.old }
         ensures metatable { self.new.metatable ≡ self.old.metatable }
     {
-        if holds(&self.rows, key.value()) {
+        let key = key.value();
+        if holds(&self.rows, key) {
             return Ok(false);
         }
-        insert_last(&mut self.rows, key.value(), value)?;
+        insert_last(&mut self.rows, key, value)?;
         self.cleared += nil_count(value);
+        self.border = mended(&self.rows, self.border, key, value);
         Ok(true)
     }
 
@@ -183,42 +179,6 @@ impl Table {
     {
         self.metatable = metatable;
     }
-}
-
-/// Whether a key has a row.
-fn holds(rows: &IndexMap<Value, Value>, key: Value) -> bool
-    ensures { result ≡ list_any (value_eq key) (keys_of rows.now.entries) }
-{
-    rows.contains_key(&key)
-}
-
-/// Puts a value at a key that is there, and answers the value that it had.
-fn replace(rows: &mut IndexMap<Value, Value>, key: Value, value: Value) -> Option<Value>
-    ensures was { result ≡ lookup (value_eq key) rows.old.entries }
-    ensures now { OnSome result (rows.new.entries ≡ set_value (value_eq key) rows.old.entries value) }
-    ensures absent { IfNone result (rows.new.entries ≡ rows.old.entries) }
-{
-    match rows.get_mut(&key) {
-        Some(place) => Some(mem::replace(place, value)),
-        None => None,
-    }
-}
-
-/// Puts a new row last, and answers how many rows there are then.
-fn insert_last(
-    rows: &mut IndexMap<Value, Value>,
-    key: Value,
-    value: Value,
-) -> Result<usize, AllocError>
-    requires { list_any (value_eq key) (keys_of rows.old.entries) ≡ false }
-    ensures added { OnOk result (rows.new.entries ≡ rows.old.entries ++ (key, value) ∷ []) }
-    ensures distinct { OnOk result (IsDistinct value_eq (keys_of rows.new.entries)) }
-    ensures len { IfOk result (λ n. n ≡ length rows.new.entries) }
-    ensures small { IfOk result (λ n. n < 2 ^ 63) }
-    ensures err { OnErr result (rows.new.entries ≡ rows.old.entries) }
-{
-    rows.insert(key, value)?;
-    Ok(rows.len())
 }
 
 /// 1 for nil, and 0 for another value.

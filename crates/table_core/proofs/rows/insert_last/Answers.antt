@@ -2,7 +2,7 @@ use Rattle.std.proofs.Common.{◌∙◌}
 use Rattle.indexmap.proofs.CallerLemmas.{insert_entry-new}
 use Rattle.int_core.proofs.RowsLemmas.{lookup-absent}
 use Rattle.table_core.specs.Value.{lua_values, value_eq}
-use Rattle.table_core.proofs.table.insert_last.Goals as goal
+use Rattle.table_core.proofs.rows.insert_last.Goals as goal
 
 pub returns-clause-added : goal.returns-clause-added
 returns-clause-added c =

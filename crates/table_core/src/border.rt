@@ -1,0 +1,55 @@
+// The border of a table's rows, mended at each write (Lua 5.4 manual, 3.4.7).
+ghost use Rattle.std.specs.Prelude.{◌≡◌, ◌≢◌, ◌+◌, ◌-◌, ◌<◌, ◌^◌, ℕ, pos, false, MatchOption};
+ghost use Rattle.int_core.specs.Rows.{IsBorder, behind, get};
+ghost use Rattle.table_core.specs.Table.{IsBorderBeside};
+ghost use Rattle.table_core.specs.Value.{is_nil, lua_values};
+
+use crate::rows::value_at;
+use crate::value::Value;
+use indexmap::IndexMap;
+
+/// The border after a write, from the one before it.
+pub(crate) fn mended(rows: &IndexMap<Value, Value>, border: usize, key: Value, value: Value) -> usize
+    requires beside { IsBorderBeside rows.now.entries key border }
+    requires small { border < 2 ^ 63 }
+    requires written { get lua_values rows.now.entries key ≡ value }
+    ensures { IsBorder lua_values rows.now.entries result }
+{
+    match place_of(key) {
+        Some(place) if value == Value::Nil => border.min(place),
+        Some(place) if place == border => climbed(rows, border + 1),
+        _ => border,
+    }
+}
+
+/// The border of rows in which each integer up to `from` has a value.
+fn climbed(rows: &IndexMap<Value, Value>, from: usize) -> usize
+    requires { (m : ℕ) → m < from → is_nil (behind lua_values rows.now.entries m) ≡ false }
+    ensures { IsBorder lua_values rows.now.entries result }
+{
+    let most = rows.len();
+    for n in from..most {
+        if behind(rows, n) == Value::Nil {
+            return n;
+        }
+    }
+    most
+}
+
+/// The number that a key lies behind, where it is an integer of at least 1.
+fn place_of(key: Value) -> Option<usize>
+    ensures { MatchOption result ((m : ℕ) → key ≢ Value.Int (pos (m + 1))) (λ n. key ≡ Value.Int (pos (n + 1))) }
+{
+    match key {
+        Value::Int(n) if n > 0 => Some((n - 1) as usize),
+        _ => None,
+    }
+}
+
+/// The value at the integer behind `n`.
+fn behind(rows: &IndexMap<Value, Value>, n: usize) -> Value
+    requires { n < 2 ^ 63 - 1 }
+    ensures { result ≡ behind lua_values rows.now.entries n }
+{
+    value_at(rows, Value::Int(n as i64 + 1))
+}
