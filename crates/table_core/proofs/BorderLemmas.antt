@@ -3,7 +3,7 @@ use Rattle.std.proofs.Common.{◌≡◌, ◌≢◌, ℕ, ◌+◌, ◌<◌, ◌^�
 use Rattle.std.specs.Prelude.{pos, Some}
 use Rattle.std.specs.List.{IsDistinct}
 use Rattle.std.specs.Map.{keys_of, lookup, set_value}
-use Rattle.int_core.specs.Rows.{IsBorder, behind, border, get, has_row, is_filled}
+use Rattle.int_core.specs.Rows.{IsBorder, border, get, has_row, is_filled}
 use Rattle.int_core.proofs.RowsLemmas.{IsBorder-same, border-is, filled_fit, get-filter, lookup-append_other, lookup-append_same, lookup-set_value_other, lookup-set_value_same}
 use Rattle.table_core.specs.declared.value.Value.{Value}
 use Rattle.table_core.specs.declared.value.Value.TheVariants.{Int}
@@ -17,8 +17,9 @@ Rows = List (Value × Value)
 -- a write leaves what the other keys find
 beside-by_write : (rows after : Rows) (key : Value) (n : ℕ) → IsBorder lua_values rows n → ((other : Value) → key ≢ other → lookup (value_eq other) after ≡ lookup (value_eq other) rows) → IsBorderBeside after key n
 beside-by_write rows after key n was kept = record {
-    ends = λ away. rw (kept (Int (pos (n + 1))) away) was.ends;
-    filled = λ m under away. rw (kept (Int (pos (m + 1))) away) (was.filled m under) }
+  ends = λ away. rw (kept (Int (pos (n + 1))) away) was.ends;
+  filled = λ m under away. rw (kept (Int (pos (m + 1))) away) (was.filled m under);
+}
 
 pub beside-replaced : (rows after : Rows) (key w : Value) (n : ℕ) → IsBorder lua_values rows n → after ≡ set_value (value_eq key) rows w → IsBorderBeside after key n
 beside-replaced rows after key w n was now =
@@ -39,8 +40,9 @@ get-grown rows grown key w absent added =
 -- dropping the cleared rows leaves the border
 pub border-filter : (rows : Rows) (n : ℕ) → IsDistinct value_eq (keys_of rows) → IsBorder lua_values rows n → IsBorder lua_values (filter (is_filled lua_values) rows) n
 border-filter rows n distinct is = record {
-    ends = rw (get-filter lua_values lua_values-AreValues rows (Int (pos (n + 1))) distinct) is.ends;
-    filled = λ m under. rw (get-filter lua_values lua_values-AreValues rows (Int (pos (m + 1))) distinct) (is.filled m under) }
+  ends = rw (get-filter lua_values lua_values-AreValues rows (Int (pos (n + 1))) distinct) is.ends;
+  filled = λ m under. rw (get-filter lua_values lua_values-AreValues rows (Int (pos (m + 1))) distinct) (is.filled m under);
+}
 
 pub border-known : (rows : Rows) (n : ℕ) → IsBorder lua_values rows n → border lua_values rows ≡ n
 border-known rows n is = IsBorder-same lua_values lua_values-AreValues rows (border lua_values rows) n (border-is lua_values lua_values-AreValues rows) is

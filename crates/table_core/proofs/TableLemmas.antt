@@ -11,13 +11,12 @@ use Rattle.std.proofs.lemmas.Map.{keys-set_value, length-set_value}
 use Rattle.std.specs.Prelude.{pos, Option, Some, None, if◌then◌else◌, count_by, find, slice_get, is_some, IsSome}
 use Rattle.std.specs.List.{IsDistinct}
 use Rattle.std.specs.Map.{keys_of, lookup, set_value}
-use Rattle.int_core.specs.Rows.{is_cleared, is_filled, has_row, kept, set, behind, border, border_from, IsBorder}
-use Rattle.int_core.proofs.RowsLemmas.{border-is}
+use Rattle.int_core.specs.Rows.{is_cleared, is_filled, has_row, kept, set}
 use Rattle.table_core.specs.declared.value.Value.{Value}
 use Rattle.table_core.specs.declared.value.Value.TheVariants.{Nil, Int}
 use Rattle.table_core.specs.Table.{IsKept}
 use Rattle.table_core.specs.Value.{is_nil, lua_values, value_eq}
-use Rattle.table_core.proofs.ValueLemmas.{lua_values-AreValues, nil-other}
+use Rattle.table_core.proofs.ValueLemmas.{nil-other}
 
 abbrev Rows : Type 0
 Rows = List (Value × Value)

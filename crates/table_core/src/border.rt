@@ -9,7 +9,12 @@ use crate::value::Value;
 use indexmap::IndexMap;
 
 /// The border after a write, from the one before it.
-pub(crate) fn mended(rows: &IndexMap<Value, Value>, border: usize, key: Value, value: Value) -> usize
+pub(crate) fn mended(
+    rows: &IndexMap<Value, Value>,
+    border: usize,
+    key: Value,
+    value: Value,
+) -> usize
     requires beside { IsBorderBeside rows.now.entries key border }
     requires small { border < 2 ^ 63 }
     requires written { get lua_values rows.now.entries key ≡ value }

@@ -1,8 +1,8 @@
 // A table: rows in the order of insertion, found by their keys, and a metatable.
-ghost use Rattle.std.specs.Prelude.{◌≡◌, ◌≢◌, ◌↔◌, ◌<◌, ◌≤◌, ◌+◌, ◌-◌, ◌^◌, ℕ, true, false, Ok, drop, find, if◌then◌else◌, pos, [], ◌∷◌, ◌++◌, length, IsTrue, IsOk, IfOk, OnOk, OnSome, IfNone, MatchOption, OnErr, Some, None, slice_get};
+ghost use Rattle.std.specs.Prelude.{◌≡◌, ◌≢◌, ◌↔◌, ◌<◌, ◌≤◌, ◌^◌, ℕ, true, false, Ok, drop, find, if◌then◌else◌, pos, [], ◌∷◌, ◌++◌, length, IsTrue, IsOk, OnOk, OnErr, Some, None, slice_get};
 ghost use Rattle.std.specs.Result.{result_ok};
-ghost use Rattle.int_core.specs.Rows.{AreRows, IsBorder, is_filled, get, has_row, behind, kept, set, next, border};
-ghost use Rattle.table_core.specs.Value.{is_nil, lua_values, value_eq};
+ghost use Rattle.int_core.specs.Rows.{AreRows, IsBorder, is_filled, get, has_row, kept, set, next, border};
+ghost use Rattle.table_core.specs.Value.{is_nil, lua_values};
 
 use crate::border::mended;
 use crate::rows::{holds, insert_last, replace, value_at};

@@ -1,7 +1,7 @@
-use Rattle.std.proofs.Common.{◌≡◌, ℕ, ◌<◌, ◌≤◌, false, length, arith, subst, sym}
-use Rattle.int_core.specs.Rows.{IsBorder, behind}
+use Rattle.std.proofs.Common.{◌<◌, arith, subst, sym}
+use Rattle.int_core.specs.Rows.{IsBorder}
 use Rattle.int_core.proofs.RowsLemmas.{border-length}
-use Rattle.table_core.specs.Value.{is_nil, lua_values}
+use Rattle.table_core.specs.Value.{lua_values}
 use Rattle.table_core.proofs.ValueLemmas.{lua_values-AreValues}
 use Rattle.table_core.proofs.border.climbed.Goals as goal
 

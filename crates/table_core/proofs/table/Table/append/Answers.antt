@@ -25,11 +25,12 @@ invariant_of-self-then-rows-self c =
     let grown = c.insert_last.new.rows.entries in
     let e = c.in_ok-rows.ensures in
     let filtered : c.retain.new.self.entries ≡ filter (is_filled lua_values) grown = filter-RetainsPairs _ _ _ (λ k v b w g call. search rules) _ _ c.retain.ensures.filtered in
-    rw filtered
-    (IsKept-filter grown _
-    (IsKept-grown rows grown c.self.inside.cleared c.in_ok-rows.rows c.args.key c.args.value c.self.invariant.0 c.requires.not_nil e.added e.distinct e.len e.small)
-    (rw filtered at c.retain.ensures.unique),
-    border-filter grown _ e.distinct c.mended-self-inside.ensures)
+    rw filtered (
+      IsKept-filter grown _
+          (IsKept-grown rows grown c.self.inside.cleared c.in_ok-rows.rows c.args.key c.args.value c.self.invariant.0 c.requires.not_nil e.added e.distinct e.len e.small)
+          (rw filtered at c.retain.ensures.unique),
+      border-filter grown _ e.distinct c.mended-self-inside.ensures,
+    )
 
 pub returns-then-rows-self-clause-ok : goal.returns-then-rows-self-clause-ok
 returns-then-rows-self-clause-ok c =
