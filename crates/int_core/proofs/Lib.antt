@@ -3,3 +3,4 @@ pub mod FloorLemmas
 pub mod NumeralLemmas
 pub mod SpellsLemmas
 pub mod RowsLemmas
+pub mod RowsLaws

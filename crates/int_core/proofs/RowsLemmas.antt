@@ -143,7 +143,7 @@ module _ {V : Type 0} (values : Values V) (laws : AreValues values) where
   absent-after key [] all = refl
   absent-after key (row ∷ rows) all = rw all.0 (absent-after key rows all.1)
 
-  absent-filter : (p : V × V → Bool) (rows : List (V × V)) (key : V) → has_row values rows key ≡ false → has_row values (filter p rows) key ≡ false
+  pub absent-filter : (p : V × V → Bool) (rows : List (V × V)) (key : V) → has_row values rows key ≡ false → has_row values (filter p rows) key ≡ false
   absent-filter p [] key absent = refl
   absent-filter p (row ∷ rows) key absent = by (p row) refl (absent-filter p rows key (grind (arith)))
     where
