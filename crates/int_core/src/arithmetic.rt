@@ -30,7 +30,7 @@ pub fn neg(a: i64) -> i64
     a.wrapping_neg()
 }
 
-/// `a << count`: a negative count shifts to the right.
+/// `a << count`: zeros come in, 64 places or more leave 0, and a negative count shifts to the right.
 pub fn shl(a: i64, count: i64) -> i64
     ensures { result ≡ shl a count }
 {
@@ -42,7 +42,7 @@ pub fn shl(a: i64, count: i64) -> i64
     }
 }
 
-/// `a >> count`, where zeros come in: a negative count shifts to the left.
+/// `a >> count`: zeros come in, 64 places or more leave 0, and a negative count shifts to the left.
 pub fn shr(a: i64, count: i64) -> i64
     ensures { result ≡ shr a count }
 {
