@@ -187,7 +187,7 @@ with-space before text space (Some n) h =
       negative = h.negative;
       whole = ap (λ t. before ++ t) (h.whole ∙ ap (λ t. h.sign ++ t) u.whole) ∙ simp append_assoc;
       space_before = space;
-      signed = h.is_sign;
+      is_sign = h.is_sign;
       spelled = u.spelled;
       space_after = u.space_after;
     }
@@ -267,10 +267,10 @@ integer_of-only text n h =
     let rest : List ℕ = h.digits ++ h.after in
     let whole : text ≡ h.before ++ (h.sign ++ rest) = h.whole ∙ simp append_assoc in
     let front = front_of-spelled h.negative h.digits h.after n h.spelled in
-    let stops = sign-stops h.sign rest h.negative h.signed front in
+    let stops = sign-stops h.sign rest h.negative h.is_sign front in
     let spaces = prefix_len-append is_space h.before (h.sign ++ rest) (list_all-from_AllPass is_space h.before h.space_before) stops in
     rw whole (rw spaces (rw (drop-append_seam h.before (h.sign ++ rest))
-    (sign-only h.sign rest h.negative n h.signed front (unsigned-only h.negative h.digits h.after n h.spelled h.space_after))))
+    (sign-only h.sign rest h.negative n h.is_sign front (unsigned-only h.negative h.digits h.after n h.spelled h.space_after))))
 
 -- a text spells one integer at most
 pub SpellsInteger-same : (text : List ℕ) (m n : ℤ) → SpellsInteger text m → SpellsInteger text n → m ≡ n

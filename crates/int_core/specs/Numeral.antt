@@ -52,12 +52,13 @@ pub record SpellsInteger (text : List ℕ) (n : ℤ) : Type 0 where
   pub negative : Bool
   pub whole : text ≡ before ++ sign ++ digits ++ after
   pub space_before : AllPass is_space before
-  pub signed : IsSign sign negative
+  pub is_sign : IsSign sign negative
   pub spelled : IsDecimal negative digits n ⊎ IsHexadecimal negative digits n
   pub space_after : AllPass is_space after
 
 -- ---- the same, computed
 
+-- whether z is an integer of 64 bits
 abbrev pub fits : ℤ → Bool
 fits (pos n) = nat_lt n (2 ^ 63)
 fits (negsuc n) = nat_lt n (2 ^ 63)
@@ -77,15 +78,18 @@ digits_of base text =
 abbrev pub integer_within : Bool → ℕ → Option ℤ
 integer_within negative n = if fits (signed negative n) then Some (signed negative n) else None
 
+-- the integer of decimal digits and white space, and of what follows `0x`
 abbrev pub decimal_of : Bool → List ℕ → Option ℤ
 decimal_of negative text = option_and_then (λ digits. integer_within negative (digits_value 10 digits)) (digits_of 10 text)
 
 abbrev pub hexadecimal_of : Bool → List ℕ → Option ℤ
 hexadecimal_of negative text = option_map (λ digits. wrapped (signed negative (digits_value 16 digits))) (digits_of 16 text)
 
+-- whether a text with these first bytes is hexadecimal
 abbrev pub is_x : ℕ → ℕ → Bool
 is_x first mark = (first == 48) && (mark == 120 || mark == 88)
 
+-- the integer of a text behind its sign, and of one that begins with no white space
 abbrev pub unsigned_of : Bool → List ℕ → Option ℤ
 unsigned_of negative (c ∷ d ∷ text) = if is_x c d then hexadecimal_of negative text else decimal_of negative (c ∷ d ∷ text)
 unsigned_of negative text = decimal_of negative text
