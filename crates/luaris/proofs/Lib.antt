@@ -11,4 +11,7 @@ pub mod Runs
 pub mod ScriptRuns
 pub mod SpellsLemmas
 pub mod OutputLemmas
-pub mod ProgramLemmas
+pub mod WorkLemmas
+pub mod ReportLemmas
+pub mod ChunkLemmas
+pub mod TextLemmas

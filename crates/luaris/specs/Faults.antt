@@ -8,8 +8,13 @@ use Rattle.luaris.specs.declared.fault.SourceFault.{SourceFault}
 use Rattle.luaris.specs.declared.fault.SourceFault.TheVariants.{Refused, Limit, Memory}
 use Rattle.io_edge.specs.declared.fault.FileFault.{FileFault}
 use Rattle.io_edge.specs.declared.fault.FileFault.TheVariants.{Failed as FileFailed, Absent as FileAbsent, Memory as FileMemory}
+use Rattle.chunk_format.specs.declared.fault.ChunkFault.{ChunkFault}
+use Rattle.chunk_format.specs.declared.fault.ChunkFault.TheVariants.{Refused as ChunkRefused, Memory as ChunkMemory}
+use Rattle.chunk_check.specs.declared.fault.CheckFault.{CheckFault}
+use Rattle.chunk_check.specs.declared.fault.CheckFault.TheVariants.{Refused as CheckRefused, Memory as CheckMemory}
 use Rattle.luaris.specs.declared.fault.Fault.{Fault}
 use Rattle.luaris.specs.declared.fault.Fault.TheVariants as fault
+use Rattle.luaris.specs.Report.{status_of_fault}
 
 abbrev pub fault_of_lexer : LexFault → SourceFault
 fault_of_lexer (LexRefused line) = Refused line
@@ -30,13 +35,13 @@ fault_of_file FileFailed = fault.Device
 fault_of_file FileAbsent = fault.Absent
 fault_of_file FileMemory = fault.Memory
 
-abbrev pub status_of_fault : Fault → ℕ
-status_of_fault fault.Words = 2
-status_of_fault (fault.Refused line) = 5
-status_of_fault fault.Limit = 5
-status_of_fault fault.Device = 6
-status_of_fault fault.Memory = 9
-status_of_fault fault.Absent = 11
+abbrev pub fault_of_chunk : ChunkFault → Fault
+fault_of_chunk (ChunkRefused kind) = fault.NoChunk kind
+fault_of_chunk ChunkMemory = fault.Memory
+
+abbrev pub fault_of_check : CheckFault → Fault
+fault_of_check (CheckRefused function pc rule) = fault.BrokenRule function pc rule
+fault_of_check CheckMemory = fault.Memory
 
 abbrev pub status_of : Result (Unit {0}) Fault → ℕ
 status_of (Ok done) = 0

@@ -7,3 +7,5 @@ pub mod Straight
 pub mod Outcomes
 pub mod Faults
 pub mod Program
+pub mod Chunk
+pub mod Report

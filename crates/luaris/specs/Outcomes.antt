@@ -1,5 +1,5 @@
 -- What compiling and running a source answers.
-use Rattle.std.specs.Prelude.{◌≡◌, ℕ, ◌<◌, ◌≤◌, ◌^◌, ℤ, List, length, codes, Result, Ok, Err}
+use Rattle.std.specs.Prelude.{◌≡◌, ℕ, ◌<◌, ◌≤◌, ◌^◌, ℤ, List, length, ◌⊎◌, Result, Ok, Err}
 use Rattle.std.specs.declared.vec.Vec.{Vec}
 use Rattle.std.specs.declared.alloc.Global.{Global}
 use Rattle.lua_lex.specs.Lexical.{BadToken}
@@ -8,7 +8,9 @@ use Rattle.luaris.specs.declared.fault.SourceFault.TheVariants.{Refused, Limit, 
 use Rattle.luaris.specs.declared.fault.Fault.{Fault}
 use Rattle.luaris.specs.declared.fault.Fault.TheVariants as fault
 use Rattle.luaris.specs.Straight.{Straight, IsNoScript, output_of}
-use Rattle.luaris.specs.Program.{refused_line, limit_line}
+use Rattle.luaris.specs.declared.words.Job.{Job}
+use Rattle.luaris.specs.Program.{Writes, Refuses, refusal_status}
+use Rattle.luaris.specs.Report.{FaultFits, status_of_fault}
 
 -- the text is what the script writes
 pub record IsOutput (source text : List ℕ) : Type 0 where
@@ -29,17 +31,17 @@ SourceAnswers source (Err (Refused line)) = IsRefusedAt source line
 SourceAnswers source (Err Limit) = 2 ^ 20 < length source
 SourceAnswers source (Err Memory) = Unit {0}
 
--- what a fault tells of the source
-abbrev pub FaultFits : List ℕ → Fault → Type 0
-FaultFits source (fault.Refused line) = (length source ≤ 2 ^ 20) × ((bad : ℕ) → BadToken source bad → line ≡ bad)
-FaultFits source fault.Limit = 2 ^ 20 < length source
-FaultFits source _ = Unit {0}
+-- the text is what the job writes for the bytes
+pub record IsText (job : Job) (content text : List ℕ) : Type 0 where
+  pub writes : Writes job content text
+  pub only : (text' : List ℕ) → Writes job content text' → text' ≡ text
 
--- the line on standard error for a fault
-abbrev pub line_of_fault : Fault → List ℕ
-line_of_fault fault.Words = codes "luaris: wrong words\n"
-line_of_fault (fault.Refused line) = refused_line line
-line_of_fault fault.Limit = limit_line
-line_of_fault fault.Device = codes "luaris: device fault\n"
-line_of_fault fault.Memory = codes "luaris: out of memory\n"
-line_of_fault fault.Absent = codes "luaris: no such file\n"
+-- the job refuses the bytes, with its own status and what the fault tells of them
+pub record IsRefusal (job : Job) (content : List ℕ) (fault : Fault) : Type 0 where
+  pub status : status_of_fault fault ≡ refusal_status job
+  pub refuses : Refuses job content
+  pub fits : FaultFits content fault
+
+abbrev pub TextAnswers : Job → List ℕ → Result (Vec ℕ Global) Fault → Type 0
+TextAnswers job content (Ok text) = IsText job content text.items
+TextAnswers job content (Err reason) = IsRefusal job content reason ⊎ (reason ≡ fault.Memory)

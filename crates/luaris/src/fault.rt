@@ -1,7 +1,10 @@
 // Why a script is not run to its end.
 ghost use Rattle.std.specs.Prelude.{◌≡◌};
-ghost use Rattle.luaris.specs.Faults.{fault_of_lexer, fault_of_compiler, fault_of_source, fault_of_file, status_of_fault};
+ghost use Rattle.luaris.specs.Faults.{fault_of_lexer, fault_of_compiler, fault_of_source, fault_of_file, fault_of_chunk, fault_of_check};
+ghost use Rattle.luaris.specs.Report.{status_of_fault};
 
+use chunk_check::CheckFault;
+use chunk_format::ChunkFault;
 use io_edge::{Failed, FileFault};
 use lua_lex::LexFault;
 use std::alloc::{AllocError, AllocFailed};
@@ -47,6 +50,12 @@ pub enum Fault {
     /// A device failed, which its count tells.
     #[error("device fault")]
     Device,
+    /// The bytes are no chunk: the kind of their first fault.
+    #[error("chunk refused: kind {kind}")]
+    NoChunk { kind: u8 },
+    /// The chunk's code may not run: the first function, place and rule that is broken.
+    #[error("chunk refused: rule {rule} at function {function} pc {pc}")]
+    BrokenRule { function: u32, pc: u32, rule: u8 },
     /// Memory ran out.
     #[error("out of memory")]
     Memory,
@@ -64,6 +73,12 @@ impl Fault {
             Fault::Words => 2,
             Fault::Refused { line: _ } | Fault::Limit => 5,
             Fault::Device => 6,
+            Fault::NoChunk { kind: _ } => 8,
+            Fault::BrokenRule {
+                function: _,
+                pc: _,
+                rule: _,
+            } => 8,
             Fault::Memory => 9,
             Fault::Absent => 11,
         }
@@ -99,6 +114,38 @@ impl From<FileFault> for Fault {
             FileFault::Absent => Fault::Absent,
             FileFault::Memory => Fault::Memory,
         }
+    }
+}
+
+impl From<ChunkFault> for Fault {
+    ghost from_gives = { λ fault made. made ≡ fault_of_chunk fault };
+
+    fn from(fault: ChunkFault) -> Fault {
+        match fault {
+            ChunkFault::Refused { kind } => Fault::NoChunk { kind },
+            ChunkFault::Memory => Fault::Memory,
+        }
+    }
+}
+
+impl From<CheckFault> for Fault {
+    ghost from_gives = { λ fault made. made ≡ fault_of_check fault };
+
+    fn from(fault: CheckFault) -> Fault {
+        match fault {
+            CheckFault::Refused { function, pc, rule } => Fault::BrokenRule { function, pc, rule },
+            CheckFault::Memory => Fault::Memory,
+        }
+    }
+}
+
+impl From<AllocError> for Fault {
+    ghost use Rattle.luaris.specs.declared.fault.Fault.TheVariants.{Memory};
+
+    ghost from_gives = { λ _ made. made ≡ Memory };
+
+    fn from(_: AllocError) -> Fault {
+        Fault::Memory
     }
 }
 

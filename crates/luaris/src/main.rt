@@ -2,6 +2,7 @@
 #![tactic(auto)]
 
 mod chunk;
+mod chunk_report;
 mod cursor;
 mod expression;
 mod fault;

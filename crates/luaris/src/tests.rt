@@ -31,14 +31,14 @@ fn words(alloc: Global, line: &str) -> Result<Vec<String>, Fail> {
     Ok(words)
 }
 
-/// Runs `s.lua` with this text, over devices that do not fail.
-fn run(alloc: Global, source: &[u8]) -> Result<Outcome, Fail> {
+/// Calls the program with the words of a line where one file is there, over devices that do not fail.
+fn call(alloc: Global, line: &str, name: &str, content: &[u8]) -> Result<Outcome, Fail> {
     let mut files = MemFiles::new(alloc, no_failures(alloc));
-    files.put("s.lua", source)?;
+    files.put(name, content)?;
     let mut input = MemSource::new(Bytes::of(Vec::new(alloc)), no_failures(alloc));
     let mut out = MemSink::new(alloc, no_failures(alloc));
     let mut err = MemSink::new(alloc, no_failures(alloc));
-    let words = words(alloc, "run s.lua")?;
+    let words = words(alloc, line)?;
     let status = luaris(
         alloc,
         words.as_slice(),
@@ -48,6 +48,11 @@ fn run(alloc: Global, source: &[u8]) -> Result<Outcome, Fail> {
         &mut err,
     );
     Ok(Outcome { status, out, err })
+}
+
+/// Runs `s.lua` with this text.
+fn run(alloc: Global, source: &[u8]) -> Result<Outcome, Fail> {
+    call(alloc, "run s.lua", "s.lua", source)
 }
 
 fn check(rt: &impl Abort, outcome: &Outcome, status: u8, out: &str, err: &str) {
@@ -264,5 +269,47 @@ fn failing_devices_are_told(rt: HostRuntime) -> Result<(), Fail> {
         "luaris: device fault\n",
     );
     check(&rt, &run_failing(alloc, 1, 9, 0)?, 6, "", "");
+    Ok(())
+}
+
+/// The chunk that luac writes for `print("hi")` with its debug information stripped.
+const PRINT_HI: [u8; 80] = [
+    0x1b, 0x4c, 0x75, 0x61, 0x54, 0x00, 0x19, 0x93, 0x0d, 0x0a, 0x1a, 0x0a, 0x04, 0x08, 0x08, 0x78,
+    0x56, 0x00, 0x00, 0x00, 0x00, 0x00, 0x00, 0x00, 0x00, 0x00, 0x00, 0x00, 0x28, 0x77, 0x40, 0x01,
+    0x80, 0x80, 0x80, 0x00, 0x01, 0x02, 0x85, 0x51, 0x00, 0x00, 0x00, 0x0b, 0x00, 0x00, 0x00, 0x83,
+    0x80, 0x00, 0x00, 0x44, 0x00, 0x02, 0x01, 0x46, 0x00, 0x01, 0x01, 0x82, 0x04, 0x86, 0x70, 0x72,
+    0x69, 0x6e, 0x74, 0x04, 0x83, 0x68, 0x69, 0x81, 0x01, 0x00, 0x00, 0x80, 0x80, 0x80, 0x80, 0x80,
+];
+
+/// The place of a byte of the chunk, a byte for it, the status and what is told of it.
+const ALTERED: [(usize, u8, u8, &str, &str); 4] = [
+    (0, 0x1b, 0, "ok 1 5\n", ""),
+    (4, 0x53, 8, "", "luaris: chunk refused: kind 2\n"),
+    (
+        49,
+        0x02,
+        8,
+        "",
+        "luaris: chunk refused: rule 4 at function 0 pc 2\n",
+    ),
+    (
+        51,
+        0x53,
+        8,
+        "",
+        "luaris: chunk refused: rule 2 at function 0 pc 3\n",
+    ),
+];
+
+#[test]
+fn chunks_are_checked(rt: HostRuntime) -> Result<(), Fail> {
+    for (place, byte, status, printed, told) in ALTERED {
+        let mut chunk = PRINT_HI.to_vec(rt.alloc())?;
+        if let Some(there) = chunk.get_mut(place) {
+            *there = byte;
+        }
+        let outcome = call(rt.alloc(), "check c.luac", "c.luac", chunk.as_slice())?;
+        check(&rt, &outcome, status, printed, told);
+    }
     Ok(())
 }

@@ -1,7 +1,7 @@
 // The words that the program is called with.
 ghost use Rattle.std.specs.Prelude.{◌≡◌, map, string_bytes};
 ghost use Rattle.std.specs.Option.{option_map};
-ghost use Rattle.luaris.specs.Program.{is_file_name, script_name};
+ghost use Rattle.luaris.specs.Program.{is_file_name, job_of, command_of};
 
 use crate::fault::Fault;
 use std::env;
@@ -10,14 +10,38 @@ use std::io::ErrorKind;
 /// The greatest number of bytes in a file's name.
 const MAX_FILE_NAME: usize = 65_536;
 
-/// The script's file, where the words are `run FILE`.
-pub fn script_name(words: &[String]) -> Option<&str>
-    ensures { option_map (λ name. name.now) result ≡ script_name (map string_bytes words.now) }
+/// What the program is to do with a file.
+#[derive(Clone, Copy, Debug, PartialEq, Eq)]
+pub enum Job {
+    /// To run the script in it.
+    Run,
+    /// To check the chunk in it.
+    Check,
+}
+
+/// What the words ask for, and the file's name, where they are a command.
+pub fn command(words: &[String]) -> Option<(Job, &str)>
+    ensures { option_map (λ command. (command.0, command.1.now)) result ≡ command_of (map string_bytes words.now) }
 {
     match words {
-        [command, file] if command.as_str() == "run" && is_file_name(file.as_str()) => Some(
-            file.as_str(),
-        ),
+        [word, file] => {
+            let job = job_of(word.as_str())?;
+            if is_file_name(file.as_str()) {
+                Some((job, file.as_str()))
+            } else {
+                None
+            }
+        }
+        _ => None,
+    }
+}
+
+fn job_of(word: &str) -> Option<Job>
+    ensures { result ≡ job_of word.now }
+{
+    match word {
+        "run" => Some(Job::Run),
+        "check" => Some(Job::Check),
         _ => None,
     }
 }

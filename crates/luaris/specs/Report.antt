@@ -1,0 +1,70 @@
+-- The line on standard error for each status.
+use Rattle.std.specs.Prelude.{◌≡◌, ℕ, ◌<◌, ◌≤◌, ◌^◌, List, [], ◌++◌, length, Option, Some, None, codes, decimal}
+use Rattle.std.specs.Option.{option_map}
+use Rattle.io_edge.specs.Content.{FileMap}
+use Rattle.lua_lex.specs.Lexical.{BadToken}
+use Rattle.code_core.specs.Prototype.{Prototype}
+use Rattle.chunk_format.specs.Grammar.{BeginsWith, ChunkOf}
+use Rattle.chunk_format.specs.Reading.{chunk_kind}
+use Rattle.chunk_check.specs.Faults.{first_fault}
+use Rattle.luaris.specs.declared.words.Job.{Job}
+use Rattle.luaris.specs.declared.fault.Fault.{Fault}
+use Rattle.luaris.specs.declared.fault.Fault.TheVariants as fault
+use Rattle.luaris.specs.Program.{Device, RoseIn, Holds}
+
+-- a source that is refused on a line has no place before that begins no token
+pub record IsRefusedAt (source : List ℕ) (line : ℕ) : Type 0 where
+  pub short : length source ≤ 2 ^ 20
+  pub bad_token : (bad : ℕ) → BadToken source bad → line ≡ bad
+
+-- bytes that begin with the chunk of a function of which this is the first rule that is broken
+pub record IsBroken (bytes : List ℕ) (number pc rule : ℕ) : Type 0 where
+  pub function : Prototype
+  pub taken : ℕ
+  pub begins : BeginsWith ChunkOf function taken bytes
+  pub first : first_fault function ≡ Some (record { function = number; pc = pc; rule = rule })
+
+-- what a fault tells of the file's bytes
+abbrev pub FaultFits : List ℕ → Fault → Type 0
+FaultFits content (fault.Refused line) = IsRefusedAt content line
+FaultFits content fault.Limit = 2 ^ 20 < length content
+FaultFits content (fault.NoChunk kind) = chunk_kind content ≡ Some kind
+FaultFits content (fault.BrokenRule number pc rule) = IsBroken content number pc rule
+FaultFits content _ = Unit {0}
+
+abbrev pub status_of_fault : Fault → ℕ
+status_of_fault fault.Words = 2
+status_of_fault (fault.Refused line) = 5
+status_of_fault fault.Limit = 5
+status_of_fault fault.Device = 6
+status_of_fault (fault.NoChunk kind) = 8
+status_of_fault (fault.BrokenRule number pc rule) = 8
+status_of_fault fault.Memory = 9
+status_of_fault fault.Absent = 11
+
+abbrev pub line_of_fault : Fault → List ℕ
+line_of_fault fault.Words = codes "luaris: wrong words\n"
+line_of_fault (fault.Refused line) = codes "luaris: source refused at line " ++ (decimal line ++ codes "\n")
+line_of_fault fault.Limit = codes "luaris: source refused by rule 13 at line 1\n"
+line_of_fault fault.Device = codes "luaris: device fault\n"
+line_of_fault (fault.NoChunk kind) = codes "luaris: chunk refused: kind " ++ (decimal kind ++ codes "\n")
+line_of_fault (fault.BrokenRule number pc rule) =
+    codes "luaris: chunk refused: rule " ++ (decimal rule ++ (codes " at function " ++ (decimal number ++ (codes " pc " ++ (decimal pc ++ codes "\n")))))
+line_of_fault fault.Memory = codes "luaris: out of memory\n"
+line_of_fault fault.Absent = codes "luaris: no such file\n"
+
+-- the line of a status, which tells what the file's bytes give where the files tell them
+pub data IsErrorLine (Content : List ℕ → Type 0) : ℕ → List ℕ → Type 0 where
+  none : IsErrorLine Content 0 []
+  of_fault : (fault : Fault) → ((content : List ℕ) → Content content → FaultFits content fault) → IsErrorLine Content (status_of_fault fault) (line_of_fault fault)
+
+-- what the files tell of the bytes that a command names
+abbrev pub ContentOf : Option (Job × List ℕ) → Option FileMap → List ℕ → Type 0
+ContentOf (Some command) files content = Holds files command.1 content
+ContentOf None files content = ⊥
+
+-- standard error grows by exactly the line of the status where no write to it fails
+pub record IsReported (command : Option (Job × List ℕ)) (files : Option FileMap) (err : Device (List ℕ)) (status : ℕ) : Type 0 where
+  pub line : List ℕ
+  pub line_is : IsErrorLine (ContentOf command files) status line
+  pub written : ¬ (RoseIn err) → err.content' ≡ option_map (λ text. text ++ line) err.content
