@@ -7,7 +7,7 @@ use Rattle.std.proofs.Math.Seq.{take-append_seam, drop-append_seam}
 use Rattle.std.proofs.lemmas.Bool.Decides.{nat_tests, Decides-eqb}
 use Rattle.byteorder.specs.Endian.{little_number}
 use Rattle.byteorder.specs.Numbers.{little_from-append}
-use Rattle.code_core.specs.Writable.{greatest_string}
+use Rattle.int_core.specs.Value.{greatest_string}
 use Rattle.chunk_format.specs.Reading.{Got, read, refused, read_word, read_integer, read_text, read_name, read_instruction, read_upvalue, read_change, read_abs_line, read_local, read_times, read_list}
 use Rattle.chunk_format.specs.Grammar.{WordOf, IntegerOf, TextOf, NameOf, InstructionOf, UpvalueOf, ChangeOf, AbsLineOf, LocalOf, TimesOf, ListOf}
 use Rattle.chunk_format.proofs.Exact.{Spelled, Exact, exact_then, exact_gives}

@@ -1,5 +1,5 @@
 -- What the writer spells is in the grammar.
-use Rattle.std.proofs.Common.{◌≡◌, ℕ, ◌+◌, ◌*◌, ◌/◌, ◌%◌, ◌^◌, ◌<◌, ◌≤◌, Bool, true, false, ◌&&◌, List, [], ◌∷◌, ◌++◌, Option, Some, None, refl, sym, ap, ◌∙◌, arith, inl, inr, length, append-nil}
+use Rattle.std.proofs.Common.{◌≡◌, ℕ, ◌+◌, ◌*◌, ◌/◌, ◌%◌, ◌^◌, ◌<◌, ◌≤◌, Bool, true, false, List, [], ◌∷◌, ◌++◌, Option, Some, None, refl, sym, ap, ◌∙◌, arith, inl, inr, length, append-nil}
 use Rattle.std.specs.Prelude.{◌==◌, ℤ, pos, negsuc, nat_le, if◌then◌else◌, ◌⊎◌, ◌≢◌}
 use Rattle.std.specs.Int.{w8, w64, cast_signed, cast_unsigned}
 use Rattle.std.specs.List.{list_all, flat_map}
@@ -7,7 +7,8 @@ use Rattle.std.proofs.lemmas.Bool.Decides.{nat_tests, Decides-ltb, eqb_tells}
 use Rattle.byteorder.specs.Endian.{little_number, little_bytes}
 use Rattle.byteorder.specs.Numbers.{little_number-reads_back, length-bytes_low_first}
 use Rattle.code_core.proofs.CheckedLemmas.{rest_of, first_of_two}
-use Rattle.code_core.specs.Writable.{number_fits, string_fits, name_fits, constant_fits, upvalue_fits, line_fits, local_fits, word_fits, change_fits, byte_fits, signed_fits, greatest_string}
+use Rattle.int_core.specs.Value.{greatest_string}
+use Rattle.code_core.specs.Writable.{number_fits, string_fits, name_fits, constant_fits, upvalue_fits, line_fits, local_fits, word_fits, change_fits, byte_fits, signed_fits}
 use Rattle.code_core.specs.declared.instruction.Instruction.{Instruction}
 use Rattle.code_core.specs.declared.proto.Const.{Const}
 use Rattle.code_core.specs.declared.proto.Const.TheVariants.{Nil, False, True, Int, Str}

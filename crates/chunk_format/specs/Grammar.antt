@@ -4,7 +4,8 @@ use Rattle.std.specs.Prelude.{ℕ, zero, suc, ◌+◌, ◌*◌, ◌%◌, ◌^◌
 use Rattle.std.specs.Int.{w8, w64, cast_signed}
 use Rattle.byteorder.specs.Endian.{little_number}
 use Rattle.code_core.specs.Prototype.{Prototype, prototypes, function_count}
-use Rattle.code_core.specs.Writable.{greatest_string, greatest_depth}
+use Rattle.int_core.specs.Value.{greatest_string}
+use Rattle.code_core.specs.Writable.{greatest_depth}
 use Rattle.code_core.specs.declared.instruction.Instruction.{Instruction}
 use Rattle.code_core.specs.declared.proto.Const.{Const}
 use Rattle.code_core.specs.declared.proto.Const.TheVariants.{Nil, False, True, Int, Str}

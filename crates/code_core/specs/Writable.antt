@@ -2,6 +2,7 @@
 -- keeps in a fixed width fit it, as the types of a prototype's fields make sure.
 use Rattle.std.specs.Prelude.{ℕ, ℤ, pos, negsuc, ◌+◌, ◌^◌, suc, Bool, true, ◌&&◌, ◌||◌, max, List, Option, Some, None, length, nat_lt, nat_le, is_some, is_none, IsTrue}
 use Rattle.std.specs.List.{list_all}
+use Rattle.int_core.specs.Value.{greatest_string}
 use Rattle.code_core.specs.declared.instruction.Instruction.{Instruction}
 use Rattle.code_core.specs.declared.proto.Const.{Const}
 use Rattle.code_core.specs.declared.proto.Const.TheVariants.{Int, Str}
@@ -9,9 +10,6 @@ use Rattle.code_core.specs.declared.proto.UpDesc.{UpDesc}
 use Rattle.code_core.specs.declared.proto.AbsLine.{AbsLine}
 use Rattle.code_core.specs.declared.proto.LocVar.{LocVar}
 use Rattle.code_core.specs.Prototype.{Parts, Prototype, Prototypes, none, more, count}
-
-abbrev pub greatest_string : ℕ
-greatest_string = 16777216
 
 abbrev pub greatest_depth : ℕ
 greatest_depth = 500

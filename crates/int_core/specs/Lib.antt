@@ -1,3 +1,7 @@
 pub mod Arithmetic
 pub mod Numeral
 pub mod Rows
+pub mod Value
+pub mod Heap
+pub mod Operations
+pub mod Ask

@@ -1,0 +1,7 @@
+pub mod Machine
+pub mod MachineTalk
+pub mod MachineFamilies
+pub mod MachineErrors
+pub mod BothReadings
+pub mod RowsKeep
+pub mod RowsFit

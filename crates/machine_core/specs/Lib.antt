@@ -1,0 +1,10 @@
+pub mod World
+pub mod Text
+pub mod InstructionRows
+pub mod Moves
+pub mod FrameRows
+pub mod MachineStep
+pub mod Talk
+pub mod RowFits
+pub mod TalkRun
+pub mod Laws

@@ -1,0 +1,96 @@
+-- The machine's step over whole worlds, the rows of the primitives that move frames and coroutines, and runs of some steps.
+use Rattle.std.specs.Prelude.{ℕ, zero, suc, ◌++◌, true, false, cond, List, [], ◌∷◌, Option, Some, None, slice_get, codes}
+use Rattle.code_core.specs.Prototype.{Prototype}
+use Rattle.int_core.specs.Value.{boolean, string, a_coroutine, Value, Shape, is_object, bind, last}
+use Rattle.machine_core.specs.World.{Wait, running, LuaFrame, Frame, lua, World, Stack, stack_of, put_top}
+use Rattle.int_core.specs.Operations.{type_name}
+use Rattle.machine_core.specs.Text.{read, written}
+use Rattle.machine_core.specs.InstructionRows.{text_at, after, told_values}
+use Rattle.int_core.specs.Ask.{values}
+use Rattle.machine_core.specs.Moves.{over_pcall, over_xpcall, take_moving, look, give, give_with, enter_over, see_top, suspend, resume, begin_closing, is_entered, ResumeShape, resumed, refused, Ending, go, returned, calls_primitive, raised, unwinding, spent, main_yielded, Row, stop, act, Outcome, trapped, ends, run}
+use Rattle.machine_core.specs.FrameRows.{then, hand_over, expand, raised_row, blames, after_entry, closing_row, unwound, handed_to}
+
+-- primitives that move frames and coroutines; their arguments move
+
+abbrev pub pcall_row : Row
+pcall_row = act take_moving (λ f _. act (enter_over over_pcall (read f) (suc f)) (λ _ s. after_entry s))
+
+abbrev pub xpcall_row : Row
+xpcall_row = act take_moving (λ f _. act (enter_over (over_xpcall (read (suc f))) (read f) (suc (suc f))) (λ _ s. after_entry s))
+
+abbrev pub error_row : Row
+error_row = act take_moving (λ e _. then (give (read e ∷ [])) (stop raised))
+
+abbrev pub not_coroutine : List ℕ → Shape → Row
+not_coroutine name s = blames (codes "bad argument #1 to '" ++ name ++ codes "' (coroutine expected, got " ++ type_name s ++ codes ")")
+
+abbrev pub after_resume : ResumeShape → Row
+after_resume (resumed is_entered) = hand_over
+after_resume (resumed s) = after_entry s
+after_resume (refused text) = then (give (written (boolean false) ∷ written (string text) ∷ [])) hand_over
+
+abbrev pub resumes : Shape → ℕ → Row
+resumes (is_object a_coroutine) co = act (resume (read co) (suc co)) (λ _ s. after_resume s)
+resumes s co = not_coroutine (codes "resume") s
+
+abbrev pub resume_row : Row
+resume_row = act take_moving (λ co _. act (look (read co)) (λ _ s. resumes s co))
+
+-- a yield of the main coroutine ends the turn
+abbrev pub yield_row : Row
+yield_row = act suspend (λ _ in_main. cond in_main (stop main_yielded) (act take_moving (λ v _. then (give_with (written (boolean true) ∷ []) v) hand_over)))
+
+abbrev pub after_closing : ResumeShape → Row
+after_closing (resumed is_entered) = closing_row
+after_closing (resumed s) = after_entry s
+after_closing (refused text) = blames text
+
+abbrev pub closes_coroutine : Shape → ℕ → Row
+closes_coroutine (is_object a_coroutine) co = act (begin_closing (read co)) (λ _ s. after_closing s)
+closes_coroutine s co = not_coroutine (codes "close") s
+
+abbrev pub close_row : Row
+close_row = act take_moving (λ co _. act (look (read co)) (λ _ s. closes_coroutine s co))
+
+-- the step
+
+-- a frame that waits gets what moves, and runs
+unfoldable pub woken : World → Stack → LuaFrame → World
+woken W s f = record (put_top W s (lua (record f { wait = running }))) { moving = [] }
+
+abbrev pub lua_step : World → Stack → LuaFrame → Prototype → Wait Value → Outcome
+lua_step W s f p running = run (expand (text_at p f.own.pc)) [] W
+lua_step W s f p wait = run (expand (after wait p f.own.pc (values W.moving))) (told_values wait (values W.moving)) (woken W s f)
+
+abbrev pub frame_step : World → Stack → Frame → Option Outcome
+frame_step W s (lua f) = bind (slice_get W.functions f.function) (λ g. Some (lua_step W s f g.code f.wait))
+frame_step W s _ = None
+
+abbrev pub top_step : World → Option Outcome
+top_step W = bind (stack_of W) (λ s. bind (last s.frames) (frame_step W s))
+
+-- a step that costs a unit while none is left has no effect
+abbrev pub from_world : World → Outcome → Outcome
+from_world W (ends spent V) = ends spent W
+from_world W o = o
+
+-- what is done by the ending of the row before
+abbrev pub step_by : (ℕ → Row) → Ending → World → Outcome
+step_by primitives go W = elim (top_step W) [ None ↦ trapped | Some o ↦ o ]
+step_by primitives returned W = run (act see_top (λ _ top. handed_to top)) [] W
+step_by primitives (calls_primitive n) W = run (primitives n) [] W
+step_by primitives raised W = run raised_row [] W
+step_by primitives unwinding W = run (act see_top (λ _ top. unwound top)) [] W
+step_by primitives ending W = ends ending W
+
+abbrev pub step : (ℕ → Row) → Ending → World → Outcome
+step primitives ending W = from_world W (step_by primitives ending W)
+
+abbrev pub and_then : Outcome → (Ending → World → Outcome) → Outcome
+and_then trapped f = trapped
+and_then (ends ending W) f = f ending W
+
+-- at most n steps
+abbrev pub steps : (ℕ → Row) → ℕ → Ending → World → Outcome
+steps primitives zero ending W = ends ending W
+steps primitives (suc n) ending W = and_then (step primitives ending W) (steps primitives n)
