@@ -1,5 +1,5 @@
 -- What the writer spells is in the grammar.
-use Rattle.std.proofs.Common.{◌≡◌, ℕ, ◌+◌, ◌*◌, ◌/◌, ◌%◌, ◌^◌, ◌<◌, ◌≤◌, Bool, true, false, ◌&&◌, List, [], ◌∷◌, ◌++◌, Option, Some, None, refl, sym, ap, ◌∙◌, arith, inl, inr, length, append-nil}
+use Rattle.std.proofs.Common.{◌≡◌, ℕ, ◌+◌, ◌*◌, ◌/◌, ◌%◌, ◌^◌, ◌<◌, ◌≤◌, Bool, true, false, List, [], ◌∷◌, ◌++◌, Option, Some, None, refl, sym, ap, ◌∙◌, arith, inl, inr, length, append-nil}
 use Rattle.std.specs.Prelude.{◌==◌, ℤ, pos, negsuc, nat_le, if◌then◌else◌, ◌⊎◌, ◌≢◌}
 use Rattle.std.specs.Int.{w8, w64, cast_signed, cast_unsigned}
 use Rattle.std.specs.List.{list_all, flat_map}
