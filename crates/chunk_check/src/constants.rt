@@ -1,5 +1,5 @@
 // Whether the constants, upvalues and functions that an instruction names are there.
-ghost use Rattle.std.specs.Prelude.{◌≡◌, nat_lt, slice_get, length};
+ghost use Rattle.std.specs.Prelude.{◌≡◌, slice_get};
 ghost use Rattle.std.specs.List.{list_all};
 ghost use Rattle.code_core.specs.Check.{there, constant_is, upvalue_there, function_there};
 ghost use Rattle.code_core.specs.Fields.{anything, name, integer};

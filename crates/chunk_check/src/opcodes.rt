@@ -1,9 +1,8 @@
 // What the check has to know of each opcode.
-ghost use Rattle.std.specs.Prelude.{◌≡◌, ◌<◌, ◌^◌, ◌==◌, Some, None, nat_lt};
+ghost use Rattle.std.specs.Prelude.{◌≡◌, ◌<◌, ◌^◌, ◌==◌, Some, None};
 ghost use Rattle.std.specs.List.{list_any};
 ghost use Rattle.code_core.specs.Fields as fields;
 ghost use Rattle.code_core.specs.Check.{is_same, begins_with, agrees};
-ghost use Rattle.chunk_check.specs.Opcodes.{all_below, registers_there};
 
 use code_core::{Instruction, Opcode};
 

@@ -1,7 +1,7 @@
 // Whether a function can be written as a chunk.
-ghost use Rattle.std.specs.Prelude.{◌≡◌, ◌^◌, ◌-◌, ℕ, min, length};
+ghost use Rattle.std.specs.Prelude.{◌≡◌, ◌^◌, ◌-◌, min};
 ghost use Rattle.std.specs.List.{list_all};
-ghost use Rattle.code_core.specs.Prototype.{count, prototypes, Prototype};
+ghost use Rattle.code_core.specs.Prototype.{count};
 ghost use Rattle.code_core.specs.Writable as writable;
 
 use code_core::{AbsLine, Const, Instruction, LocVar, Proto, UpDesc};

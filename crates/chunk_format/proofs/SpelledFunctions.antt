@@ -11,7 +11,7 @@ use Rattle.chunk_format.specs.Header.{signature, version, format, sizes}
 use Rattle.chunk_format.proofs.Chunks.{exact_chunk}
 use Rattle.chunk_format.specs.Reading.{read, read_chunk, Head, Lists, Details}
 use Rattle.chunk_format.specs.Spelling as spelled
-use Rattle.chunk_format.specs.Spelling.{is_same_name, kept, kept_parts, all_kept}
+use Rattle.chunk_format.specs.Spelling.{kept, kept_parts, all_kept}
 use Rattle.chunk_format.specs.Grammar.{SourceOf, HeadOf, ListsOf, DetailsOf, TimesOf, BodyOf, FunctionOf, WholeOf, HeaderOf, ChunkOf, InstructionOf, ConstantOf, UpvalueOf, ChangeOf, AbsLineOf, LocalOf, NameOf}
 use Rattle.chunk_format.proofs.Spelled.{then_rest, then_last, gives, number_spelled, number_of_fitting, name_spelled, instruction_spelled, constant_spelled, upvalue_spelled, change_spelled, abs_line_spelled, local_spelled, list_spelled}
 

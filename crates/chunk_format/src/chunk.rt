@@ -1,5 +1,5 @@
 // Whole chunks and functions, read and written.
-ghost use Rattle.std.specs.Prelude.{◌≡◌, ◌≤◌, ◌++◌, ℕ, None, IfOk, OnOk, length};
+ghost use Rattle.std.specs.Prelude.{◌≡◌, ◌++◌, ℕ, None, IfOk, OnOk};
 ghost use Rattle.code_core.specs.Prototype.{Prototype};
 ghost use Rattle.code_core.specs.Writable.{Writable};
 ghost use Rattle.chunk_format.specs.Grammar.{ChunkOf, WholeOf, BeginsWith};

@@ -1,6 +1,6 @@
 // A function's prototype, written as bytes.
-ghost use Rattle.std.specs.Prelude.{◌≡◌, ◌++◌, List, ℕ, Bool, if◌then◌else◌, None, OnOk, length};
-ghost use Rattle.code_core.specs.Prototype.{list_of, prototypes};
+ghost use Rattle.std.specs.Prelude.{◌≡◌, ◌++◌, if◌then◌else◌, None, OnOk};
+ghost use Rattle.code_core.specs.Prototype.{prototypes};
 ghost use Rattle.chunk_format.specs.Spelling as spelled;
 
 use crate::item::write_list;

@@ -1,6 +1,6 @@
 // A function's prototype, read from its bytes.
 ghost use Rattle.std.specs.Prelude.{◌≡◌, IfOk};
-ghost use Rattle.chunk_format.specs.Reading.{Says, SaysOf, read_source, read_head, read_lists, read_details, read_functions, read_function};
+ghost use Rattle.chunk_format.specs.Reading.{Says, SaysOf, read_source, read_head, read_lists, read_details, read_function};
 ghost use Rattle.chunk_format.specs.Views.{head_of, lists_of, details_of, SaysLeft, SaysAllLeft};
 
 use crate::fault::ChunkFault;

@@ -1,6 +1,6 @@
 // The bytes that are left to be read, and the smallest things in them.
 ghost use Rattle.std.specs.Prelude.{◌≡◌, ◌≤◌, take, drop, ◌<◌, ◌^◌, ◌∷◌, length, IfOk};
-ghost use Rattle.chunk_format.specs.Reading.{Says, read_byte, read_number, read_groups, read_flag, read_kind, read_word, read_integer, read_name};
+ghost use Rattle.chunk_format.specs.Reading.{Says, read_byte, read_number, read_flag, read_kind, read_word, read_integer, read_name};
 
 use crate::fault::ChunkFault;
 use byteorder::{ByteOrder, LittleEndian};

@@ -1,7 +1,6 @@
 -- The fields of a made word are those that it was made of.
-use Rattle.std.proofs.Common.{◌≡◌, ◌<◌, ◌+◌, ◌*◌, ◌/◌, ◌%◌, ◌^◌, ℕ, Bool, true, false, Some, cond, lit<, arith}
+use Rattle.std.proofs.Common.{◌≡◌, ◌<◌, ◌^◌, ℕ, Bool, true, false, Some, cond, lit<, arith}
 use Rattle.code_core.specs.declared.opcode.Opcode.{Opcode}
-use Rattle.code_core.specs.Opcode.{number_of}
 use Rattle.code_core.specs.Instruction.{abc, abx, op_ax, opcode_of, a_of, b_of, c_of, bx_of, ax_of}
 use Rattle.code_core.proofs.Opcodes.{number_below, opcode_of-made}
 

@@ -1,5 +1,5 @@
 // Code that is fit to run.
-ghost use Rattle.std.specs.Prelude.{◌≡◌, ◌+◌, ◌<◌, ◌^◌};
+ghost use Rattle.std.specs.Prelude.{◌≡◌};
 ghost use Rattle.code_core.specs.Prototype.{function_count, instruction_count};
 ghost use Rattle.code_core.specs.Check.{IsChecked};
 

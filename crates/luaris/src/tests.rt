@@ -281,35 +281,45 @@ const PRINT_HI: [u8; 80] = [
     0x69, 0x6e, 0x74, 0x04, 0x83, 0x68, 0x69, 0x81, 0x01, 0x00, 0x00, 0x80, 0x80, 0x80, 0x80, 0x80,
 ];
 
-/// The place of a byte of the chunk, a byte for it, the status and what is told of it.
-const ALTERED: [(usize, u8, u8, &str, &str); 4] = [
-    (0, 0x1b, 0, "ok 1 5\n", ""),
-    (4, 0x53, 8, "", "luaris: chunk refused: kind 2\n"),
+/// A place in the chunk, four bytes for it, the status and what is told of the chunk.
+const ALTERED: [(usize, [u8; 4], u8, &str, &str); 4] = [
+    (0, [0x1b, 0x4c, 0x75, 0x61], 0, "ok 1 5\n", ""),
     (
-        49,
-        0x02,
+        4,
+        [0x53, 0x00, 0x19, 0x93],
         8,
         "",
-        "luaris: chunk refused: rule 4 at function 0 pc 2\n",
+        "luaris: chunk refused: kind 2\n",
     ),
     (
-        51,
-        0x53,
+        47,
+        [0x26, 0x00, 0x00, 0x00],
         8,
         "",
-        "luaris: chunk refused: rule 2 at function 0 pc 3\n",
+        "luaris: chunk refused: rule 2 at function 0 pc 2\n",
+    ),
+    (
+        55,
+        [0x83, 0x80, 0x00, 0x00],
+        8,
+        "",
+        "luaris: chunk refused: rule 9 at function 0 pc 4\n",
     ),
 ];
 
 #[test]
 fn chunks_are_checked(rt: HostRuntime) -> Result<(), Fail> {
-    for (place, byte, status, printed, told) in ALTERED {
+    for (place, bytes, status, printed, told) in ALTERED {
         let mut chunk = PRINT_HI.to_vec(rt.alloc())?;
-        if let Some(there) = chunk.get_mut(place) {
+        for (there, byte) in chunk.iter_mut().skip(place).zip(bytes) {
             *there = byte;
         }
         let outcome = call(rt.alloc(), "check c.luac", "c.luac", chunk.as_slice())?;
         check(&rt, &outcome, status, printed, told);
     }
+    let mut longer = PRINT_HI.to_vec(rt.alloc())?;
+    longer.push(0)?;
+    let outcome = call(rt.alloc(), "check c.luac", "c.luac", longer.as_slice())?;
+    check(&rt, &outcome, 0, "ok 1 5\n", "");
     Ok(())
 }
