@@ -282,7 +282,7 @@ const PRINT_HI: [u8; 80] = [
 ];
 
 /// A place in the chunk, four bytes for it, the status and what is told of the chunk.
-const ALTERED: [(usize, [u8; 4], u8, &str, &str); 4] = [
+const ALTERED: [(usize, [u8; 4], u8, &str, &str); 5] = [
     (0, [0x1b, 0x4c, 0x75, 0x61], 0, "ok 1 5\n", ""),
     (
         4,
@@ -297,6 +297,13 @@ const ALTERED: [(usize, [u8; 4], u8, &str, &str); 4] = [
         8,
         "",
         "luaris: chunk refused: rule 2 at function 0 pc 2\n",
+    ),
+    (
+        47,
+        [0x83, 0x80, 0x02, 0x00],
+        8,
+        "",
+        "luaris: chunk refused: rule 4 at function 0 pc 2\n",
     ),
     (
         55,
