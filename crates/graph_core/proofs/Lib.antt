@@ -6,3 +6,9 @@ pub mod Grow
 pub mod Cells
 pub mod CellWrites
 pub mod OwnMoves
+pub mod Frames
+pub mod OwnFrame
+pub mod Calls
+pub mod OtherFrames
+pub mod Coroutines
+pub mod Keeps

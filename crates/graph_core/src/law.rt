@@ -1,5 +1,14 @@
 // The laws of worlds that agree.
-ghost use Rattle.graph_core.specs.Laws.{TurnsBegin, TurnsEnd};
+ghost use Rattle.graph_core.specs.Laws.{MovesKeep, RowsKeep, StepsKeep, TurnsBegin, TurnsEnd};
+
+/// Every move keeps the agreement of two worlds, so every row does, and so does any number of steps of the machine,
+/// whatever the rows of its primitives are: both trap, or both end in the same way in worlds that agree again.
+pub fn worlds_run_alike()
+    ensures moves { MovesKeep }
+    ensures rows { RowsKeep }
+    ensures steps { StepsKeep }
+{
+}
 
 /// Worlds that agree between turns agree within a turn once both have the same values on their way and the same budget,
 /// and what agrees within a turn agrees at its end.

@@ -4,4 +4,4 @@
 
 mod law;
 
-pub use law::turns_begin_and_end;
+pub use law::{turns_begin_and_end, worlds_run_alike};
