@@ -1,18 +1,17 @@
 -- Calls, errors of a frame's own step, and frames that are left keep agreement.
-use Rattle.std.proofs.Common.{ℕ, zero, suc, ◌+◌, ◌-◌, ◌≡◌, List, [], ◌∷◌, ◌++◌, Option, Some, None, refl, subst, sym, ap, ◌∙◌, length, drop, Bool, true, false, not, cond}
+use Rattle.std.proofs.Common.{ℕ, zero, suc, ◌-◌, ◌≡◌, List, [], ◌∷◌, ◌++◌, Option, Some, None, refl, subst, ap, ◌∙◌, drop, Bool, not, cond}
 use Rattle.std.specs.Prelude.{slice_get, nat_eq, reverse, filter_map, codes, decimal}
-use Rattle.std.specs.List.{AllZip}
 use Rattle.code_core.specs.Prototype.{Prototype}
 use Rattle.code_core.specs.Writable.{string_fits}
-use Rattle.int_core.specs.Value.{Plain, nil, boolean, integer, string, primitive, Kind, a_table, a_function, a_coroutine, Value, known, object, is_nil, bind, last}
-use Rattle.int_core.specs.Operations.{Callee, callee, not_callable, callee_of, greatest_chain, handler_in, of_close}
-use Rattle.machine_core.specs.World.{Function, Wait, running, for_call, for_iterator, for_value, for_truth, dropped, for_concat, for_close, returning, leaving, LuaFrame, Frame, lua, pcall, xpcall, handler, closing, World, Stack, stack_of, Place}
+use Rattle.int_core.specs.Value.{nil, boolean, integer, string, primitive, a_table, a_function, a_coroutine, Value, known, bind, last}
+use Rattle.int_core.specs.Operations.{Callee, callee_of, greatest_chain, handler_in, of_close}
+use Rattle.machine_core.specs.World.{Function, Wait, running, for_call, for_iterator, for_value, for_truth, dropped, for_concat, for_close, returning, leaving, LuaFrame, Frame, lua, World, Stack, stack_of, Place}
 use Rattle.machine_core.specs.Text.{Arg, arg, Own, close_cells, keep_pending, Given, results, thrown, given_values}
-use Rattle.machine_core.specs.Moves.{without_mark, line_of, frame_place, where_text, blamed, stack_overflow, Made, made, enter, enter_tail, find_close, is_closable, begin_leaving, leave_frame, look, blame, CallShape, is_entered, is_primitive, not_paid, not_entered, TopShape, lua_top, pcall_top, xpcall_top, handler_top, closing_top, no_top, named, new_frame, push_all, has_room, enters, enters_paid, called, popped, called_tail, runs_main, top_shape, top_now, with_own}
-use Rattle.graph_core.specs.Agree.{Pairs, SameNumber, Each, SameValue, same_known, same_object, SameValues, SameFunction, SameWait, same_running, same_for_call, same_for_iterator, same_for_value, same_for_truth, same_dropped, same_for_concat, same_for_close, same_returning, same_leaving, SameLuaFrame, SameFrame, same_lua, same_pcall, same_xpcall, same_handler, same_closing, AgreeInTurn, Extends}
+use Rattle.machine_core.specs.Moves.{without_mark, line_of, frame_place, where_text, blamed, stack_overflow, made, enter, enter_tail, find_close, is_closable, begin_leaving, leave_frame, CallShape, is_entered, is_primitive, not_paid, not_entered, TopShape, no_top, named, new_frame, has_room, enters, enters_paid, called, popped, called_tail, runs_main, top_shape, top_now}
+use Rattle.graph_core.specs.Agree.{Pairs, SameNumber, Each, SameValue, same_known, same_object, SameValues, SameFunction, SameWait, same_running, same_for_call, same_for_iterator, same_for_value, same_for_truth, same_dropped, same_for_concat, same_for_close, same_returning, same_leaving, SameLuaFrame, SameFrame, same_lua, same_pcall, same_xpcall, same_handler, same_closing, AgreeInTurn}
 use Rattle.graph_core.specs.Laws.{MadeAlike, Alike, Keeps}
-use Rattle.graph_core.proofs.Pairwise.{each_bind, each_same, zip_found, zip_reverse, zip_last, zip_length, zip_drop, cond_rel}
-use Rattle.graph_core.proofs.Same.{SameStack, SamePlace, stack_same, function_at, extends_self, shape_same}
+use Rattle.graph_core.proofs.Pairwise.{each_bind, zip_found, zip_reverse, zip_last, zip_length, zip_drop, cond_rel}
+use Rattle.graph_core.proofs.Same.{SameStack, SamePlace, stack_same, function_at, extends_self}
 use Rattle.graph_core.proofs.Tables.{nil_same}
 use Rattle.graph_core.proofs.Operations.{SameCallee, both_callee, both_not_callable, callee_same, handler_same}
 use Rattle.graph_core.proofs.OwnMoves.{arg_same}
@@ -31,10 +30,10 @@ enters_same p W X f g vs ws a (same_object a_table i j h) s = tt
 enters_same p W X f g vs ws a (same_object a_coroutine i j h) s = tt
 enters_same p W X f g vs ws a (same_object a_function i j h) s =
     each_bind (SameFunction p) (MadeAlike p CallShape) _ _
-      (λ x y k. cond_rel (Alike p CallShape) (has_room W 1) (has_room X 1) _ _ _ _ (has_room_same p W X 1 a)
-        (made_same p p CallShape _ _ [] [] is_entered is_entered (extends_self p) (push_all_same p (new_frame i x.code vs ∷ []) (new_frame j y.code ws ∷ []) W X a (new_frame_same p i j x y vs ws h k s, tt)) tt refl)
-        (made_same p p CallShape W X [] [] (not_entered stack_overflow) (not_entered stack_overflow) (extends_self p) a tt refl))
-      (slice_get W.functions i) (slice_get X.functions j) (function_at p W X a i j h)
+    (λ x y k. cond_rel (Alike p CallShape) (has_room W 1) (has_room X 1) _ _ _ _ (has_room_same p W X 1 a)
+    (made_same p p CallShape _ _ [] [] is_entered is_entered (extends_self p) (push_all_same p (new_frame i x.code vs ∷ []) (new_frame j y.code ws ∷ []) W X a (new_frame_same p i j x y vs ws h k s, tt)) tt refl)
+    (made_same p p CallShape W X [] [] (not_entered stack_overflow) (not_entered stack_overflow) (extends_self p) a tt refl))
+    (slice_get W.functions i) (slice_get X.functions j) (function_at p W X a i j h)
 
 -- W and X as they were, V and Y made ready
 paid_same : (p : Pairs) (W X V Y : World) (f g : Value) (vs ws : List Value) (m n : ℕ) → m ≡ n → AgreeInTurn p W X → AgreeInTurn p V Y → SameValue p f g → SameValues p vs ws → Alike p CallShape
@@ -70,12 +69,12 @@ named_same p env other (leaving x) s = same_leaving (arg env x) (arg other x) (a
 pub enter_keeps : (f : Arg) (slot : ℕ) (wait : Wait Arg) (prepared : List Own) → Keeps (enter f slot wait prepared)
 enter_keeps f slot wait prepared p env other W X s g = on_place p CallShape W X _ _ g
     (λ a b h. called_same p W X _ _ (arg env f) (arg other f) (drop slot env) (drop slot other) g
-      (with_own_same p W X a b (named env wait) (named other wait) prepared env other g h (named_same p env other wait s) s) (arg_same p env other f s) (zip_drop (SameValue p) slot env other s))
+    (with_own_same p W X a b (named env wait) (named other wait) prepared env other g h (named_same p env other wait s) s) (arg_same p env other f s) (zip_drop (SameValue p) slot env other s))
 
 pub enter_tail_keeps : (f : Arg) (slot : ℕ) → Keeps (enter_tail f slot)
 enter_tail_keeps f slot p env other W X s g = on_place p CallShape W X _ _ g
     (λ a b h. called_tail_same p W X a b (callee_of greatest_chain W.heap (arg env f) (drop slot env)) (callee_of greatest_chain X.heap (arg other f) (drop slot other)) g h
-      (callee_same p greatest_chain W.heap X.heap (arg env f) (arg other f) (drop slot env) (drop slot other) (heap_of p W X g) (arg_same p env other f s) (zip_drop (SameValue p) slot env other s)))
+    (callee_same p greatest_chain W.heap X.heap (arg env f) (arg other f) (drop slot env) (drop slot other) (heap_of p W X g) (arg_same p env other f s) (zip_drop (SameValue p) slot env other s)))
 
 -- closing methods
 
@@ -85,7 +84,7 @@ closer_same p W X v w a s = handler_same p W.heap X.heap of_close v w (heap_of p
 pub find_close_keeps : (v e : Arg) → Keeps (find_close v e)
 find_close_keeps v e p env other W X s g =
     made_same p p (Unit {0}) W X (handler_in W.heap of_close (arg env v) ∷ arg env v ∷ arg env e ∷ []) (handler_in X.heap of_close (arg other v) ∷ arg other v ∷ arg other e ∷ []) tt tt (extends_self p) g
-      (closer_same p W X (arg env v) (arg other v) g (arg_same p env other v s), (arg_same p env other v s, (arg_same p env other e s, tt))) refl
+    (closer_same p W X (arg env v) (arg other v) g (arg_same p env other v s), (arg_same p env other v s, (arg_same p env other e s, tt))) refl
 
 pub is_closable_keeps : (v : Arg) → Keeps (is_closable v)
 is_closable_keeps v p env other W X s g =
@@ -124,7 +123,7 @@ where_same p W X level a = by (stack_of W) (stack_of X) (stack_same p W X a)
     by (Some s) None k = absurd k
     by (Some s) (Some t) k =
         ap (λ texts. elim (slice_get texts (level - 1)) [ None ↦ [] | Some text ↦ text ])
-          (zip_found (SameFrame p) (frame_place W) (frame_place X) (place_same_text p W X a) (reverse s.frames) (reverse t.frames) (zip_reverse (SameFrame p) s.frames t.frames k.frames))
+        (zip_found (SameFrame p) (frame_place W) (frame_place X) (place_same_text p W X a) (reverse s.frames) (reverse t.frames) (zip_reverse (SameFrame p) s.frames t.frames k.frames))
 
 pub blamed_same : (p : Pairs) (W X : World) (text : List ℕ) → AgreeInTurn p W X → SameValue p (blamed W text) (blamed X text)
 blamed_same p W X text a =
@@ -134,11 +133,11 @@ blamed_same p W X text a =
 pub begin_leaving_keeps : (text : List ℕ) → Keeps (begin_leaving text)
 begin_leaving_keeps text p env other W X s g = on_place p (Unit {0}) W X _ _ g
     (λ a b h.
-      let e = blamed_same p W X text g in
-      made_same p p (Unit {0}) _ _ [] [] tt tt (extends_self p)
-        (moving_agrees p _ _ (blamed W text ∷ []) (blamed X text ∷ [])
-          (with_own_same p W X a b (leaving (blamed W text)) (leaving (blamed X text)) (close_cells 0 ∷ keep_pending ∷ []) [] [] g h (same_leaving (blamed W text) (blamed X text) e) tt) (e, tt))
-        tt refl)
+    let e = blamed_same p W X text g in
+    made_same p p (Unit {0}) _ _ [] [] tt tt (extends_self p)
+    (moving_agrees p _ _ (blamed W text ∷ []) (blamed X text ∷ [])
+    (with_own_same p W X a b (leaving (blamed W text)) (leaving (blamed X text)) (close_cells 0 ∷ keep_pending ∷ []) [] [] g h (same_leaving (blamed W text) (blamed X text) e) tt) (e, tt))
+    tt refl)
 
 -- what is on top
 
@@ -165,7 +164,7 @@ given_same p env other (thrown x) s = (arg_same p env other x s, tt)
 pub leave_keeps : (given : Given) → Keeps (leave_frame given)
 leave_keeps given p env other W X s g = on_place p TopShape W X _ _ g
     (λ a b h.
-      let V = record (popped W a) { moving = given_values env given } in
-      let Y = record (popped X b) { moving = given_values other given } in
-      let k : AgreeInTurn p V Y = moving_agrees p (popped W a) (popped X b) (given_values env given) (given_values other given) (popped_same p W X a b g h) (given_same p env other given s) in
-      each_bind (λ t u. t ≡ u) (MadeAlike p TopShape) _ _ (λ t u e. made_same p p TopShape V Y [] [] t u (extends_self p) k tt e) (top_now V) (top_now Y) (top_same p V Y k))
+    let V = record (popped W a) { moving = given_values env given } in
+    let Y = record (popped X b) { moving = given_values other given } in
+    let k : AgreeInTurn p V Y = moving_agrees p (popped W a) (popped X b) (given_values env given) (given_values other given) (popped_same p W X a b g h) (given_same p env other given s) in
+    each_bind (λ t u. t ≡ u) (MadeAlike p TopShape) _ _ (λ t u e. made_same p p TopShape V Y [] [] t u (extends_self p) k tt e) (top_now V) (top_now Y) (top_same p V Y k))

@@ -1,11 +1,10 @@
 -- A cell is read and written: both are open at one place, or each has its value where nothing that is paired sees it.
-use Rattle.std.proofs.Common.{ℕ, zero, suc, ◌≡◌, ◌≢◌, ◌⊎◌, inl, inr, ⊎_elim, List, [], ◌∷◌, Option, Some, None, refl, subst, sym, ap, ◌∙◌, length}
+use Rattle.std.proofs.Common.{ℕ, zero, suc, ◌≡◌, ◌≢◌, ⊎_elim, List, [], ◌∷◌, Option, Some, None, refl, subst, sym, ap, ◌∙◌}
 use Rattle.std.specs.Prelude.{slice_get, slice_set}
 use Rattle.std.proofs.lemmas.Bool.{cases_eq}
-use Rattle.std.specs.List.{AllZip}
-use Rattle.int_core.specs.Value.{a_table, a_function, a_coroutine, Value, known, nil, write, bind}
-use Rattle.machine_core.specs.World.{Activation, LuaFrame, Frame, lua, pcall, xpcall, handler, closing, Coroutine, fresh, suspended, in_progress, normal, dead, failed, Cell, closed, open_at, World, frames_of, lua_frame, with_frames, register_at, read_cell, write_in_frame, write_in_coroutine, write_cell}
-use Rattle.graph_core.specs.Agree.{Pairs, SameNumber, SameCellNumber, Both, Each, SameValue, same_known, SameValues, SameActivation, SameLuaFrame, SameFrame, same_lua, same_pcall, same_xpcall, same_handler, same_closing, SameFrames, SameCoroutine, same_fresh, same_suspended, same_in_progress, same_normal, same_dead, same_failed, IsFirst, IsSecond, Loose, kept_closed, kept_apart, SameCell, same_place, same_content, OneEach, Objects, objects_of, SameObjects}
+use Rattle.int_core.specs.Value.{a_coroutine, Value, nil, write, bind}
+use Rattle.machine_core.specs.World.{LuaFrame, Frame, lua, pcall, xpcall, handler, closing, Coroutine, fresh, suspended, in_progress, normal, dead, failed, Cell, closed, open_at, World, frames_of, lua_frame, with_frames, register_at, read_cell, write_in_frame, write_in_coroutine, write_cell}
+use Rattle.graph_core.specs.Agree.{Pairs, SameNumber, SameCellNumber, Both, Each, SameValue, same_known, SameValues, SameLuaFrame, SameFrame, same_lua, same_pcall, same_xpcall, same_handler, same_closing, SameFrames, SameCoroutine, same_fresh, same_suspended, same_in_progress, same_normal, same_dead, same_failed, IsFirst, IsSecond, Loose, kept_closed, kept_apart, SameCell, same_place, same_content, OneEach, Objects, objects_of, SameObjects}
 use Rattle.graph_core.proofs.Pairwise.{both_each, both_split, both_from, each_bind, zip_get, zip_set, get_set_same, get_set_other, bind_some}
 use Rattle.graph_core.proofs.Same.{lua_frame_same, frames_same}
 use Rattle.graph_core.proofs.Cells.{set_coroutine_same}
@@ -15,10 +14,10 @@ use Rattle.graph_core.proofs.Cells.{set_coroutine_same}
 pub register_same : (p : Pairs) (cs ds : List Coroutine) (co co' f r : ℕ) → Both (SameCoroutine p) (slice_get cs co) (slice_get ds co') → Each (SameValue p) (register_at cs co f r) (register_at ds co' f r)
 register_same p cs ds co co' f r h =
     each_bind (SameFrames p) (SameValue p) _ _
-      (λ fs gs k. each_bind (SameLuaFrame p) (SameValue p) _ _ (λ x y z. zip_get (SameValue p) x.own.registers y.own.registers r z.own.registers) (bind (slice_get fs f) lua_frame) (bind (slice_get gs f) lua_frame)
-        (each_bind (SameFrame p) (SameLuaFrame p) lua_frame lua_frame (lua_frame_same p) (slice_get fs f) (slice_get gs f) (zip_get (SameFrame p) fs gs f k)))
-      (bind (slice_get cs co) frames_of) (bind (slice_get ds co') frames_of)
-      (each_bind (SameCoroutine p) (SameFrames p) frames_of frames_of (frames_same p) (slice_get cs co) (slice_get ds co') (both_each (SameCoroutine p) (slice_get cs co) (slice_get ds co') h))
+    (λ fs gs k. each_bind (SameLuaFrame p) (SameValue p) _ _ (λ x y z. zip_get (SameValue p) x.own.registers y.own.registers r z.own.registers) (bind (slice_get fs f) lua_frame) (bind (slice_get gs f) lua_frame)
+    (each_bind (SameFrame p) (SameLuaFrame p) lua_frame lua_frame (lua_frame_same p) (slice_get fs f) (slice_get gs f) (zip_get (SameFrame p) fs gs f k)))
+    (bind (slice_get cs co) frames_of) (bind (slice_get ds co') frames_of)
+    (each_bind (SameCoroutine p) (SameFrames p) frames_of frames_of (frames_same p) (slice_get cs co) (slice_get ds co') (both_each (SameCoroutine p) (slice_get cs co) (slice_get ds co') h))
 
 loose_value : (W : World) (P : ℕ → Type 0) (c : Cell) (v : Value) → Loose W.coroutines P c v → read_cell W c ≡ Some v
 loose_value W P c v (kept_closed w) = refl
@@ -53,10 +52,10 @@ write_other (suc r) (suc q) u v (x ∷ vs) h n = write_other r q u v vs h (λ e.
 
 in_frame_same : (p : Pairs) (r : ℕ) (v w : Value) → SameValue p v w → (f g : Frame) → SameFrame p f g → SameFrame p (write_in_frame r v f) (write_in_frame r w g)
 in_frame_same p r v w s f g (same_lua x y h) = same_lua _ _ (record {
-    function = h.function;
-    wait = h.wait;
-    own = record { pc = h.own.pc; registers = write_same p r v w x.own.registers y.own.registers s h.own.registers; varargs = h.own.varargs; pending = h.own.pending; opened = h.own.opened };
-  })
+  function = h.function;
+  wait = h.wait;
+  own = record { pc = h.own.pc; registers = write_same p r v w x.own.registers y.own.registers s h.own.registers; varargs = h.own.varargs; pending = h.own.pending; opened = h.own.opened };
+})
 in_frame_same p r v w s f g same_pcall = same_pcall
 in_frame_same p r v w s f g (same_xpcall x y h) = same_xpcall x y h
 in_frame_same p r v w s f g same_handler = same_handler
@@ -72,8 +71,8 @@ with_frames_same p c d fs gs (same_failed v w vs ws h l) k = same_failed v w vs 
 
 in_coroutine_same : (p : Pairs) (f r : ℕ) (v w : Value) (c d : Coroutine) → SameValue p v w → SameCoroutine p c d → SameCoroutine p (write_in_coroutine f r v c) (write_in_coroutine f r w d)
 in_coroutine_same p f r v w c d s h = go _ _ (each_bind (SameFrames p) (SameFrames p) _ _
-      (λ fs gs k. each_bind (SameFrame p) (SameFrames p) _ _ (λ x y l. zip_set (SameFrame p) fs gs f _ _ k (in_frame_same p r v w s x y l)) (slice_get fs f) (slice_get gs f) (zip_get (SameFrame p) fs gs f k))
-      (frames_of c) (frames_of d) (frames_same p c d h))
+    (λ fs gs k. each_bind (SameFrame p) (SameFrames p) _ _ (λ x y l. zip_set (SameFrame p) fs gs f _ _ k (in_frame_same p r v w s x y l)) (slice_get fs f) (slice_get gs f) (zip_get (SameFrame p) fs gs f k))
+    (frames_of c) (frames_of d) (frames_same p c d h))
   where
     go : (o o' : Option (List Frame)) → Each (SameFrames p) o o' → SameCoroutine p (elim o [ None ↦ c | Some frames ↦ with_frames c frames ]) (elim o' [ None ↦ d | Some frames ↦ with_frames d frames ])
     go None None k = h
@@ -97,13 +96,13 @@ module _ (p : Pairs) (A B : Objects) (cs ds : List Coroutine) (xs ys : List Cell
   cells_wrote : (m n : ℕ) → SameCellNumber p m n → Both (SameCell p cs ds) (slice_get xs m) (slice_get ys n)
   cells_wrote m n h = ⊎_elim
       (λ e. let f : Some j ≡ Some n = sym at ∙ ap p.cells (sym e) ∙ h in
-            let k : j ≡ n = cc in
-            subst (λ m. Both (SameCell p cs ds) (slice_get xs m) (slice_get ys n)) (sym e) (subst (λ n. Both (SameCell p cs ds) (slice_get xs i) (slice_get ys n)) k
-              (both_from (SameCell p cs ds) _ _ l.here.0 r.here.0 l.here.1 r.here.1 (same_content l.here.0 r.here.0 v w l.here.2 r.here.2 s))))
+      let k : j ≡ n = cc in
+      subst (λ m. Both (SameCell p cs ds) (slice_get xs m) (slice_get ys n)) (sym e) (subst (λ n. Both (SameCell p cs ds) (slice_get xs i) (slice_get ys n)) k
+      (both_from (SameCell p cs ds) _ _ l.here.0 r.here.0 l.here.1 r.here.1 (same_content l.here.0 r.here.0 v w l.here.2 r.here.2 s))))
       (λ ne. let k : n ≢ j = λ e. ne (a.one_to_one.cells m i j (h ∙ ap Some e) at) in
-             let t = both_split (SameCell p A.coroutines B.coroutines) (slice_get A.cells m) (slice_get B.cells n) (a.cells m n h) in
-             both_from (SameCell p cs ds) _ _ t.0 t.1 (l.others m ne ∙ t.2) (r.others n k ∙ t.3)
-              (other_cell t.0 t.1 t.4 (λ x z. l.loose m t.0 x ne t.2 z) (λ y z. r.loose n t.1 y k t.3 z)))
+      let t = both_split (SameCell p A.coroutines B.coroutines) (slice_get A.cells m) (slice_get B.cells n) (a.cells m n h) in
+      both_from (SameCell p cs ds) _ _ t.0 t.1 (l.others m ne ∙ t.2) (r.others n k ∙ t.3)
+      (other_cell t.0 t.1 t.4 (λ x z. l.loose m t.0 x ne t.2 z) (λ y z. r.loose n t.1 y k t.3 z)))
       (cases_eq m i)
 
   wrote_same : SameObjects p (record A { coroutines = cs; cells = xs }) (record B { coroutines = ds; cells = ys })
@@ -130,16 +129,16 @@ each_set cells i v one a b co f r h k = one a b co f r (old a h) (old b k)
   where
     old : (n : ℕ) → slice_get (slice_set cells i (closed v)) n ≡ Some (open_at co f r) → slice_get cells n ≡ Some (open_at co f r)
     old n h = ⊎_elim
-      (λ e. absurd (not_opened cells i n co f r v h e)) (λ ne. let o = get_set_other cells i n (closed v) (λ e. ne (sym e)) in sym o ∙ h) (cases_eq n i)
+        (λ e. absurd (not_opened cells i n co f r v h e)) (λ ne. let o = get_set_other cells i n (closed v) (λ e. ne (sym e)) in sym o ∙ h) (cases_eq n i)
 
 wrote_closed : (P : ℕ → Type 0) (cs : List Coroutine) (cells : List Cell) (i : ℕ) (c : Cell) (v : Value) → slice_get cells i ≡ Some c → OneEach cells → Wrote P cs cs cells (slice_set cells i (closed v)) i v
 wrote_closed P cs cells i c v at one = record {
-    coroutines = λ co h. refl;
-    others = λ k n. get_set_other cells i k (closed v) (λ e. n (sym e));
-    loose = λ k d x n h l. l;
-    here = (closed v, get_set_same cells i c (closed v) at, kept_closed v);
-    each = each_set cells i v one;
-  }
+  coroutines = λ co h. refl;
+  others = λ k n. get_set_other cells i k (closed v) (λ e. n (sym e));
+  loose = λ k d x n h l. l;
+  here = (closed v, get_set_same cells i c (closed v) at, kept_closed v);
+  each = each_set cells i v one;
+}
 
 -- a cell that is open in a coroutine of its side alone is written
 
@@ -177,7 +176,7 @@ module _ (cs : List Coroutine) (co f r : ℕ) (u v : Value) (k : Coroutine) (fs 
   read_other : (g q : ℕ) → ((g ≡ f) × (q ≡ r) → ⊥) → at_frames written g q ≡ at_frames fs g q
   read_other g q n = ⊎_elim
       (λ e. subst (λ g. at_frames written g q ≡ at_frames fs g q) (sym e)
-        (rw (get_set_same fs f (lua l) (write_in_frame r v (lua l)) z, z) (write_other r q u v l.own.registers t (λ m. n (e, m)))))
+      (rw (get_set_same fs f (lua l) (write_in_frame r v (lua l)) z, z) (write_other r q u v l.own.registers t (λ m. n (e, m)))))
       (λ e. rw (get_set_other fs f g (write_in_frame r v (lua l)) (λ m. e (sym m))) refl)
       (cases_eq g f)
 
@@ -185,7 +184,7 @@ module _ (cs : List Coroutine) (co f r : ℕ) (u v : Value) (k : Coroutine) (fs 
   elsewhere : (d g q : ℕ) → ((d ≡ co) × (g ≡ f) × (q ≡ r) → ⊥) → register_at after d g q ≡ register_at cs d g q
   elsewhere d g q n = ⊎_elim
       (λ e. subst (λ d. register_at after d g q ≡ register_at cs d g q) (sym e)
-        (rw (get_set_same cs co k (with_frames k written) x, frames_with k fs written y, x, y) (read_other g q (λ s. n (e, s.0, s.1)))))
+      (rw (get_set_same cs co k (with_frames k written) x, frames_with k fs written y, x, y) (read_other g q (λ s. n (e, s.0, s.1)))))
       (λ e. rw (get_set_other cs co d (with_frames k written) (λ s. e (sym s))) refl)
       (cases_eq d co)
 
@@ -245,8 +244,8 @@ module _ (p : Pairs) (W X : World) (a : SameObjects p (objects_of W) (objects_of
   write_place co co' f r h = go (slice_get W.coroutines co) (slice_get X.coroutines co') (a.coroutines co co' h)
     where
       go : (o o' : Option Coroutine) → Both (SameCoroutine p) o o' → SameObjects p
-        (objects_of (elim o [ None ↦ W | Some c ↦ record W { coroutines = slice_set W.coroutines co (write_in_coroutine f r v c) } ]))
-        (objects_of (elim o' [ None ↦ X | Some c ↦ record X { coroutines = slice_set X.coroutines co' (write_in_coroutine f r w c) } ]))
+          (objects_of (elim o [ None ↦ W | Some c ↦ record W { coroutines = slice_set W.coroutines co (write_in_coroutine f r v c) } ]))
+          (objects_of (elim o' [ None ↦ X | Some c ↦ record X { coroutines = slice_set X.coroutines co' (write_in_coroutine f r w c) } ]))
       go None o' k = absurd k
       go (Some c) None k = absurd k
       go (Some c) (Some d) k = set_coroutine_same p (objects_of W) (objects_of X) co co' _ _ a h (in_coroutine_same p f r v w c d s k)

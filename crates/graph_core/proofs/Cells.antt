@@ -1,14 +1,13 @@
 -- Cells that are opened, paired and closed, and other states of a coroutine.
-use Rattle.std.proofs.Common.{ℕ, zero, suc, ◌≡◌, ◌≢◌, ◌⊎◌, inl, inr, ⊎_elim, List, [], ◌∷◌, ◌++◌, Option, Some, None, refl, subst, sym, ap, ◌∙◌, length, Bool, true, false, not, cond}
+use Rattle.std.proofs.Common.{ℕ, zero, suc, ◌+◌, ◌≡◌, ◌≢◌, ◌⊎◌, arith, inl, inr, ⊎_elim, List, [], ◌∷◌, ◌++◌, Option, Some, None, refl, subst, sym, ap, ◌∙◌, length, Bool, true, false, not, cond}
 use Rattle.std.specs.Prelude.{slice_get, slice_set, nat_eq, nat_lt, ◌&&◌}
 use Rattle.std.proofs.lemmas.Bool.Decides.{eqb_tells}
-use Rattle.std.specs.List.{AllZip}
-use Rattle.int_core.specs.Value.{Kind, a_table, a_function, a_coroutine, Value, nth, bind}
-use Rattle.int_core.specs.Heap.{Table}
-use Rattle.machine_core.specs.World.{Function, Coroutine, Cell, closed, open_at, is_open_at, with_open, open_number, close_from, register_at, frames_of, lua_frame}
-use Rattle.graph_core.specs.Agree.{Pairs, SameNumber, SameCellNumber, Both, Each, SameValue, SameValues, SameTable, SameFunction, SameCoroutine, IsFirst, IsSecond, Loose, kept_closed, kept_apart, SameCell, same_place, same_content, OneEach, OneToOne, Objects, SameObjects, Extends}
-use Rattle.graph_core.proofs.Pairwise.{both_on, both_old, both_set, both_split, both_from, get_set_other}
-use Rattle.graph_core.proofs.Same.{KeepsApart, keeps_apart_self, cell_on, table_on, function_on, coroutine_on, extends_self, nth_same}
+use Rattle.int_core.specs.Value.{a_coroutine, Value, nth, bind}
+use Rattle.machine_core.specs.World.{Coroutine, Cell, closed, open_at, is_open_at, find_open, find_open_from, close_from, frames_of, lua_frame}
+use Rattle.machine_core.specs.Moves.{opened_cells}
+use Rattle.graph_core.specs.Agree.{Pairs, SameNumber, SameCellNumber, Both, SameValues, SameTable, SameFunction, SameCoroutine, IsFirst, IsSecond, Loose, kept_closed, kept_apart, SameCell, same_place, same_content, OneEach, OneToOne, Objects, SameObjects, Extends}
+use Rattle.graph_core.proofs.Pairwise.{get_push_old, both_on, both_old, both_set, both_split, both_from, get_set_other}
+use Rattle.graph_core.proofs.Same.{KeepsApart, cell_on, table_on, function_on, coroutine_on, extends_self, nth_same}
 use Rattle.graph_core.proofs.Grow.{with_pair, pair_cases, pair_new, pair_old, pair_one}
 use Rattle.graph_core.proofs.Tables.{nat_eq_same}
 
@@ -23,15 +22,15 @@ apart_set P cs co k h c f r v n at =
 pub set_coroutine_same : (p : Pairs) (A B : Objects) (co co' : ℕ) (c d : Coroutine) → SameObjects p A B → SameNumber p a_coroutine co co' → SameCoroutine p c d
     → SameObjects p (record A { coroutines = slice_set A.coroutines co c }) (record B { coroutines = slice_set B.coroutines co' d })
 set_coroutine_same p A B co co' c d a at h = record {
-    one_to_one = a.one_to_one;
-    tables = a.tables;
-    functions = a.functions;
-    coroutines = both_set (SameCoroutine p) (p.objects a_coroutine) A.coroutines B.coroutines (a.one_to_one.objects a_coroutine) a.coroutines co co' c d at h;
-    cells = λ i j k. both_on (SameCell p A.coroutines B.coroutines) (SameCell p (slice_set A.coroutines co c) (slice_set B.coroutines co' d))
+  one_to_one = a.one_to_one;
+  tables = a.tables;
+  functions = a.functions;
+  coroutines = both_set (SameCoroutine p) (p.objects a_coroutine) A.coroutines B.coroutines (a.one_to_one.objects a_coroutine) a.coroutines co co' c d at h;
+  cells = λ i j k. both_on (SameCell p A.coroutines B.coroutines) (SameCell p (slice_set A.coroutines co c) (slice_set B.coroutines co' d))
       (cell_on p p (extends_self p) A.coroutines B.coroutines (slice_set A.coroutines co c) (slice_set B.coroutines co' d) (apart_set (IsFirst p) A.coroutines co c (co', at)) (apart_set (IsSecond p) B.coroutines co' d (co, at)))
       (slice_get A.cells i) (slice_get B.cells j) (a.cells i j k);
-    one_each = a.one_each;
-  }
+  one_each = a.one_each;
+}
 
 -- a cell for a register
 
@@ -39,9 +38,9 @@ is_open_true : (co f r : ℕ) (c : Cell) → is_open_at co f r c ≡ true → c 
 is_open_true co f r (closed v) h = cc
 is_open_true co f r (open_at x y z) h = ⊎_elim
     (λ s. ⊎_elim
-      (λ t. ⊎_elim (λ u. cc) (λ u. let w : false ≡ true = rw (s.0, t.0, u.0) at h in cc) (eqb_tells r z))
-      (λ t. let w : false ≡ true = rw (s.0, t.0) at h in cc)
-      (eqb_tells f y))
+    (λ t. ⊎_elim (λ u. cc) (λ u. let w : false ≡ true = rw (s.0, t.0, u.0) at h in cc) (eqb_tells r z))
+    (λ t. let w : false ≡ true = rw (s.0, t.0) at h in cc)
+    (eqb_tells f y))
     (λ s. let w : false ≡ true = rw s.0 at h in cc)
     (eqb_tells co x)
 
@@ -51,67 +50,63 @@ is_open_self co f r = ⊎_elim
     (λ s. absurd (s.1 refl)) (eqb_tells co co)
 
 module _ (co f r : ℕ) where
-  pub open_there : (cs : List Cell) → slice_get (with_open co f r cs) (open_number co f r cs) ≡ Some (open_at co f r)
-  open_there [] = refl
-  open_there (c ∷ cs) = go (is_open_at co f r c) refl (open_there cs)
+  -- where a cell is found
+  found_from : (n : ℕ) (cs : List Cell) (c : ℕ) → find_open_from n co f r cs ≡ Some c → (i : ℕ) × (c ≡ n + i) × (slice_get cs i ≡ Some (open_at co f r))
+  found_from n [] c h = absurd (cc)
+  found_from n (x ∷ cs) c h = go (is_open_at co f r x) refl h (found_from (suc n) cs c)
     where
-      go : (b : Bool) → is_open_at co f r c ≡ b → slice_get (with_open co f r cs) (open_number co f r cs) ≡ Some (open_at co f r) → slice_get (cond b (c ∷ cs) (c ∷ with_open co f r cs)) (cond b 0 (suc (open_number co f r cs))) ≡ Some (open_at co f r)
-      go true e ih = ap Some (is_open_true co f r c e)
-      go false e ih = ih
+      go : (b : Bool) → is_open_at co f r x ≡ b → cond b (Some n) (find_open_from (suc n) co f r cs) ≡ Some c
+          → (find_open_from (suc n) co f r cs ≡ Some c → (i : ℕ) × (c ≡ suc n + i) × (slice_get cs i ≡ Some (open_at co f r)))
+          → (i : ℕ) × (c ≡ n + i) × (slice_get (x ∷ cs) i ≡ Some (open_at co f r))
+      go true e h ih = let k : n ≡ c = cc in (0, omega (arith, k), ap Some (is_open_true co f r x e))
+      go false e h ih = let k = ih h in (suc k.0, omega (arith, k.1), k.2)
 
-  open_old : (cs : List Cell) (k : ℕ) (x : Cell) → slice_get cs k ≡ Some x → slice_get (with_open co f r cs) k ≡ Some x
-  open_old [] k x h = absurd (cc)
-  open_old (c ∷ cs) zero x h = go (is_open_at co f r c)
-    where
-      go : (b : Bool) → slice_get (cond b (c ∷ cs) (c ∷ with_open co f r cs)) 0 ≡ Some x
-      go true = h
-      go false = h
-  open_old (c ∷ cs) (suc k) x h = go (is_open_at co f r c) (open_old cs k x h)
-    where
-      go : (b : Bool) → slice_get (with_open co f r cs) k ≡ Some x → slice_get (cond b (c ∷ cs) (c ∷ with_open co f r cs)) (suc k) ≡ Some x
-      go true ih = h
-      go false ih = ih
+  pub found_open : (cs : List Cell) (c : ℕ) → find_open co f r cs ≡ Some c → slice_get cs c ≡ Some (open_at co f r)
+  found_open cs c h = let k = found_from 0 cs c h in let e : c ≡ k.0 = omega (arith, k.1) in subst (λ c. slice_get cs c ≡ Some (open_at co f r)) (sym e) k.2
 
-  abbrev NoneOpen : List Cell → Type 0
-  NoneOpen cs = (m : ℕ) → slice_get cs m ≡ Some (open_at co f r) → ⊥
-
-  open_cases : (cs : List Cell) (k : ℕ) (x : Cell) → slice_get (with_open co f r cs) k ≡ Some x → (slice_get cs k ≡ Some x) ⊎ ((k ≡ length cs) × (x ≡ open_at co f r) × NoneOpen cs)
-  open_cases [] zero x h = inr (refl, cc, λ m e. cc)
-  open_cases [] (suc k) x h = absurd (cc)
-  open_cases (c ∷ cs) zero x h = go (is_open_at co f r c) h
+  -- where none is found there is none
+  none_from : (n : ℕ) (cs : List Cell) → find_open_from n co f r cs ≡ None → (m : ℕ) → slice_get cs m ≡ Some (open_at co f r) → ⊥
+  none_from n [] h m g = absurd (cc)
+  none_from n (x ∷ cs) h m g = go (is_open_at co f r x) refl h m g (none_from (suc n) cs)
     where
-      go : (b : Bool) → slice_get (cond b (c ∷ cs) (c ∷ with_open co f r cs)) 0 ≡ Some x → (slice_get (c ∷ cs) 0 ≡ Some x) ⊎ ((0 ≡ length (c ∷ cs)) × (x ≡ open_at co f r) × NoneOpen (c ∷ cs))
-      go true h = inl h
-      go false h = inl h
-  open_cases (c ∷ cs) (suc k) x h = go (is_open_at co f r c) refl h (open_cases cs k x)
-    where
-      none : is_open_at co f r c ≡ false → NoneOpen cs → NoneOpen (c ∷ cs)
-      none e n zero g = let s = is_open_self co f r in let g' : c ≡ open_at co f r = cc in let t : true ≡ false = sym s ∙ sym (ap (is_open_at co f r) g') ∙ e in cc
-      none e n (suc m) g = n m g
-      go : (b : Bool) → is_open_at co f r c ≡ b → slice_get (cond b (c ∷ cs) (c ∷ with_open co f r cs)) (suc k) ≡ Some x
-         → (slice_get (with_open co f r cs) k ≡ Some x → (slice_get cs k ≡ Some x) ⊎ ((k ≡ length cs) × (x ≡ open_at co f r) × NoneOpen cs))
-         → (slice_get (c ∷ cs) (suc k) ≡ Some x) ⊎ ((suc k ≡ length (c ∷ cs)) × (x ≡ open_at co f r) × NoneOpen (c ∷ cs))
-      go true e h ih = inl h
-      go false e h ih = ⊎_elim inl (λ t. inr (ap suc t.0, t.1, none e t.2)) (ih h)
+      go : (b : Bool) → is_open_at co f r x ≡ b → cond b (Some n) (find_open_from (suc n) co f r cs) ≡ None → (m : ℕ) → slice_get (x ∷ cs) m ≡ Some (open_at co f r)
+          → (find_open_from (suc n) co f r cs ≡ None → (m : ℕ) → slice_get cs m ≡ Some (open_at co f r) → ⊥) → ⊥
+      go true e h m g ih = cc
+      go false e h zero g ih = let s = is_open_self co f r in let g' : x ≡ open_at co f r = cc in let t : true ≡ false = sym s ∙ sym (ap (is_open_at co f r) g') ∙ e in cc
+      go false e h (suc m) g ih = ih h m g
 
-  each_open : (cs : List Cell) → OneEach cs → OneEach (with_open co f r cs)
-  each_open cs one i j d g q h k =
+  open_old : (o : Option ℕ) (cs : List Cell) (k : ℕ) (x : Cell) → slice_get cs k ≡ Some x → slice_get (opened_cells o co f r cs) k ≡ Some x
+  open_old None cs k x h = get_push_old cs (open_at co f r ∷ []) k x h
+  open_old (Some c) cs k x h = h
+
+  -- what is there after a push was there before, or is new
+  pushed : (cs : List Cell) (k : ℕ) (x : Cell) → slice_get (cs ++ open_at co f r ∷ []) k ≡ Some x → (slice_get cs k ≡ Some x) ⊎ ((k ≡ length cs) × (x ≡ open_at co f r))
+  pushed [] zero x h = inr (refl, cc)
+  pushed [] (suc k) x h = absurd (cc)
+  pushed (c ∷ cs) zero x h = inl h
+  pushed (c ∷ cs) (suc k) x h = ⊎_elim inl (λ t. inr (ap suc t.0, t.1)) (pushed cs k x h)
+
+  each_open : (o : Option ℕ) (cs : List Cell) → find_open co f r cs ≡ o → OneEach cs → OneEach (opened_cells o co f r cs)
+  each_open (Some c) cs e one i j d g q h k = one i j d g q h k
+  each_open None cs e one i j d g q h k =
       ⊎_elim
-        (λ s. ⊎_elim (λ t. one i j d g q s t)
-                     (λ t. absurd (t.2 i (s ∙ ap Some t.1))) (open_cases cs j (open_at d g q) k))
-        (λ s. ⊎_elim (λ t. absurd (s.2 j (t ∙ ap Some s.1)))
-                     (λ t. s.0 ∙ sym t.0) (open_cases cs j (open_at d g q) k))
-        (open_cases cs i (open_at d g q) h)
+      (λ s. ⊎_elim (λ t. one i j d g q s t)
+      (λ t. absurd (none_from 0 cs e i (s ∙ ap Some t.1))) (pushed cs j (open_at d g q) k))
+      (λ s. ⊎_elim (λ t. absurd (none_from 0 cs e j (t ∙ ap Some s.1)))
+      (λ t. s.0 ∙ sym t.0) (pushed cs j (open_at d g q) k))
+      (pushed cs i (open_at d g q) h)
 
-pub open_same : (p : Pairs) (A B : Objects) (co co' f f' r : ℕ) → SameObjects p A B → SameObjects p (record A { cells = with_open co f r A.cells }) (record B { cells = with_open co' f' r B.cells })
+pub open_same : (p : Pairs) (A B : Objects) (co co' f f' r : ℕ) → SameObjects p A B
+    → SameObjects p (record A { cells = opened_cells (find_open co f r A.cells) co f r A.cells }) (record B { cells = opened_cells (find_open co' f' r B.cells) co' f' r B.cells })
 open_same p A B co co' f f' r a = record {
-    one_to_one = a.one_to_one;
-    tables = a.tables;
-    functions = a.functions;
-    coroutines = a.coroutines;
-    cells = λ i j h. both_old (SameCell p A.coroutines B.coroutines) A.cells (with_open co f r A.cells) B.cells (with_open co' f' r B.cells) i j (open_old co f r A.cells) (open_old co' f' r B.cells) (a.cells i j h);
-    one_each = (each_open co f r A.cells a.one_each.0, each_open co' f' r B.cells a.one_each.1);
-  }
+  one_to_one = a.one_to_one;
+  tables = a.tables;
+  functions = a.functions;
+  coroutines = a.coroutines;
+  cells = λ i j h. both_old (SameCell p A.coroutines B.coroutines) A.cells (opened_cells (find_open co f r A.cells) co f r A.cells) B.cells (opened_cells (find_open co' f' r B.cells) co' f' r B.cells) i j
+      (open_old co f r (find_open co f r A.cells) A.cells) (open_old co' f' r (find_open co' f' r B.cells) B.cells) (a.cells i j h);
+  one_each = (each_open co f r (find_open co f r A.cells) A.cells refl a.one_each.0, each_open co' f' r (find_open co' f' r B.cells) B.cells refl a.one_each.1);
+}
 
 -- two cells that are open at the same place can be paired
 
@@ -149,9 +144,9 @@ pair_same p A B i j co co' f r a fresh out x y at =
       functions = λ n m h. both_on (SameFunction p) (SameFunction q) (function_on p q e) (slice_get A.functions n) (slice_get B.functions m) (a.functions n m h);
       coroutines = λ n m h. both_on (SameCoroutine p) (SameCoroutine q) (coroutine_on p q e) (slice_get A.coroutines n) (slice_get B.coroutines m) (a.coroutines n m h);
       cells = λ n m h. ⊎_elim
-        (λ s. subst (λ n. Both S (slice_get A.cells n) (slice_get B.cells m)) (sym s.0) (subst (λ m. Both S (slice_get A.cells i) (slice_get B.cells m)) (sym s.1) (both_from S _ _ _ _ x y (same_place co co' f r at))))
-        (λ s. both_on (SameCell p A.coroutines B.coroutines) S (cell_on p q e A.coroutines B.coroutines A.coroutines B.coroutines (λ c g z v n at. (n, at)) (λ c g z v n at. (n, at))) (slice_get A.cells n) (slice_get B.cells m) (a.cells n m s))
-        (pair_cases p.cells i j n m h);
+          (λ s. subst (λ n. Both S (slice_get A.cells n) (slice_get B.cells m)) (sym s.0) (subst (λ m. Both S (slice_get A.cells i) (slice_get B.cells m)) (sym s.1) (both_from S _ _ _ _ x y (same_place co co' f r at))))
+          (λ s. both_on (SameCell p A.coroutines B.coroutines) S (cell_on p q e A.coroutines B.coroutines A.coroutines B.coroutines (λ c g z v n at. (n, at)) (λ c g z v n at. (n, at))) (slice_get A.cells n) (slice_get B.cells m) (a.cells n m s))
+          (pair_cases p.cells i j n m h);
       one_each = a.one_each;
     }
 
@@ -171,6 +166,7 @@ pair_cells p A B i j co co' f r a x y at = go (p.cells i) refl
         let c = place_back p A.coroutines B.coroutines s.0 s.1 co co' f r a.one_to_one s.4 d at in
         let k : n ≡ i = a.one_each.0 n i co f r (s.2 ∙ ap Some c) x in
         let l : p.cells i ≡ Some j = subst (λ n. p.cells n ≡ Some j) k h in cc
+
     go : (o : Option ℕ) → p.cells i ≡ o → Paired p A B i j
     go None e = record { now = with_cell p i j; more = extends_cell p i j e; here = pair_new p.cells i j; objects = pair_same p A B i j co co' f r a e (out e) x y at }
     go (Some m) e =
@@ -236,13 +232,13 @@ module _ (p : Pairs) (cs ds : List Coroutine) (one : OneToOne p) (co co' f from 
 pub close_same : (p : Pairs) (A B : Objects) (co co' f from : ℕ) (registers others : List Value) → SameObjects p A B → SameNumber p a_coroutine co co' → SameValues p registers others
     → SameObjects p (record A { cells = close_from co f from registers A.cells }) (record B { cells = close_from co' f from others B.cells })
 close_same p A B co co' f from registers others a at s = record {
-    one_to_one = a.one_to_one;
-    tables = a.tables;
-    functions = a.functions;
-    coroutines = a.coroutines;
-    cells = λ i j h.
+  one_to_one = a.one_to_one;
+  tables = a.tables;
+  functions = a.functions;
+  coroutines = a.coroutines;
+  cells = λ i j h.
       let k = both_split (SameCell p A.coroutines B.coroutines) (slice_get A.cells i) (slice_get B.cells j) (a.cells i j h) in
       both_from (SameCell p A.coroutines B.coroutines) _ _ _ _ (closed_get co f from registers A.cells i k.0 k.2) (closed_get co' f from others B.cells j k.1 k.3)
-        (closed_cell_same p A.coroutines B.coroutines a.one_to_one co co' f from registers others at s k.0 k.1 k.4);
-    one_each = (each_close co f from registers A.cells a.one_each.0, each_close co' f from others B.cells a.one_each.1);
-  }
+      (closed_cell_same p A.coroutines B.coroutines a.one_to_one co co' f from registers others at s k.0 k.1 k.4);
+  one_each = (each_close co f from registers A.cells a.one_each.0, each_close co' f from others B.cells a.one_each.1);
+}

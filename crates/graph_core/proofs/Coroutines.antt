@@ -1,12 +1,12 @@
 -- Moves between coroutines keep agreement.
-use Rattle.std.proofs.Common.{ℕ, zero, suc, ◌+◌, ◌≡◌, List, [], ◌∷◌, ◌++◌, Option, Some, None, refl, subst, sym, ap, ◌∙◌, length, drop, Bool, true, false, cond, map}
-use Rattle.std.specs.Prelude.{slice_get, slice_set, nat_lt, ◌&&◌, codes, flat_map}
+use Rattle.std.proofs.Common.{ℕ, suc, ◌≡◌, List, [], ◌∷◌, ◌++◌, Option, Some, None, refl, subst, ap, length, drop, Bool, map}
+use Rattle.std.specs.Prelude.{slice_get, nat_lt, ◌&&◌, flat_map}
 use Rattle.std.specs.List.{AllZip}
-use Rattle.int_core.specs.Value.{Kind, a_table, a_function, a_coroutine, Value, known, object, nth, bind, last, without_last}
-use Rattle.machine_core.specs.World.{Frame, lua, pcall, xpcall, handler, closing, Coroutine, fresh, suspended, in_progress, normal, dead, failed, World, Stack, stack_of, Cell, push, frames_of}
+use Rattle.int_core.specs.Value.{a_table, a_function, a_coroutine, Value, nth, bind, last, without_last}
+use Rattle.machine_core.specs.World.{Frame, closing, Coroutine, suspended, in_progress, normal, dead, failed, World, Stack, stack_of, Cell, push, frames_of}
 use Rattle.machine_core.specs.Text.{Arg, arg}
 use Rattle.machine_core.specs.Moves.{stack_overflow, greatest_resumes, Made, made, end_coroutine, fail_coroutine, suspend, resume, begin_closing, CallShape, is_entered, not_entered, ResumeShape, resumed, refused, enters, runs_main, has_room, pending_values, all_closed_from, put_coroutine, awake, back_to_resumer, ends_as, starts_in, can_start, resumes, closes_in, closes_coroutine, coroutine_number}
-use Rattle.graph_core.specs.Agree.{Pairs, SameNumber, Each, SameValue, same_known, same_object, SameValues, SameFrame, same_lua, same_pcall, same_xpcall, same_handler, same_closing, SameFrames, SameCoroutine, same_fresh, same_suspended, same_in_progress, same_normal, same_dead, same_failed, Objects, SameObjects, objects_of, AgreeInTurn, Extends}
+use Rattle.graph_core.specs.Agree.{Pairs, SameNumber, Each, SameValue, same_known, same_object, SameValues, SameFrame, same_lua, same_pcall, same_xpcall, same_handler, same_closing, SameFrames, SameCoroutine, same_fresh, same_suspended, same_in_progress, same_normal, same_dead, same_failed, Objects, SameObjects, objects_of, AgreeInTurn}
 use Rattle.graph_core.specs.Laws.{MadeAlike, Alike, Keeps}
 use Rattle.graph_core.proofs.Pairwise.{each_bind, zip_append, zip_length, zip_last, zip_drop, zip_without_last, zip_parts, cond_rel}
 use Rattle.graph_core.proofs.Same.{SameStack, stack_same, coroutine_at, frames_same, extends_self, nth_same}
@@ -99,8 +99,8 @@ back_same p W X a =
   where
     by : (o o' : Option ℕ) → Each (SameNumber p a_coroutine) o o' → AgreeInTurn p (record W { chain = without_last W.chain }) (record X { chain = without_last X.chain })
         → AgreeInTurn p
-          (elim o [ None ↦ record W { chain = without_last W.chain } | Some co ↦ put_coroutine (record W { chain = without_last W.chain }) co (in_progress (awake (slice_get W.coroutines co))) ])
-          (elim o' [ None ↦ record X { chain = without_last X.chain } | Some co ↦ put_coroutine (record X { chain = without_last X.chain }) co (in_progress (awake (slice_get X.coroutines co))) ])
+        (elim o [ None ↦ record W { chain = without_last W.chain } | Some co ↦ put_coroutine (record W { chain = without_last W.chain }) co (in_progress (awake (slice_get W.coroutines co))) ])
+        (elim o' [ None ↦ record X { chain = without_last X.chain } | Some co ↦ put_coroutine (record X { chain = without_last X.chain }) co (in_progress (awake (slice_get X.coroutines co))) ])
     by None None k b = b
     by None (Some j) k b = absurd k
     by (Some i) None k b = absurd k
@@ -110,8 +110,8 @@ back_same p W X a =
 ends_same : (p : Pairs) (W X : World) (c d : Coroutine) → AgreeInTurn p W X → SameCoroutine p c d → Each (AgreeInTurn p) (ends_as W c) (ends_as X d)
 ends_same p W X c d a h =
     each_bind (SameStack p) (AgreeInTurn p) _ _
-      (λ s t b. back_same p _ _ (put_coroutine_same p _ _ s.coroutine t.coroutine c d (closed_agree p W X s.coroutine t.coroutine s.frames t.frames a b.coroutine b.frames) b.coroutine h))
-      (stack_of W) (stack_of X) (stack_same p W X a)
+    (λ s t b. back_same p _ _ (put_coroutine_same p _ _ s.coroutine t.coroutine c d (closed_agree p W X s.coroutine t.coroutine s.frames t.frames a b.coroutine b.frames) b.coroutine h))
+    (stack_of W) (stack_of X) (stack_same p W X a)
 
 pub end_keeps : Keeps end_coroutine
 end_keeps p env other W X s g =
@@ -120,13 +120,13 @@ end_keeps p env other W X s g =
 pub fail_keeps : (x : Arg) → Keeps (fail_coroutine x)
 fail_keeps x p env other W X s g = on_stack p (Unit {0}) W X _ _ g
     (λ a b h. each_bind (AgreeInTurn p) (MadeAlike p (Unit {0})) _ _ (λ V Y k. made_same p p (Unit {0}) V Y [] [] tt tt (extends_self p) k tt refl)
-      (ends_as W (failed (arg env x) (flat_map pending_values a.frames))) (ends_as X (failed (arg other x) (flat_map pending_values b.frames)))
-      (ends_same p W X _ _ g (same_failed (arg env x) (arg other x) _ _ (arg_same p env other x s) (all_pending_same p a.frames b.frames h.frames))))
+    (ends_as W (failed (arg env x) (flat_map pending_values a.frames))) (ends_as X (failed (arg other x) (flat_map pending_values b.frames)))
+    (ends_same p W X _ _ g (same_failed (arg env x) (arg other x) _ _ (arg_same p env other x s) (all_pending_same p a.frames b.frames h.frames))))
 
 pub suspend_keeps : Keeps suspend
 suspend_keeps p env other W X s g = on_stack p Bool W X _ _ g
     (λ a b h. made_same p p Bool _ _ [] [] (runs_main W) (runs_main X) (extends_self p)
-      (back_same p _ _ (put_coroutine_same p W X a.coroutine b.coroutine (suspended a.frames) (suspended b.frames) g h.coroutine (same_suspended a.frames b.frames h.frames))) tt (main_same p W X g))
+    (back_same p _ _ (put_coroutine_same p W X a.coroutine b.coroutine (suspended a.frames) (suspended b.frames) g h.coroutine (same_suspended a.frames b.frames h.frames))) tt (main_same p W X g))
 
 -- resuming
 
@@ -141,8 +141,8 @@ on_coroutine : (p : Pairs) (A : Type 0) (W X : World) (v w : Value) (f g : ℕ �
     → Alike p A (bind (coroutine_number v) (λ co. bind (slice_get W.coroutines co) (f co))) (bind (coroutine_number w) (λ co. bind (slice_get X.coroutines co) (g co)))
 on_coroutine p A W X v w f g a s h =
     each_bind (SameNumber p a_coroutine) (MadeAlike p A) _ _
-      (λ i j k. each_bind (SameCoroutine p) (MadeAlike p A) (f i) (g j) (λ c d l. h i j c d k l) (slice_get W.coroutines i) (slice_get X.coroutines j) (coroutine_at p W X a i j k))
-      (coroutine_number v) (coroutine_number w) (number_same p v w s)
+    (λ i j k. each_bind (SameCoroutine p) (MadeAlike p A) (f i) (g j) (λ c d l. h i j c d k l) (slice_get W.coroutines i) (slice_get X.coroutines j) (coroutine_at p W X a i j k))
+    (coroutine_number v) (coroutine_number w) (number_same p v w s)
 
 refused_same : (p : Pairs) (W X : World) (text : List ℕ) → AgreeInTurn p W X → Alike p ResumeShape (made W [] (refused text)) (made X [] (refused text))
 refused_same p W X text a = made_same p p ResumeShape W X [] [] (refused text) (refused text) (extends_self p) a tt refl
@@ -153,12 +153,12 @@ appended p W X i j a h = chain_agrees p W X _ _ a (zip_append (SameNumber p a_co
 starts_same : (p : Pairs) (W X : World) (i j : ℕ) (vs ws : List Value) → AgreeInTurn p W X → SameNumber p a_coroutine i j → SameValues p vs ws → (c d : Coroutine) → SameCoroutine p c d → Alike p ResumeShape (starts_in W i c vs) (starts_in X j d ws)
 starts_same p W X i j vs ws a h s c d (same_fresh v w k) =
     each_bind (MadeAlike p CallShape) (MadeAlike p ResumeShape) _ _
-      (λ x y l. record { now = l.now; more = l.more; agree = l.agree; values = tt; told = ap resumed l.told })
-      (enters (put_coroutine (record W { chain = W.chain ++ i ∷ [] }) i (in_progress [])) v vs) (enters (put_coroutine (record X { chain = X.chain ++ j ∷ [] }) j (in_progress [])) w ws)
-      (enters_same p _ _ v w vs ws (put_coroutine_same p _ _ i j (in_progress []) (in_progress []) (appended p W X i j a h) h (same_in_progress [] [] tt)) k s)
+    (λ x y l. record { now = l.now; more = l.more; agree = l.agree; values = tt; told = ap resumed l.told })
+    (enters (put_coroutine (record W { chain = W.chain ++ i ∷ [] }) i (in_progress [])) v vs) (enters (put_coroutine (record X { chain = X.chain ++ j ∷ [] }) j (in_progress [])) w ws)
+    (enters_same p _ _ v w vs ws (put_coroutine_same p _ _ i j (in_progress []) (in_progress []) (appended p W X i j a h) h (same_in_progress [] [] tt)) k s)
 starts_same p W X i j vs ws a h s c d (same_suspended fs gs k) =
     made_same p p ResumeShape _ _ [] [] (resumed is_entered) (resumed is_entered) (extends_self p)
-      (put_coroutine_same p _ _ i j (in_progress fs) (in_progress gs) (moving_agrees p _ _ vs ws (appended p W X i j a h) s) h (same_in_progress fs gs k)) tt refl
+    (put_coroutine_same p _ _ i j (in_progress fs) (in_progress gs) (moving_agrees p _ _ vs ws (appended p W X i j a h) s) h (same_in_progress fs gs k)) tt refl
 starts_same p W X i j vs ws a h s c d (same_in_progress fs gs k) = refused_same p W X _ a
 starts_same p W X i j vs ws a h s c d (same_normal fs gs k) = refused_same p W X _ a
 starts_same p W X i j vs ws a h s c d same_dead = refused_same p W X _ a
@@ -177,22 +177,22 @@ resumes_same p W X s t i j c d vs ws a b h k l =
     let e = can_start_same p c d k in
     let n = zip_length (SameNumber p a_coroutine) W.chain X.chain a.roots.chain in
     cond_rel (Alike p ResumeShape) (can_start c && nat_lt greatest_resumes (length W.chain)) (can_start d && nat_lt greatest_resumes (length X.chain)) _ _ _ _ (rw (e, n) refl) (refused_same p W X _ a)
-      (starts_same p _ _ i j vs ws
-        (cond_rel (AgreeInTurn p) (can_start c) (can_start d) _ W _ X e (put_coroutine_same p W X s.coroutine t.coroutine (normal s.frames) (normal t.frames) a b.coroutine (same_normal s.frames t.frames b.frames)) a)
-        h l c d k)
+    (starts_same p _ _ i j vs ws
+    (cond_rel (AgreeInTurn p) (can_start c) (can_start d) _ W _ X e (put_coroutine_same p W X s.coroutine t.coroutine (normal s.frames) (normal t.frames) a b.coroutine (same_normal s.frames t.frames b.frames)) a)
+    h l c d k)
 
 pub resume_keeps : (x : Arg) (slot : ℕ) → Keeps (resume x slot)
 resume_keeps x slot p env other W X s g = on_stack p ResumeShape W X _ _ g
     (λ a b h. on_coroutine p ResumeShape W X (arg env x) (arg other x) (λ co c. resumes W a co c (drop slot env)) (λ co c. resumes X b co c (drop slot other)) g (arg_same p env other x s)
-      (λ i j c d k l. resumes_same p W X a b i j c d (drop slot env) (drop slot other) g h k l (zip_drop (SameValue p) slot env other s)))
+    (λ i j c d k l. resumes_same p W X a b i j c d (drop slot env) (drop slot other) g h k l (zip_drop (SameValue p) slot env other s)))
 
 -- closing a coroutine
 
 closes_same : (p : Pairs) (W X : World) (s t : Stack) (e f : Option Value) (vs ws : List Value) → AgreeInTurn p W X → SameStack p s t → Each (SameValue p) e f → SameValues p vs ws → Alike p ResumeShape (closes_in W s e vs) (closes_in X t f ws)
 closes_same p W X s t e f vs ws a b h k =
     cond_rel (Alike p ResumeShape) (has_room W 1) (has_room X 1) _ _ _ _ (has_room_same p W X 1 a)
-      (made_same p p ResumeShape (push W s (closing e vs)) (push X t (closing f ws)) [] [] (resumed is_entered) (resumed is_entered) (extends_self p) (push_same p W X s t (closing e vs) (closing f ws) a b (same_closing e f vs ws h k)) tt refl)
-      (made_same p p ResumeShape W X [] [] (resumed (not_entered stack_overflow)) (resumed (not_entered stack_overflow)) (extends_self p) a tt refl)
+    (made_same p p ResumeShape (push W s (closing e vs)) (push X t (closing f ws)) [] [] (resumed is_entered) (resumed is_entered) (extends_self p) (push_same p W X s t (closing e vs) (closing f ws) a b (same_closing e f vs ws h k)) tt refl)
+    (made_same p p ResumeShape W X [] [] (resumed (not_entered stack_overflow)) (resumed (not_entered stack_overflow)) (extends_self p) a tt refl)
 
 closes_coroutine_same : (p : Pairs) (W X : World) (s t : Stack) (i j : ℕ) → AgreeInTurn p W X → SameStack p s t → SameNumber p a_coroutine i j → (c d : Coroutine) → SameCoroutine p c d → Alike p ResumeShape (closes_coroutine W s i c) (closes_coroutine X t j d)
 closes_coroutine_same p W X s t i j a b h c d (same_fresh v w k) = closes_same p _ _ s t None None [] [] (put_coroutine_same p W X i j dead dead a h same_dead) b tt tt
@@ -206,4 +206,4 @@ closes_coroutine_same p W X s t i j a b h c d (same_failed v w vs ws k l) = clos
 pub begin_closing_keeps : (x : Arg) → Keeps (begin_closing x)
 begin_closing_keeps x p env other W X s g = on_stack p ResumeShape W X _ _ g
     (λ a b h. on_coroutine p ResumeShape W X (arg env x) (arg other x) (closes_coroutine W a) (closes_coroutine X b) g (arg_same p env other x s)
-      (λ i j c d k l. closes_coroutine_same p W X a b i j g h k c d l))
+    (λ i j c d k l. closes_coroutine_same p W X a b i j g h k c d l))

@@ -1,17 +1,16 @@
 -- Worlds that agree, with other frames of the running coroutine, other cells, other heaps.
-use Rattle.std.proofs.Common.{ℕ, zero, suc, ◌+◌, ◌-◌, ◌≡◌, List, [], ◌∷◌, ◌++◌, Option, Some, None, refl, subst, sym, ap, ◌∙◌, length, take, drop, Bool, true, false, cond}
-use Rattle.std.specs.Prelude.{slice_get, slice_set, nat_le, nat_lt}
-use Rattle.std.specs.List.{AllZip}
+use Rattle.std.proofs.Common.{ℕ, zero, suc, ◌+◌, ◌≡◌, List, [], ◌∷◌, Option, Some, None, refl, subst, sym, ap, ◌∙◌, length, take, drop, Bool, false}
+use Rattle.std.specs.Prelude.{slice_get, slice_set, nat_le}
 use Rattle.code_core.specs.Prototype.{Prototype}
-use Rattle.int_core.specs.Value.{Plain, Kind, a_table, a_function, a_coroutine, Value, known, nil, object, bind, last, without_last}
+use Rattle.int_core.specs.Value.{a_function, a_coroutine, Value, nil, without_last}
 use Rattle.int_core.specs.Heap.{Heap}
-use Rattle.machine_core.specs.World.{Function, Cell, Wait, running, Activation, LuaFrame, Frame, lua, Coroutine, in_progress, World, Stack, stack_of, Place, place_of, put_frames, put_top, push, pop, write_cell, closed, open_at, write_in_coroutine, close_from}
-use Rattle.machine_core.specs.Text.{Own, done}
-use Rattle.machine_core.specs.Moves.{greatest_depth, Made, made, cells_done, with_own, fitted, new_frame, push_all, has_room, popped}
-use Rattle.graph_core.specs.Agree.{Pairs, SameNumber, SameCellNumber, Each, SameValue, same_known, SameValues, SameFunction, SameWait, same_running, SameActivation, SameLuaFrame, SameFrame, same_lua, SameFrames, SameCoroutine, same_in_progress, SameObjects, SameRoots, objects_of, roots_of, AgreeInTurn, Extends}
-use Rattle.graph_core.specs.Laws.{MadeAlike, Alike}
+use Rattle.machine_core.specs.World.{Function, Cell, Wait, Frame, Coroutine, in_progress, World, Stack, stack_of, Place, put_frames, put_top, push, pop, write_cell, closed, open_at, write_in_coroutine}
+use Rattle.machine_core.specs.Text.{Own}
+use Rattle.machine_core.specs.Moves.{greatest_depth, made, with_own, fitted, new_frame, push_all, has_room, popped}
+use Rattle.graph_core.specs.Agree.{Pairs, SameNumber, Each, SameValue, same_known, SameValues, SameFunction, SameWait, same_running, SameFrame, same_lua, SameFrames, SameCoroutine, same_in_progress, SameObjects, SameRoots, objects_of, roots_of, AgreeInTurn, Extends}
+use Rattle.graph_core.specs.Laws.{Alike}
 use Rattle.graph_core.proofs.Pairwise.{zip_append, zip_length, zip_take, zip_drop, zip_without_last, cond_rel}
-use Rattle.graph_core.proofs.Same.{SameStack, SamePlace, stack_same, extends_self, values_on, roots_on, function_on, lua_frame_on, frames_on}
+use Rattle.graph_core.proofs.Same.{SameStack, SamePlace, stack_same, values_on, roots_on, function_on, lua_frame_on, frames_on}
 use Rattle.graph_core.proofs.Operations.{SameHeap}
 use Rattle.graph_core.proofs.Cells.{set_coroutine_same, close_same}
 use Rattle.graph_core.proofs.OwnMoves.{done_same, cells_done_same}
@@ -97,7 +96,7 @@ aligned a b = record { stack = b.stack; number = a.number; top = b.top; function
 pub align : (p : Pairs) (Q : Place → Type 0) (a b : Place) → SamePlace p a b → Q (aligned a b) → Q b
 align p Q a b h x =
     let y : Q (record b { function = record b.function { code = a.function.code } }) =
-          subst (λ n. Q (record b { number = n; function = record b.function { code = a.function.code } })) h.number x in
+    subst (λ n. Q (record b { number = n; function = record b.function { code = a.function.code } })) h.number x in
     subst (λ c. Q (record b { function = record b.function { code = c } })) h.function.code y
 
 pub stack_on : (p q : Pairs) → Extends p q → (s t : Stack) → SameStack p s t → SameStack q s t
@@ -110,8 +109,8 @@ with_own_aligned : (p : Pairs) (W X : World) (a b : Place) (v w : Wait Value) (m
 unfolding with_own
 with_own_aligned p W X a b v w ms env other g h wait s =
     put_top_same p _ _ a.stack b.stack _ _
-      (cells_agree p W X _ _ g (cells_done_same p ms a.function.code (objects_of W) (objects_of X) a.stack.coroutine b.stack.coroutine a.number env other a.top.own b.top.own g.objects h.stack.coroutine s h.top.own))
-      h.stack (same_lua _ _ (record { function = h.top.function; wait = wait; own = done_same p ms a.function.code env other a.top.own b.top.own s h.top.own }))
+    (cells_agree p W X _ _ g (cells_done_same p ms a.function.code (objects_of W) (objects_of X) a.stack.coroutine b.stack.coroutine a.number env other a.top.own b.top.own g.objects h.stack.coroutine s h.top.own))
+    h.stack (same_lua _ _ (record { function = h.top.function; wait = wait; own = done_same p ms a.function.code env other a.top.own b.top.own s h.top.own }))
 
 pub with_own_same : (p : Pairs) (W X : World) (a b : Place) (v w : Wait Value) (ms : List Own) (env other : List Value) → AgreeInTurn p W X → SamePlace p a b → SameWait p v w → SameValues p env other → AgreeInTurn p (with_own W a v ms env) (with_own X b w ms other)
 with_own_same p W X a b v w ms env other g h wait s = align p (λ b. AgreeInTurn p (with_own W a v ms env) (with_own X b w ms other)) a b h (with_own_aligned p W X a b v w ms env other g h wait s)
@@ -127,16 +126,16 @@ fitted_same p (suc n) (v ∷ vs) (w ∷ ws) h = (h.0, fitted_same p n vs ws h.1)
 
 frame_by : (p : Pairs) (n m : ℕ) (code : Prototype) (vs ws : List Value) → SameNumber p a_function n m → SameValues p vs ws → SameFrame p (new_frame n code vs) (new_frame m code ws)
 frame_by p n m code vs ws h s = same_lua _ _ (record {
-    function = h;
-    wait = same_running;
-    own = record {
-      pc = refl;
-      registers = fitted_same p code.own.stack (take code.own.params vs) (take code.own.params ws) (zip_take (SameValue p) code.own.params vs ws s);
-      varargs = cond_rel (SameValues p) code.own.vararg code.own.vararg (drop code.own.params vs) [] (drop code.own.params ws) [] refl (zip_drop (SameValue p) code.own.params vs ws s) tt;
-      pending = refl;
-      opened = refl;
-    };
-  })
+  function = h;
+  wait = same_running;
+  own = record {
+    pc = refl;
+    registers = fitted_same p code.own.stack (take code.own.params vs) (take code.own.params ws) (zip_take (SameValue p) code.own.params vs ws s);
+    varargs = cond_rel (SameValues p) code.own.vararg code.own.vararg (drop code.own.params vs) [] (drop code.own.params ws) [] refl (zip_drop (SameValue p) code.own.params vs ws s) tt;
+    pending = refl;
+    opened = refl;
+  };
+})
 
 pub new_frame_same : (p : Pairs) (n m : ℕ) (f g : Function) (vs ws : List Value) → SameNumber p a_function n m → SameFunction p f g → SameValues p vs ws → SameFrame p (new_frame n f.code vs) (new_frame m g.code ws)
 new_frame_same p n m f g vs ws h k s = subst (λ c. SameFrame p (new_frame n f.code vs) (new_frame m c ws)) k.code (frame_by p n m f.code vs ws h s)

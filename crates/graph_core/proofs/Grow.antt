@@ -1,14 +1,13 @@
 -- One more pair of objects that were not paired: a new table, a new function.
-use Rattle.std.proofs.Common.{ℕ, zero, suc, ◌≡◌, ◌⊎◌, inl, inr, ⊎_elim, List, [], ◌∷◌, ◌++◌, Option, Some, None, refl, subst, sym, ap, ◌∙◌, length, Bool, true, false, cond}
+use Rattle.std.proofs.Common.{ℕ, ◌≡◌, ◌⊎◌, inl, inr, ⊎_elim, List, [], ◌∷◌, ◌++◌, Option, Some, None, refl, subst, sym, ap, ◌∙◌, length, Bool, true, false, cond}
 use Rattle.std.specs.Prelude.{slice_get, nat_eq}
 use Rattle.std.proofs.lemmas.Bool.Decides.{eqb_tells}
-use Rattle.std.specs.List.{AllZip}
 use Rattle.int_core.specs.Value.{Kind, a_table, a_function, a_coroutine, same_kind}
 use Rattle.int_core.specs.Heap.{Table}
-use Rattle.machine_core.specs.World.{Function, Coroutine, Cell, register_at}
-use Rattle.graph_core.specs.Agree.{Pairs, SameNumber, SameCellNumber, Both, SameTable, SameFunction, SameCoroutine, SameCell, IsFirst, IsSecond, OneToOne, Objects, SameObjects, Extends}
+use Rattle.machine_core.specs.World.{Function, Coroutine, Cell}
+use Rattle.graph_core.specs.Agree.{Pairs, SameNumber, Both, SameTable, SameFunction, SameCoroutine, SameCell, OneToOne, Objects, SameObjects, Extends}
 use Rattle.graph_core.proofs.Pairwise.{both_on, both_left, both_right, both_from, both_push, get_push_new, get_end, none_of}
-use Rattle.graph_core.proofs.Same.{KeepsApart, cell_on, table_on, function_on, coroutine_on}
+use Rattle.graph_core.proofs.Same.{cell_on, table_on, function_on, coroutine_on}
 use Rattle.graph_core.proofs.Tables.{kind_same}
 
 abbrev pub with_pair : (ℕ → Option ℕ) → ℕ → ℕ → ℕ → Option ℕ
@@ -34,8 +33,8 @@ pair_old f i j n m fresh h = ⊎_elim (λ t. let e : f i ≡ Some m = subst (λ 
 pub pair_one : (f : ℕ → Option ℕ) (i j : ℕ) → ((n : ℕ) → f n ≡ Some j → ⊥) → ((a b m : ℕ) → f a ≡ Some m → f b ≡ Some m → a ≡ b) → (a b m : ℕ) → with_pair f i j a ≡ Some m → with_pair f i j b ≡ Some m → a ≡ b
 pair_one f i j out one a b m h k =
     ⊎_elim (λ s. ⊎_elim (λ t. s.0 ∙ sym t.0) (λ t. absurd (out b (t ∙ ap Some s.1))) (pair_cases f i j b m k))
-           (λ s. ⊎_elim (λ t. absurd (out a (s ∙ ap Some t.1))) (λ t. one a b m s t) (pair_cases f i j b m k))
-           (pair_cases f i j a m h)
+    (λ s. ⊎_elim (λ t. absurd (out a (s ∙ ap Some t.1))) (λ t. one a b m s t) (pair_cases f i j b m k))
+    (pair_cases f i j a m h)
 
 object_cases : (p : Pairs) (k : Kind) (i j : ℕ) (l : Kind) (n m : ℕ) → (with_object p k i j).objects l n ≡ Some m → ((l ≡ k) × (n ≡ i) × (m ≡ j)) ⊎ (p.objects l n ≡ Some m)
 object_cases p k i j l n m h = go (same_kind l k) refl h
@@ -49,8 +48,9 @@ object_new p k i j = rw (kind_self k) (pair_new (p.objects k) i j)
 
 extends_object : (p : Pairs) (k : Kind) (i j : ℕ) → p.objects k i ≡ None → Extends p (with_object p k i j)
 extends_object p k i j fresh = record {
-    objects = λ l n m h. go l n m h (same_kind l k) refl;
-    cells = λ n m h. h }
+  objects = λ l n m h. go l n m h (same_kind l k) refl;
+  cells = λ n m h. h;
+}
   where
     go : (l : Kind) (n m : ℕ) → p.objects l n ≡ Some m → (b : Bool) → same_kind l k ≡ b → cond b (with_pair (p.objects l) i j n) (p.objects l n) ≡ Some m
     go l n m h true e = pair_old (p.objects l) i j n m (subst (λ x. p.objects x i ≡ None) (sym (kind_same l k e)) fresh) h
@@ -58,8 +58,9 @@ extends_object p k i j fresh = record {
 
 one_object : (p : Pairs) (k : Kind) (i j : ℕ) → OneToOne p → ((n : ℕ) → p.objects k n ≡ Some j → ⊥) → OneToOne (with_object p k i j)
 one_object p k i j one out = record {
-    objects = λ l a b m h g. go l a b m (same_kind l k) refl h g;
-    cells = one.cells }
+  objects = λ l a b m h g. go l a b m (same_kind l k) refl h g;
+  cells = one.cells;
+}
   where
     go : (l : Kind) (a b m : ℕ) (t : Bool) → same_kind l k ≡ t → cond t (with_pair (p.objects l) i j a) (p.objects l a) ≡ Some m → cond t (with_pair (p.objects l) i j b) (p.objects l b) ≡ Some m → a ≡ b
     go l a b m true e h g = pair_one (p.objects l) i j (subst (λ x. (n : ℕ) → p.objects x n ≡ Some j → ⊥) (sym (kind_same l k e)) out) (one.objects l) a b m h g

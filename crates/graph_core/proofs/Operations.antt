@@ -1,9 +1,8 @@
 -- Operations on the same values over heaps that are the same come to the same.
-use Rattle.std.proofs.Common.{ℕ, zero, suc, ◌+◌, ◌≡◌, List, [], ◌∷◌, ◌++◌, Option, Some, None, refl, subst, sym, ap, ◌∙◌, length, Bool, true, false, not, cond}
+use Rattle.std.proofs.Common.{ℕ, zero, suc, ◌≡◌, List, [], ◌∷◌, ◌++◌, Option, Some, None, refl, subst, ap, length, Bool, true, false, not}
 use Rattle.std.specs.Prelude.{nat_eq, nat_le, slice_get, slice_set, ℤ, pos, int_lt, int_le, codes}
-use Rattle.std.specs.List.{AllZip}
 use Rattle.int_core.specs.Rows.{set, border}
-use Rattle.int_core.specs.Value.{Plain, Kind, a_table, a_function, a_coroutine, same, is_nil, Value, nil, boolean, integer, string, primitive, known, object, shape, table_values, greatest_string, bind}
+use Rattle.int_core.specs.Value.{a_table, a_function, a_coroutine, same, is_nil, Value, nil, boolean, integer, string, primitive, known, object, table_values, greatest_string}
 use Rattle.int_core.specs.Heap.{Table, Heap, raw_get, raw_set, metatable_of, filled, filled_table}
 use Rattle.int_core.specs.Operations.{Event, of_concat, of_len, of_eq, of_lt, of_le, of_index, of_newindex, of_call, event_name, type_name, of_type, number_in, text_of, is_number, is_text, at_fault, computed, by_zero, before, handler_in, handler_of, is_function, Settled, found, ask, fault, asked, greatest_chain, indexed, index_of, set_raw, stored, store_of, Callee, callee, not_callable, callee_of, wrong_operand, arithmetic_on, joined, concat_on, raw_length, length_on, truth, equal_on, cannot_compare, ordered, Operation, index, store, arithmetic, concat, length', equal, less, less_equal, does}
 use Rattle.graph_core.specs.Agree.{Pairs, SameNumber, Both, Each, SameValue, same_known, same_object, SameValues, SameTable, OneToOne}
@@ -100,15 +99,15 @@ module _ (p : Pairs) where
   pub handler_same : (H I : Heap) (event : Event) (v w : Value) → SameHeap p H I → SameValue p v w → SameValue p (handler_in H event v) (handler_in I event w)
   handler_same H I event v w a s = value_or_nil p _ _
       (each_bind (SameNumber p a_table) (SameValue p) _ _
-        (λ i j h. raw_get_same H I (object a_table i) (object a_table j) (known (string (event_name event))) (known (string (event_name event))) a (same_object a_table i j h) (same_known (string (event_name event))))
-        (metatable_of H v) (metatable_of I w) (metatable_same H I v w a s))
+      (λ i j h. raw_get_same H I (object a_table i) (object a_table j) (known (string (event_name event))) (known (string (event_name event))) a (same_object a_table i j h) (same_known (string (event_name event))))
+      (metatable_of H v) (metatable_of I w) (metatable_same H I v w a s))
 
   handler_of_same : (H I : Heap) (event : Event) (v w x y : Value) → SameHeap p H I → SameValue p v w → SameValue p x y → Each (SameValue p) (handler_of H event v x) (handler_of I event w y)
   handler_of_same H I event v w x y a s t =
       let l = handler_same H I event v w a s in
       let r = handler_same H I event x y a t in
       cond_rel (Each (SameValue p)) (not (is_nil (handler_in H event v))) (not (is_nil (handler_in I event w))) (Some (handler_in H event v)) _ (Some (handler_in I event w)) _ (ap not (nil_same p a.one_to_one _ _ l)) l
-        (cond_rel (Each (SameValue p)) (not (is_nil (handler_in H event x))) (not (is_nil (handler_in I event y))) (Some (handler_in H event x)) None (Some (handler_in I event y)) None (ap not (nil_same p a.one_to_one _ _ r)) r tt)
+      (cond_rel (Each (SameValue p)) (not (is_nil (handler_in H event x))) (not (is_nil (handler_in I event y))) (Some (handler_in H event x)) None (Some (handler_in I event y)) None (ap not (nil_same p a.one_to_one _ _ r)) r tt)
 
   asked_same : (o o' : Option Value) (vs ws : List Value) (s t : Settled) → Each (SameValue p) o o' → SameValues p vs ws → SameSettled p s t → SameSettled p (asked o vs s) (asked o' ws t)
   asked_same None None vs ws s t h k e = e
@@ -116,7 +115,7 @@ module _ (p : Pairs) where
   asked_same (Some v) None vs ws s t h k e = absurd h
   asked_same (Some v) (Some w) vs ws s t h k e = both_ask v w vs ws h k
 
--- chains of handlers
+  -- chains of handlers
 
   abbrev has_value : Option Value → Bool
   has_value raw = elim raw [ None ↦ false | Some v ↦ not (is_nil v) ]
@@ -147,21 +146,21 @@ module _ (p : Pairs) where
   indexed_same H I o o' raw raw' f g a s h k =
       let m = handler_same H I of_index o o' a s in
       cond_rel (SameSettled p) (has_value raw) (has_value raw') _ _ _ _ (has_value_same a.one_to_one raw raw' h) (both_found H I _ _ a (one_value raw raw' h))
-        (cond_rel (SameSettled p) (not (is_nil (handler_in H of_index o))) (not (is_nil (handler_in I of_index o'))) _ _ _ _ (ap not (nil_same p a.one_to_one _ _ m)) (k _ _ m) (unfound H I o o' raw raw' a s h))
+      (cond_rel (SameSettled p) (not (is_nil (handler_in H of_index o))) (not (is_nil (handler_in I of_index o'))) _ _ _ _ (ap not (nil_same p a.one_to_one _ _ m)) (k _ _ m) (unfound H I o o' raw raw' a s h))
 
   index_same : (links : ℕ) (H I : Heap) (o o' k k' : Value) → SameHeap p H I → SameValue p o o' → SameValue p k k' → SameSettled p (index_of links H o k) (index_of links I o' k')
   index_same zero H I o o' k k' a s t = indexed_same H I o o' (raw_get H o k) (raw_get I o' k') _ _ a s (raw_get_same H I o o' k k' a s t) (λ v w h. both_fault _)
   index_same (suc links) H I o o' k k' a s t =
       indexed_same H I o o' (raw_get H o k) (raw_get I o' k') _ _ a s (raw_get_same H I o o' k k' a s t)
-        (λ v w h. cond_rel (SameSettled p) (is_function v) (is_function w) _ _ _ _ (function_test p v w h) (both_ask v w (o ∷ k ∷ []) (o' ∷ k' ∷ []) h (s, (t, tt))) (index_same links H I v w k k' a h t))
+      (λ v w h. cond_rel (SameSettled p) (is_function v) (is_function w) _ _ _ _ (function_test p v w h) (both_ask v w (o ∷ k ∷ []) (o' ∷ k' ∷ []) h (s, (t, tt))) (index_same links H I v w k k' a h t))
 
   raw_set_same : (H I : Heap) (i j : ℕ) (k k' v w : Value) → SameHeap p H I → SameNumber p a_table i j → SameValue p k k' → SameValue p v w → SameHeap p (raw_set H i k v) (raw_set I j k' w)
   unfolding raw_set
   raw_set_same H I i j k k' v w a h s t = go (slice_get H.tables i) (slice_get I.tables j) (a.tables i j h)
     where
       go : (o o' : Option Table) → Both (SameTable p) o o' → SameHeap p
-        (elim o [ None ↦ H | Some x ↦ record H { tables = slice_set H.tables i (record x { rows = set table_values x.rows k v }) } ])
-        (elim o' [ None ↦ I | Some x ↦ record I { tables = slice_set I.tables j (record x { rows = set table_values x.rows k' w }) } ])
+          (elim o [ None ↦ H | Some x ↦ record H { tables = slice_set H.tables i (record x { rows = set table_values x.rows k v }) } ])
+          (elim o' [ None ↦ I | Some x ↦ record I { tables = slice_set I.tables j (record x { rows = set table_values x.rows k' w }) } ])
       go None o' r = absurd r
       go (Some x) None r = absurd r
       go (Some x) (Some y) r = set_table_same H I i j _ _ a h (record { rows = set_same p a.one_to_one x.rows y.rows k k' v w r.rows s t; metatable = r.metatable })
@@ -186,23 +185,23 @@ module _ (p : Pairs) where
       let m = handler_same H I of_newindex o o' a s in
       let r = set_raw_same H I o o' k k' v w a s t u in
       cond_rel (SameSettled p) (has_value raw) (has_value raw') _ _ _ _ (has_value_same a.one_to_one raw raw' h) r
-        (cond_rel (SameSettled p) (not (is_nil (handler_in H of_newindex o))) (not (is_nil (handler_in I of_newindex o'))) _ _ _ _ (ap not (nil_same p a.one_to_one _ _ m)) (follow _ _ m) r)
+      (cond_rel (SameSettled p) (not (is_nil (handler_in H of_newindex o))) (not (is_nil (handler_in I of_newindex o'))) _ _ _ _ (ap not (nil_same p a.one_to_one _ _ m)) (follow _ _ m) r)
 
   store_same : (links : ℕ) (H I : Heap) (o o' k k' v w : Value) → SameHeap p H I → SameValue p o o' → SameValue p k k' → SameValue p v w → SameSettled p (store_of links H o k v) (store_of links I o' k' w)
   store_same zero H I o o' k k' v w a s t u = stored_same H I o o' k k' v w (raw_get H o k) (raw_get I o' k') _ _ a s t u (raw_get_same H I o o' k k' a s t) (λ x y h. both_fault _)
   store_same (suc links) H I o o' k k' v w a s t u =
       stored_same H I o o' k k' v w (raw_get H o k) (raw_get I o' k') _ _ a s t u (raw_get_same H I o o' k k' a s t)
-        (λ x y h. cond_rel (SameSettled p) (is_function x) (is_function y) _ _ _ _ (function_test p x y h) (both_ask x y (o ∷ k ∷ v ∷ []) (o' ∷ k' ∷ w ∷ []) h (s, (t, (u, tt)))) (store_same links H I x y k k' v w a h t u))
+      (λ x y h. cond_rel (SameSettled p) (is_function x) (is_function y) _ _ _ _ (function_test p x y h) (both_ask x y (o ∷ k ∷ v ∷ []) (o' ∷ k' ∷ w ∷ []) h (s, (t, (u, tt)))) (store_same links H I x y k k' v w a h t u))
 
   pub callee_same : (links : ℕ) (H I : Heap) (f g : Value) (vs ws : List Value) → SameHeap p H I → SameValue p f g → SameValues p vs ws → SameCallee p (callee_of links H f vs) (callee_of links I g ws)
   callee_same zero H I f g vs ws a s h = cond_rel (SameCallee p) (is_function f) (is_function g) _ _ _ _ (function_test p f g s) (both_callee f g vs ws s h) (both_not_callable _)
   callee_same (suc links) H I f g vs ws a s h =
       let m = handler_same H I of_call f g a s in
       cond_rel (SameCallee p) (is_function f) (is_function g) _ _ _ _ (function_test p f g s) (both_callee f g vs ws s h)
-        (cond_rel (SameCallee p) (is_nil (handler_in H of_call f)) (is_nil (handler_in I of_call g)) _ _ _ _ (nil_same p a.one_to_one _ _ m)
-          (not_callable_so p _ _ (of_type_same p (codes "call") f g s)) (callee_same links H I _ _ (f ∷ vs) (g ∷ ws) a m (s, h)))
+      (cond_rel (SameCallee p) (is_nil (handler_in H of_call f)) (is_nil (handler_in I of_call g)) _ _ _ _ (nil_same p a.one_to_one _ _ m)
+      (not_callable_so p _ _ (of_type_same p (codes "call") f g s)) (callee_same links H I _ _ (f ∷ vs) (g ∷ ws) a m (s, h)))
 
--- the other operators
+  -- the other operators
 
   is_number_same : (v w : Value) → SameValue p v w → is_number v ≡ is_number w
   is_number_same v w (same_known c) = refl
@@ -216,7 +215,7 @@ module _ (p : Pairs) where
       → SameSettled p (asked (handler_of H event v x) (v ∷ x ∷ []) (fault (of_type attempt (at_fault is_fit v x)))) (asked (handler_of I event w y) (w ∷ y ∷ []) (fault (of_type attempt (at_fault is_fit w y))))
   handled_same H I event attempt is_fit test v w x y a s t =
       asked_same (handler_of H event v x) (handler_of I event w y) (v ∷ x ∷ []) (w ∷ y ∷ []) _ _ (handler_of_same H I event v w x y a s t) (s, (t, tt))
-        (faults p _ _ (of_type_same p attempt _ _ (at_fault_same p is_fit test v w x y s t)))
+      (faults p _ _ (of_type_same p attempt _ _ (at_fault_same p is_fit test v w x y s t)))
 
   computed_same : (H I : Heap) (event : Event) (k : Option ℤ) → SameHeap p H I → SameSettled p (elim k [ None ↦ fault (by_zero event) | Some n ↦ found H (known (integer n) ∷ []) ]) (elim k [ None ↦ fault (by_zero event) | Some n ↦ found I (known (integer n) ∷ []) ])
   computed_same H I event None a = both_fault _
@@ -230,7 +229,7 @@ module _ (p : Pairs) where
   arithmetic_same : (H I : Heap) (event : Event) (v w x y : Value) → SameHeap p H I → SameValue p v w → SameValue p x y → SameSettled p (arithmetic_on event H (number_in v) (number_in x) v x) (arithmetic_on event I (number_in w) (number_in y) w y)
   arithmetic_same H I event v w x y a s t =
       subst (λ m. SameSettled p (arithmetic_on event H (number_in v) (number_in x) v x) (arithmetic_on event I m (number_in y) w y)) (number_same p v w s)
-        (subst (λ n. SameSettled p (arithmetic_on event H (number_in v) (number_in x) v x) (arithmetic_on event I (number_in v) n w y)) (number_same p x y t) (arithmetic_by H I event (number_in v) (number_in x) v w x y a s t))
+      (subst (λ n. SameSettled p (arithmetic_on event H (number_in v) (number_in x) v x) (arithmetic_on event I (number_in v) n w y)) (number_same p x y t) (arithmetic_by H I event (number_in v) (number_in x) v w x y a s t))
 
   joined_same : (H I : Heap) (text : List ℕ) → SameHeap p H I → SameSettled p (joined H text) (joined I text)
   joined_same H I text a = cond_rel (SameSettled p) (nat_le (length text) greatest_string) (nat_le (length text) greatest_string) _ _ _ _ refl (both_found H I (known (string text) ∷ []) (known (string text) ∷ []) a (same_known (string text), tt)) (both_fault _)
@@ -243,7 +242,7 @@ module _ (p : Pairs) where
   concat_same : (H I : Heap) (v w x y : Value) → SameHeap p H I → SameValue p v w → SameValue p x y → SameSettled p (concat_on H (text_of v) (text_of x) v x) (concat_on I (text_of w) (text_of y) w y)
   concat_same H I v w x y a s t =
       subst (λ m. SameSettled p (concat_on H (text_of v) (text_of x) v x) (concat_on I m (text_of y) w y)) (text_same p v w s)
-        (subst (λ n. SameSettled p (concat_on H (text_of v) (text_of x) v x) (concat_on I (text_of v) n w y)) (text_same p x y t) (concat_by H I (text_of v) (text_of x) v w x y a s t))
+      (subst (λ n. SameSettled p (concat_on H (text_of v) (text_of x) v x) (concat_on I (text_of v) n w y)) (text_same p x y t) (concat_by H I (text_of v) (text_of x) v w x y a s t))
 
   raw_length_same : (H I : Heap) (v w : Value) → SameHeap p H I → SameValue p v w → SameSettled p (raw_length H v) (raw_length I w)
   raw_length_same H I v w a (same_known c) = both_fault _
@@ -252,8 +251,8 @@ module _ (p : Pairs) where
   raw_length_same H I v w a (same_object a_table i j h) = go (slice_get H.tables i) (slice_get I.tables j) (a.tables i j h)
     where
       go : (o o' : Option Table) → Both (SameTable p) o o' → SameSettled p
-        (elim o [ None ↦ fault (codes "") | Some t ↦ found H (known (integer (pos (border table_values t.rows))) ∷ []) ])
-        (elim o' [ None ↦ fault (codes "") | Some t ↦ found I (known (integer (pos (border table_values t.rows))) ∷ []) ])
+          (elim o [ None ↦ fault (codes "") | Some t ↦ found H (known (integer (pos (border table_values t.rows))) ∷ []) ])
+          (elim o' [ None ↦ fault (codes "") | Some t ↦ found I (known (integer (pos (border table_values t.rows))) ∷ []) ])
       go None o' r = absurd r
       go (Some x) None r = absurd r
       go (Some x) (Some y) r =
@@ -287,7 +286,7 @@ module _ (p : Pairs) where
   equals_same H I v w x y a (same_object a_table i j h) (same_object a_coroutine m n g) = equal_by H I _ _ _ _ a (same_object a_table i j h) (same_object a_coroutine m n g)
   equals_same H I v w x y a (same_object a_table i j h) (same_object a_table m n g) =
       cond_rel (SameSettled p) (nat_eq i m) (nat_eq j n) _ _ _ _ (nat_eq_same (p.objects a_table) i m j n (a.one_to_one.objects a_table) h g) (truths H I true true a refl)
-        (asked_same _ _ (object a_table i ∷ object a_table m ∷ []) (object a_table j ∷ object a_table n ∷ []) _ _ (handler_of_same H I of_eq _ _ _ _ a (same_object a_table i j h) (same_object a_table m n g)) (same_object a_table i j h, (same_object a_table m n g, tt)) (truths H I false false a refl))
+      (asked_same _ _ (object a_table i ∷ object a_table m ∷ []) (object a_table j ∷ object a_table n ∷ []) _ _ (handler_of_same H I of_eq _ _ _ _ a (same_object a_table i j h) (same_object a_table m n g)) (same_object a_table i j h, (same_object a_table m n g, tt)) (truths H I false false a refl))
 
   module _ (event : Event) (by_number : ℤ → ℤ → Bool) (by_bytes : List ℕ → List ℕ → Bool) where
     ordered_by : (H I : Heap) (v w x y : Value) → SameHeap p H I → SameValue p v w → SameValue p x y → SameSettled p (asked (handler_of H event v x) (v ∷ x ∷ []) (fault (cannot_compare v x))) (asked (handler_of I event w y) (w ∷ y ∷ []) (fault (cannot_compare w y)))
@@ -317,8 +316,8 @@ module _ (p : Pairs) where
   filled_table_same H I t u last vs ws a (same_object a_coroutine i j g) h = tt
   filled_table_same H I t u last vs ws a (same_object a_table i j g) h =
       each_bind (SameTable p) (SameHeap p) _ _
-        (λ x y r. set_table_same H I i j (record x { rows = filled last vs x.rows }) (record y { rows = filled last ws y.rows }) a g (record { rows = filled_same p a.one_to_one last vs ws x.rows y.rows h r.rows; metatable = r.metatable }))
-        (slice_get H.tables i) (slice_get I.tables j) (table_at H I a i j g)
+      (λ x y r. set_table_same H I i j (record x { rows = filled last vs x.rows }) (record y { rows = filled last ws y.rows }) a g (record { rows = filled_same p a.one_to_one last vs ws x.rows y.rows h r.rows; metatable = r.metatable }))
+      (slice_get H.tables i) (slice_get I.tables j) (table_at H I a i j g)
 
   settles : (op : Operation) (H I : Heap) (vs ws : List Value) → SameHeap p H I → SameList p vs ws → SameSettled p (does op vs H) (does op ws I)
   settles index H I vs ws a (item o o' _ _ s (item k k' _ _ t ended)) = index_same greatest_chain H I o o' k k' a s t

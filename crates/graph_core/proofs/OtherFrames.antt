@@ -1,12 +1,11 @@
 -- Values on their way, and moves on frames that are no Lua functions', keep agreement.
-use Rattle.std.proofs.Common.{ℕ, zero, suc, ◌≡◌, List, [], ◌∷◌, ◌++◌, Option, Some, None, refl, subst, sym, ap, ◌∙◌, length, drop, Bool, true, false, cond}
+use Rattle.std.proofs.Common.{ℕ, ◌≡◌, List, [], ◌∷◌, ◌++◌, Option, Some, None, refl, ap, ◌∙◌, length, drop}
 use Rattle.std.specs.Prelude.{reverse}
-use Rattle.std.specs.List.{AllZip}
-use Rattle.int_core.specs.Value.{nil, Value, known, Shape, shape, bind, last, without_last}
-use Rattle.machine_core.specs.World.{LuaFrame, Frame, lua, pcall, xpcall, handler, closing, World, Stack, stack_of, put_top, pop}
+use Rattle.int_core.specs.Value.{nil, Value, Shape, bind, last, without_last}
+use Rattle.machine_core.specs.World.{Frame, closing, World, Stack, stack_of, put_top, pop}
 use Rattle.machine_core.specs.Text.{Arg, arg, args_of}
-use Rattle.machine_core.specs.Moves.{blamed, stack_overflow, Over, over_nothing, over_pcall, over_xpcall, over_handler, frames_over, Made, made, take_moving, look, give, give_with, blame, enter_over, see_top, see_catcher, pop_frame, take_closing, set_error, CallShape, not_entered, TopShape, ClosingShape, one_left, all_closed, closed_with_error, push_all, has_room, called, top_shape, handler_value, catcher, top_now, error_or_nil, next_closing, with_error}
-use Rattle.graph_core.specs.Agree.{Pairs, Each, SameValue, same_known, SameValues, SameFrame, same_lua, same_pcall, same_xpcall, same_handler, same_closing, SameFrames, AgreeInTurn, Extends}
+use Rattle.machine_core.specs.Moves.{blamed, stack_overflow, Over, over_nothing, over_pcall, over_xpcall, over_handler, frames_over, Made, made, take_moving, look, give, give_with, blame, enter_over, see_top, see_catcher, pop_frame, take_closing, set_error, CallShape, not_entered, TopShape, ClosingShape, one_left, all_closed, closed_with_error, has_room, handler_value, catcher, top_now, error_or_nil, next_closing, with_error}
+use Rattle.graph_core.specs.Agree.{Pairs, Each, SameValue, same_known, SameValues, SameFrame, same_lua, same_pcall, same_xpcall, same_handler, same_closing, SameFrames, AgreeInTurn}
 use Rattle.graph_core.specs.Laws.{MadeAlike, Alike, Keeps}
 use Rattle.graph_core.proofs.Pairwise.{each_bind, zip_reverse, zip_last, zip_length, zip_append, zip_drop, zip_without_last, cond_rel}
 use Rattle.graph_core.proofs.Same.{SameStack, stack_same, extends_self, shape_same}
@@ -32,9 +31,9 @@ give_keeps xs p env other W X s g = made_same p p (Unit {0}) _ _ [] [] tt tt (ex
 pub give_with_keeps : (xs : List Arg) (slot : ℕ) → Keeps (give_with xs slot)
 give_with_keeps xs slot p env other W X s g =
     made_same p p (Unit {0}) _ _ [] [] tt tt (extends_self p)
-      (moving_agrees p W X (args_of env xs ++ drop slot env) (args_of other xs ++ drop slot other) g
-        (zip_append (SameValue p) (args_of env xs) (args_of other xs) (drop slot env) (drop slot other) (args_same p env other xs s) (zip_drop (SameValue p) slot env other s)))
-      tt refl
+    (moving_agrees p W X (args_of env xs ++ drop slot env) (args_of other xs ++ drop slot other) g
+    (zip_append (SameValue p) (args_of env xs) (args_of other xs) (drop slot env) (drop slot other) (args_same p env other xs s) (zip_drop (SameValue p) slot env other s)))
+    tt refl
 
 pub blame_keeps : (text : List ℕ) → Keeps (blame text)
 blame_keeps text p env other W X s g = made_same p p (Unit {0}) _ _ [] [] tt tt (extends_self p) (moving_agrees p W X (blamed W text ∷ []) (blamed X text ∷ []) g (blamed_same p W X text g, tt)) tt refl
@@ -51,9 +50,9 @@ pub enter_over_keeps : (over : Over) (f : Arg) (slot : ℕ) → Keeps (enter_ove
 enter_over_keeps over f slot p env other W X s g =
     let h = over_same p over env other s in
     cond_rel (Alike p CallShape) (has_room W (length (frames_over over env))) (has_room X (length (frames_over over other))) _ _ _ _
-      (has_room_same p W X (length (frames_over over env)) g ∙ ap (has_room X) (zip_length (SameFrame p) (frames_over over env) (frames_over over other) h))
-      (called_same p W X _ _ (arg env f) (arg other f) (drop slot env) (drop slot other) g (push_all_same p (frames_over over env) (frames_over over other) W X g h) (arg_same p env other f s) (zip_drop (SameValue p) slot env other s))
-      (made_same p p CallShape W X [] [] (not_entered stack_overflow) (not_entered stack_overflow) (extends_self p) g tt refl)
+    (has_room_same p W X (length (frames_over over env)) g ∙ ap (has_room X) (zip_length (SameFrame p) (frames_over over env) (frames_over over other) h))
+    (called_same p W X _ _ (arg env f) (arg other f) (drop slot env) (drop slot other) g (push_all_same p (frames_over over env) (frames_over over other) W X g h) (arg_same p env other f s) (zip_drop (SameValue p) slot env other s))
+    (made_same p p CallShape W X [] [] (not_entered stack_overflow) (not_entered stack_overflow) (extends_self p) g tt refl)
 
 -- what is on top
 
@@ -86,8 +85,8 @@ handler_value_same p (Some f) (Some g) (same_closing v w vs ws h k) = tt
 pub see_catcher_keeps : Keeps see_catcher
 see_catcher_keeps p env other W X s g = on_stack p TopShape W X _ _ g
     (λ x y b.
-      let c = catcher_same p (reverse x.frames) (reverse y.frames) (zip_reverse (SameFrame p) x.frames y.frames b.frames) in
-      made_same p p TopShape W X _ _ _ _ (extends_self p) g (handler_value_same p (catcher (reverse x.frames)) (catcher (reverse y.frames)) c) (top_shape_same p W X g (catcher (reverse x.frames)) (catcher (reverse y.frames)) c))
+    let c = catcher_same p (reverse x.frames) (reverse y.frames) (zip_reverse (SameFrame p) x.frames y.frames b.frames) in
+    made_same p p TopShape W X _ _ _ _ (extends_self p) g (handler_value_same p (catcher (reverse x.frames)) (catcher (reverse y.frames)) c) (top_shape_same p W X g (catcher (reverse x.frames)) (catcher (reverse y.frames)) c))
 
 pub pop_keeps : Keeps pop_frame
 pop_keeps p env other W X s g = on_stack p (Unit {0}) W X _ _ g (λ x y b. made_same p p (Unit {0}) (pop W x) (pop X y) [] [] tt tt (extends_self p) (pop_same p W X x y g b) tt refl)
@@ -114,7 +113,7 @@ one_closed_same p W X s t e f vs ws None (Some y) a b h k l = absurd l
 one_closed_same p W X s t e f vs ws (Some x) None a b h k l = absurd l
 one_closed_same p W X s t e f vs ws (Some x) (Some y) a b h k l =
     made_same p p ClosingShape _ _ (x ∷ error_or_nil e ∷ []) (y ∷ error_or_nil f ∷ []) one_left one_left (extends_self p)
-      (put_top_same p W X s t _ _ a b (same_closing e f (without_last vs) (without_last ws) h (zip_without_last (SameValue p) vs ws k))) (l, (error_same p e f h, tt)) refl
+    (put_top_same p W X s t _ _ a b (same_closing e f (without_last vs) (without_last ws) h (zip_without_last (SameValue p) vs ws k))) (l, (error_same p e f h, tt)) refl
 
 next_closing_same : (p : Pairs) (W X : World) (s t : Stack) → AgreeInTurn p W X → SameStack p s t → (f g : Frame) → SameFrame p f g → Alike p ClosingShape (next_closing W s f) (next_closing X t g)
 next_closing_same p W X s t a b f g (same_lua x y h) = tt

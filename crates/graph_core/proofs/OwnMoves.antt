@@ -1,16 +1,15 @@
 -- Moves on one activation: what they read, tell and change is the same for activations that are the same.
-use Rattle.std.proofs.Common.{ℕ, zero, suc, ◌+◌, ◌-◌, ◌≡◌, List, [], ◌∷◌, ◌++◌, Option, Some, None, refl, subst, sym, ap, ◌∙◌, length, take, drop, Bool, true, false, cond, filter}
-use Rattle.std.specs.Prelude.{ℤ, pos, max, nat_lt, nat_le, slice_get, ◌||◌, ◌&&◌}
-use Rattle.std.specs.List.{AllZip}
+use Rattle.std.proofs.Common.{ℕ, zero, suc, ◌+◌, ◌-◌, ◌≡◌, List, [], ◌∷◌, ◌++◌, Option, Some, None, refl, subst, ap, ◌∙◌, length, take, drop, Bool, cond, filter}
+use Rattle.std.specs.Prelude.{pos, max, nat_lt, nat_le, slice_get, ◌||◌, ◌&&◌}
 use Rattle.code_core.specs.declared.proto.Const.{Const}
 use Rattle.code_core.specs.Prototype.{Prototype}
-use Rattle.code_core.specs.Check.{Mark, fixed, open_from, mark}
-use Rattle.int_core.specs.Value.{a_coroutine, Value, known, nil, integer, boolean, Shape, is_known, shape, nth, range, write, write_all}
+use Rattle.code_core.specs.Check.{fixed, open_from, mark}
+use Rattle.int_core.specs.Value.{a_coroutine, Value, known, nil, integer, boolean, is_known, nth, range, write, write_all}
 use Rattle.machine_core.specs.World.{Activation, Cell}
 use Rattle.machine_core.specs.Text.{Arg, read, written, arg, args_of, Own, read_register, read_registers, read_list, read_constant, read_varargs, see, write_register, write_registers, write_list, write_nils, end_list, cut_from, close_cells, mark_pending, see_pending, take_pending, drop_pending, keep_results, keep_pending, constant, list_end, list_values, last_pending, value_if, is_there, blanked, is_pending, nils, reads, tells, effect, fits, done}
 use Rattle.machine_core.specs.Moves.{cells_after, cells_done}
 use Rattle.graph_core.specs.Agree.{Pairs, SameNumber, SameValue, same_known, SameValues, SameActivation, Objects, SameObjects}
-use Rattle.graph_core.proofs.Pairwise.{zip_length, zip_append, zip_take, zip_drop, cond_rel}
+use Rattle.graph_core.proofs.Pairwise.{zip_length, zip_take, zip_drop, cond_rel}
 use Rattle.graph_core.proofs.Same.{shape_same, nth_same}
 use Rattle.graph_core.proofs.Cells.{close_same}
 use Rattle.graph_core.proofs.CellWrites.{write_same}
@@ -199,4 +198,4 @@ module _ (p : Pairs) where
   cells_done_same [] code A B co co' f env other a b o at s h = o
   cells_done_same (m ∷ ms) code A B co co' f env other a b o at s h =
       cells_done_same ms code (record A { cells = cells_after m co f a A.cells }) (record B { cells = cells_after m co' f b B.cells }) co co' f env other (effect m code env a) (effect m code other b)
-        (cells_after_same m A B co co' f a b o at h) at s (effect_same m code env other a b s h)
+      (cells_after_same m A B co co' f a b o at h) at s (effect_same m code env other a b s h)

@@ -1,5 +1,5 @@
 -- Two lists or two options, item by item.
-use Rattle.std.proofs.Common.{ℕ, zero, suc, ◌+◌, ◌-◌, ◌<◌, ◌≡◌, ◌≢◌, List, [], ◌∷◌, ◌++◌, Option, Some, None, refl, subst, sym, ap, ◌∙◌, length, take, drop, Bool, true, false, cond, map, filter, ⊎_elim}
+use Rattle.std.proofs.Common.{ℕ, zero, suc, ◌-◌, ◌≡◌, ◌≢◌, List, [], ◌∷◌, ◌++◌, Option, Some, None, refl, subst, sym, ap, ◌∙◌, length, take, drop, Bool, true, false, cond, ⊎_elim}
 use Rattle.std.specs.Prelude.{slice_get, slice_set, reverse, filter_map, flat_map}
 use Rattle.std.specs.List.{AllZip}
 use Rattle.std.proofs.lemmas.Bool.{cases_eq}
@@ -190,9 +190,9 @@ pub both_set : {A : Type 0} (R : A → A → Type 0) (f : ℕ → Option ℕ) (x
     → (n m : ℕ) (a b : A) → f n ≡ Some m → R a b → (i j : ℕ) → f i ≡ Some j → Both R (slice_get (slice_set xs n a) i) (slice_get (slice_set ys m b) j)
 both_set R f xs ys one all n m a b at r i j h = ⊎_elim
     (λ e. let g : Some m ≡ Some j = sym at ∙ ap f (sym e) ∙ h in
-          let g' : m ≡ j = cc in
-          subst (λ i. Both R (slice_get (slice_set xs n a) i) (slice_get (slice_set ys m b) j)) (sym e) (subst (λ j. Both R (slice_get (slice_set xs n a) n) (slice_get (slice_set ys m b) j)) g' (get_set_both R R xs ys n m a b (all n m at) r)))
+    let g' : m ≡ j = cc in
+    subst (λ i. Both R (slice_get (slice_set xs n a) i) (slice_get (slice_set ys m b) j)) (sym e) (subst (λ j. Both R (slice_get (slice_set xs n a) n) (slice_get (slice_set ys m b) j)) g' (get_set_both R R xs ys n m a b (all n m at) r)))
     (λ ne. let m' : m ≢ j = λ e. ne (one i n j h (at ∙ ap Some e)) in
-           let n' : n ≢ i = λ e. ne (sym e) in
-           rw (get_set_other xs n i a n', get_set_other ys m j b m') (all i j h))
+    let n' : n ≢ i = λ e. ne (sym e) in
+    rw (get_set_other xs n i a n', get_set_other ys m j b m') (all i j h))
     (cases_eq i n)

@@ -1,11 +1,10 @@
 -- What is the same stays the same when more is paired; and the places of two machines that agree.
-use Rattle.std.proofs.Common.{ℕ, zero, suc, ◌-◌, ◌≡◌, List, [], ◌∷◌, Option, Some, None, refl, ap, length}
+use Rattle.std.proofs.Common.{ℕ, ◌-◌, ◌≡◌, List, Option, Some, None, refl, ap}
 use Rattle.std.specs.Prelude.{slice_get}
-use Rattle.std.specs.List.{AllZip}
-use Rattle.int_core.specs.Value.{Plain, Kind, a_table, a_function, a_coroutine, Value, shape, nil, known, object, nth, bind, last}
+use Rattle.int_core.specs.Value.{a_table, a_function, a_coroutine, Value, shape, nil, known, nth, bind, last}
 use Rattle.int_core.specs.Heap.{Table}
 use Rattle.machine_core.specs.World.{Function, Cell, Wait, Activation, LuaFrame, Frame, Coroutine, World, Stack, Place, stack_of, place_of, running_frames, frames_of, lua_frame, register_at}
-use Rattle.graph_core.specs.Agree.{Pairs, SameNumber, SameCellNumber, Both, Each, SameValue, same_known, same_object, SameValues, SameRow, SameTable, SameFunction, SameWait, same_running, same_for_call, same_for_iterator, same_for_value, same_for_truth, same_dropped, same_for_concat, same_for_close, same_returning, same_leaving, SameActivation, SameLuaFrame, SameFrame, same_lua, same_pcall, same_xpcall, same_handler, same_closing, SameFrames, SameCoroutine, same_fresh, same_suspended, same_in_progress, same_normal, same_dead, same_failed, Loose, kept_closed, kept_apart, IsFirst, IsSecond, SameCell, same_place, same_content, SameObjects, SameRoots, objects_of, roots_of, AgreeInTurn, Extends}
+use Rattle.graph_core.specs.Agree.{Pairs, SameNumber, SameCellNumber, Each, SameValue, same_known, same_object, SameValues, SameRow, SameTable, SameFunction, SameWait, same_running, same_for_call, same_for_iterator, same_for_value, same_for_truth, same_dropped, same_for_concat, same_for_close, same_returning, same_leaving, SameActivation, SameLuaFrame, SameFrame, same_lua, same_pcall, same_xpcall, same_handler, same_closing, SameFrames, SameCoroutine, same_fresh, same_suspended, same_in_progress, same_normal, same_dead, same_failed, Loose, kept_closed, kept_apart, IsFirst, IsSecond, SameCell, same_place, same_content, SameRoots, roots_of, AgreeInTurn, Extends}
 use Rattle.graph_core.proofs.Pairwise.{each_bind, both_each, each_on, zip_on, zip_get, zip_length, zip_last}
 
 pub extends_self : (p : Pairs) → Extends p p
@@ -160,18 +159,18 @@ module _ (p : Pairs) (W X : World) (a : AgreeInTurn p W X) where
   pub stack_same : Each (SameStack p) (stack_of W) (stack_of X)
   stack_same =
       each_bind (SameNumber p a_coroutine) (SameStack p) _ _
-        (λ co co' at. each_bind (SameFrames p) (SameStack p) _ _ (λ fs gs h. record { coroutine = at; frames = h })
-          (bind (slice_get W.coroutines co) running_frames) (bind (slice_get X.coroutines co') running_frames)
-          (each_bind (SameCoroutine p) (SameFrames p) running_frames running_frames (running_same p) (slice_get W.coroutines co) (slice_get X.coroutines co') (coroutine_at co co' at)))
-        (last W.chain) (last X.chain) (zip_last (SameNumber p a_coroutine) W.chain X.chain a.roots.chain)
+      (λ co co' at. each_bind (SameFrames p) (SameStack p) _ _ (λ fs gs h. record { coroutine = at; frames = h })
+      (bind (slice_get W.coroutines co) running_frames) (bind (slice_get X.coroutines co') running_frames)
+      (each_bind (SameCoroutine p) (SameFrames p) running_frames running_frames (running_same p) (slice_get W.coroutines co) (slice_get X.coroutines co') (coroutine_at co co' at)))
+      (last W.chain) (last X.chain) (zip_last (SameNumber p a_coroutine) W.chain X.chain a.roots.chain)
 
   pub place_same : Each (SamePlace p) (place_of W) (place_of X)
   place_same =
       each_bind (SameStack p) (SamePlace p) _ _
-        (λ s t b. each_bind (SameLuaFrame p) (SamePlace p) _ _
-          (λ f g c. each_bind (SameFunction p) (SamePlace p) _ _
-            (λ x y d. record { stack = b; number = ap (λ n. n - 1) (zip_length (SameFrame p) s.frames t.frames b.frames); top = c; function = d })
-            (slice_get W.functions f.function) (slice_get X.functions g.function) (function_at f.function g.function c.function))
-          (bind (last s.frames) lua_frame) (bind (last t.frames) lua_frame)
-          (each_bind (SameFrame p) (SameLuaFrame p) lua_frame lua_frame (lua_frame_same p) (last s.frames) (last t.frames) (zip_last (SameFrame p) s.frames t.frames b.frames)))
-        (stack_of W) (stack_of X) stack_same
+      (λ s t b. each_bind (SameLuaFrame p) (SamePlace p) _ _
+      (λ f g c. each_bind (SameFunction p) (SamePlace p) _ _
+      (λ x y d. record { stack = b; number = ap (λ n. n - 1) (zip_length (SameFrame p) s.frames t.frames b.frames); top = c; function = d })
+      (slice_get W.functions f.function) (slice_get X.functions g.function) (function_at f.function g.function c.function))
+      (bind (last s.frames) lua_frame) (bind (last t.frames) lua_frame)
+      (each_bind (SameFrame p) (SameLuaFrame p) lua_frame lua_frame (lua_frame_same p) (last s.frames) (last t.frames) (zip_last (SameFrame p) s.frames t.frames b.frames)))
+      (stack_of W) (stack_of X) stack_same

@@ -1,15 +1,15 @@
 -- A table's rows up to a renaming: look-ups, writes and the border.
-use Rattle.std.proofs.Common.{ℕ, zero, suc, ◌+◌, ◌≡◌, ◌⊎◌, inl, inr, ⊎_elim, List, [], ◌∷◌, ◌++◌, Option, Some, None, refl, subst, sym, ap, ◌∙◌, length, Bool, true, false, not, cond, filter}
-use Rattle.std.specs.Prelude.{nat_eq, nat_lt, ◌&&◌, ◌||◌, count_by, slice_get, slice_set, ℤ, pos}
+use Rattle.std.proofs.Common.{ℕ, zero, suc, ◌+◌, ◌≡◌, ⊎_elim, List, [], ◌∷◌, ◌++◌, Option, Some, None, refl, subst, sym, ap, ◌∙◌, length, Bool, true, false, not, cond, filter}
+use Rattle.std.specs.Prelude.{nat_eq, nat_lt, ◌&&◌, count_by, pos}
 use Rattle.std.proofs.lemmas.Bool.Decides.{eqb_tells}
 use Rattle.std.proofs.lemmas.List.Sums.{sum_by-cons}
-use Rattle.std.specs.List.{AllZip, list_any}
-use Rattle.std.specs.Map.{keys_of, lookup, set_value}
+use Rattle.std.specs.List.{AllZip}
+use Rattle.std.specs.Map.{lookup, set_value}
 use Rattle.std.specs.Option.{unwrap_or}
 use Rattle.int_core.specs.Rows.{is_cleared, is_filled, has_row, get, kept, set, behind, border_from, border}
-use Rattle.int_core.specs.Value.{Plain, Kind, a_table, a_function, a_coroutine, same_kind, same_plain, same, is_nil, Value, nil, integer, known, object, table_values}
+use Rattle.int_core.specs.Value.{Kind, a_table, a_function, a_coroutine, same_kind, same, is_nil, Value, nil, integer, known, table_values}
 use Rattle.int_core.specs.Heap.{filled}
-use Rattle.graph_core.specs.Agree.{Pairs, SameNumber, Each, SameValue, same_known, same_object, SameValues, SameRow, OneToOne}
+use Rattle.graph_core.specs.Agree.{Pairs, Each, SameValue, same_known, same_object, SameValues, SameRow, OneToOne}
 use Rattle.graph_core.proofs.Pairwise.{zip_append, zip_length, cond_rel}
 
 pub kind_same : (k l : Kind) → same_kind k l ≡ true → k ≡ l
@@ -25,9 +25,9 @@ kind_same a_coroutine a_function h = cc
 
 pub nat_eq_same : (f : ℕ → Option ℕ) (i i' j j' : ℕ) → ((a b m : ℕ) → f a ≡ Some m → f b ≡ Some m → a ≡ b) → f i ≡ Some j → f i' ≡ Some j' → nat_eq i i' ≡ nat_eq j j'
 nat_eq_same f i i' j j' one h k = ⊎_elim
-  (λ s. let e : Some j ≡ Some j' = sym h ∙ ap f s.1 ∙ k in ⊎_elim (λ t. s.0 ∙ sym t.0) (λ t. absurd (t.1 (cc))) (eqb_tells j j'))
-  (λ s. ⊎_elim (λ t. absurd (s.1 (one i i' j h (k ∙ ap Some (sym t.1))))) (λ t. s.0 ∙ sym t.0) (eqb_tells j j'))
-  (eqb_tells i i')
+    (λ s. let e : Some j ≡ Some j' = sym h ∙ ap f s.1 ∙ k in ⊎_elim (λ t. s.0 ∙ sym t.0) (λ t. absurd (t.1 (cc))) (eqb_tells j j'))
+    (λ s. ⊎_elim (λ t. absurd (s.1 (one i i' j h (k ∙ ap Some (sym t.1))))) (λ t. s.0 ∙ sym t.0) (eqb_tells j j'))
+    (eqb_tells i i')
 
 module _ (p : Pairs) (one : OneToOne p) where
   pub equal_same : (v w v' w' : Value) → SameValue p v v' → SameValue p w w' → same v w ≡ same v' w'
@@ -99,8 +99,8 @@ module _ (p : Pairs) (one : OneToOne p) where
   pub set_same : (xs ys : List (Value × Value)) (k l v w : Value) → SameRows xs ys → SameValue p k l → SameValue p v w → SameRows (set table_values xs k v) (set table_values ys l w)
   set_same xs ys k l v w h s t =
       cond_rel SameRows (has_row table_values xs k) (has_row table_values ys l) (set_value (same k) xs v) _ (set_value (same l) ys w) _ (has_same xs ys k l h s) (replaced_same xs ys k l v w h s t)
-        (cond_rel SameRows (same v (known nil)) (same w (known nil)) xs (kept table_values xs ++ (k, v) ∷ []) ys (kept table_values ys ++ (l, w) ∷ []) (equal_same v (known nil) w (known nil) t (same_known nil)) h
-          (zip_append (SameRow p) (kept table_values xs) (kept table_values ys) ((k, v) ∷ []) ((l, w) ∷ []) (kept_same xs ys h) ((s, t), tt)))
+      (cond_rel SameRows (same v (known nil)) (same w (known nil)) xs (kept table_values xs ++ (k, v) ∷ []) ys (kept table_values ys ++ (l, w) ∷ []) (equal_same v (known nil) w (known nil) t (same_known nil)) h
+      (zip_append (SameRow p) (kept table_values xs) (kept table_values ys) ((k, v) ∷ []) ((l, w) ∷ []) (kept_same xs ys h) ((s, t), tt)))
 
   behind_same : (xs ys : List (Value × Value)) (n : ℕ) → SameRows xs ys → same (behind table_values xs n) (known nil) ≡ same (behind table_values ys n) (known nil)
   behind_same xs ys n h = equal_same (behind table_values xs n) (known nil) (behind table_values ys n) (known nil) (get_same xs ys (known (integer (pos (n + 1)))) (known (integer (pos (n + 1)))) h (same_known (integer (pos (n + 1))))) (same_known nil)

@@ -7,7 +7,7 @@ use Rattle.code_core.specs.Prototype.{Prototype, list_of}
 use Rattle.code_core.specs.Check.{lines_from, at}
 use Rattle.code_core.specs.Writable.{string_fits}
 use Rattle.int_core.specs.Value.{nil, string, primitive, a_table, a_function, a_coroutine, Value, known, object, Shape, shape, is_nil, nth, bind, last, without_last}
-use Rattle.machine_core.specs.World.{Cell, open_at, Wait, running, for_call, for_iterator, for_value, for_truth, dropped, for_concat, for_close, returning, leaving, Activation, Frame, lua, pcall, xpcall, handler, closing, Coroutine, fresh, suspended, in_progress, normal, dead, failed, World, Stack, stack_of, Place, place_of, put_top, push, pop, read_cell, write_cell, with_open, open_number, close_from, frames_of}
+use Rattle.machine_core.specs.World.{Cell, open_at, Wait, running, for_call, for_iterator, for_value, for_truth, dropped, for_concat, for_close, returning, leaving, Activation, Frame, lua, pcall, xpcall, handler, closing, Coroutine, fresh, suspended, in_progress, normal, dead, failed, World, Stack, stack_of, Place, place_of, put_top, push, pop, read_cell, write_cell, find_open, close_from, frames_of}
 use Rattle.int_core.specs.Operations.{Operation, Settled, found, ask, fault, does, Callee, callee, not_callable, callee_of, greatest_chain, handler_in, of_close}
 use Rattle.machine_core.specs.Text.{Arg, arg, args_of, Own, close_cells, keep_pending, reads, tells, effect, fits, done, Quick, read_upvalue, write_upvalue, make_table, make_function, fill_table, pay, Given, given_values}
 
@@ -206,25 +206,18 @@ moved_pc W p z = bind (place_from p.top.own.pc z) (λ pc. bind (at p.function.co
 
 -- cells and functions
 
-abbrev pub opens_at : World → Place → ℕ → Option World
-opens_at W at r = cond (nat_lt r (length at.top.own.registers)) (Some (record W { cells = with_open at.stack.coroutine at.number r W.cells })) None
+abbrev pub opened_cells : Option ℕ → ℕ → ℕ → ℕ → List Cell → List Cell
+opened_cells (Some _) co frame r cells = cells
+opened_cells None co frame r cells = cells ++ open_at co frame r ∷ []
 
--- the cells of a new function; what the function that makes it shares of its own is opened where it is not yet
-pub record Captures : Type 0 where
-  pub world : World
-  pub cells : List ℕ
+abbrev pub captured : List UpDesc → ℕ → ℕ → List ℕ → List Cell → Option (List ℕ)
+captured [] co frame outer cells = Some []
+captured (u ∷ us) co frame outer cells = bind (cond u.in_stack (find_open co frame u.index cells) (slice_get outer u.index)) (λ c.
+    bind (captured us co frame outer cells) (λ cs. Some (c ∷ cs)))
 
-abbrev pub captures_one : World → Place → UpDesc → Option (World × ℕ)
-captures_one W at u = cond u.in_stack
-    (bind (opens_at W at u.index) (λ V. Some (V, open_number at.stack.coroutine at.number u.index W.cells)))
-    (bind (slice_get at.function.cells u.index) (λ c. Some (W, c)))
-
-abbrev pub captures : World → Place → List UpDesc → Option Captures
-captures W at [] = Some (record { world = W; cells = [] })
-captures W at (u ∷ us) = bind (captures_one W at u) (λ c. bind (captures c.0 at us) (λ d. Some (record { world = d.world; cells = c.1 ∷ d.cells })))
-
-abbrev pub made_function : Prototype → Captures → Option (Made Bool)
-made_function q c = made (record c.world { functions = c.world.functions ++ record { code = q; cells = c.cells } ∷ [] }) (object a_function (length c.world.functions) ∷ []) true
+abbrev pub made_function : World → Place → Prototype → List ℕ → Option (Made Bool)
+made_function W at q cells =
+    made (record W { functions = W.functions ++ record { code = q; cells = cells } ∷ [] }) (object a_function (length W.functions) ∷ []) true
 
 abbrev pub own_cell : World → Place → ℕ → Option (ℕ × Cell)
 own_cell W at u = bind (slice_get at.function.cells u) (λ c. bind (slice_get W.cells c) (λ cell. Some (c, cell)))
@@ -235,7 +228,7 @@ do_outside (write_upvalue u x) env W at = bind (own_cell W at u) (λ c. bind (re
 do_outside make_table env W at =
     made (record W { heap = add_table W.heap }) (object a_table (length W.heap.tables) ∷ []) true
 do_outside (make_function n) env W at = bind (slice_get (list_of at.function.code.inner) n) (λ q.
-    bind (captures W at q.own.upvalues) (made_function q))
+    bind (captured q.own.upvalues at.stack.coroutine at.number at.function.cells W.cells) (λ cells. made_function W at q cells))
 do_outside (fill_table t last slot) env W at = bind (filled_table W.heap (arg env t) last (drop slot env)) (λ H. made (record W { heap = H }) [] true)
 do_outside pay env W at = elim W.fuel [ zero ↦ made W [] false | suc fuel ↦ made (record W { fuel = fuel }) [] true ]
 
@@ -408,7 +401,8 @@ settled W at (fault text) = made W [] (is_fault text)
 abbrev pub move : (m : Move) → List Value → World → Option (Made (Told m))
 move (on_own m) env W = bind (place_of W) (do_own m env W)
 move (move_pc z) env W = bind (place_of W) (λ p. moved_pc W p z)
-move (open_register r) env W = bind (place_of W) (λ p. bind (opens_at W p r) (λ V. made V [] tt))
+move (open_register r) env W = bind (place_of W) (λ p. cond (nat_lt r (length p.top.own.registers))
+    (made (record W { cells = opened_cells (find_open p.stack.coroutine p.number r W.cells) p.stack.coroutine p.number r W.cells }) [] tt) None)
 move (outside q) env W = bind (place_of W) (do_outside q env W)
 move (settle op xs) env W = bind (place_of W) (λ p. settled W p (does op (args_of env xs) W.heap))
 move (enter f slot wait prepared) env W = bind (place_of W) (λ p. called W (with_own W p (named env wait) prepared env) (arg env f) (drop slot env))

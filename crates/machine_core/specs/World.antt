@@ -162,15 +162,13 @@ abbrev pub is_open_at : ℕ → ℕ → ℕ → Cell → Bool
 is_open_at co frame register (closed _) = false
 is_open_at co frame register (open_at c f r) = nat_eq co c && (nat_eq frame f && nat_eq register r)
 
--- the cells, where a register that has none gets one behind them
-abbrev pub with_open : (co frame register : ℕ) → List Cell → List Cell
-with_open co frame register [] = open_at co frame register ∷ []
-with_open co frame register (c ∷ cells) = cond (is_open_at co frame register c) (c ∷ cells) (c ∷ with_open co frame register cells)
+abbrev pub find_open_from : ℕ → ℕ → ℕ → ℕ → List Cell → Option ℕ
+find_open_from n co frame register [] = None
+find_open_from n co frame register (c ∷ cells) = cond (is_open_at co frame register c) (Some n) (find_open_from (suc n) co frame register cells)
 
--- the number that the register's cell has then
-abbrev pub open_number : (co frame register : ℕ) → List Cell → ℕ
-open_number co frame register [] = 0
-open_number co frame register (c ∷ cells) = cond (is_open_at co frame register c) 0 (suc (open_number co frame register cells))
+-- the cell of a register, where it has one
+abbrev pub find_open : ℕ → ℕ → ℕ → List Cell → Option ℕ
+find_open co frame register cells = find_open_from 0 co frame register cells
 
 -- a cell that is open in a frame at a register or above keeps the value from there
 abbrev pub close_from : ℕ → ℕ → ℕ → List Value → List Cell → List Cell
