@@ -1,5 +1,5 @@
 -- Each instruction's row opens what a function that it makes shares, and what is left of it by each wait makes no function.
-use Rattle.std.proofs.Common.{◌≡◌, ℕ, zero, suc, ◌+◌, ◌*◌, ◌==◌, Bool, true, false, cond, List, [], ◌∷◌, Option, Some, None, refl, ◌||◌, ⊎_elim}
+use Rattle.std.proofs.Common.{◌≡◌, ℕ, zero, suc, ◌+◌, ◌*◌, ◌==◌, Bool, true, false, cond, List, [], ◌∷◌, Option, Some, None, refl, ⊎_elim}
 use Rattle.std.specs.Prelude.{ℤ, pos, negsuc, nat_eq}
 use Rattle.std.specs.List.{list_any}
 use Rattle.std.proofs.Math.Bool.{or-true}
@@ -32,6 +32,7 @@ still_opened (u ∷ us) opened r h = by u.in_stack (still_opened us (u.index ∷
   where
     more : Has (u.index ∷ opened) r
     more = rw h (or-true (nat_eq r u.index))
+
     by : (b : Bool) → Has (opened_by us (u.index ∷ opened)) r → Has (opened_by us opened) r → Has (cond b (opened_by us (u.index ∷ opened)) (opened_by us opened)) r
     by true f g = f
     by false f g = g
@@ -42,6 +43,7 @@ are_opened (u ∷ us) opened = by u.in_stack (are_opened us (u.index ∷ opened)
   where
     here : Has (u.index ∷ opened) u.index
     here = ⊎_elim (λ s. rw s.0 refl) (λ s. absurd (s.1 refl)) (eqb_tells u.index u.index)
+
     by : (b : Bool) → AreOpened (opened_by us (u.index ∷ opened)) us → AreOpened (opened_by us opened) us
         → (b ≡ true → Has (cond b (opened_by us (u.index ∷ opened)) (opened_by us opened)) u.index) × AreOpened (cond b (opened_by us (u.index ∷ opened)) (opened_by us opened)) us
     by true f g = (λ e. still_opened us (u.index ∷ opened) u.index here, f)

@@ -13,5 +13,4 @@ pub fn rows_fit()
 pub fn rows_open()
     ensures rows { EachRowOpens }
     ensures rests { EachRestMakesNone }
-{
-}
+{}
