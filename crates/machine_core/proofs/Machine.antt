@@ -91,7 +91,7 @@ unfolding opcodes number_of int_wrap put_frames put_top push pop write_cell with
 add_two = refl
 
 -- return, which names no register, whatever A is
-return_nothing : runs 9 (started 0 (alone (plain 1 (abc Return 1 1 0 false ∷ []))) [] [] []) ≡ Some (main_returned, [], 0)
+return_nothing : runs 9 (started 0 (alone (plain 1 (abc Return 2 1 0 false ∷ []))) [] [] []) ≡ Some (main_returned, [], 0)
 unfolding opcodes number_of int_wrap put_frames put_top push pop write_cell with_own put_coroutine back_to_resumer raw_set woken
 return_nothing = refl
 
