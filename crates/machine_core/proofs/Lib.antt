@@ -3,5 +3,5 @@ pub mod MachineTalk
 pub mod MachineFamilies
 pub mod MachineErrors
 pub mod BothReadings
-pub mod RowsKeep
 pub mod RowsFit
+pub mod RowsOpen
