@@ -33,7 +33,7 @@ place_alike W T fs eW eT f fr line shared k g e d l =
     ∙ ap (λ fs. bind (slice_get fs f) (λ g. bind g.code.own.source (λ name. bind line (λ line. Some (without_mark name ++ codes ":" ++ decimal line ++ codes ": "))))) (sym eT)
 
 pair_alike : (W : World) (T : Talks) (fs : List Function) → W.functions ≡ fs → T.world.functions ≡ fs → (lax : Bool) (vs : List Value) (m : Frame) (t : TalkFrame) (h : Held) → Pair lax fs vs m t h → frame_place W m ≡ place_text T t
-pair_alike W T fs eW eT lax vs (lua fr) (waiting f line shared k) h q = let a = q.1 in place_alike W T fs eW eT f fr line shared k a.g a.number a.function a.at_line
+pair_alike W T fs eW eT lax vs (lua fr) (waiting f line shared k) h q = let a = q.1 in place_alike W T fs eW eT f fr line shared k a.g a.number a.function (a.at_line ∙ ap (line_of a.g.code) a.fixed.pc)
 pair_alike W T fs eW eT lax vs pcall protected h q = refl
 pair_alike W T fs eW eT lax vs (xpcall v) (handled_by u) h q = refl
 pair_alike W T fs eW eT lax vs handler handling h q = refl

@@ -9,7 +9,7 @@ use Rattle.machine_core.specs.Moves.{Ending, go, returned, calls_primitive, rais
 use Rattle.machine_core.specs.Talk.{State, before, talk_step}
 use Rattle.machine_core.specs.TalkRun.{TalkFrame, talking, Now, talks, returning, raising, has_returned, has_failed, is_spent, is_stuck, Talks, shared_in, turn, tick_by, ticks}
 use Rattle.machine_core.specs.TalkRun.{unwinding as talk_unwinding, calls_primitive as talk_primitive}
-use Rattle.machine_join.proofs.Sim.{Working, Stacks}
+use Rattle.machine_join.proofs.Sim.{Alike, Working, Stacks}
 use Rattle.machine_join.proofs.Worlds.{mk, frame}
 
 abbrev pub mk_talks : World → Heap → List Function → List Value → List TalkFrame → Now → ℕ → Talks
@@ -21,8 +21,8 @@ handing (lua _ ∷ ms) = go
 handing _ = returned
 
 pub data Both (b d : World) : Talks → Ending → World → Type 0 where
-  both_run : (H : Heap) (fs : List Function) (vs : List Value) (ws : List Cell) (fuel : ℕ) (ms : List Frame) (ts : List TalkFrame) (n : ℕ) (g : Function) (a : Activation) (c : Captured)
-      → slice_get fs n ≡ Some g → Working fs ws (shared_in c.gone vs) g.code a.registers c.held ms ts → Both b d (mk_talks d H fs vs (talking n (before a c) ∷ ts) talks fuel) go (mk b H fs ws (lua (frame n running a) ∷ ms) [] fuel)
+  both_run : (H : Heap) (fs : List Function) (vs : List Value) (ws : List Cell) (fuel : ℕ) (ms : List Frame) (ts : List TalkFrame) (n : ℕ) (g : Function) (a a' : Activation) (c : Captured)
+      → Alike a a' → slice_get fs n ≡ Some g → Working fs ws (shared_in c.gone vs) c.held ms ts → Both b d (mk_talks d H fs vs (talking n (before a c) ∷ ts) talks fuel) go (mk b H fs ws (lua (frame n running a') ∷ ms) [] fuel)
   both_hand : (H : Heap) (fs : List Function) (vs : List Value) (ws : List Cell) (fuel : ℕ) (ms : List Frame) (ts : List TalkFrame) (mv : List Value)
       → Stacks false fs ws vs ms ts → Both b d (mk_talks d H fs vs ts (returning mv) fuel) (handing ms) (mk b H fs ws ms mv fuel)
   both_raise : (H : Heap) (fs : List Function) (vs : List Value) (ws : List Cell) (fuel : ℕ) (ms : List Frame) (ts : List TalkFrame) (v : Value)

@@ -2,7 +2,6 @@
 use Rattle.std.proofs.Common.{ℕ, zero, suc, ◌+◌, ◌<◌, ◌≤◌, ◌≡◌, List, [], ◌∷◌, ◌++◌, length, take, Option, Some, None, refl, sym, ap, subst, arith, Bool, true, false}
 use Rattle.std.specs.Prelude.{slice_get, cond, nat_le}
 use Rattle.std.proofs.lemmas.Bool.Decides.{nat_tests}
-use Rattle.code_core.specs.Prototype.{Prototype}
 use Rattle.int_core.specs.Value.{Value, known, object, nil, boolean, integer, string, primitive, a_table, a_function, a_coroutine, bind}
 use Rattle.int_core.specs.Heap.{Heap}
 use Rattle.int_core.specs.Operations.{Callee, callee, not_callable}
@@ -10,29 +9,18 @@ use Rattle.machine_core.specs.World.{Function, Cell, Frame, World}
 use Rattle.machine_core.specs.Moves.{Made, made, CallShape, is_entered, is_primitive, not_paid, not_entered, stack_overflow, greatest_depth, enters, enters_paid, new_frame, fitted, go, spent, calls_primitive, Row, stop, Outcome, trapped, run}
 use Rattle.machine_core.specs.Talk.{talk_start}
 use Rattle.machine_core.specs.TalkRun.{TalkFrame, Now, Talks, called, entered, has_room}
-use Rattle.machine_join.proofs.Sim.{Stacks, Working, below_talks}
+use Rattle.machine_join.proofs.Sim.{Stacks, Working, alike_refl, below_talks}
 use Rattle.machine_join.proofs.Closing.{new_top}
 use Rattle.machine_join.proofs.Worlds.{mk}
 use Rattle.machine_join.proofs.Moves.{enters_is}
 use Rattle.machine_join.proofs.Both.{mk_talks, both_run, both_primitive, both_spent, Leads}
 
-fitted_length : (n : ℕ) (vs : List Value) → length (fitted n vs) ≡ n
-fitted_length zero vs = refl
-fitted_length (suc n) [] = ap suc (fitted_length n [])
-fitted_length (suc n) (v ∷ vs) = ap suc (fitted_length n vs)
-
 pub le_is : (m n : ℕ) → nat_le m n ≡ true → m ≤ n
 le_is m n h = grind (arith, nat_tests)
 
 -- a new frame on top
-pub starts : (fs : List Function) (ws : List Cell) (vs : List Value) (ms : List Frame) (ts : List TalkFrame) (p : Prototype) (arguments : List Value) → Stacks false fs ws vs ms ts → length ms < greatest_depth → Working fs ws vs p (fitted p.own.stack (take p.own.params arguments)) [] ms ts
-starts fs ws vs ms ts p arguments k l = record {
-  hs = k.hs;
-  cells = new_top ws vs k.hs k.cells;
-  below = k.below;
-  sized = record { range = λ r c m. absurd m; stack = (let e = fitted_length p.own.stack (take p.own.params arguments) in omega (arith, e)) };
-  depth = l;
-}
+pub starts : (fs : List Function) (ws : List Cell) (vs : List Value) (ms : List Frame) (ts : List TalkFrame) → Stacks false fs ws vs ms ts → length ms < greatest_depth → Working fs ws vs [] ms ts
+starts fs ws vs ms ts k l = record { hs = k.hs; cells = new_top ws vs k.hs k.cells; below = k.below; depth = l }
 
 abbrev pub call_out : (CallShape → Row) → List Value → Option (Made CallShape) → Outcome
 call_out k env o = elim o [ None ↦ trapped | Some d ↦ run (k d.told) (env ++ d.values) d.world ]
@@ -64,7 +52,7 @@ module _ (b d : World) (H : Heap) (fs : List Function) (ws : List Cell) (vs : Li
           (call_out k env (cond r (made (mk b H fs ws (new_frame n f.code arguments ∷ ms) [] fuel) [] is_entered) (made (mk b H fs ws ms [] fuel) [] (not_entered stack_overflow))))
       inner f e true l =
           subst (λ r. Leads b d (record (mk_talks d H fs vs ts0 now fuel) { frames = Rattle.machine_core.specs.TalkRun.talking n (talk_start f.code arguments) ∷ ts; now = Rattle.machine_core.specs.TalkRun.talks }) (run r (env ++ []) (mk b H fs ws (new_frame n f.code arguments ∷ ms) [] fuel))) (sym goes)
-          (0, both_run H fs vs ws fuel ms ts n f _ (record { held = []; gone = [] }) e (starts fs ws vs ms ts f.code arguments z (let i = le_is (length ms + 1) greatest_depth l in omega (arith, i))))
+          (0, both_run H fs vs ws fuel ms ts n f _ _ (record { held = []; gone = [] }) (alike_refl _) e (starts fs ws vs ms ts z (let i = le_is (length ms + 1) greatest_depth l in omega (arith, i))))
       inner f e false l = cramped l fuel
 
       by : (o : Option Function) → slice_get fs n ≡ o

@@ -1,11 +1,11 @@
 -- Captured locals in cells: written to them before an ask, taken back at its answer, closed.
-use Rattle.std.proofs.Common.{ℕ, ◌<◌, ◌≡◌, ◌⊎◌, inl, inr, ⊎_elim, List, [], ◌∷◌, ◌++◌, length, Some, None, refl, sym, ap, subst, ◌∙◌, arith}
+use Rattle.std.proofs.Common.{ℕ, ◌<◌, ◌≤◌, ◌≡◌, ◌⊎◌, inl, inr, ⊎_elim, List, [], ◌∷◌, ◌++◌, length, Some, None, refl, sym, ap, subst, ◌∙◌, arith}
 use Rattle.std.specs.Prelude.{Bool, true, false, cond, nat_eq, nat_lt, slice_set}
 use Rattle.std.proofs.lemmas.Bool.{cases_eq}
 use Rattle.int_core.specs.Value.{Value, nth, write}
 use Rattle.int_core.specs.Ask.{shared_by, gone_from, held_below, brought, cell_held}
 use Rattle.machine_core.specs.TalkRun.{shared_in, shared_out}
-use Rattle.machine_join.proofs.Lists.{nth_write_same, nth_write_other, length_write, nth_set_same, nth_set_other, length_set, extension, lt_true, lt_is, eq_true, eq_refl}
+use Rattle.machine_join.proofs.Lists.{nth_write_same, nth_write_other, write_more, nth_set_same, nth_set_other, length_set, lt_true, lt_is, eq_true, eq_refl}
 
 abbrev pub Held : Type 0
 Held = List (ℕ × ℕ)
@@ -50,18 +50,18 @@ flush_off [] regs vs c n = refl
 flush_off (s ∷ h) regs vs c n =
     nth_set_other s.1 (nth regs s.0) (shared_in (shared_by h regs) vs) c (λ e. n s.0 (inl (refl, sym e))) ∙ flush_off h regs vs c (λ r k. n r (inr k))
 
--- what an answer brings back
-pub share_in : (h : Held) (ys regs vs xs : List Value) (gone : List (ℕ × Value)) → length xs ≡ length regs → ((r : ℕ) → (nth xs r ≡ nth regs r) ⊎ ((c : ℕ) × Has r c h)) → ((r c : ℕ) → Has r c h → nth vs c ≡ nth regs r) → ((r c : ℕ) → Has r c h → r < length regs)
-    → brought h (shared_out (shared_by h ys ++ gone) vs) xs ≡ regs
-share_in [] ys regs vs xs gone e off on range = extension xs regs e (λ r. ⊎_elim (λ k. k) (λ k. absurd k.1) (off r))
-share_in (s ∷ h) ys regs vs xs gone e off on range =
-    let l = range s.0 s.1 (inl (refl, refl)) in
-    share_in h ys regs vs (write s.0 (nth vs s.1) xs) gone (length_write s.0 (nth vs s.1) xs (omega (arith, e)) ∙ e)
+-- what an answer brings back: the values of the registers regs, and maybe more registers
+pub share_in : (h : Held) (ys regs vs xs : List Value) (gone : List (ℕ × Value)) → length regs ≤ length xs → ((r : ℕ) → (nth xs r ≡ nth regs r) ⊎ ((c : ℕ) × Has r c h)) → ((r c : ℕ) → Has r c h → nth vs c ≡ nth regs r)
+    → ((r : ℕ) → nth (brought h (shared_out (shared_by h ys ++ gone) vs) xs) r ≡ nth regs r) × (length regs ≤ length (brought h (shared_out (shared_by h ys ++ gone) vs) xs))
+share_in [] ys regs vs xs gone l off on = ((λ r. ⊎_elim (λ k. k) (λ k. absurd k.1) (off r)), l)
+share_in (s ∷ h) ys regs vs xs gone l off on =
+    let more = write_more s.0 (nth vs s.1) xs in
+    share_in h ys regs vs (write s.0 (nth vs s.1) xs) gone (omega (arith, l, more))
     (λ r. ⊎_elim
     (λ k. inl (subst (λ r. nth (write s.0 (nth vs s.1) xs) r ≡ nth regs r) (sym k) (nth_write_same s.0 (nth vs s.1) xs ∙ on s.0 s.1 (inl (refl, refl)))))
     (λ n. ⊎_elim (λ k. inl (nth_write_other s.0 (nth vs s.1) xs r n ∙ k)) (λ k. ⊎_elim (λ m. absurd (n (sym m.0))) (λ m. inr (k.0, m)) k.1) (off r))
     (cases_eq r s.0))
-    (λ r c k. on r c (inr k)) (λ r c k. range r c (inr k))
+    (λ r c k. on r c (inr k))
 
 -- those that go out of scope
 module _ (a : ℕ) (regs vs : List Value) where

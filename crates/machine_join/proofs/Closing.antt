@@ -1,7 +1,6 @@
 -- Cells that are closed on both sides, and read.
 use Rattle.std.proofs.Common.{ℕ, zero, suc, ◌<◌, ◌≡◌, ◌⊎◌, inl, inr, ⊎_elim, List, [], ◌∷◌, length, map, Some, refl, sym, ap, subst, ◌∙◌, arith}
 use Rattle.std.specs.Prelude.{slice_get, Bool, true, false, cond, nat_eq, nat_lt, not, ◌&&◌}
-use Rattle.code_core.specs.Prototype.{Prototype}
 use Rattle.int_core.specs.Value.{Value, nth}
 use Rattle.int_core.specs.Ask.{shared_by, gone_from, held_below}
 use Rattle.machine_core.specs.World.{Function, Cell, closed, open_at, Frame, close_from}
@@ -63,8 +62,8 @@ module _ (f : ℕ) (a : ℕ) (regs : List Value) where
       by true false d x y z k = absurd (cc)
       by false c d x y z k = absurd (cc)
 
--- CLOSE
-module _ (a : ℕ) (fs : List Function) (ws : List Cell) (vs : List Value) (p : Prototype) (regs : List Value) (h : Held) (ms : List Frame) (ts : List TalkFrame) (k : Working fs ws vs p regs h ms ts) where
+-- CLOSE: xs are the registers of the activation, regs those of the frame
+module _ (a : ℕ) (fs : List Function) (ws : List Cell) (vs xs regs : List Value) (same : (r : ℕ) → nth xs r ≡ nth regs r) (h : Held) (ms : List Frame) (ts : List TalkFrame) (k : Working fs ws vs h ms ts) where
   abbrev top : ℕ
   top = length k.hs
 
@@ -72,17 +71,17 @@ module _ (a : ℕ) (fs : List Function) (ws : List Cell) (vs : List Value) (p : 
   ws' = map (closed_cell top a regs) ws
 
   abbrev vs' : List Value
-  vs' = shared_in (gone_from a h regs) vs
+  vs' = shared_in (gone_from a h xs) vs
 
   close_shut : (c : ℕ) (v : Value) → slice_get ws' c ≡ Some (closed v) → nth vs' c ≡ v
   close_shut c v e =
       let m = get_mapped (closed_cell top a regs) ws c (closed v) e in
       ⊎_elim
       (λ d. let e' = m.1 ∙ ap Some d in
-      gone_off a regs vs h c (λ r n. absurd (not_shut ws vs h k.hs k.cells c v e' r n)) ∙ k.cells.shut c v e')
+      gone_off a xs vs h c (λ r n. absurd (not_shut ws vs h k.hs k.cells c v e' r n)) ∙ k.cells.shut c v e')
       (λ d. let o = (k.cells.opened c 0 top d.0 (m.1 ∙ ap Some d.1)).1 in
       ⊎_elim
-      (λ n. gone_on a regs vs h d.0 c (once ws vs h k.hs k.cells) (in_range ws vs h k.hs k.cells) n.1 d.2 ∙ d.3)
+      (λ n. gone_on a xs vs h d.0 c (once ws vs h k.hs k.cells) (in_range ws vs h k.hs k.cells) n.1 d.2 ∙ same d.0 ∙ d.3)
       (λ n. let l = holds_less k.hs top d.0 c n in absurd (omega (arith, l)))
       o)
       (was_shut top a regs m.0 v m.2)
@@ -108,25 +107,24 @@ module _ (a : ℕ) (fs : List Function) (ws : List Cell) (vs : List Value) (p : 
       let n = get_mapped (closed_cell top a regs) ws j (open_at 0 f r) e in
       k.cells.one i j f r (m.1 ∙ ap Some (was_open top a regs m.0 0 f r m.2).0) (n.1 ∙ ap Some (was_open top a regs n.0 0 f r n.2).0)
 
-  close_hs : Working fs ws' vs' p regs (held_below a h) ms ts
+  close_hs : Working fs ws' vs' (held_below a h) ms ts
   close_hs = record {
     hs = k.hs;
     cells = record {
-      size = length_map (closed_cell top a regs) ws ∙ k.cells.size ∙ sym (shared_length (gone_from a h regs) vs);
+      size = length_map (closed_cell top a regs) ws ∙ k.cells.size ∙ sym (shared_length (gone_from a h xs) vs);
       shut = close_shut;
       opened = close_opened;
       held = close_held;
       one = close_one;
     };
-    below = below_values false fs vs vs' ms ts k.hs (λ f r c m. gone_off a regs vs h c (λ q n. absurd (not_top ws vs h k.hs k.cells c f r m q n))) k.below;
-    sized = record { range = λ r c m. k.sized.range r c (below_was a h r c m).0; stack = k.sized.stack };
+    below = below_values false fs vs vs' ms ts k.hs (λ f r c m. gone_off a xs vs h c (λ q n. absurd (not_top ws vs h k.hs k.cells c f r m q n))) k.below;
     depth = k.depth;
   }
 
-  pub close_work : Working fs (close_from 0 (length ms) a regs ws) (shared_in (gone_from a h regs) vs) p regs (held_below a h) ms ts
+  pub close_work : Working fs (close_from 0 (length ms) a regs ws) (shared_in (gone_from a h xs) vs) (held_below a h) ms ts
   close_work =
-      subst (λ xs. Working fs xs (shared_in (gone_from a h regs) vs) p regs (held_below a h) ms ts) (sym (close_map (length ms) a regs ws))
-      (subst (λ n. Working fs (map (closed_cell n a regs) ws) (shared_in (gone_from a h regs) vs) p regs (held_below a h) ms ts) (below_length false fs vs ms ts k.hs k.below) close_hs)
+      subst (λ cs. Working fs cs (shared_in (gone_from a h xs) vs) (held_below a h) ms ts) (sym (close_map (length ms) a regs ws))
+      (subst (λ n. Working fs (map (closed_cell n a regs) ws) (shared_in (gone_from a h xs) vs) (held_below a h) ms ts) (below_length false fs vs ms ts k.hs k.below) close_hs)
 
 -- a frame that is left: all of its cells are closed
 pub below_zero : (h : Held) → held_below 0 h ≡ []
@@ -137,10 +135,10 @@ pub gone_zero : (h : Held) (xs : List Value) → gone_from 0 h xs ≡ shared_by 
 gone_zero [] xs = refl
 gone_zero (s ∷ h) xs = ap (λ b. cond b (gone_from 0 h xs) ((s.1, nth xs s.0) ∷ gone_from 0 h xs)) (lt_not s.0 0 (λ l. omega (arith, l))) ∙ ap (λ l. (s.1, nth xs s.0) ∷ l) (gone_zero h xs)
 
-pub close_all : (fs : List Function) (ws : List Cell) (vs : List Value) (p : Prototype) (regs : List Value) (h : Held) (ms : List Frame) (ts : List TalkFrame) → Working fs ws vs p regs h ms ts → Working fs (close_from 0 (length ms) 0 regs ws) (shared_in (shared_by h regs) vs) p regs [] ms ts
-close_all fs ws vs p regs h ms ts k =
-    subst (λ z. Working fs (close_from 0 (length ms) 0 regs ws) (shared_in z vs) p regs [] ms ts) (gone_zero h regs)
-    (subst (λ z. Working fs (close_from 0 (length ms) 0 regs ws) (shared_in (gone_from 0 h regs) vs) p regs z ms ts) (below_zero h) (close_work 0 fs ws vs p regs h ms ts k))
+pub close_all : (fs : List Function) (ws : List Cell) (vs xs regs : List Value) → ((r : ℕ) → nth xs r ≡ nth regs r) → (h : Held) (ms : List Frame) (ts : List TalkFrame) → Working fs ws vs h ms ts → Working fs (close_from 0 (length ms) 0 regs ws) (shared_in (shared_by h xs) vs) [] ms ts
+close_all fs ws vs xs regs same h ms ts k =
+    subst (λ z. Working fs (close_from 0 (length ms) 0 regs ws) (shared_in z vs) [] ms ts) (gone_zero h xs)
+    (subst (λ z. Working fs (close_from 0 (length ms) 0 regs ws) (shared_in (gone_from 0 h xs) vs) z ms ts) (below_zero h) (close_work 0 fs ws vs xs regs same h ms ts k))
 
 -- an empty frame on top counts for nothing, and may come and go
 pub no_top : (ws : List Cell) (vs : List Value) (hs : List Held) → CellsOk ws vs ([] ∷ hs) → CellsOk ws vs hs

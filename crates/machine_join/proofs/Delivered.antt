@@ -36,14 +36,16 @@ module _ (b d : World) (H : Heap) (fs : List Function) (vs : List Value) (ws : L
       → Leads b d (answered (mk_talks d H fs vs ts0 now fuel) f shared k 0 r ts) (run (expand (after fr.wait q.1.g.code fr.own.pc r)) (told_values fr.wait r) (mk b H fs ws (lua (frame fr.function u fr.own) ∷ ms) [] fuel))
   delivered lax fr f line shared k h ms ts ts0 hs now q cells below depth r i u gd =
       let a = q.1 in
+      let own = q.0 in
       let t : Text = after fr.wait a.g.code fr.own.pc r in
       let env : List Value = told_values fr.wait r in
       let out = run (expand t) env (mk b H fs ws (lua (frame fr.function u fr.own) ∷ ms) [] fuel) in
       subst (λ f. Leads b d (mk_talks d H fs vs (talking f (k (record { reply = r; shared = shared_out shared vs; cell = 0 })) ∷ ts) talks fuel) out) (sym a.number)
       (subst (λ s. Leads b d (mk_talks d H fs vs (talking fr.function s ∷ ts) talks fuel) out) (sym (a.next (record { reply = r; shared = shared_out shared vs; cell = 0 }) i))
-      (subst (λ sh. Leads b d (mk_talks d H fs vs (talking fr.function (amid t env (record fr.own { registers = brought h (shared_out sh vs) q.0 }) (record { held = h; gone = [] })) ∷ ts) talks fuel) out) (sym a.shares)
-      (reply_leads b d fr.function a.g fr.own.pc u t (row_leads b d fr.function a.g fr.own.pc u t) env (record fr.own { registers = q.0 }) fr.own.registers (record { held = h; gone = a.gone }) H fs vs fuel ms ts ws refl a.function gd
-      (record { hs = hs; cells = cells; below = below; top = q.2; sized = a.sized; depth = depth }))))
+      (subst (λ pc. Leads b d (mk_talks d H fs vs (talking fr.function (amid (after fr.wait a.g.code pc r) env (record own { registers = brought h (shared_out shared vs) own.registers }) (record { held = h; gone = [] })) ∷ ts) talks fuel) out) (sym a.fixed.pc)
+      (subst (λ sh. Leads b d (mk_talks d H fs vs (talking fr.function (amid t env (record own { registers = brought h (shared_out sh vs) own.registers }) (record { held = h; gone = [] })) ∷ ts) talks fuel) out) (sym a.shares)
+      (reply_leads b d fr.function a.g fr.own.pc u t (row_leads b d fr.function a.g fr.own.pc u t) env own fr.own (record { held = h; gone = a.gone }) H fs vs fuel ms ts ws a.fixed a.fixed.pc a.function gd
+      (record { hs = hs; cells = cells; below = below; top = q.2; depth = depth })))))
 
   pub hand_over_leads : (ms : List Frame) (ts : List TalkFrame) (mv env : List Value) → Stacks false fs ws vs ms ts → Leads b d (mk_talks d H fs vs ts (talk_returning mv) fuel) (run hand_over env (mk b H fs ws ms mv fuel))
   hand_over_leads ms ts mv env z =

@@ -28,18 +28,11 @@ length_write zero v (x ∷ xs) h = refl
 length_write (suc s) v [] h = absurd (omega arith)
 length_write (suc s) v (x ∷ xs) h = ap suc (length_write s v xs (omega arith))
 
-pub length_write_more : (s : ℕ) (v : Value) (xs : List Value) (r : ℕ) → r < length xs → r < length (write s v xs)
-length_write_more zero v [] r h = absurd (omega arith)
-length_write_more zero v (x ∷ xs) r h = h
-length_write_more (suc s) v [] r h = absurd (omega arith)
-length_write_more (suc s) v (x ∷ xs) zero h = omega arith
-length_write_more (suc s) v (x ∷ xs) (suc r) h = let i = length_write_more s v xs r (omega arith) in omega arith
-
-pub extension : (xs ys : List Value) → length xs ≡ length ys → ((r : ℕ) → nth xs r ≡ nth ys r) → xs ≡ ys
-extension [] [] e h = refl
-extension [] (y ∷ ys) e h = absurd (omega arith)
-extension (x ∷ xs) [] e h = absurd (omega arith)
-extension (x ∷ xs) (y ∷ ys) e h = ap (λ z. z ∷ xs) (h 0) ∙ ap (λ zs. y ∷ zs) (extension xs ys (omega arith) (λ r. h (suc r)))
+pub write_more : (s : ℕ) (v : Value) (xs : List Value) → length xs ≤ length (write s v xs)
+write_more zero v [] = omega arith
+write_more zero v (x ∷ xs) = omega arith
+write_more (suc s) v [] = omega arith
+write_more (suc s) v (x ∷ xs) = let i = write_more s v xs in omega (arith, i)
 
 pub nth_set_same : (c : ℕ) (v : Value) (xs : List Value) → c < length xs → nth (slice_set xs c v) c ≡ v
 nth_set_same c v [] h = absurd (omega arith)

@@ -35,8 +35,8 @@ module _ (b : World) (H : Heap) (fs : List Function) (ws : List Cell) (mv : List
         ∙ ap (λ (F : ℕ → World). bind (place_from a.pc z) (λ pc. bind (at g.code pc) (λ _. made (F pc) [] tt)))
         (fun_ext (λ pc. put_top_is b H fs ws mv fuel (lua (frame n w a) ∷ ms) (lua (frame n w a)) (lua (frame n w (record a { pc = pc }))) ms))
 
-    pub open_move : (r : ℕ) (env : List Value) → move (open_register r) env world ≡ cond (nat_lt r g.code.own.stack && nat_lt r (length a.registers)) (made (mk b H fs (opened_cells (find_open 0 (length ms) r ws) 0 (length ms) r ws) (lua (frame n w a) ∷ ms) mv fuel) [] tt) None
-    open_move r env = ap (λ o. bind o (λ p. cond (nat_lt r p.function.code.own.stack && nat_lt r (length p.top.own.registers))
+    pub open_move : (r : ℕ) (env : List Value) → move (open_register r) env world ≡ cond (nat_lt r (length a.registers)) (made (mk b H fs (opened_cells (find_open 0 (length ms) r ws) 0 (length ms) r ws) (lua (frame n w a) ∷ ms) mv fuel) [] tt) None
+    open_move r env = ap (λ o. bind o (λ p. cond (nat_lt r (length p.top.own.registers))
         (made (record world { cells = opened_cells (find_open p.stack.coroutine p.number r ws) p.stack.coroutine p.number r ws }) [] tt) None)) (place_is b H fs ws mv fuel ms n w a g e)
 
     pub quick_move : (q : Quick) (env : List Value) → move (outside q) env world ≡ do_outside q env world (place ms n w a g)

@@ -3,7 +3,6 @@ use Rattle.std.proofs.Common.{ℕ, zero, suc, ◌+◌, ◌<◌, ◌≡◌, inl, 
 use Rattle.std.specs.Prelude.{slice_get, Bool, true, false, cond, nat_eq, ◌&&◌}
 use Rattle.std.proofs.lemmas.Option.{slice_get_within}
 use Rattle.code_core.specs.declared.proto.UpDesc.{UpDesc}
-use Rattle.code_core.specs.Prototype.{Prototype}
 use Rattle.int_core.specs.Value.{Value, nth, bind}
 use Rattle.int_core.specs.Ask.{CellName, of_local, of_upvalue, cell_held}
 use Rattle.machine_core.specs.World.{Function, Cell, closed, open_at, Frame, find_open, find_open_from}
@@ -101,7 +100,7 @@ module _ (ws : List Cell) (vs : List Value) (h : Held) (hs : List Held) (k : Cel
           )
 
 -- a new cell at a register of the top frame
-module _ (fs : List Function) (ws : List Cell) (vs : List Value) (p : Prototype) (xs regs : List Value) (h : Held) (ms : List Frame) (ts : List TalkFrame) (k : Rested fs ws vs p xs regs h ms ts) (r : ℕ) (v : Value) (e : find_open 0 (length k.hs) r ws ≡ None) (l : r < p.own.stack) where
+module _ (fs : List Function) (ws : List Cell) (vs xs regs : List Value) (h : Held) (ms : List Frame) (ts : List TalkFrame) (k : Rested fs ws vs xs regs h ms ts) (r : ℕ) (v : Value) (e : find_open 0 (length k.hs) r ws ≡ None) where
   abbrev h1 : Held
   h1 = (r, length vs) ∷ h
 
@@ -147,12 +146,11 @@ module _ (fs : List Function) (ws : List Cell) (vs : List Value) (p : Prototype)
       (λ m. ⊎_elim (λ n. absurd (not_yet j f q n m.1)) (λ n. m.0 ∙ sym n.0) (get_either ws (open_at 0 top r) j (open_at 0 f q) g))
       (get_either ws (open_at 0 top r) i (open_at 0 f q) d)
 
-  pub open_work : Working fs ws1 vs1 p regs h1 ms ts
+  pub open_work : Working fs ws1 vs1 h1 ms ts
   open_work = record {
     hs = k.hs;
     cells = record { size = length_more ws (open_at 0 top r) ∙ ap suc k.cells.size ∙ sym (length_more vs v); shut = new_shut; opened = new_opened; held = new_held; one = new_one };
     below = below_values false fs vs vs1 ms ts k.hs (λ f q c m. old_value c (open_at 0 f q) (k.cells.held c f q (inr m))) k.below;
-    sized = record { range = λ q c m. ⊎_elim (λ n. subst (λ x. x < p.own.stack) n.0 l) (λ n. k.sized.range q c n) m; stack = k.sized.stack };
     depth = k.depth;
   }
 

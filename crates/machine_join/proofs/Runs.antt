@@ -9,7 +9,7 @@ use Rattle.machine_core.specs.MachineStep.{step, steps, and_then}
 use Rattle.machine_core.specs.TalkRun.{Now, talks, returning, raising, unwinding, calls_primitive, has_returned, has_failed, is_spent, is_stuck, Talks, ticks}
 use Rattle.machine_join.specs.Join.{Beginning, primitives, main_frames, main_talk, first_world, Final, final_world, final, final_talk, talked, ReadingsAgree}
 use Rattle.machine_join.specs.Join.{returned as with_results, failed as with_error}
-use Rattle.machine_join.proofs.Sim.{Stacks}
+use Rattle.machine_join.proofs.Sim.{alike_refl, Stacks}
 use Rattle.machine_join.proofs.Both.{handing, Both, both_run, both_hand, both_raise, both_unwind, both_primitive, both_spent, both_returned, both_failed, tick, Leads}
 use Rattle.machine_join.proofs.Calls.{starts}
 use Rattle.machine_join.proofs.Steps.{stays, step_leads}
@@ -40,7 +40,7 @@ final_later (suc k) T x h = final_later k (tick T) x (final_stays T x h)
 
 -- where both stand, both have come to the same
 both_final : (b d : World) (T : Talks) (e : Ending) (W : World) → Both b d T e W → final_world e W ≡ talked T
-both_final b d T e W (both_run H fs vs ws fuel ms ts n g a c f k) = refl
+both_final b d T e W (both_run H fs vs ws fuel ms ts n g a a' c al f k) = refl
 both_final b d T e W (both_hand H fs vs ws fuel ms ts mv k) = by ms
   where
     by : (ms : List Frame) → final_world (handing ms) W ≡ None
@@ -138,7 +138,7 @@ pub readings_agree : ReadingsAgree
 readings_agree B x never = by (slice_get B.functions B.main) refl never
   where
     start : (f : Function) → slice_get B.functions B.main ≡ Some f → Both B.rest (first_world B) (talks_at B (Some f)) go (world_at B (Some f))
-    start f e = both_run B.heap B.functions B.cells (map closed B.cells) B.fuel [] [] B.main f _ (record { held = []; gone = [] }) e (starts B.functions (map closed B.cells) B.cells [] [] f.code B.arguments (first_stacks B.functions B.cells) (omega arith))
+    start f e = both_run B.heap B.functions B.cells (map closed B.cells) B.fuel [] [] B.main f _ _ (record { held = []; gone = [] }) (alike_refl _) e (starts B.functions (map closed B.cells) B.cells [] [] (first_stacks B.functions B.cells) (omega arith))
 
     by : (o : Option Function) → slice_get B.functions B.main ≡ o → NeverTraps go (world_at B o)
         → ((n : ℕ) × (final (steps primitives n go (world_at B o)) ≡ Some x)) ↔ ((n : ℕ) × (talked (ticks n (talks_at B o)) ≡ Some x))

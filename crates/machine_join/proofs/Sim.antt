@@ -2,10 +2,9 @@
 use Rattle.std.proofs.Common.{ℕ, suc, ◌<◌, ◌≤◌, ◌≡◌, ◌⊎◌, inl, inr, ⊎_elim, List, [], ◌∷◌, ◌++◌, length, Option, Some, refl, sym, ap, ◌∙◌, arith, Bool, true, false}
 use Rattle.std.specs.Prelude.{slice_get}
 use Rattle.std.proofs.lemmas.Option.{slice_get_within}
-use Rattle.code_core.specs.Prototype.{Prototype}
 use Rattle.int_core.specs.Value.{Value, nth}
 use Rattle.int_core.specs.Ask.{Reply, Answer, IsLeft, shared_by, brought}
-use Rattle.machine_core.specs.World.{Function, Cell, closed, open_at, LuaFrame, Frame, lua, pcall, xpcall, handler}
+use Rattle.machine_core.specs.World.{Function, Cell, closed, open_at, Activation, LuaFrame, Frame, lua, pcall, xpcall, handler}
 use Rattle.machine_core.specs.InstructionRows.{after, told_values}
 use Rattle.machine_core.specs.Moves.{line_of, greatest_depth}
 use Rattle.machine_core.specs.RowFits.{IsWaiting}
@@ -31,19 +30,28 @@ pub record CellsOk (ws : List Cell) (vs : List Value) (hs : List Held) : Type 0 
   pub held : (c f r : ℕ) → Holds f r c hs → slice_get ws c ≡ Some (open_at 0 f r)
   pub one : (i j f r : ℕ) → slice_get ws i ≡ Some (open_at 0 f r) → slice_get ws j ≡ Some (open_at 0 f r) → i ≡ j
 
--- the registers of the activation, which knows nothing of what was written to its captured locals since, and those of the frame
+-- the registers of the activation, which knows nothing of what was written to its captured locals since, and those of the frame.
+-- The activation may have more of them: a captured register is brought back also where the frame gave it up
 pub record RegsOk (vs : List Value) (h : Held) (xs regs : List Value) : Type 0 where
-  pub size : length xs ≡ length regs
+  pub size : length regs ≤ length xs
   pub off : (r : ℕ) → (nth xs r ≡ nth regs r) ⊎ ((c : ℕ) × Has r c h)
   pub on : (r c : ℕ) → Has r c h → nth vs c ≡ nth regs r
 
--- captured registers are among those that a frame always has
-pub record Sized (p : Prototype) (h : Held) (regs : List Value) : Type 0 where
-  pub range : (r c : ℕ) → Has r c h → r < p.own.stack
-  pub stack : p.own.stack ≤ length regs
+-- what an activation has beside its registers
+pub record Fixed (a a' : Activation) : Type 0 where
+  pub pc : a.pc ≡ a'.pc
+  pub varargs : a.varargs ≡ a'.varargs
+  pub pending : a.pending ≡ a'.pending
+  pub opened : a.opened ≡ a'.opened
 
-pub in_registers : (p : Prototype) (h : Held) (regs : List Value) → Sized p h regs → (r c : ℕ) → Has r c h → r < length regs
-in_registers p h regs z r c m = let a = z.range r c m in let b = z.stack in omega (arith, a, b)
+-- an activation that runs, and that of its frame
+pub record Alike (a a' : Activation) : Type 0 where
+  pub fixed : Fixed a a'
+  pub values : (r : ℕ) → nth a.registers r ≡ nth a'.registers r
+  pub size : length a'.registers ≤ length a.registers
+
+pub alike_refl : (a : Activation) → Alike a a
+alike_refl a = record { fixed = record { pc = refl; varargs = refl; pending = refl; opened = refl }; values = λ r. refl; size = omega arith }
 
 -- a frame that raised an error, or that is under a message handler, is only told that it is left
 abbrev pub Expected : Bool → Reply → Type 0
@@ -51,19 +59,19 @@ Expected true reply = IsLeft reply
 Expected false reply = Unit {0}
 
 -- a frame that waits, and an activation whose ask it waits for
-pub record Asleep (lax : Bool) (fs : List Function) (fr : LuaFrame) (f : ℕ) (line : Option ℕ) (shared : List (ℕ × Value)) (k : Answer → State) (h : Held) (xs : List Value) : Type 0 where
+pub record Asleep (lax : Bool) (fs : List Function) (fr : LuaFrame) (f : ℕ) (line : Option ℕ) (shared : List (ℕ × Value)) (k : Answer → State) (h : Held) (a : Activation) : Type 0 where
   pub number : f ≡ fr.function
   pub g : Function
   pub function : slice_get fs fr.function ≡ Some g
   pub gone : List (ℕ × Value)
-  pub shares : shared ≡ shared_by h xs ++ gone
-  pub at_line : line ≡ line_of g.code fr.own.pc
+  pub shares : shared ≡ shared_by h a.registers ++ gone
+  pub at_line : line ≡ line_of g.code a.pc
   pub waits : IsWaiting fr.wait
-  pub next : (x : Answer) → Expected lax x.reply → k x ≡ amid (after fr.wait g.code fr.own.pc x.reply) (told_values fr.wait x.reply) (record fr.own { registers = brought h x.shared xs }) (record { held = h; gone = [] })
-  pub sized : Sized g.code h fr.own.registers
+  pub next : (x : Answer) → Expected lax x.reply → k x ≡ amid (after fr.wait g.code a.pc x.reply) (told_values fr.wait x.reply) (record a { registers = brought h x.shared a.registers }) (record { held = h; gone = [] })
+  pub fixed : Fixed a fr.own
 
 abbrev pub Pair : Bool → List Function → List Value → Frame → TalkFrame → Held → Type 0
-Pair lax fs vs (lua fr) (waiting f line shared k) h = (xs : List Value) × Asleep lax fs fr f line shared k h xs × RegsOk vs h xs fr.own.registers
+Pair lax fs vs (lua fr) (waiting f line shared k) h = (a : Activation) × Asleep lax fs fr f line shared k h a × RegsOk vs h a.registers fr.own.registers
 Pair lax fs vs pcall protected h = h ≡ []
 Pair lax fs vs (xpcall v) (handled_by u) h = (v ≡ u) × (h ≡ [])
 Pair lax fs vs handler handling h = h ≡ []
@@ -105,7 +113,7 @@ below_values lax fs vs vs' _ _ _ e k = absurd k
 -- more functions
 pair_more : (lax : Bool) (fs more : List Function) (vs : List Value) (m : Frame) (t : TalkFrame) (h : Held) → Pair lax fs vs m t h → Pair lax (fs ++ more) vs m t h
 pair_more lax fs more vs (lua fr) (waiting f line shared b) h k =
-    let a = k.1 in (k.0, record { number = a.number; g = a.g; function = get_old fs more fr.function a.g a.function; gone = a.gone; shares = a.shares; at_line = a.at_line; waits = a.waits; next = a.next; sized = a.sized }, k.2)
+    let a = k.1 in (k.0, record { number = a.number; g = a.g; function = get_old fs more fr.function a.g a.function; gone = a.gone; shares = a.shares; at_line = a.at_line; waits = a.waits; next = a.next; fixed = a.fixed }, k.2)
 pair_more lax fs more vs pcall protected h k = k
 pair_more lax fs more vs (xpcall v) (handled_by u) h k = k
 pair_more lax fs more vs handler handling h k = k
@@ -119,7 +127,7 @@ below_more lax fs more vs _ _ _ k = absurd k
 -- a frame that hears anything hears that it is left
 pair_lax : (fs : List Function) (vs : List Value) (m : Frame) (t : TalkFrame) (h : Held) → Pair false fs vs m t h → Pair true fs vs m t h
 pair_lax fs vs (lua fr) (waiting f line shared b) h k =
-    let a = k.1 in (k.0, record { number = a.number; g = a.g; function = a.function; gone = a.gone; shares = a.shares; at_line = a.at_line; waits = a.waits; next = λ x i. a.next x tt; sized = a.sized }, k.2)
+    let a = k.1 in (k.0, record { number = a.number; g = a.g; function = a.function; gone = a.gone; shares = a.shares; at_line = a.at_line; waits = a.waits; next = λ x i. a.next x tt; fixed = a.fixed }, k.2)
 pair_lax fs vs pcall protected h k = k
 pair_lax fs vs (xpcall v) (handled_by u) h k = k
 pair_lax fs vs handler handling h k = k
@@ -131,20 +139,18 @@ below_lax fs vs (m ∷ ms) (t ∷ ts) (h ∷ hs) k = (pair_lax fs vs m t h k.0, 
 below_lax fs vs _ _ _ k = absurd k
 
 -- the top frame runs: the values of its captured locals stand in its registers alone
-pub record Working (fs : List Function) (ws : List Cell) (vs : List Value) (p : Prototype) (regs : List Value) (h : Held) (ms : List Frame) (ts : List TalkFrame) : Type 0 where
+pub record Working (fs : List Function) (ws : List Cell) (vs : List Value) (h : Held) (ms : List Frame) (ts : List TalkFrame) : Type 0 where
   pub hs : List Held
   pub cells : CellsOk ws vs (h ∷ hs)
   pub below : Below false fs vs ms ts hs
-  pub sized : Sized p h regs
   pub depth : length ms < greatest_depth
 
 -- all cells have their values
-pub record Rested (fs : List Function) (ws : List Cell) (vs : List Value) (p : Prototype) (xs regs : List Value) (h : Held) (ms : List Frame) (ts : List TalkFrame) : Type 0 where
+pub record Rested (fs : List Function) (ws : List Cell) (vs xs regs : List Value) (h : Held) (ms : List Frame) (ts : List TalkFrame) : Type 0 where
   pub hs : List Held
   pub cells : CellsOk ws vs (h ∷ hs)
   pub below : Below false fs vs ms ts hs
   pub top : RegsOk vs h xs regs
-  pub sized : Sized p h regs
   pub depth : length ms < greatest_depth
 
 -- no frame runs
@@ -175,26 +181,21 @@ module _ (ws : List Cell) (vs : List Value) (h : Held) (hs : List Held) (k : Cel
   not_shut c v e q n = let d : Some (closed v) ≡ Some (open_at 0 (length hs) q) = sym e ∙ k.held c (length hs) q (inl (refl, n)) in cc
 
 -- before an ask the captured locals are written to their cells
-pub flush : (fs : List Function) (ws : List Cell) (vs : List Value) (p : Prototype) (regs : List Value) (h : Held) (ms : List Frame) (ts : List TalkFrame) → Working fs ws vs p regs h ms ts → Rested fs ws (shared_in (shared_by h regs) vs) p regs regs h ms ts
-flush fs ws vs p regs h ms ts k =
+pub flush : (fs : List Function) (ws : List Cell) (vs : List Value) (a a' : Activation) (h : Held) (ms : List Frame) (ts : List TalkFrame) → Alike a a' → Working fs ws vs h ms ts → Rested fs ws (shared_in (shared_by h a.registers) vs) a.registers a'.registers h ms ts
+flush fs ws vs a a' h ms ts e k =
     record {
       hs = k.hs;
       cells = record {
-        size = k.cells.size ∙ sym (shared_length (shared_by h regs) vs);
-        shut = λ c v e. flush_off h regs vs c (not_shut ws vs h k.hs k.cells c v e) ∙ k.cells.shut c v e;
+        size = k.cells.size ∙ sym (shared_length (shared_by h a.registers) vs);
+        shut = λ c v e. flush_off h a.registers vs c (not_shut ws vs h k.hs k.cells c v e) ∙ k.cells.shut c v e;
         opened = k.cells.opened;
         held = k.cells.held;
         one = k.cells.one;
       };
-      below = below_values false fs vs (shared_in (shared_by h regs) vs) ms ts k.hs (λ f r c m. flush_off h regs vs c (not_top ws vs h k.hs k.cells c f r m)) k.below;
-      top = record { size = refl; off = λ r. inl refl; on = λ r c m. flush_on h regs vs r c (once ws vs h k.hs k.cells) (in_range ws vs h k.hs k.cells) m };
-      sized = k.sized;
+      below = below_values false fs vs (shared_in (shared_by h a.registers) vs) ms ts k.hs (λ f r c m. flush_off h a.registers vs c (not_top ws vs h k.hs k.cells c f r m)) k.below;
+      top = record { size = e.size; off = λ r. inl (e.values r); on = λ r c m. flush_on h a.registers vs r c (once ws vs h k.hs k.cells) (in_range ws vs h k.hs k.cells) m ∙ e.values r };
       depth = k.depth;
     }
 
--- other registers of the top frame
-pub work_regs : (fs : List Function) (ws : List Cell) (vs : List Value) (p : Prototype) (regs regs' : List Value) (h : Held) (ms : List Frame) (ts : List TalkFrame) → p.own.stack ≤ length regs' → Working fs ws vs p regs h ms ts → Working fs ws vs p regs' h ms ts
-work_regs fs ws vs p regs regs' h ms ts l k = record { hs = k.hs; cells = k.cells; below = k.below; sized = record { range = k.sized.range; stack = l }; depth = k.depth }
-
-pub work_again : (fs : List Function) (ws : List Cell) (vs : List Value) (p : Prototype) (xs regs : List Value) (h : Held) (ms : List Frame) (ts : List TalkFrame) → Rested fs ws vs p xs regs h ms ts → Working fs ws vs p regs h ms ts
-work_again fs ws vs p xs regs h ms ts k = record { hs = k.hs; cells = k.cells; below = k.below; sized = k.sized; depth = k.depth }
+pub work_again : (fs : List Function) (ws : List Cell) (vs xs regs : List Value) (h : Held) (ms : List Frame) (ts : List TalkFrame) → Rested fs ws vs xs regs h ms ts → Working fs ws vs h ms ts
+work_again fs ws vs xs regs h ms ts k = record { hs = k.hs; cells = k.cells; below = k.below; depth = k.depth }

@@ -11,8 +11,8 @@ use Rattle.machine_core.specs.Moves.{Made, made, TopShape, take_moving, give, se
 use Rattle.machine_core.specs.FrameRows.{then, expand, hand_over, after_handler, after_entry, raised_to, raised_row, caught, unwound, handed_to}
 use Rattle.machine_core.specs.MachineStep.{pcall_row, xpcall_row, lua_step, woken, top_step, from_world, step_by, step}
 use Rattle.machine_core.specs.RowFits.{IsWaiting}
-use Rattle.machine_core.specs.Talk.{before}
-use Rattle.machine_core.specs.TalkRun.{TalkFrame, talking, waiting, protected, handled_by, handling, Now, talks, raising, has_returned, has_failed, is_spent, Talks, ticks, tick_by, calls_over, error_in_handler, primitive_called}
+use Rattle.machine_core.specs.Talk.{before, talk, talk_step}
+use Rattle.machine_core.specs.TalkRun.{TalkFrame, talking, waiting, protected, handled_by, handling, Now, talks, raising, has_returned, has_failed, is_spent, Talks, ticks, tick_by, calls_over, turn, error_in_handler, primitive_called}
 use Rattle.machine_core.specs.TalkRun.{returning as talk_returning, unwinding as talk_unwinding, calls_primitive as talk_primitive, raised_to as talk_raised_to, blames as talk_blames}
 use Rattle.machine_join.specs.Join.{primitives}
 use Rattle.machine_join.proofs.Lists.{append_nil}
@@ -198,7 +198,7 @@ module _ (b d : World) (H : Heap) (fs : List Function) (vs : List Value) (ws : L
 
 -- a step that is not paid has no effect
 spent_now : (b d : World) (T : Talks) (e : Ending) (W : World) → Both b d T e W → e ≡ spent → T.now ≡ is_spent
-spent_now b d T e W (both_run H fs vs ws fuel ms ts n g a c f k) q = absurd (cc)
+spent_now b d T e W (both_run H fs vs ws fuel ms ts n g a a' c al f k) q = absurd (cc)
 spent_now b d T e W (both_hand H fs vs ws fuel ms ts mv k) q = absurd (by ms q)
   where
     by : (ms : List Frame) → handing ms ≡ spent → ⊥
@@ -235,10 +235,11 @@ pub step_leads : (b d : World) (T : Talks) (e : Ending) (W : World) → Both b d
 step_leads b d T e W k = leads_from b d (tick T) W (step_by primitives e W) (by T e W k)
   where
     by : (T : Talks) (e : Ending) (W : World) → Both b d T e W → Leads b d (tick T) (step_by primitives e W)
-    by T e W (both_run H fs vs ws fuel ms ts n g a c f k) =
-        subst (λ T. Leads b d T (step_by primitives go (mk b H fs ws (lua (frame n running a) ∷ ms) [] fuel))) (sym (talk_tick d H fs vs ts fuel n g (before a c) f))
-        (subst (λ o. Leads b d (Rattle.machine_core.specs.TalkRun.turn (Rattle.machine_core.specs.Talk.talk_step g.code (before a c)) (mk_talks d H fs vs (talking n (before a c) ∷ ts) talks fuel) n ts) (elim o [ None ↦ trapped | Some o ↦ o ])) (sym (lua_step_is b H fs ws [] fuel ms n running a g f))
-        (row_leads b d n g a.pc running (text_at g.code a.pc) [] a c H fs vs fuel ms ts (talking n (before a c) ∷ ts) ws refl f (text_good g.code a.pc) k))
+    by T e W (both_run H fs vs ws fuel ms ts n g a a' c al f k) =
+        subst (λ T. Leads b d T (step_by primitives go (mk b H fs ws (lua (frame n running a') ∷ ms) [] fuel))) (sym (talk_tick d H fs vs ts fuel n g (before a c) f))
+        (subst (λ o. Leads b d (turn (talk_step g.code (before a c)) (mk_talks d H fs vs (talking n (before a c) ∷ ts) talks fuel) n ts) (elim o [ None ↦ trapped | Some o ↦ o ])) (sym (lua_step_is b H fs ws [] fuel ms n running a' g f))
+        (subst (λ pc. Leads b d (turn (talk g.code (text_at g.code a.pc) [] a c) (mk_talks d H fs vs (talking n (before a c) ∷ ts) talks fuel) n ts) (run (expand (text_at g.code pc)) [] (mk b H fs ws (lua (frame n running a') ∷ ms) [] fuel))) al.fixed.pc
+        (row_leads b d n g a.pc running (text_at g.code a.pc) [] a a' c H fs vs fuel ms ts (talking n (before a c) ∷ ts) ws al refl f (text_good g.code a.pc) k)))
     by T e W (both_hand H fs vs ws fuel ms ts mv k) = hand_leads b d H fs vs ws fuel ms ts k.hs mv k.cells k.below k.depth
     by T e W (both_raise H fs vs ws fuel ms ts v k) = raise_leads b d H fs vs ws fuel ms ts v k
     by T e W (both_unwind H fs vs ws fuel ms ts v k) = unwind_leads b d H fs vs ws fuel ms ts k.hs v k.cells k.below k.depth
