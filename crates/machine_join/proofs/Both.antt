@@ -1,6 +1,6 @@
 -- Where both readings stand between two steps, and what a step leads to.
 use Rattle.std.proofs.Common.{ℕ, suc, ◌≡◌, List, [], ◌∷◌, ◌++◌, Option, Some, None, sym, ap, subst, true, false}
-use Rattle.std.specs.Prelude.{slice_get, length}
+use Rattle.std.specs.Prelude.{map, slice_get, length}
 use Rattle.int_core.specs.Value.{Value}
 use Rattle.int_core.specs.Heap.{Heap}
 use Rattle.int_core.specs.Ask.{Captured}
@@ -9,6 +9,7 @@ use Rattle.machine_core.specs.Moves.{Ending, go, returned, calls_primitive, rais
 use Rattle.machine_core.specs.Talk.{State, before, talk_step}
 use Rattle.machine_core.specs.TalkRun.{TalkFrame, talking, Now, talks, returning, raising, has_returned, has_failed, is_spent, is_stuck, Talks, shared_in, turn, tick_by, ticks}
 use Rattle.machine_core.specs.TalkRun.{unwinding as talk_unwinding, calls_primitive as talk_primitive}
+use Rattle.machine_join.specs.Join.{kept}
 use Rattle.machine_join.proofs.Sim.{Alike, Working, Stacks}
 use Rattle.machine_join.proofs.Worlds.{mk, frame}
 
@@ -32,10 +33,10 @@ pub data Both (b d : World) : Talks → Ending → World → Type 0 where
   both_primitive : (H : Heap) (fs : List Function) (vs : List Value) (ws : List Cell) (fuel : ℕ) (ms : List Frame) (ts : List TalkFrame) (k : ℕ) (mv : List Value)
       → Stacks false fs ws vs ms ts → Both b d (mk_talks d H fs vs ts (talk_primitive k mv) fuel) (calls_primitive k) (mk b H fs ws ms mv fuel)
   both_spent : (T : Talks) (W : World) → T.now ≡ is_spent → Both b d T spent W
-  both_returned : (H : Heap) (fs : List Function) (fuel : ℕ) (T : Talks) (W : World) (mv : List Value) → T.now ≡ has_returned mv → T.world ≡ record d { heap = H; functions = fs; fuel = fuel }
-      → W.moving ≡ mv → W.heap ≡ H → W.functions ≡ fs → W.fuel ≡ fuel → Both b d T main_returned W
-  both_failed : (H : Heap) (fs : List Function) (fuel : ℕ) (T : Talks) (W : World) (v : Value) → T.now ≡ has_failed v → T.world ≡ record d { heap = H; functions = fs; fuel = fuel }
-      → W.moving ≡ v ∷ [] → W.heap ≡ H → W.functions ≡ fs → W.fuel ≡ fuel → Both b d T main_failed W
+  both_returned : (H : Heap) (fs : List Function) (vs : List Value) (fuel : ℕ) (T : Talks) (W : World) (mv : List Value) → T.now ≡ has_returned mv → T.world ≡ record d { heap = H; functions = fs; fuel = fuel } → T.cells ≡ vs
+      → W.moving ≡ mv → W.heap ≡ H → W.functions ≡ fs → map kept W.cells ≡ vs → W.fuel ≡ fuel → Both b d T main_returned W
+  both_failed : (H : Heap) (fs : List Function) (vs : List Value) (fuel : ℕ) (T : Talks) (W : World) (v : Value) → T.now ≡ has_failed v → T.world ≡ record d { heap = H; functions = fs; fuel = fuel } → T.cells ≡ vs
+      → W.moving ≡ v ∷ [] → W.heap ≡ H → W.functions ≡ fs → map kept W.cells ≡ vs → W.fuel ≡ fuel → Both b d T main_failed W
 
 abbrev pub tick : Talks → Talks
 tick T = tick_by T.now T

@@ -1,10 +1,11 @@
 -- One step of the machine is some steps of the world of talking activations, wherever both stand.
+use Rattle.std.specs.Prelude.{map, slice_get}
 use Rattle.std.proofs.Common.{ℕ, zero, suc, ◌<◌, ◌≤◌, ◌≡◌, List, [], ◌∷◌, ◌++◌, length, drop, Some, None, refl, sym, ap, subst, ◌∙◌, arith, Bool, true, false}
 use Rattle.code_core.specs.Prototype.{Prototype}
 use Rattle.int_core.specs.Value.{Value, known, boolean, bind, nth}
 use Rattle.int_core.specs.Heap.{Heap}
 use Rattle.int_core.specs.Ask.{values, left}
-use Rattle.machine_core.specs.World.{Function, Cell, Wait, running, for_call, for_iterator, for_value, for_truth, dropped, for_concat, for_close, returning, leaving, LuaFrame, Frame, lua, pcall, xpcall, handler, closing, World}
+use Rattle.machine_core.specs.World.{Function, Cell, closed, open_at, Wait, running, for_call, for_iterator, for_value, for_truth, dropped, for_concat, for_close, returning, leaving, LuaFrame, Frame, lua, pcall, xpcall, handler, closing, World}
 use Rattle.machine_core.specs.Text.{read, written}
 use Rattle.machine_core.specs.InstructionRows.{text_at, after, told_values, fails}
 use Rattle.machine_core.specs.Moves.{Made, made, TopShape, take_moving, give, see_top, see_catcher, enter_over, over_pcall, over_xpcall, over_handler, end_coroutine, move, top_shape, catcher, handler_value, greatest_depth, Ending, go, returned, calls_primitive, raised, unwinding, spent, main_yielded, main_returned, main_failed, Row, stop, act, Outcome, trapped, ends, run, put_coroutine, back_to_resumer}
@@ -14,7 +15,7 @@ use Rattle.machine_core.specs.RowFits.{IsWaiting}
 use Rattle.machine_core.specs.Talk.{before, talk, talk_step}
 use Rattle.machine_core.specs.TalkRun.{TalkFrame, talking, waiting, protected, handled_by, handling, Now, talks, raising, has_returned, has_failed, is_spent, Talks, ticks, tick_by, calls_over, turn, error_in_handler, primitive_called}
 use Rattle.machine_core.specs.TalkRun.{returning as talk_returning, unwinding as talk_unwinding, calls_primitive as talk_primitive, raised_to as talk_raised_to, blames as talk_blames}
-use Rattle.machine_join.specs.Join.{primitives}
+use Rattle.machine_join.specs.Join.{primitives, kept}
 use Rattle.machine_join.proofs.Lists.{append_nil}
 use Rattle.machine_join.proofs.Cells.{Held}
 use Rattle.machine_join.proofs.Sim.{CellsOk, Pair, Below, Stacks}
@@ -54,6 +55,20 @@ knows_told for_close vs k = absurd k
 knows_told (returning n) vs k = absurd k
 knows_told (leaving e) vs k = omega arith
 
+-- where no frame is left, each cell has its value
+kept_from : (ws : List Cell) (vs : List Value) → length ws ≡ length vs → ((c : ℕ) (x : Cell) → slice_get ws c ≡ Some x → kept x ≡ nth vs c) → map kept ws ≡ vs
+kept_from [] [] l h = refl
+kept_from [] (v ∷ vs) l h = absurd (omega arith)
+kept_from (w ∷ ws) [] l h = absurd (omega arith)
+kept_from (w ∷ ws) (v ∷ vs) l h = ap (λ x. x ∷ map kept ws) (h 0 w refl) ∙ ap (λ xs. v ∷ xs) (kept_from ws vs (omega arith) (λ c x e. h (suc c) x e))
+
+all_kept : (ws : List Cell) (vs : List Value) → CellsOk ws vs [] → map kept ws ≡ vs
+all_kept ws vs k = kept_from ws vs k.size by
+  where
+    by : (c : ℕ) (x : Cell) → slice_get ws c ≡ Some x → kept x ≡ nth vs c
+    by c (closed v) e = sym (k.shut c v e)
+    by c (open_at i f r) e = absurd (k.opened c i f r e).1
+
 module _ (b d : World) (H : Heap) (fs : List Function) (vs : List Value) (ws : List Cell) (fuel : ℕ) where
   abbrev W : List Frame → List Value → World
   W ms mv = mk b H fs ws ms mv fuel
@@ -62,9 +77,9 @@ module _ (b d : World) (H : Heap) (fs : List Function) (vs : List Value) (ws : L
   T ts now = mk_talks d H fs vs ts now fuel
 
   -- the main coroutine ends
-  ends_main : (mv env : List Value) → Leads b d (T [] (has_returned mv)) (run (then end_coroutine (stop main_returned)) env (W [] mv))
+  ends_main : (mv env : List Value) → CellsOk ws vs [] → Leads b d (T [] (has_returned mv)) (run (then end_coroutine (stop main_returned)) env (W [] mv))
   unfolding put_coroutine back_to_resumer
-  ends_main mv env = (0, both_returned H fs fuel _ _ mv refl refl refl refl refl refl)
+  ends_main mv env c = (0, both_returned H fs vs fuel _ _ mv refl refl refl refl refl refl (all_kept ws vs c) refl)
 
   see_is : (ms : List Frame) (mv env : List Value) → move see_top env (W ms mv) ≡ made (W ms mv) [] (shape_of ms)
   see_is ms mv env = ap (λ o. bind o (λ top. made (W ms mv) [] top)) (top_is b H fs ws mv fuel ms)
@@ -98,7 +113,7 @@ module _ (b d : World) (H : Heap) (fs : List Function) (vs : List Value) (ws : L
       (subst (λ xs. Leads b d (T ts (talk_unwinding (nth mv 0))) (ends unwinding (W ms (nth xs 0 ∷ [])))) (sym (append_nil mv)) (0, both_unwind H fs vs ws fuel ms ts (nth mv 0) z))
 
   pub hand_leads : (ms : List Frame) (ts : List TalkFrame) (hs : List Held) (mv : List Value) → CellsOk ws vs hs → Below false fs vs ms ts hs → length ms ≤ greatest_depth → Leads b d (tick (T ts (talk_returning mv))) (step_by primitives (handing ms) (W ms mv))
-  hand_leads [] [] [] mv c k l = by_move b d (T [] (has_returned mv)) see_top (λ _ top. handed_to top) [] (W [] mv) _ (see_is [] mv []) (ends_main mv [])
+  hand_leads [] [] [] mv c k l = by_move b d (T [] (has_returned mv)) see_top (λ _ top. handed_to top) [] (W [] mv) _ (see_is [] mv []) (ends_main mv [] c)
   hand_leads (lua fr ∷ ms) (t ∷ ts) (h ∷ hs) mv c k l = hand_lua fr ms t ts h hs mv c k.0 k.1 (omega (arith, l))
   hand_leads (pcall ∷ ms) (protected ∷ ts) (h ∷ hs) mv c k l =
       by_move b d (T ts (talk_returning (known (boolean true) ∷ mv))) see_top (λ _ top. handed_to top) [] (W (pcall ∷ ms) mv) _ (see_is (pcall ∷ ms) mv []) (hand_true pcall ms ts mv (pops b d H fs vs ws fuel false ms ts h hs k.0 c k.1 (omega (arith, l))))
@@ -129,7 +144,7 @@ module _ (b d : World) (H : Heap) (fs : List Function) (vs : List Value) (ws : L
       (gives_up_leads b d H fs vs ws ms ts [] (v ∷ []) fuel z)
 
   pub unwind_leads : (ms : List Frame) (ts : List TalkFrame) (hs : List Held) (v : Value) → CellsOk ws vs hs → Below true fs vs ms ts hs → length ms ≤ greatest_depth → Leads b d (tick (T ts (talk_unwinding v))) (run (act see_top (λ _ top. unwound top)) [] (W ms (v ∷ [])))
-  unwind_leads [] [] [] v c k l = by_move b d (T [] (has_failed v)) see_top (λ _ top. unwound top) [] (W [] (v ∷ [])) _ (see_is [] (v ∷ []) []) (0, both_failed H fs fuel _ _ v refl refl refl refl refl refl)
+  unwind_leads [] [] [] v c k l = by_move b d (T [] (has_failed v)) see_top (λ _ top. unwound top) [] (W [] (v ∷ [])) _ (see_is [] (v ∷ []) []) (0, both_failed H fs vs fuel _ _ v refl refl refl refl refl refl (all_kept ws vs c) refl)
   unwind_leads (lua fr ∷ ms) (t ∷ ts) (h ∷ hs) v c k l = by_move b d (tick (T (t ∷ ts) (talk_unwinding v))) see_top (λ _ top. unwound top) [] (W (lua fr ∷ ms) (v ∷ [])) _ (see_is (lua fr ∷ ms) (v ∷ []) []) (unwind_lua fr ms t ts h hs v c k.0 k.1 (omega (arith, l)))
   unwind_leads (pcall ∷ ms) (protected ∷ ts) (h ∷ hs) v c k l =
       by_move b d (T ts (talk_returning (known (boolean false) ∷ v ∷ []))) see_top (λ _ top. unwound top) [] (W (pcall ∷ ms) (v ∷ [])) _ (see_is (pcall ∷ ms) (v ∷ []) []) (unwind_caught pcall ms ts v (pops b d H fs vs ws fuel false ms ts h hs k.0 c k.1 (omega (arith, l))))
@@ -212,8 +227,8 @@ spent_now b d T e W (both_raise H fs vs ws fuel ms ts v k) q = absurd (cc)
 spent_now b d T e W (both_unwind H fs vs ws fuel ms ts v k) q = absurd (cc)
 spent_now b d T e W (both_primitive H fs vs ws fuel ms ts n mv k) q = absurd (cc)
 spent_now b d T e W (both_spent _ _ k) q = k
-spent_now b d T e W (both_returned H fs fuel _ _ mv x y z u v w) q = absurd (cc)
-spent_now b d T e W (both_failed H fs fuel _ _ v x y z u t w) q = absurd (cc)
+spent_now b d T e W (both_returned H fs vs fuel _ _ mv x y c z u v k w) q = absurd (cc)
+spent_now b d T e W (both_failed H fs vs fuel _ _ v x y c z u t k w) q = absurd (cc)
 
 pub leads_from : (b d : World) (T : Talks) (W : World) (o : Outcome) → Leads b d T o → Leads b d T (from_world W o)
 leads_from b d T W trapped k = tt
@@ -245,5 +260,5 @@ step_leads b d T e W k = leads_from b d (tick T) W (step_by primitives e W) (by 
     by T e W (both_unwind H fs vs ws fuel ms ts v k) = unwind_leads b d H fs vs ws fuel ms ts k.hs v k.cells k.below k.depth
     by T e W (both_primitive H fs vs ws fuel ms ts n mv k) = primitive_leads b d H fs vs ws fuel n ms ts mv k
     by T e W (both_spent _ _ k) = subst (λ T. Leads b d T (ends spent W)) (sym (stays T is_spent refl k)) (0, both_spent T W k)
-    by T e W (both_returned H fs fuel _ _ mv x y z u v w) = subst (λ T. Leads b d T (ends main_returned W)) (sym (stays T (has_returned mv) refl x)) (0, both_returned H fs fuel T W mv x y z u v w)
-    by T e W (both_failed H fs fuel _ _ v x y z u t w) = subst (λ T. Leads b d T (ends main_failed W)) (sym (stays T (has_failed v) refl x)) (0, both_failed H fs fuel T W v x y z u t w)
+    by T e W (both_returned H fs vs fuel _ _ mv x y c z u v k w) = subst (λ T. Leads b d T (ends main_returned W)) (sym (stays T (has_returned mv) refl x)) (0, both_returned H fs vs fuel T W mv x y c z u v k w)
+    by T e W (both_failed H fs vs fuel _ _ v x y c z u t k w) = subst (λ T. Leads b d T (ends main_failed W)) (sym (stays T (has_failed v) refl x)) (0, both_failed H fs vs fuel T W v x y c z u t k w)
