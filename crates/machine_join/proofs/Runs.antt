@@ -7,7 +7,7 @@ use Rattle.machine_core.specs.World.{Function, Cell, closed, open_at, running, F
 use Rattle.machine_core.specs.Moves.{Ending, go, Outcome, trapped, ends}
 use Rattle.machine_core.specs.MachineStep.{step, steps, and_then}
 use Rattle.machine_core.specs.TalkRun.{Now, talks, returning, raising, unwinding, calls_primitive, has_returned, has_failed, is_spent, is_stuck, Talks, ticks}
-use Rattle.machine_join.specs.Join.{kept, Beginning, primitives, main_frames, main_talk, first_world, Final, final_world, final, final_talk, talked, ReadingsAgree}
+use Rattle.machine_join.specs.Join.{kept, Beginning, primitives, main_frames, main_talk, first_world, Final, final_world, final, final_talk, talked, ReadingsAgree, NeverStuck}
 use Rattle.machine_join.specs.Join.{returned as with_results, failed as with_error}
 use Rattle.machine_join.proofs.Sim.{alike_refl, Stacks}
 use Rattle.machine_join.proofs.Both.{handing, Both, both_run, both_hand, both_raise, both_unwind, both_primitive, both_spent, both_returned, both_failed, tick, Leads}
@@ -98,6 +98,38 @@ talk_machine b d (suc bound) j T e W x lt k never h = by (step primitives e W) r
         (suc m.0, ap (λ o. final (and_then o (steps primitives m.0))) q ∙ m.1))
         (cases_lt j (suc l.0))
 
+-- where the machine never traps, the talking activations are never stuck
+
+free : (b d : World) (T : Talks) (e : Ending) (W : World) → Both b d T e W → T.now ≢ is_stuck
+free b d T e W (both_run H fs vs ws fuel ms ts n g a a' c al f k) q = cc
+free b d T e W (both_hand H fs vs ws fuel ms ts mv k) q = cc
+free b d T e W (both_raise H fs vs ws fuel ms ts v k) q = cc
+free b d T e W (both_unwind H fs vs ws fuel ms ts v k) q = cc
+free b d T e W (both_primitive H fs vs ws fuel ms ts n mv k) q = cc
+free b d T e W (both_spent _ _ k) q = let z : is_spent ≡ is_stuck = sym k ∙ q in cc
+free b d T e W (both_returned H fs vs fuel _ _ mv x y c z u v k w) q = let z : has_returned mv ≡ is_stuck = sym x ∙ q in cc
+free b d T e W (both_failed H fs vs fuel _ _ v x y c z u t k w) q = let z : has_failed v ≡ is_stuck = sym x ∙ q in cc
+
+stuck_later : (k : ℕ) (T : Talks) → T.now ≡ is_stuck → (ticks k T).now ≡ is_stuck
+stuck_later zero T h = h
+stuck_later (suc k) T h = stuck_later k (tick T) (ap (λ (U : Talks). U.now) (stays T is_stuck refl h) ∙ h)
+
+never_stuck_from : (b d : World) (bound j : ℕ) (T : Talks) (e : Ending) (W : World) → j < bound → Both b d T e W → NeverTraps e W → (ticks j T).now ≢ is_stuck
+never_stuck_from b d zero j T e W lt k never h = absurd (omega (arith, lt))
+never_stuck_from b d (suc bound) j T e W lt k never h = by (step primitives e W) refl (step_leads b d T e W k) (λ j T e W l k never h. never_stuck_from b d bound j T e W l k never h)
+  where
+    by : (o : Outcome) → step primitives e W ≡ o → Leads b d (tick T) o → ((j : ℕ) (T : Talks) (e : Ending) (W : World) → j < bound → Both b d T e W → NeverTraps e W → (ticks j T).now ≢ is_stuck) → ⊥
+    by trapped q l ih = never 1 (ap (λ o. and_then o (steps primitives 0)) q)
+    by (ends e' V) q l ih = ⊎_elim
+        (λ less.
+        let z : suc l.0 ≡ j + (suc l.0 - j) = omega (arith, less) in
+        free b d (ticks l.0 (tick T)) e' V l.1 (ap (λ n. (ticks n T).now) z ∙ ap (λ (U : Talks). U.now) (ticks_add j (suc l.0 - j) T) ∙ stuck_later (suc l.0 - j) (ticks j T) h))
+        (λ more.
+        let z : j ≡ suc l.0 + (j - suc l.0) = omega (arith, more) in
+        let g : (ticks (j - suc l.0) (ticks (suc l.0) T)).now ≡ is_stuck = sym (ap (λ (U : Talks). U.now) (ticks_add (suc l.0) (j - suc l.0) T)) ∙ ap (λ n. (ticks n T).now) (sym z) ∙ h in
+        ih (j - suc l.0) (ticks l.0 (tick T)) e' V (omega (arith, lt, more)) l.1 (λ i t. never (suc i) (ap (λ o. and_then o (steps primitives i)) q ∙ t)) g)
+        (cases_lt j (suc l.0))
+
 -- the beginning
 
 closed_all : (vs : List Value) (c : ℕ) (v : Value) → slice_get (map closed vs) c ≡ Some (closed v) → nth vs c ≡ v
@@ -136,16 +168,23 @@ world_at B o = record B.rest {
 abbrev talks_at : Beginning → Option Function → Talks
 talks_at B o = record { world = first_world B; cells = B.cells; frames = main_talk B.main B.arguments o; now = talks }
 
+first_both : (B : Beginning) (f : Function) → slice_get B.functions B.main ≡ Some f → Both B.rest (first_world B) (talks_at B (Some f)) go (world_at B (Some f))
+first_both B f e = both_run B.heap B.functions B.cells (map closed B.cells) B.fuel [] [] B.main f _ _ (record { held = []; gone = [] }) (alike_refl _) e (starts B.functions (map closed B.cells) B.cells [] [] (first_stacks B.functions B.cells) (omega arith))
+
 pub readings_agree : ReadingsAgree
 readings_agree B x never = by (slice_get B.functions B.main) refl never
   where
-    start : (f : Function) → slice_get B.functions B.main ≡ Some f → Both B.rest (first_world B) (talks_at B (Some f)) go (world_at B (Some f))
-    start f e = both_run B.heap B.functions B.cells (map closed B.cells) B.fuel [] [] B.main f _ _ (record { held = []; gone = [] }) (alike_refl _) e (starts B.functions (map closed B.cells) B.cells [] [] (first_stacks B.functions B.cells) (omega arith))
-
     by : (o : Option Function) → slice_get B.functions B.main ≡ o → NeverTraps go (world_at B o)
         → ((n : ℕ) × (final (steps primitives n go (world_at B o)) ≡ Some x)) ↔ ((n : ℕ) × (talked (ticks n (talks_at B o)) ≡ Some x))
     by None e never = absurd (never 1 refl)
     by (Some f) e never = (
-      λ k. machine_talk B.rest (first_world B) k.0 (talks_at B (Some f)) go (world_at B (Some f)) x (start f e) never k.1,
-      λ k. talk_machine B.rest (first_world B) (suc k.0) k.0 (talks_at B (Some f)) go (world_at B (Some f)) x (omega arith) (start f e) never k.1,
+      λ k. machine_talk B.rest (first_world B) k.0 (talks_at B (Some f)) go (world_at B (Some f)) x (first_both B f e) never k.1,
+      λ k. talk_machine B.rest (first_world B) (suc k.0) k.0 (talks_at B (Some f)) go (world_at B (Some f)) x (omega arith) (first_both B f e) never k.1,
     )
+
+pub never_stuck : NeverStuck
+never_stuck B never n = by (slice_get B.functions B.main) refl never
+  where
+    by : (o : Option Function) → slice_get B.functions B.main ≡ o → NeverTraps go (world_at B o) → (ticks n (talks_at B o)).now ≢ is_stuck
+    by None e never = absurd (never 1 refl)
+    by (Some f) e never = never_stuck_from B.rest (first_world B) (suc n) n (talks_at B (Some f)) go (world_at B (Some f)) (omega arith) (first_both B f e) never

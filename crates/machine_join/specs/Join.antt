@@ -6,7 +6,7 @@ use Rattle.machine_core.specs.World.{Function, Cell, closed, open_at, Frame, in_
 use Rattle.machine_core.specs.Moves.{new_frame, Row, traps, Ending, go, spent, main_returned, main_failed, Outcome, trapped, ends}
 use Rattle.machine_core.specs.MachineStep.{pcall_row, xpcall_row, error_row, steps}
 use Rattle.machine_core.specs.Talk.{talk_start}
-use Rattle.machine_core.specs.TalkRun.{TalkFrame, talking, Now, talks, has_returned, has_failed, is_spent, Talks, ticks}
+use Rattle.machine_core.specs.TalkRun.{TalkFrame, talking, Now, talks, has_returned, has_failed, is_spent, is_stuck, Talks, ticks}
 
 -- what a run begins with: the heap, all functions, the values of the cells that they have, the budget, and the call of the main function.
 -- `rest` is all else of a world, which neither reading looks at
@@ -86,3 +86,8 @@ abbrev pub ReadingsAgree : Type 0
 ReadingsAgree =
     (B : Beginning) (e : Final) → ((n : ℕ) → steps primitives n go (first_world B) ≢ trapped)
     → ((n : ℕ) × (final (steps primitives n go (first_world B)) ≡ Some e)) ↔ ((n : ℕ) × (talked (ticks n (first_talks B)) ≡ Some e))
+
+-- and of the talking activations each ask is answered, and none does what it cannot do
+abbrev pub NeverStuck : Type 0
+NeverStuck =
+    (B : Beginning) → ((n : ℕ) → steps primitives n go (first_world B) ≢ trapped) → (n : ℕ) → (ticks n (first_talks B)).now ≢ is_stuck
