@@ -7,7 +7,7 @@ use Rattle.machine_core.specs.World.{Function, Cell, closed, open_at, running, F
 use Rattle.machine_core.specs.Moves.{Ending, go, Outcome, trapped, ends}
 use Rattle.machine_core.specs.MachineStep.{step, steps, and_then}
 use Rattle.machine_core.specs.TalkRun.{Now, talks, returning, raising, unwinding, calls_primitive, has_returned, has_failed, is_spent, is_stuck, Talks, ticks}
-use Rattle.machine_join.specs.Join.{kept, Beginning, primitives, main_frames, main_talk, first_world, Final, final_world, final, final_talk, talked, ReadingsAgree, NeverStuck}
+use Rattle.machine_join.specs.Join.{kept, Beginning, primitives, main_frames, main_talk, first_world, Final, final_world, final, final_talk, talked, TalksFollow, MachineFollows, NeverStuck}
 use Rattle.machine_join.specs.Join.{returned as with_results, failed as with_error}
 use Rattle.machine_join.proofs.Sim.{alike_refl, Stacks}
 use Rattle.machine_join.proofs.Both.{handing, Both, both_run, both_hand, both_raise, both_unwind, both_primitive, both_spent, both_returned, both_failed, tick, Leads}
@@ -63,28 +63,28 @@ both_final b d T e W (both_failed H fs vs fuel _ _ v x y c z u t k w) =
     ∙ ap (λ cs. Some (with_error v H fs cs W.fuel)) k ∙ ap (λ n. Some (with_error v H fs vs n)) w
     ∙ sym (ap (λ now. final_talk now T) x ∙ ap (λ (V : World). Some (with_error v V.heap V.functions T.cells V.fuel)) y ∙ ap (λ cs. Some (with_error v H fs cs fuel)) c)
 
-abbrev NeverTraps : Ending → World → Type 0
-NeverTraps e W = (n : ℕ) → steps primitives n e W ≢ trapped
+abbrev Untrapped : Ending → World → Type 0
+Untrapped e W = (n : ℕ) → steps primitives n e W ≢ trapped
 
 -- what the machine comes to, the talking activations come to
-machine_talk : (b d : World) (n : ℕ) (T : Talks) (e : Ending) (W : World) (x : Final) → Both b d T e W → NeverTraps e W → final (steps primitives n e W) ≡ Some x → (j : ℕ) × (talked (ticks j T) ≡ Some x)
-machine_talk b d zero T e W x k never h = (0, sym (both_final b d T e W k) ∙ h)
-machine_talk b d (suc n) T e W x k never h = by (step primitives e W) refl (step_leads b d T e W k) h (λ T e W k never h. machine_talk b d n T e W x k never h)
+machine_talk : (b d : World) (n : ℕ) (T : Talks) (e : Ending) (W : World) (x : Final) → Both b d T e W → final (steps primitives n e W) ≡ Some x → (j : ℕ) × (talked (ticks j T) ≡ Some x)
+machine_talk b d zero T e W x k h = (0, sym (both_final b d T e W k) ∙ h)
+machine_talk b d (suc n) T e W x k h = by (step primitives e W) (step_leads b d T e W k) h (λ T e W k h. machine_talk b d n T e W x k h)
   where
-    by : (o : Outcome) → step primitives e W ≡ o → Leads b d (tick T) o → final (and_then o (steps primitives n)) ≡ Some x
-        → ((T : Talks) (e : Ending) (W : World) → Both b d T e W → NeverTraps e W → final (steps primitives n e W) ≡ Some x → (j : ℕ) × (talked (ticks j T) ≡ Some x)) → (j : ℕ) × (talked (ticks j T) ≡ Some x)
-    by trapped q l h ih = absurd (never 1 (ap (λ o. and_then o (steps primitives 0)) q))
-    by (ends e' V) q l h ih =
-        let m = ih (ticks l.0 (tick T)) e' V l.1 (λ i t. never (suc i) (ap (λ o. and_then o (steps primitives i)) q ∙ t)) h in
+    by : (o : Outcome) → Leads b d (tick T) o → final (and_then o (steps primitives n)) ≡ Some x
+        → ((T : Talks) (e : Ending) (W : World) → Both b d T e W → final (steps primitives n e W) ≡ Some x → (j : ℕ) × (talked (ticks j T) ≡ Some x)) → (j : ℕ) × (talked (ticks j T) ≡ Some x)
+    by trapped l h ih = absurd (cc)
+    by (ends e' V) l h ih =
+        let m = ih (ticks l.0 (tick T)) e' V l.1 h in
         (suc l.0 + m.0, ap talked (ticks_add (suc l.0) m.0 T) ∙ m.1)
 
 -- and the other way round
-talk_machine : (b d : World) (bound j : ℕ) (T : Talks) (e : Ending) (W : World) (x : Final) → j < bound → Both b d T e W → NeverTraps e W → talked (ticks j T) ≡ Some x → (n : ℕ) × (final (steps primitives n e W) ≡ Some x)
+talk_machine : (b d : World) (bound j : ℕ) (T : Talks) (e : Ending) (W : World) (x : Final) → j < bound → Both b d T e W → Untrapped e W → talked (ticks j T) ≡ Some x → (n : ℕ) × (final (steps primitives n e W) ≡ Some x)
 talk_machine b d zero j T e W x lt k never h = absurd (omega (arith, lt))
 talk_machine b d (suc bound) j T e W x lt k never h = by (step primitives e W) refl (step_leads b d T e W k) (λ j T e W l k never h. talk_machine b d bound j T e W x l k never h)
   where
     by : (o : Outcome) → step primitives e W ≡ o → Leads b d (tick T) o
-        → ((j : ℕ) (T : Talks) (e : Ending) (W : World) → j < bound → Both b d T e W → NeverTraps e W → talked (ticks j T) ≡ Some x → (n : ℕ) × (final (steps primitives n e W) ≡ Some x)) → (n : ℕ) × (final (steps primitives n e W) ≡ Some x)
+        → ((j : ℕ) (T : Talks) (e : Ending) (W : World) → j < bound → Both b d T e W → Untrapped e W → talked (ticks j T) ≡ Some x → (n : ℕ) × (final (steps primitives n e W) ≡ Some x)) → (n : ℕ) × (final (steps primitives n e W) ≡ Some x)
     by trapped q l ih = absurd (never 1 (ap (λ o. and_then o (steps primitives 0)) q))
     by (ends e' V) q l ih = ⊎_elim
         (λ less.
@@ -114,11 +114,11 @@ stuck_later : (k : ℕ) (T : Talks) → T.now ≡ is_stuck → (ticks k T).now �
 stuck_later zero T h = h
 stuck_later (suc k) T h = stuck_later k (tick T) (ap (λ (U : Talks). U.now) (stays T is_stuck refl h) ∙ h)
 
-never_stuck_from : (b d : World) (bound j : ℕ) (T : Talks) (e : Ending) (W : World) → j < bound → Both b d T e W → NeverTraps e W → (ticks j T).now ≢ is_stuck
+never_stuck_from : (b d : World) (bound j : ℕ) (T : Talks) (e : Ending) (W : World) → j < bound → Both b d T e W → Untrapped e W → (ticks j T).now ≢ is_stuck
 never_stuck_from b d zero j T e W lt k never h = absurd (omega (arith, lt))
 never_stuck_from b d (suc bound) j T e W lt k never h = by (step primitives e W) refl (step_leads b d T e W k) (λ j T e W l k never h. never_stuck_from b d bound j T e W l k never h)
   where
-    by : (o : Outcome) → step primitives e W ≡ o → Leads b d (tick T) o → ((j : ℕ) (T : Talks) (e : Ending) (W : World) → j < bound → Both b d T e W → NeverTraps e W → (ticks j T).now ≢ is_stuck) → ⊥
+    by : (o : Outcome) → step primitives e W ≡ o → Leads b d (tick T) o → ((j : ℕ) (T : Talks) (e : Ending) (W : World) → j < bound → Both b d T e W → Untrapped e W → (ticks j T).now ≢ is_stuck) → ⊥
     by trapped q l ih = never 1 (ap (λ o. and_then o (steps primitives 0)) q)
     by (ends e' V) q l ih = ⊎_elim
         (λ less.
@@ -171,20 +171,24 @@ talks_at B o = record { world = first_world B; cells = B.cells; frames = main_ta
 first_both : (B : Beginning) (f : Function) → slice_get B.functions B.main ≡ Some f → Both B.rest (first_world B) (talks_at B (Some f)) go (world_at B (Some f))
 first_both B f e = both_run B.heap B.functions B.cells (map closed B.cells) B.fuel [] [] B.main f _ _ (record { held = []; gone = [] }) (alike_refl _) e (starts B.functions (map closed B.cells) B.cells [] [] (first_stacks B.functions B.cells) (omega arith))
 
-pub readings_agree : ReadingsAgree
-readings_agree B x never = by (slice_get B.functions B.main) refl never
+pub talks_follow : TalksFollow
+talks_follow B x = by (slice_get B.functions B.main) refl
   where
-    by : (o : Option Function) → slice_get B.functions B.main ≡ o → NeverTraps go (world_at B o)
-        → ((n : ℕ) × (final (steps primitives n go (world_at B o)) ≡ Some x)) ↔ ((n : ℕ) × (talked (ticks n (talks_at B o)) ≡ Some x))
+    by : (o : Option Function) → slice_get B.functions B.main ≡ o → ((n : ℕ) × (final (steps primitives n go (world_at B o)) ≡ Some x)) → ((n : ℕ) × (talked (ticks n (talks_at B o)) ≡ Some x))
+    by None e (zero, h) = absurd (cc)
+    by None e (suc n, h) = absurd (cc)
+    by (Some f) e k = machine_talk B.rest (first_world B) k.0 (talks_at B (Some f)) go (world_at B (Some f)) x (first_both B f e) k.1
+
+pub machine_follows : MachineFollows
+machine_follows B x never = by (slice_get B.functions B.main) refl never
+  where
+    by : (o : Option Function) → slice_get B.functions B.main ≡ o → Untrapped go (world_at B o) → ((n : ℕ) × (talked (ticks n (talks_at B o)) ≡ Some x)) → ((n : ℕ) × (final (steps primitives n go (world_at B o)) ≡ Some x))
     by None e never = absurd (never 1 refl)
-    by (Some f) e never = (
-      λ k. machine_talk B.rest (first_world B) k.0 (talks_at B (Some f)) go (world_at B (Some f)) x (first_both B f e) never k.1,
-      λ k. talk_machine B.rest (first_world B) (suc k.0) k.0 (talks_at B (Some f)) go (world_at B (Some f)) x (omega arith) (first_both B f e) never k.1,
-    )
+    by (Some f) e never = λ k. talk_machine B.rest (first_world B) (suc k.0) k.0 (talks_at B (Some f)) go (world_at B (Some f)) x (omega arith) (first_both B f e) never k.1
 
 pub never_stuck : NeverStuck
 never_stuck B never n = by (slice_get B.functions B.main) refl never
   where
-    by : (o : Option Function) → slice_get B.functions B.main ≡ o → NeverTraps go (world_at B o) → (ticks n (talks_at B o)).now ≢ is_stuck
+    by : (o : Option Function) → slice_get B.functions B.main ≡ o → Untrapped go (world_at B o) → (ticks n (talks_at B o)).now ≢ is_stuck
     by None e never = absurd (never 1 refl)
     by (Some f) e never = never_stuck_from B.rest (first_world B) (suc n) n (talks_at B (Some f)) go (world_at B (Some f)) (omega arith) (first_both B f e) never

@@ -1,5 +1,5 @@
 -- Whole runs of code in one coroutine, by the machine over whole worlds and by talking activations (Lua 5.4 manual, 2.3 and 2.6).
-use Rattle.std.specs.Prelude.{◌≡◌, ◌≢◌, ◌↔◌, ℕ, List, [], ◌∷◌, map, Option, Some, None, slice_get}
+use Rattle.std.specs.Prelude.{◌≡◌, ◌≢◌, ℕ, List, [], ◌∷◌, map, Option, Some, None, slice_get}
 use Rattle.int_core.specs.Value.{nil, Value, known, nth}
 use Rattle.int_core.specs.Heap.{Heap}
 use Rattle.machine_core.specs.World.{Function, Cell, closed, open_at, Frame, in_progress, World}
@@ -81,13 +81,25 @@ final_talk _ T = None
 abbrev pub talked : Talks → Option Final
 talked T = final_talk T.now T
 
--- where the machine never traps, both come to the same
-abbrev pub ReadingsAgree : Type 0
-ReadingsAgree =
-    (B : Beginning) (e : Final) → ((n : ℕ) → steps primitives n go (first_world B) ≢ trapped)
-    → ((n : ℕ) × (final (steps primitives n go (first_world B)) ≡ Some e)) ↔ ((n : ℕ) × (talked (ticks n (first_talks B)) ≡ Some e))
+-- what both readings come to in some number of steps
 
--- and of the talking activations each ask is answered, and none does what it cannot do
+abbrev pub MachineComesTo : Beginning → Final → Type 0
+MachineComesTo B e = (n : ℕ) × (final (steps primitives n go (first_world B)) ≡ Some e)
+
+abbrev pub TalksComeTo : Beginning → Final → Type 0
+TalksComeTo B e = (n : ℕ) × (talked (ticks n (first_talks B)) ≡ Some e)
+
+abbrev pub NeverTraps : Beginning → Type 0
+NeverTraps B = (n : ℕ) → steps primitives n go (first_world B) ≢ trapped
+
+-- whatever the machine comes to, the talking activations come to
+abbrev pub TalksFollow : Type 0
+TalksFollow = (B : Beginning) (e : Final) → MachineComesTo B e → TalksComeTo B e
+
+-- and where the machine never traps, it comes to whatever they come to
+abbrev pub MachineFollows : Type 0
+MachineFollows = (B : Beginning) (e : Final) → NeverTraps B → TalksComeTo B e → MachineComesTo B e
+
+-- and each of their asks is answered
 abbrev pub NeverStuck : Type 0
-NeverStuck =
-    (B : Beginning) → ((n : ℕ) → steps primitives n go (first_world B) ≢ trapped) → (n : ℕ) → (ticks n (first_talks B)).now ≢ is_stuck
+NeverStuck = (B : Beginning) → NeverTraps B → (n : ℕ) → (ticks n (first_talks B)).now ≢ is_stuck

@@ -2,13 +2,14 @@
 //! The crate has no code that runs. Its public function states what is proved of the definitions.
 #![tactic(auto)]
 
-ghost use Rattle.machine_join.specs.Join.{NeverStuck, ReadingsAgree};
+ghost use Rattle.machine_join.specs.Join.{MachineFollows, NeverStuck, TalksFollow};
 
-/// Whatever code begins, in one coroutine with `pcall`, `xpcall` and `error`: where the machine over whole worlds never traps, it and
-/// the world of talking activations come to the same results or error, heap, functions, values of cells and budget left; and no
-/// talking activation is ever stuck.
+/// Of whatever code, in one coroutine with `pcall`, `xpcall` and `error`: what the machine over whole worlds comes to, the world of
+/// talking activations comes to, with the same results or error, heap, functions, values of cells and budget left. Where the
+/// machine never traps, it comes to whatever they come to, and none of them is ever stuck.
 pub fn readings_agree()
-    ensures agree { ReadingsAgree }
+    ensures talks_follow { TalksFollow }
+    ensures machine_follows { MachineFollows }
     ensures goes_on { NeverStuck }
 {
 }

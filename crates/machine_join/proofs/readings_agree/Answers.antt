@@ -1,8 +1,11 @@
-use Rattle.machine_join.proofs.Runs.{readings_agree, never_stuck}
+use Rattle.machine_join.proofs.Runs.{machine_follows, never_stuck, talks_follow}
 use Rattle.machine_join.proofs.readings_agree.Goals as goal
 
-pub returns-clause-agree : goal.returns-clause-agree
-returns-clause-agree c = readings_agree
+pub returns-clause-talks_follow : goal.returns-clause-talks_follow
+returns-clause-talks_follow c = talks_follow
+
+pub returns-clause-machine_follows : goal.returns-clause-machine_follows
+returns-clause-machine_follows c = machine_follows
 
 pub returns-clause-goes_on : goal.returns-clause-goes_on
 returns-clause-goes_on c = never_stuck
