@@ -16,7 +16,7 @@ use Rattle.machine_core.specs.Talk.{State, amid, talk, heard, captured_done}
 use Rattle.machine_core.specs.TalkRun.{TalkFrame, talking, waiting, Now, talks, raising, Talks, shared_in, shared_out, turn, answered, calls_value}
 use Rattle.machine_core.specs.TalkRun.{blamed as talk_blamed}
 use Rattle.machine_join.proofs.Cells.{Held, shared_append, share_in}
-use Rattle.machine_join.proofs.Sim.{RegsOk, Fixed, Alike, Asleep, Below, Working, Rested, Stacks, flush, work_again}
+use Rattle.machine_join.proofs.Sim.{RegsOk, Fixed, Alike, Working, Rested, Stacks, flush, work_again}
 use Rattle.machine_join.proofs.Worlds.{mk, frame}
 use Rattle.machine_join.proofs.Moves.{leaving_move}
 use Rattle.machine_join.proofs.Both.{mk_talks, Both, both_raise, Leads, leads_on, by_move, talk_tick}
@@ -69,7 +69,7 @@ module _ (b d : World) (n : ℕ) (g : Function) (pc : ℕ) where
   pub again : (w : Wait Value) (t : Text) → RowLeads w t → (env : List Value) (a a' : Activation) (h : Held) (gone : List (ℕ × Value)) (held : Held) (H : Heap) (fs : List Function) (vs : List Value) (fuel : ℕ) (ms : List Frame) (ts : List TalkFrame) (ws : List Cell)
       → Fixed a a' → a.pc ≡ pc → slice_get fs n ≡ Some g → Good g.code pc w (length env) t → RegsOk vs h a.registers a'.registers → Working fs ws vs held ms ts
       → Leads b d (mk_talks d H fs vs (talking n (amid t env (record a { registers = brought h (shared_out (shared_by h a.registers ++ gone) vs) a.registers }) (record { held = held; gone = [] })) ∷ ts) talks fuel)
-        (run (expand t) env (mk b H fs ws (lua (frame n w a') ∷ ms) [] fuel))
+      (run (expand t) env (mk b H fs ws (lua (frame n w a') ∷ ms) [] fuel))
   again w t ih env a a' h gone held H fs vs fuel ms ts ws x e f gd o k =
       let rs : List Value = brought h (shared_out (shared_by h a.registers ++ gone) vs) a.registers in
       let s : State = amid t env (record a { registers = rs }) (record { held = held; gone = [] }) in
@@ -82,7 +82,7 @@ module _ (b d : World) (n : ℕ) (g : Function) (pc : ℕ) where
   pub reply_leads : (w : Wait Value) (t : Text) → RowLeads w t → (env : List Value) (a a' : Activation) (c : Captured) (H : Heap) (fs : List Function) (vs : List Value) (fuel : ℕ) (ms : List Frame) (ts : List TalkFrame) (ws : List Cell)
       → Fixed a a' → a.pc ≡ pc → slice_get fs n ≡ Some g → Good g.code pc w (length env) t → Rested fs ws vs a.registers a'.registers c.held ms ts
       → Leads b d (mk_talks d H fs vs (talking n (amid t env (record a { registers = brought c.held (shared_out (share c a) vs) a.registers }) (record { held = c.held; gone = [] })) ∷ ts) talks fuel)
-        (run (expand t) env (mk b H fs ws (lua (frame n w a') ∷ ms) [] fuel))
+      (run (expand t) env (mk b H fs ws (lua (frame n w a') ∷ ms) [] fuel))
   reply_leads w t ih env a a' c H fs vs fuel ms ts ws x e f gd k =
       again w t ih env a a' c.held c.gone c.held H fs vs fuel ms ts ws x e f gd k.top (work_again fs ws vs a.registers a'.registers c.held ms ts k)
 
@@ -110,9 +110,11 @@ module _ (b d : World) (n : ℕ) (g : Function) (pc : ℕ) where
 
   pub raise_leads : (w : Wait Value) (text : List ℕ) → RowLeads w (raise text)
   raise_leads w text env a a' c H fs vs fuel ms ts ts0 ws x e f gd k =
-      by_move b d _ (begin_leaving text) (λ _ _. stop raised) env W _ (leaving_move b H fs ws [] fuel ms n w a' g f text env)
-      (0, subst (λ v. Both b d (mk_talks d H fs vs1 (waiting n (line_of g.code a.pc) (share c1 a1) (hears (leaving (known nil)) a1 c1) ∷ ts) (raising v) fuel) raised (mk b H fs ws1 (lua (frame n (leaving v0) a1') ∷ ms) (v0 ∷ []) fuel)) (sym same)
-      (both_raise H fs vs1 ws1 fuel (lua (frame n (leaving v0) a1') ∷ ms) (waiting n (line_of g.code a.pc) (share c1 a1) (hears (leaving (known nil)) a1 c1) ∷ ts) v0 stacks))
+      by_move b d _ (begin_leaving text) (λ _ _. stop raised) env W _ (leaving_move b H fs ws [] fuel ms n w a' g f text env) (
+        0,
+        subst (λ v. Both b d (mk_talks d H fs vs1 (waiting n (line_of g.code a.pc) (share c1 a1) (hears (leaving (known nil)) a1 c1) ∷ ts) (raising v) fuel) raised (mk b H fs ws1 (lua (frame n (leaving v0) a1') ∷ ms) (v0 ∷ []) fuel)) (sym same)
+            (both_raise H fs vs1 ws1 fuel (lua (frame n (leaving v0) a1') ∷ ms) (waiting n (line_of g.code a.pc) (share c1 a1) (hears (leaving (known nil)) a1 c1) ∷ ts) v0 stacks),
+      )
     where
       W : World
       W = mk b H fs ws (lua (frame n w a') ∷ ms) [] fuel
@@ -184,7 +186,7 @@ module _ (b d : World) (n : ℕ) (g : Function) (pc : ℕ) where
   pub waits_leads : (u : Wait Value) (f : Value) (arguments : List Value) (env : List Value) (a a' : Activation) (c : Captured) (H : Heap) (fs : List Function) (vs : List Value) (fuel : ℕ) (ms : List Frame) (ts ts0 : List TalkFrame) (ws : List Cell) (W : World)
       → W.fuel ≡ fuel → Fixed a a' → a.pc ≡ pc → slice_get fs n ≡ Some g → IsWaiting u → Rested fs ws vs a.registers a'.registers c.held ms ts
       → Leads b d (calls_value (mk_talks d H fs vs ts0 talks fuel) (waiting n (line_of g.code a.pc) (share c a) (hears u a c) ∷ ts) f arguments (λ U text. answered U n (share c a) (hears u a c) 0 (faulted text) ts))
-        (call_out after_call env (enters_paid W (mk b H fs ws (lua (frame n u a') ∷ ms) [] fuel) (callee_of greatest_chain H f arguments)))
+      (call_out after_call env (enters_paid W (mk b H fs ws (lua (frame n u a') ∷ ms) [] fuel) (callee_of greatest_chain H f arguments)))
   waits_leads u f arguments env a a' c H fs vs fuel ms ts ts0 ws W ew x e l i k =
       called_leads b d H fs ws vs (lua (frame n u a') ∷ ms) (waiting n (line_of g.code a.pc) (share c a) (hears u a c) ∷ ts) ts0 talks W env after_call (λ U text. answered U n (share c a) (hears u a c) 0 (faulted text) ts) refl (λ m. refl) refl
       (λ _ fuel'. refused_leads u _ a a' c H fs vs fuel' ms ts ts0 ws talks x e l k)

@@ -18,3 +18,4 @@ pub mod RowsGood
 pub mod Delivered
 pub mod Steps
 pub mod Runs
+pub mod Vectors

@@ -1,7 +1,7 @@
 -- What the moves of a row do to a world of one coroutine with a Lua frame on top.
 use Rattle.std.proofs.Common.{ℕ, ◌+◌, ◌≡◌, List, [], ◌∷◌, length, Option, Some, None, ap, ◌∙◌, Bool, true, false}
 use Rattle.std.proofs.Math.Path.{fun_ext}
-use Rattle.std.specs.Prelude.{ℤ, slice_get, drop, cond, ◌&&◌, nat_lt, nat_le}
+use Rattle.std.specs.Prelude.{ℤ, slice_get, drop, cond, nat_lt, nat_le}
 use Rattle.code_core.specs.Check.{at}
 use Rattle.int_core.specs.Value.{Value, object, a_function, bind}
 use Rattle.int_core.specs.Heap.{Heap}

@@ -1,5 +1,5 @@
 -- Cells that are opened and named on both sides.
-use Rattle.std.proofs.Common.{ℕ, zero, suc, ◌+◌, ◌<◌, ◌≡◌, inl, inr, ⊎_elim, List, [], ◌∷◌, ◌++◌, length, Option, Some, None, refl, sym, ap, subst, ◌∙◌, arith}
+use Rattle.std.proofs.Common.{ℕ, zero, suc, ◌+◌, ◌≡◌, inl, inr, ⊎_elim, List, [], ◌∷◌, ◌++◌, length, Option, Some, None, refl, sym, ap, subst, ◌∙◌, arith}
 use Rattle.std.specs.Prelude.{slice_get, Bool, true, false, cond, nat_eq, ◌&&◌}
 use Rattle.std.proofs.lemmas.Option.{slice_get_within}
 use Rattle.code_core.specs.declared.proto.UpDesc.{UpDesc}

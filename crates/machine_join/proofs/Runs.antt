@@ -1,6 +1,6 @@
 -- Whole runs of both readings come to the same.
 use Rattle.std.proofs.Common.{ℕ, zero, suc, ◌+◌, ◌-◌, ◌<◌, ◌≡◌, ◌≢◌, ⊎_elim, List, [], ◌∷◌, length, map, Option, Some, None, refl, sym, ap, ◌∙◌, arith, false}
-use Rattle.std.specs.Prelude.{◌↔◌, slice_get}
+use Rattle.std.specs.Prelude.{slice_get}
 use Rattle.std.proofs.lemmas.Bool.{cases_lt}
 use Rattle.int_core.specs.Value.{Value, nth}
 use Rattle.machine_core.specs.World.{Function, Cell, closed, open_at, running, Frame, lua, pcall, xpcall, handler, closing, World}

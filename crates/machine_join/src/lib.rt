@@ -11,5 +11,4 @@ pub fn readings_agree()
     ensures talks_follow { TalksFollow }
     ensures machine_follows { MachineFollows }
     ensures goes_on { NeverStuck }
-{
-}
+{}
