@@ -4,12 +4,11 @@ use Rattle.std.specs.Prelude.{map, slice_get, length}
 use Rattle.int_core.specs.Value.{Value}
 use Rattle.int_core.specs.Heap.{Heap}
 use Rattle.int_core.specs.Ask.{Captured}
-use Rattle.machine_core.specs.World.{Function, Cell, running, Activation, Frame, lua, World}
+use Rattle.machine_core.specs.World.{Function, Cell, closed, running, Activation, Frame, lua, World}
 use Rattle.machine_core.specs.Moves.{Ending, go, returned, calls_primitive, raised, unwinding, spent, main_returned, main_failed, Made, Told, Move, move, Row, act, Outcome, trapped, ends, run}
 use Rattle.machine_core.specs.Talk.{State, before, talk_step}
 use Rattle.machine_core.specs.TalkRun.{TalkFrame, talking, Now, talks, returning, raising, has_returned, has_failed, is_spent, is_stuck, Talks, shared_in, turn, tick_by, ticks}
 use Rattle.machine_core.specs.TalkRun.{unwinding as talk_unwinding, calls_primitive as talk_primitive}
-use Rattle.machine_join.specs.Join.{kept}
 use Rattle.machine_join.proofs.Sim.{Alike, Working, Stacks}
 use Rattle.machine_join.proofs.Worlds.{mk, frame}
 
@@ -34,9 +33,9 @@ pub data Both (b d : World) : Talks → Ending → World → Type 0 where
       → Stacks false fs ws vs ms ts → Both b d (mk_talks d H fs vs ts (talk_primitive k mv) fuel) (calls_primitive k) (mk b H fs ws ms mv fuel)
   both_spent : (T : Talks) (W : World) → T.now ≡ is_spent → Both b d T spent W
   both_returned : (H : Heap) (fs : List Function) (vs : List Value) (fuel : ℕ) (T : Talks) (W : World) (mv : List Value) → T.now ≡ has_returned mv → T.world ≡ record d { heap = H; functions = fs; fuel = fuel } → T.cells ≡ vs
-      → W.moving ≡ mv → W.heap ≡ H → W.functions ≡ fs → map kept W.cells ≡ vs → W.fuel ≡ fuel → Both b d T main_returned W
+      → W.moving ≡ mv → W.heap ≡ H → W.functions ≡ fs → W.cells ≡ map closed vs → W.fuel ≡ fuel → Both b d T main_returned W
   both_failed : (H : Heap) (fs : List Function) (vs : List Value) (fuel : ℕ) (T : Talks) (W : World) (v : Value) → T.now ≡ has_failed v → T.world ≡ record d { heap = H; functions = fs; fuel = fuel } → T.cells ≡ vs
-      → W.moving ≡ v ∷ [] → W.heap ≡ H → W.functions ≡ fs → map kept W.cells ≡ vs → W.fuel ≡ fuel → Both b d T main_failed W
+      → W.moving ≡ v ∷ [] → W.heap ≡ H → W.functions ≡ fs → W.cells ≡ map closed vs → W.fuel ≡ fuel → Both b d T main_failed W
 
 abbrev pub tick : Talks → Talks
 tick T = tick_by T.now T

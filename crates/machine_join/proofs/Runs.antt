@@ -7,7 +7,7 @@ use Rattle.machine_core.specs.World.{Function, Cell, closed, open_at, running, F
 use Rattle.machine_core.specs.Moves.{Ending, go, Outcome, trapped, ends}
 use Rattle.machine_core.specs.MachineStep.{step, steps, and_then}
 use Rattle.machine_core.specs.TalkRun.{Now, talks, returning, raising, unwinding, calls_primitive, has_returned, has_failed, is_spent, is_stuck, Talks, ticks}
-use Rattle.machine_join.specs.Join.{kept, Beginning, primitives, main_frames, main_talk, first_world, Final, final_world, final, final_talk, talked, TalksFollow, MachineFollows, NeverStuck}
+use Rattle.machine_join.specs.Join.{Beginning, primitives, main_frames, main_talk, first_world, Final, final_world, final, final_talk, talked, TalksFollow, MachineFollows, NeverStuck}
 use Rattle.machine_join.specs.Join.{returned as with_results, failed as with_error}
 use Rattle.machine_join.proofs.Sim.{alike_refl, Stacks}
 use Rattle.machine_join.proofs.Both.{handing, Both, both_run, both_hand, both_raise, both_unwind, both_primitive, both_spent, both_returned, both_failed, tick, Leads}
@@ -55,13 +55,13 @@ both_final b d T e W (both_unwind H fs vs ws fuel ms ts v k) = refl
 both_final b d T e W (both_primitive H fs vs ws fuel ms ts n mv k) = refl
 both_final b d T e W (both_spent _ _ k) = sym (ap (λ now. final_talk now T) k)
 both_final b d T e W (both_returned H fs vs fuel _ _ mv x y c z u v k w) =
-    ap (λ m. Some (with_results m W.heap W.functions (map kept W.cells) W.fuel)) z ∙ ap (λ h. Some (with_results mv h W.functions (map kept W.cells) W.fuel)) u ∙ ap (λ f. Some (with_results mv H f (map kept W.cells) W.fuel)) v
-    ∙ ap (λ cs. Some (with_results mv H fs cs W.fuel)) k ∙ ap (λ n. Some (with_results mv H fs vs n)) w
-    ∙ sym (ap (λ now. final_talk now T) x ∙ ap (λ (V : World). Some (with_results mv V.heap V.functions T.cells V.fuel)) y ∙ ap (λ cs. Some (with_results mv H fs cs fuel)) c)
+    ap (λ m. Some (with_results m W.heap W.functions W.cells W.fuel)) z ∙ ap (λ h. Some (with_results mv h W.functions W.cells W.fuel)) u ∙ ap (λ f. Some (with_results mv H f W.cells W.fuel)) v
+    ∙ ap (λ cs. Some (with_results mv H fs cs W.fuel)) k ∙ ap (λ n. Some (with_results mv H fs (map closed vs) n)) w
+    ∙ sym (ap (λ now. final_talk now T) x ∙ ap (λ (V : World). Some (with_results mv V.heap V.functions (map closed T.cells) V.fuel)) y ∙ ap (λ (cs : List Value). Some (with_results mv H fs (map closed cs) fuel)) c)
 both_final b d T e W (both_failed H fs vs fuel _ _ v x y c z u t k w) =
-    ap (λ m. Some (with_error (nth m 0) W.heap W.functions (map kept W.cells) W.fuel)) z ∙ ap (λ h. Some (with_error v h W.functions (map kept W.cells) W.fuel)) u ∙ ap (λ f. Some (with_error v H f (map kept W.cells) W.fuel)) t
-    ∙ ap (λ cs. Some (with_error v H fs cs W.fuel)) k ∙ ap (λ n. Some (with_error v H fs vs n)) w
-    ∙ sym (ap (λ now. final_talk now T) x ∙ ap (λ (V : World). Some (with_error v V.heap V.functions T.cells V.fuel)) y ∙ ap (λ cs. Some (with_error v H fs cs fuel)) c)
+    ap (λ m. Some (with_error (nth m 0) W.heap W.functions W.cells W.fuel)) z ∙ ap (λ h. Some (with_error v h W.functions W.cells W.fuel)) u ∙ ap (λ f. Some (with_error v H f W.cells W.fuel)) t
+    ∙ ap (λ cs. Some (with_error v H fs cs W.fuel)) k ∙ ap (λ n. Some (with_error v H fs (map closed vs) n)) w
+    ∙ sym (ap (λ now. final_talk now T) x ∙ ap (λ (V : World). Some (with_error v V.heap V.functions (map closed T.cells) V.fuel)) y ∙ ap (λ (cs : List Value). Some (with_error v H fs (map closed cs) fuel)) c)
 
 abbrev Untrapped : Ending → World → Type 0
 Untrapped e W = (n : ℕ) → steps primitives n e W ≢ trapped

@@ -15,7 +15,7 @@ use Rattle.machine_core.specs.RowFits.{IsWaiting}
 use Rattle.machine_core.specs.Talk.{before, talk, talk_step}
 use Rattle.machine_core.specs.TalkRun.{TalkFrame, talking, waiting, protected, handled_by, handling, Now, talks, raising, has_returned, has_failed, is_spent, Talks, ticks, tick_by, calls_over, turn, error_in_handler}
 use Rattle.machine_core.specs.TalkRun.{returning as talk_returning, unwinding as talk_unwinding, calls_primitive as talk_primitive, raised_to as talk_raised_to, blames as talk_blames}
-use Rattle.machine_join.specs.Join.{primitives, kept}
+use Rattle.machine_join.specs.Join.{primitives}
 use Rattle.machine_join.proofs.Lists.{append_nil}
 use Rattle.machine_join.proofs.Cells.{Held}
 use Rattle.machine_join.proofs.Sim.{CellsOk, Pair, Below, Stacks}
@@ -56,17 +56,17 @@ knows_told (returning n) vs k = absurd k
 knows_told (leaving e) vs k = omega arith
 
 -- where no frame is left, each cell has its value
-kept_from : (ws : List Cell) (vs : List Value) → length ws ≡ length vs → ((c : ℕ) (x : Cell) → slice_get ws c ≡ Some x → kept x ≡ nth vs c) → map kept ws ≡ vs
-kept_from [] [] l h = refl
-kept_from [] (v ∷ vs) l h = absurd (omega arith)
-kept_from (w ∷ ws) [] l h = absurd (omega arith)
-kept_from (w ∷ ws) (v ∷ vs) l h = ap (λ x. x ∷ map kept ws) (h 0 w refl) ∙ ap (λ xs. v ∷ xs) (kept_from ws vs (omega arith) (λ c x e. h (suc c) x e))
+closed_from : (ws : List Cell) (vs : List Value) → length ws ≡ length vs → ((c : ℕ) (x : Cell) → slice_get ws c ≡ Some x → x ≡ closed (nth vs c)) → ws ≡ map closed vs
+closed_from [] [] l h = refl
+closed_from [] (v ∷ vs) l h = absurd (omega arith)
+closed_from (w ∷ ws) [] l h = absurd (omega arith)
+closed_from (w ∷ ws) (v ∷ vs) l h = ap (λ x. x ∷ ws) (h 0 w refl) ∙ ap (λ xs. closed v ∷ xs) (closed_from ws vs (omega arith) (λ c x e. h (suc c) x e))
 
-all_kept : (ws : List Cell) (vs : List Value) → CellsOk ws vs [] → map kept ws ≡ vs
-all_kept ws vs k = kept_from ws vs k.size by
+all_closed : (ws : List Cell) (vs : List Value) → CellsOk ws vs [] → ws ≡ map closed vs
+all_closed ws vs k = closed_from ws vs k.size by
   where
-    by : (c : ℕ) (x : Cell) → slice_get ws c ≡ Some x → kept x ≡ nth vs c
-    by c (closed v) e = sym (k.shut c v e)
+    by : (c : ℕ) (x : Cell) → slice_get ws c ≡ Some x → x ≡ closed (nth vs c)
+    by c (closed v) e = ap closed (sym (k.shut c v e))
     by c (open_at i f r) e = absurd (k.opened c i f r e).1
 
 module _ (b d : World) (H : Heap) (fs : List Function) (vs : List Value) (ws : List Cell) (fuel : ℕ) where
@@ -79,7 +79,7 @@ module _ (b d : World) (H : Heap) (fs : List Function) (vs : List Value) (ws : L
   -- the main coroutine ends
   ends_main : (mv env : List Value) → CellsOk ws vs [] → Leads b d (T [] (has_returned mv)) (run (then end_coroutine (stop main_returned)) env (W [] mv))
   unfolding put_coroutine back_to_resumer
-  ends_main mv env c = (0, both_returned H fs vs fuel _ _ mv refl refl refl refl refl refl (all_kept ws vs c) refl)
+  ends_main mv env c = (0, both_returned H fs vs fuel _ _ mv refl refl refl refl refl refl (all_closed ws vs c) refl)
 
   see_is : (ms : List Frame) (mv env : List Value) → move see_top env (W ms mv) ≡ made (W ms mv) [] (shape_of ms)
   see_is ms mv env = ap (λ o. bind o (λ top. made (W ms mv) [] top)) (top_is b H fs ws mv fuel ms)
@@ -144,7 +144,7 @@ module _ (b d : World) (H : Heap) (fs : List Function) (vs : List Value) (ws : L
       (gives_up_leads b d H fs vs ws ms ts [] (v ∷ []) fuel z)
 
   pub unwind_leads : (ms : List Frame) (ts : List TalkFrame) (hs : List Held) (v : Value) → CellsOk ws vs hs → Below true fs vs ms ts hs → length ms ≤ greatest_depth → Leads b d (tick (T ts (talk_unwinding v))) (run (act see_top (λ _ top. unwound top)) [] (W ms (v ∷ [])))
-  unwind_leads [] [] [] v c k l = by_move b d (T [] (has_failed v)) see_top (λ _ top. unwound top) [] (W [] (v ∷ [])) _ (see_is [] (v ∷ []) []) (0, both_failed H fs vs fuel _ _ v refl refl refl refl refl refl (all_kept ws vs c) refl)
+  unwind_leads [] [] [] v c k l = by_move b d (T [] (has_failed v)) see_top (λ _ top. unwound top) [] (W [] (v ∷ [])) _ (see_is [] (v ∷ []) []) (0, both_failed H fs vs fuel _ _ v refl refl refl refl refl refl (all_closed ws vs c) refl)
   unwind_leads (lua fr ∷ ms) (t ∷ ts) (h ∷ hs) v c k l = by_move b d (tick (T (t ∷ ts) (talk_unwinding v))) see_top (λ _ top. unwound top) [] (W (lua fr ∷ ms) (v ∷ [])) _ (see_is (lua fr ∷ ms) (v ∷ []) []) (unwind_lua fr ms t ts h hs v c k.0 k.1 (omega (arith, l)))
   unwind_leads (pcall ∷ ms) (protected ∷ ts) (h ∷ hs) v c k l =
       by_move b d (T ts (talk_returning (known (boolean false) ∷ v ∷ []))) see_top (λ _ top. unwound top) [] (W (pcall ∷ ms) (v ∷ [])) _ (see_is (pcall ∷ ms) (v ∷ []) []) (unwind_caught pcall ms ts v (pops b d H fs vs ws fuel false ms ts h hs k.0 c k.1 (omega (arith, l))))

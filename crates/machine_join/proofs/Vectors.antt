@@ -11,7 +11,7 @@ use Rattle.code_core.specs.Opcode.{opcodes, number_of}
 use Rattle.code_core.specs.Prototype.{Prototype, prototypes}
 use Rattle.int_core.specs.Value.{boolean, integer, string, primitive, a_function, Value, known, object}
 use Rattle.int_core.specs.Heap.{Heap}
-use Rattle.machine_core.specs.World.{Function, World, put_frames, put_top, push, pop, write_cell}
+use Rattle.machine_core.specs.World.{Function, closed, World, put_frames, put_top, push, pop, write_cell}
 use Rattle.machine_core.specs.Moves.{go, with_own, put_coroutine, back_to_resumer, stack_overflow}
 use Rattle.machine_core.specs.MachineStep.{steps, woken}
 use Rattle.machine_core.specs.TalkRun.{TalkFrame, Talks, entered, has_room, talking, talks, ticks}
@@ -147,7 +147,7 @@ abbrev counts : Prototype
 counts = code None [] 0 false 3 [] (adds ∷ []) (abx LoadI 0 65540 ∷ abx Closure 1 0 ∷ abc Call 1 1 1 false ∷ abc Return1 0 2 0 false ∷ [])
 
 abbrev counted : Option Final
-counted = Some (returned (known (integer (pos 6)) ∷ []) empty (record { code = counts; cells = [] } ∷ record { code = adds; cells = 0 ∷ [] } ∷ []) (known (integer (pos 6)) ∷ []) 0)
+counted = Some (returned (known (integer (pos 6)) ∷ []) empty (record { code = counts; cells = [] } ∷ record { code = adds; cells = 0 ∷ [] } ∷ []) (closed (known (integer (pos 6))) ∷ []) 0)
 
 cell_machine : machine (run (counts ∷ []) 1 []) ≡ counted
 unfolding opcodes number_of int_wrap put_frames put_top push pop write_cell with_own put_coroutine back_to_resumer woken

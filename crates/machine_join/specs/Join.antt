@@ -1,8 +1,8 @@
 -- Whole runs of code in one coroutine, by the machine over whole worlds and by talking activations (Lua 5.4 manual, 2.3 and 2.6).
 use Rattle.std.specs.Prelude.{◌≡◌, ◌≢◌, ℕ, List, [], ◌∷◌, map, Option, Some, None, slice_get}
-use Rattle.int_core.specs.Value.{nil, Value, known, nth}
+use Rattle.int_core.specs.Value.{Value, nth}
 use Rattle.int_core.specs.Heap.{Heap}
-use Rattle.machine_core.specs.World.{Function, Cell, closed, open_at, Frame, in_progress, World}
+use Rattle.machine_core.specs.World.{Function, Cell, closed, Frame, in_progress, World}
 use Rattle.machine_core.specs.Moves.{new_frame, Row, traps, Ending, go, spent, main_returned, main_failed, Outcome, trapped, ends}
 use Rattle.machine_core.specs.MachineStep.{pcall_row, xpcall_row, error_row, steps}
 use Rattle.machine_core.specs.Talk.{talk_start}
@@ -50,21 +50,16 @@ first_talks B = record {
   now = talks;
 }
 
--- the value that a cell has by itself
-abbrev pub kept : Cell → Value
-kept (closed v) = v
-kept (open_at coroutine frame register) = known nil
-
--- to what a run comes: results or an error, with the heap, the functions, the values of the cells and the budget that are left;
--- or the budget is spent
+-- to what a run comes: results or an error, with the heap, the functions, the cells, all of them closed, and the budget that are left; or
+-- the budget is spent
 pub data Final : Type 0 where
-  returned : List Value → Heap → List Function → (cells : List Value) → (fuel : ℕ) → Final
-  failed : Value → Heap → List Function → (cells : List Value) → (fuel : ℕ) → Final
+  returned : List Value → Heap → List Function → (cells : List Cell) → (fuel : ℕ) → Final
+  failed : Value → Heap → List Function → (cells : List Cell) → (fuel : ℕ) → Final
   out_of_budget : Final
 
 abbrev pub final_world : Ending → World → Option Final
-final_world main_returned W = Some (returned W.moving W.heap W.functions (map kept W.cells) W.fuel)
-final_world main_failed W = Some (failed (nth W.moving 0) W.heap W.functions (map kept W.cells) W.fuel)
+final_world main_returned W = Some (returned W.moving W.heap W.functions W.cells W.fuel)
+final_world main_failed W = Some (failed (nth W.moving 0) W.heap W.functions W.cells W.fuel)
 final_world spent W = Some out_of_budget
 final_world _ W = None
 
@@ -73,8 +68,8 @@ final trapped = None
 final (ends ending W) = final_world ending W
 
 abbrev pub final_talk : Now → Talks → Option Final
-final_talk (has_returned vs) T = Some (returned vs T.world.heap T.world.functions T.cells T.world.fuel)
-final_talk (has_failed e) T = Some (failed e T.world.heap T.world.functions T.cells T.world.fuel)
+final_talk (has_returned vs) T = Some (returned vs T.world.heap T.world.functions (map closed T.cells) T.world.fuel)
+final_talk (has_failed e) T = Some (failed e T.world.heap T.world.functions (map closed T.cells) T.world.fuel)
 final_talk is_spent T = Some out_of_budget
 final_talk _ T = None
 
