@@ -44,7 +44,7 @@ is_open_true co f r (open_at x y z) h = ⊎_elim
     (λ s. let w : false ≡ true = rw s.0 at h in cc)
     (eqb_tells co x)
 
-is_open_self : (co f r : ℕ) → is_open_at co f r (open_at co f r) ≡ true
+pub is_open_self : (co f r : ℕ) → is_open_at co f r (open_at co f r) ≡ true
 is_open_self co f r = ⊎_elim
     (λ s. ⊎_elim (λ t. ⊎_elim (λ u. rw (s.0, t.0, u.0) refl) (λ u. absurd (u.1 refl)) (eqb_tells r r)) (λ t. absurd (t.1 refl)) (eqb_tells f f))
     (λ s. absurd (s.1 refl)) (eqb_tells co co)

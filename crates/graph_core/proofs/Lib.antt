@@ -11,4 +11,8 @@ pub mod OwnFrame
 pub mod Calls
 pub mod OtherFrames
 pub mod Coroutines
+pub mod PlainRows
+pub mod Opened
+pub mod Rows
 pub mod Keeps
+pub mod Examples

@@ -61,7 +61,7 @@ pc_keeps z p env other W X s g = on_place p (Unit {0}) W X _ _ g (λ a b h. alig
 registers_same : (p : Pairs) (a b : Place) → SamePlace p a b → length a.top.own.registers ≡ length b.top.own.registers
 registers_same p a b h = zip_length (SameValue p) a.top.own.registers b.top.own.registers h.top.own.registers
 
-opened_at : (p : Pairs) (W X : World) (a b : Place) (r : ℕ) → AgreeInTurn p W X → SamePlace p a b → Alike p (Unit {0})
+pub opened_at : (p : Pairs) (W X : World) (a b : Place) (r : ℕ) → AgreeInTurn p W X → SamePlace p a b → Alike p (Unit {0})
     (cond (nat_lt r (length a.top.own.registers)) (made (record W { cells = opened_cells (find_open a.stack.coroutine a.number r W.cells) a.stack.coroutine a.number r W.cells }) [] tt) None)
     (cond (nat_lt r (length b.top.own.registers)) (made (record X { cells = opened_cells (find_open b.stack.coroutine b.number r X.cells) b.stack.coroutine b.number r X.cells }) [] tt) None)
 opened_at p W X a b r g h =

@@ -6,7 +6,7 @@ use Rattle.code_core.specs.Prototype.{Prototype}
 use Rattle.code_core.specs.Check.{fixed, open_from, mark}
 use Rattle.int_core.specs.Value.{a_coroutine, Value, known, nil, integer, boolean, is_known, nth, range, write, write_all}
 use Rattle.machine_core.specs.World.{Activation, Cell}
-use Rattle.machine_core.specs.Text.{Arg, read, written, arg, args_of, Own, read_register, read_registers, read_list, read_constant, read_varargs, see, write_register, write_registers, write_list, write_nils, end_list, cut_from, close_cells, mark_pending, see_pending, take_pending, drop_pending, keep_results, keep_pending, constant, list_end, list_values, last_pending, value_if, is_there, blanked, is_pending, nils, reads, tells, effect, fits, done}
+use Rattle.machine_core.specs.Text.{behind, Arg, read, written, arg, args_of, Own, read_register, read_registers, read_list, read_constant, read_varargs, see, write_register, write_registers, write_list, write_nils, end_list, cut_from, close_cells, mark_pending, see_pending, take_pending, drop_pending, keep_results, keep_pending, constant, list_end, list_values, last_pending, value_if, is_there, blanked, is_pending, nils, reads, tells, effect, fits, done}
 use Rattle.machine_core.specs.Moves.{cells_after, cells_done}
 use Rattle.graph_core.specs.Agree.{Pairs, SameNumber, SameValue, same_known, SameValues, SameActivation, Objects, SameObjects}
 use Rattle.graph_core.proofs.Pairwise.{zip_length, zip_take, zip_drop, cond_rel}
@@ -113,10 +113,10 @@ module _ (p : Pairs) where
 
   pub fits_same : (m : Own) (code : Prototype) (a b : Activation) → SameActivation p a b → fits m code a ≡ fits m code b
   fits_same (read_register r) code a b h = ap (nat_lt r) (length_same a b h)
-  fits_same (read_registers from count) code a b h = ap (nat_le (from + count)) (length_same a b h)
+  fits_same (read_registers from count) code a b h = ap (nat_le (behind from count)) (length_same a b h)
   fits_same (read_list from) code a b h = ap is_there (end_by code a b h)
   fits_same (write_register r x) code a b h = ap (nat_lt r) (length_same a b h)
-  fits_same (write_registers at count slot) code a b h = ap (nat_le (at + count)) (length_same a b h)
+  fits_same (write_registers at count slot) code a b h = ap (nat_le (behind at count)) (length_same a b h)
   fits_same (write_list at slot) code a b h = ap (nat_lt at) (length_same a b h)
   fits_same (write_nils at count) code a b h = ap (nat_le (at + count)) (length_same a b h)
   fits_same (mark_pending r) code a b h = ap (nat_lt r) (length_same a b h)
@@ -154,7 +154,7 @@ module _ (p : Pairs) where
   effect_same (mark_pending r) code env other a b s h = with_pending a b (λ pending. pending ++ r ∷ []) h
   effect_same (take_pending r) code env other a b s h = with_pending a b (λ pending. cond (is_there (last_pending r pending)) (take (length pending - 1) pending) pending) h
   effect_same (drop_pending r) code env other a b s h = with_pending a b (λ pending. filter (λ q. nat_lt q r) pending) h
-  effect_same (keep_results from count) code env other a b s h = with_registers a b _ _ 0 0 h (blanked_by (λ pending i. is_pending pending i || (nat_le from i && nat_lt i (from + count))) (max code.own.stack (from + count)) a b h) refl
+  effect_same (keep_results from count) code env other a b s h = with_registers a b _ _ 0 0 h (blanked_by (λ pending i. is_pending pending i || (nat_le from i && nat_lt i (from + count))) (max code.own.stack (behind from count)) a b h) refl
   effect_same keep_pending code env other a b s h = with_registers a b _ _ 0 0 h (blanked_by is_pending code.own.stack a b h) refl
   effect_same (read_register r) code env other a b s h = h
   effect_same (read_registers from count) code env other a b s h = h

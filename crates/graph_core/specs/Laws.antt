@@ -3,14 +3,13 @@ use Rattle.std.specs.Prelude.{◌≡◌, ℕ, List, [], Option, Some, None}
 use Rattle.int_core.specs.Value.{Value}
 use Rattle.machine_core.specs.World.{World}
 use Rattle.machine_core.specs.Text.{make_function}
-use Rattle.machine_core.specs.Moves.{Move, outside, Told, Made, move, Row, Ending, Outcome, trapped, ends, run}
+use Rattle.machine_core.specs.Moves.{Move, outside, Told, Made, move, Row, traps, stop, only, act, Ending, Outcome, trapped, ends, run}
 use Rattle.machine_core.specs.MachineStep.{steps}
 use Rattle.graph_core.specs.Agree.{Pairs, SameValues, Agree, AgreeInTurn, Extends, Each}
 
--- two ends of a row: where neither traps, both are the same, in worlds that agree
+-- both rows trap, or both end in the same way, in worlds that agree
 pub data SameOutcome (p : Pairs) : Outcome → Outcome → Type 0 where
-  left_traps : (o : Outcome) → SameOutcome p trapped o
-  right_traps : (o : Outcome) → SameOutcome p o trapped
+  both_trap : SameOutcome p trapped trapped
   both_end : (q : Pairs) (e : Ending) (W X : World) → Extends p q → AgreeInTurn q W X → SameOutcome p (ends e W) (ends e X)
 
 -- two moves leave worlds that agree, read the same values and tell the same
@@ -46,12 +45,21 @@ IsKept m = Keeps m
 abbrev pub MovesKeep : Type 0
 MovesKeep = (m : Move) → IsKept m
 
-abbrev pub RowsKeep : Type 0
-RowsKeep = (r : Row) (p : Pairs) (env other : List Value) (W X : World) → SameValues p env other → AgreeInTurn p W X → SameOutcome p (run r env W) (run r other X)
+abbrev pub NoneMade : Row → Type 0
+NoneMade traps = Unit {0}
+NoneMade (stop e) = Unit {0}
+NoneMade (only slot r) = NoneMade r
+NoneMade (act (outside (make_function n)) k) = ⊥
+NoneMade (act m k) = (n : ℕ) (t : Told m) → NoneMade (k n t)
 
--- whatever the rows of the primitives are
+-- a row that makes no function
+abbrev pub RowsKeep : Type 0
+RowsKeep = (r : Row) → NoneMade r → (p : Pairs) (env other : List Value) (W X : World) → SameValues p env other → AgreeInTurn p W X → SameOutcome p (run r env W) (run r other X)
+
+-- the machine's own rows open what they share; so its steps keep it, whatever the rows of the primitives are that make no function
 abbrev pub StepsKeep : Type 0
-StepsKeep = (primitives : ℕ → Row) (n : ℕ) (e : Ending) (p : Pairs) (W X : World) → AgreeInTurn p W X → SameOutcome p (steps primitives n e W) (steps primitives n e X)
+StepsKeep = (primitives : ℕ → Row) → ((n : ℕ) → NoneMade (primitives n)) → (n : ℕ) (e : Ending) (p : Pairs) (W X : World) → AgreeInTurn p W X
+    → SameOutcome p (steps primitives n e W) (steps primitives n e X)
 
 -- a turn begins by setting the values on their way and the budget, and so does the agreement of a turn
 abbrev pub TurnsBegin : Type 0

@@ -1,9 +1,9 @@
 // The laws of worlds that agree.
 ghost use Rattle.graph_core.specs.Laws.{MovesKeep, RowsKeep, StepsKeep, TurnsBegin, TurnsEnd};
 
-/// Every move keeps the agreement of two worlds, so every row does, and so does any number of steps of the machine,
-/// whatever the rows of its primitives are: where neither traps, both end in the same way in worlds that agree again.
-/// Every move but the one that makes a function also traps in both worlds or in none.
+/// Every move keeps the agreement of two worlds, and so does every row that makes no function, and any number of steps of
+/// the machine, whatever the rows of its primitives are: both trap, or both end in the same way in worlds that agree again.
+/// The move that makes a function is kept where neither world traps; the machine's own rows open what a function shares.
 pub fn worlds_run_alike()
     ensures moves { MovesKeep }
     ensures rows { RowsKeep }

@@ -4,3 +4,4 @@ pub mod MachineFamilies
 pub mod MachineErrors
 pub mod BothReadings
 pub mod RowsFit
+pub mod RowsOpen

@@ -90,6 +90,11 @@ add_two : runs 9 (started 0 (alone (plain 3 (load 0 1 ∷ load 1 2 ∷ abc Add 2
 unfolding opcodes number_of int_wrap put_frames put_top push pop write_cell with_own put_coroutine back_to_resumer raw_set woken
 add_two = refl
 
+-- return, which names no register, whatever A is
+return_nothing : runs 9 (started 0 (alone (plain 1 (abc Return 2 1 0 false ∷ []))) [] [] []) ≡ Some (main_returned, [], 0)
+unfolding opcodes number_of int_wrap put_frames put_top push pop write_cell with_own put_coroutine back_to_resumer raw_set woken
+return_nothing = refl
+
 -- return 7 // 0
 by_zero : runs 9 (started 0 (alone (plain 3 (load 0 7 ∷ load 1 0 ∷ abc IDiv 2 0 1 false ∷ abc MmBin 0 1 12 false ∷ abc Return1 2 2 0 false ∷ []))) [] [] []) ≡ Some (main_failed, text (codes "attempt to perform 'n//0'") ∷ [], 0)
 unfolding opcodes number_of int_wrap put_frames put_top push pop write_cell with_own put_coroutine back_to_resumer raw_set woken

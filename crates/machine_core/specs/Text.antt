@@ -85,6 +85,11 @@ abbrev pub nils : ℕ → List Value
 nils zero = []
 nils (suc count) = known nil ∷ nils count
 
+-- the place behind a number of registers; none of them names no place
+abbrev pub behind : (from count : ℕ) → ℕ
+behind from zero = 0
+behind from (suc count) = from + suc count
+
 -- what a move reads
 abbrev pub reads : Own → Prototype → List Value → Activation → List Value
 reads (read_register r) p env own = nth own.registers r ∷ []
@@ -118,7 +123,7 @@ effect (take_pending r) p env own =
 effect (drop_pending r) p env own = record own { pending = filter (λ q. nat_lt q r) own.pending }
 effect (keep_results from count) p env own =
     record own {
-      registers = blanked (λ i. is_pending own.pending i || (nat_le from i && nat_lt i (from + count))) 0 (max p.own.stack (from + count)) own.registers;
+      registers = blanked (λ i. is_pending own.pending i || (nat_le from i && nat_lt i (from + count))) 0 (max p.own.stack (behind from count)) own.registers;
       opened = 0;
     }
 effect keep_pending p env own = record own { registers = blanked (is_pending own.pending) 0 p.own.stack own.registers; opened = 0 }
@@ -127,11 +132,11 @@ effect _ p env own = own
 -- whether what its fields name is there
 abbrev pub fits : Own → Prototype → Activation → Bool
 fits (read_register r) p own = nat_lt r (length own.registers)
-fits (read_registers from count) p own = nat_le (from + count) (length own.registers)
+fits (read_registers from count) p own = nat_le (behind from count) (length own.registers)
 fits (read_list from) p own = is_there (list_end p own)
 fits (read_constant n) p own = nat_lt n (length p.own.constants)
 fits (write_register r x) p own = nat_lt r (length own.registers)
-fits (write_registers at count slot) p own = nat_le (at + count) (length own.registers)
+fits (write_registers at count slot) p own = nat_le (behind at count) (length own.registers)
 fits (write_list at slot) p own = nat_lt at (length own.registers)
 fits (write_nils at count) p own = nat_le (at + count) (length own.registers)
 fits (mark_pending r) p own = nat_lt r (length own.registers)

@@ -4,4 +4,4 @@
 
 mod law;
 
-pub use law::rows_fit;
+pub use law::{rows_fit, rows_open};

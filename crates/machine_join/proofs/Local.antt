@@ -8,7 +8,7 @@ use Rattle.code_core.specs.Check.{mark, fixed, open_from}
 use Rattle.int_core.specs.Value.{Value, Shape, is_known, integer, known, nil, nth, range, write, write_all, shape}
 use Rattle.int_core.specs.Ask.{Captured, held_below, gone_from}
 use Rattle.machine_core.specs.World.{Function, Cell, Activation, Frame, close_from}
-use Rattle.machine_core.specs.Text.{arg, Own, read_register, read_registers, read_list, read_constant, read_varargs, see, write_register, write_registers, write_list, write_nils, end_list, cut_from, close_cells, mark_pending, see_pending, take_pending, drop_pending, keep_results, keep_pending, reads, tells, effect, fits, done, blanked, nils, is_pending, is_there, list_end, list_values, last_pending, value_if}
+use Rattle.machine_core.specs.Text.{arg, Own, read_register, read_registers, read_list, read_constant, read_varargs, see, write_register, write_registers, write_list, write_nils, end_list, cut_from, close_cells, mark_pending, see_pending, take_pending, drop_pending, keep_results, keep_pending, reads, tells, effect, fits, done, blanked, nils, is_pending, is_there, list_end, list_values, last_pending, value_if, behind}
 use Rattle.machine_core.specs.Moves.{cells_after, cells_done}
 use Rattle.machine_core.specs.Talk.{captured_after, captured_done}
 use Rattle.machine_core.specs.TalkRun.{TalkFrame, shared_in}
@@ -99,13 +99,13 @@ module _ (p : Prototype) (env : List Value) (a a' : Activation) (e : Alike a a')
 
   pub fits_alike : (m : Own) → fits m p a' ≡ true → fits m p a ≡ true
   fits_alike (read_register r) h = lt_less r (length a'.registers) (length a.registers) e.size h
-  fits_alike (read_registers from count) h = le_less (from + count) (length a'.registers) (length a.registers) e.size h
+  fits_alike (read_registers from count) h = le_less (behind from count) (length a'.registers) (length a.registers) e.size h
   fits_alike (read_list from) h = ap is_there (end_alike p a a' e.fixed) ∙ h
   fits_alike (read_constant n) h = h
   fits_alike read_varargs h = h
   fits_alike (see x) h = h
   fits_alike (write_register r x) h = lt_less r (length a'.registers) (length a.registers) e.size h
-  fits_alike (write_registers at count slot) h = le_less (at + count) (length a'.registers) (length a.registers) e.size h
+  fits_alike (write_registers at count slot) h = le_less (behind at count) (length a'.registers) (length a.registers) e.size h
   fits_alike (write_list at slot) h = lt_less at (length a'.registers) (length a.registers) e.size h
   fits_alike (write_nils at count) h = le_less (at + count) (length a'.registers) (length a.registers) e.size h
   fits_alike end_list h = h
@@ -166,8 +166,8 @@ module _ (p : Prototype) (env : List Value) (a a' : Activation) (e : Alike a a')
   same_size : (xs ys : List Value) → xs ≡ ys → length ys ≤ length xs
   same_size xs ys q = let i = ap (λ (zs : List Value). length zs) q in omega (arith, i)
 
-  kept : (from count : ℕ) → blanked (λ i. is_pending a.pending i || (nat_le from i && nat_lt i (from + count))) 0 (max p.own.stack (from + count)) a.registers ≡ blanked (λ i. is_pending a'.pending i || (nat_le from i && nat_lt i (from + count))) 0 (max p.own.stack (from + count)) a'.registers
-  kept from count = ap (λ pd. blanked (λ i. is_pending pd i || (nat_le from i && nat_lt i (from + count))) 0 (max p.own.stack (from + count)) a.registers) e.fixed.pending ∙ blanked_alike (λ i. is_pending a'.pending i || (nat_le from i && nat_lt i (from + count))) 0 (max p.own.stack (from + count)) a.registers a'.registers e.values
+  kept : (from count : ℕ) → blanked (λ i. is_pending a.pending i || (nat_le from i && nat_lt i (from + count))) 0 (max p.own.stack (behind from count)) a.registers ≡ blanked (λ i. is_pending a'.pending i || (nat_le from i && nat_lt i (from + count))) 0 (max p.own.stack (behind from count)) a'.registers
+  kept from count = ap (λ pd. blanked (λ i. is_pending pd i || (nat_le from i && nat_lt i (from + count))) 0 (max p.own.stack (behind from count)) a.registers) e.fixed.pending ∙ blanked_alike (λ i. is_pending a'.pending i || (nat_le from i && nat_lt i (from + count))) 0 (max p.own.stack (behind from count)) a.registers a'.registers e.values
 
   kept_pending : blanked (is_pending a.pending) 0 p.own.stack a.registers ≡ blanked (is_pending a'.pending) 0 p.own.stack a'.registers
   kept_pending = ap (λ pd. blanked (is_pending pd) 0 p.own.stack a.registers) e.fixed.pending ∙ blanked_alike (is_pending a'.pending) 0 p.own.stack a.registers a'.registers e.values

@@ -1,4 +1,5 @@
-use Rattle.graph_core.proofs.Keeps.{moves_keep, rows_keep, steps_keep}
+use Rattle.graph_core.proofs.Rows.{moves_keep, rows_keep}
+use Rattle.graph_core.proofs.Keeps.{steps_keep}
 use Rattle.graph_core.proofs.law.worlds_run_alike.Goals as goal
 
 pub returns-clause-moves : goal.returns-clause-moves
