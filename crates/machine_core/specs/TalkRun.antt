@@ -26,6 +26,7 @@ pub data Now : Type 0 where
   unwinding : Value → Now
   calls_primitive : ℕ → List Value → Now
   has_returned : List Value → Now
+  has_yielded : List Value → Now
   has_failed : Value → Now
   is_spent : Now
   is_stuck : Now
@@ -178,11 +179,12 @@ raised_to e T _ = record T { now = unwinding e }
 abbrev pub blames : Talks → List ℕ → Talks
 blames T text = record T { now = raising (blamed T text) }
 
--- pcall, xpcall and error
+-- pcall, xpcall and error; and yield, which in the main coroutine ends the turn
 abbrev pub primitive_called : ℕ → List Value → Talks → Talks
 primitive_called zero arguments T = calls_over T protected (nth arguments 0) (drop 1 arguments) blames
 primitive_called (suc zero) arguments T = calls_over T (handled_by (nth arguments 1)) (nth arguments 0) (drop 2 arguments) blames
 primitive_called (suc (suc zero)) arguments T = record T { now = raising (nth arguments 0) }
+primitive_called (suc (suc (suc (suc zero)))) arguments T = record T { now = has_yielded arguments }
 primitive_called _ _ T = record T { now = is_stuck }
 
 abbrev pub on_top : Talks → List TalkFrame → Talks

@@ -5,12 +5,12 @@ use Rattle.int_core.specs.Value.{Value}
 use Rattle.int_core.specs.Heap.{Heap}
 use Rattle.int_core.specs.Ask.{Captured}
 use Rattle.machine_core.specs.World.{Function, Cell, closed, running, Activation, Frame, lua, World}
-use Rattle.machine_core.specs.Moves.{Ending, go, returned, calls_primitive, raised, unwinding, spent, main_returned, main_failed, Made, Told, Move, move, Row, act, Outcome, trapped, ends, run}
+use Rattle.machine_core.specs.Moves.{Ending, go, returned, calls_primitive, raised, unwinding, spent, main_yielded, main_returned, main_failed, Made, Told, Move, move, Row, act, Outcome, trapped, ends, run}
 use Rattle.machine_core.specs.Talk.{State, before, talk_step}
-use Rattle.machine_core.specs.TalkRun.{TalkFrame, talking, Now, talks, returning, raising, has_returned, has_failed, is_spent, is_stuck, Talks, shared_in, turn, tick_by, ticks}
+use Rattle.machine_core.specs.TalkRun.{TalkFrame, talking, Now, talks, returning, raising, has_returned, has_yielded, has_failed, is_spent, is_stuck, Talks, shared_in, turn, tick_by, ticks}
 use Rattle.machine_core.specs.TalkRun.{unwinding as talk_unwinding, calls_primitive as talk_primitive}
 use Rattle.machine_join.proofs.Sim.{Alike, Working, Stacks}
-use Rattle.machine_join.proofs.Worlds.{mk, frame}
+use Rattle.machine_join.proofs.Worlds.{mk, asleep, frame}
 
 abbrev pub mk_talks : World → Heap → List Function → List Value → List TalkFrame → Now → ℕ → Talks
 mk_talks d H fs vs ts now fuel = record { world = record d { heap = H; functions = fs; fuel = fuel }; cells = vs; frames = ts; now = now }
@@ -31,6 +31,8 @@ pub data Both (b d : World) : Talks → Ending → World → Type 0 where
       → Stacks true fs ws vs ms ts → Both b d (mk_talks d H fs vs ts (talk_unwinding v) fuel) unwinding (mk b H fs ws ms (v ∷ []) fuel)
   both_primitive : (H : Heap) (fs : List Function) (vs : List Value) (ws : List Cell) (fuel : ℕ) (ms : List Frame) (ts : List TalkFrame) (k : ℕ) (mv : List Value)
       → Stacks false fs ws vs ms ts → Both b d (mk_talks d H fs vs ts (talk_primitive k mv) fuel) (calls_primitive k) (mk b H fs ws ms mv fuel)
+  both_yielded : (H : Heap) (fs : List Function) (vs : List Value) (ws : List Cell) (fuel : ℕ) (ms : List Frame) (ts : List TalkFrame) (mv : List Value)
+      → Stacks false fs ws vs ms ts → Both b d (mk_talks d H fs vs ts (has_yielded mv) fuel) main_yielded (asleep b H fs ws ms mv fuel)
   both_spent : (T : Talks) (W : World) → T.now ≡ is_spent → Both b d T spent W
   both_returned : (H : Heap) (fs : List Function) (vs : List Value) (fuel : ℕ) (T : Talks) (W : World) (mv : List Value) → T.now ≡ has_returned mv → T.world ≡ record d { heap = H; functions = fs; fuel = fuel } → T.cells ≡ vs
       → W.moving ≡ mv → W.heap ≡ H → W.functions ≡ fs → W.cells ≡ map closed vs → W.fuel ≡ fuel → Both b d T main_returned W

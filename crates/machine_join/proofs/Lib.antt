@@ -19,3 +19,4 @@ pub mod Delivered
 pub mod Steps
 pub mod Runs
 pub mod Vectors
+pub mod Turns

@@ -6,40 +6,44 @@ use Rattle.int_core.specs.Value.{Value, nth}
 use Rattle.machine_core.specs.World.{Function, Cell, closed, open_at, running, Frame, lua, pcall, xpcall, handler, closing, World}
 use Rattle.machine_core.specs.Moves.{Ending, go, Outcome, trapped, ends}
 use Rattle.machine_core.specs.MachineStep.{step, steps, and_then}
-use Rattle.machine_core.specs.TalkRun.{Now, talks, returning, raising, unwinding, calls_primitive, has_returned, has_failed, is_spent, is_stuck, Talks, ticks}
+use Rattle.machine_core.specs.TalkRun.{Now, talks, returning, raising, unwinding, calls_primitive, has_returned, has_yielded, has_failed, is_spent, is_stuck, Talks, ticks}
 use Rattle.machine_join.specs.Join.{Beginning, primitives, main_frames, main_talk, first_world, Final, final_world, final, final_talk, talked, TalksFollow, MachineFollows, NeverStuck}
 use Rattle.machine_join.specs.Join.{returned as with_results, failed as with_error}
 use Rattle.machine_join.proofs.Sim.{alike_refl, Stacks}
-use Rattle.machine_join.proofs.Both.{handing, Both, both_run, both_hand, both_raise, both_unwind, both_primitive, both_spent, both_returned, both_failed, tick, Leads}
+use Rattle.machine_join.proofs.Both.{handing, Both, both_run, both_hand, both_raise, both_unwind, both_primitive, both_spent, both_yielded, both_returned, both_failed, tick, Leads}
 use Rattle.machine_join.proofs.Calls.{starts}
 use Rattle.machine_join.proofs.Steps.{stays, step_leads}
 
 -- steps of the world of talking activations
 
-ticks_add : (i k : ℕ) (T : Talks) → ticks (i + k) T ≡ ticks k (ticks i T)
+pub ticks_add : (i k : ℕ) (T : Talks) → ticks (i + k) T ≡ ticks k (ticks i T)
 ticks_add zero k T = let e : zero + k ≡ k = omega arith in ap (λ n. ticks n T) e
 ticks_add (suc i) k T = let e : suc i + k ≡ suc (i + k) = omega arith in ap (λ n. ticks n T) e ∙ ticks_add i k (tick T)
 
-final_stays : (T : Talks) (x : Final) → talked T ≡ Some x → talked (tick T) ≡ Some x
-final_stays T x h = by T.now refl (h)
+pub final_fixed : (T : Talks) (x : Final) → talked T ≡ Some x → tick T ≡ T
+final_fixed T x h = by T.now refl (h)
   where
-    by : (now : Now) → T.now ≡ now → talked T ≡ Some x → talked (tick T) ≡ Some x
+    by : (now : Now) → T.now ≡ now → talked T ≡ Some x → tick T ≡ T
     by talks e h = absurd (let z : None ≡ Some x = sym (ap (λ now. final_talk now T) e) ∙ h in cc)
     by (returning vs) e h = absurd (let z : None ≡ Some x = sym (ap (λ now. final_talk now T) e) ∙ h in cc)
     by (raising v) e h = absurd (let z : None ≡ Some x = sym (ap (λ now. final_talk now T) e) ∙ h in cc)
     by (unwinding v) e h = absurd (let z : None ≡ Some x = sym (ap (λ now. final_talk now T) e) ∙ h in cc)
     by (calls_primitive n vs) e h = absurd (let z : None ≡ Some x = sym (ap (λ now. final_talk now T) e) ∙ h in cc)
-    by (has_returned vs) e h = ap talked (stays T (has_returned vs) refl e) ∙ h
-    by (has_failed v) e h = ap talked (stays T (has_failed v) refl e) ∙ h
-    by is_spent e h = ap talked (stays T is_spent refl e) ∙ h
+    by (has_returned vs) e h = stays T (has_returned vs) refl e
+    by (has_yielded vs) e h = stays T (has_yielded vs) refl e
+    by (has_failed v) e h = stays T (has_failed v) refl e
+    by is_spent e h = stays T is_spent refl e
     by is_stuck e h = absurd (let z : None ≡ Some x = sym (ap (λ now. final_talk now T) e) ∙ h in cc)
+
+final_stays : (T : Talks) (x : Final) → talked T ≡ Some x → talked (tick T) ≡ Some x
+final_stays T x h = ap talked (final_fixed T x h) ∙ h
 
 final_later : (k : ℕ) (T : Talks) (x : Final) → talked T ≡ Some x → talked (ticks k T) ≡ Some x
 final_later zero T x h = h
 final_later (suc k) T x h = final_later k (tick T) x (final_stays T x h)
 
 -- where both stand, both have come to the same
-both_final : (b d : World) (T : Talks) (e : Ending) (W : World) → Both b d T e W → final_world e W ≡ talked T
+pub both_final : (b d : World) (T : Talks) (e : Ending) (W : World) → Both b d T e W → final_world e W ≡ talked T
 both_final b d T e W (both_run H fs vs ws fuel ms ts n g a a' c al f k) = refl
 both_final b d T e W (both_hand H fs vs ws fuel ms ts mv k) = by ms
   where
@@ -53,6 +57,7 @@ both_final b d T e W (both_hand H fs vs ws fuel ms ts mv k) = by ms
 both_final b d T e W (both_raise H fs vs ws fuel ms ts v k) = refl
 both_final b d T e W (both_unwind H fs vs ws fuel ms ts v k) = refl
 both_final b d T e W (both_primitive H fs vs ws fuel ms ts n mv k) = refl
+both_final b d T e W (both_yielded H fs vs ws fuel ms ts mv k) = refl
 both_final b d T e W (both_spent _ _ k) = sym (ap (λ now. final_talk now T) k)
 both_final b d T e W (both_returned H fs vs fuel _ _ mv x y c z u v k w) =
     ap (λ m. Some (with_results m W.heap W.functions W.cells W.fuel)) z ∙ ap (λ h. Some (with_results mv h W.functions W.cells W.fuel)) u ∙ ap (λ f. Some (with_results mv H f W.cells W.fuel)) v
@@ -67,7 +72,7 @@ abbrev Untrapped : Ending → World → Type 0
 Untrapped e W = (n : ℕ) → steps primitives n e W ≢ trapped
 
 -- what the machine comes to, the talking activations come to
-machine_talk : (b d : World) (n : ℕ) (T : Talks) (e : Ending) (W : World) (x : Final) → Both b d T e W → final (steps primitives n e W) ≡ Some x → (j : ℕ) × (talked (ticks j T) ≡ Some x)
+pub machine_talk : (b d : World) (n : ℕ) (T : Talks) (e : Ending) (W : World) (x : Final) → Both b d T e W → final (steps primitives n e W) ≡ Some x → (j : ℕ) × (talked (ticks j T) ≡ Some x)
 machine_talk b d zero T e W x k h = (0, sym (both_final b d T e W k) ∙ h)
 machine_talk b d (suc n) T e W x k h = by (step primitives e W) (step_leads b d T e W k) h (λ T e W k h. machine_talk b d n T e W x k h)
   where
@@ -79,7 +84,7 @@ machine_talk b d (suc n) T e W x k h = by (step primitives e W) (step_leads b d 
         (suc l.0 + m.0, ap talked (ticks_add (suc l.0) m.0 T) ∙ m.1)
 
 -- and the other way round
-talk_machine : (b d : World) (bound j : ℕ) (T : Talks) (e : Ending) (W : World) (x : Final) → j < bound → Both b d T e W → Untrapped e W → talked (ticks j T) ≡ Some x → (n : ℕ) × (final (steps primitives n e W) ≡ Some x)
+pub talk_machine : (b d : World) (bound j : ℕ) (T : Talks) (e : Ending) (W : World) (x : Final) → j < bound → Both b d T e W → Untrapped e W → talked (ticks j T) ≡ Some x → (n : ℕ) × (final (steps primitives n e W) ≡ Some x)
 talk_machine b d zero j T e W x lt k never h = absurd (omega (arith, lt))
 talk_machine b d (suc bound) j T e W x lt k never h = by (step primitives e W) refl (step_leads b d T e W k) (λ j T e W l k never h. talk_machine b d bound j T e W x l k never h)
   where
@@ -106,6 +111,7 @@ free b d T e W (both_hand H fs vs ws fuel ms ts mv k) q = cc
 free b d T e W (both_raise H fs vs ws fuel ms ts v k) q = cc
 free b d T e W (both_unwind H fs vs ws fuel ms ts v k) q = cc
 free b d T e W (both_primitive H fs vs ws fuel ms ts n mv k) q = cc
+free b d T e W (both_yielded H fs vs ws fuel ms ts mv k) q = cc
 free b d T e W (both_spent _ _ k) q = let z : is_spent ≡ is_stuck = sym k ∙ q in cc
 free b d T e W (both_returned H fs vs fuel _ _ mv x y c z u v k w) q = let z : has_returned mv ≡ is_stuck = sym x ∙ q in cc
 free b d T e W (both_failed H fs vs fuel _ _ v x y c z u t k w) q = let z : has_failed v ≡ is_stuck = sym x ∙ q in cc
@@ -154,7 +160,7 @@ first_stacks fs vs = record {
   depth = omega arith;
 }
 
-abbrev world_at : Beginning → Option Function → World
+abbrev pub world_at : Beginning → Option Function → World
 world_at B o = record B.rest {
   heap = B.heap;
   functions = B.functions;
@@ -165,10 +171,10 @@ world_at B o = record B.rest {
   fuel = B.fuel;
 }
 
-abbrev talks_at : Beginning → Option Function → Talks
+abbrev pub talks_at : Beginning → Option Function → Talks
 talks_at B o = record { world = first_world B; cells = B.cells; frames = main_talk B.main B.arguments o; now = talks }
 
-first_both : (B : Beginning) (f : Function) → slice_get B.functions B.main ≡ Some f → Both B.rest (first_world B) (talks_at B (Some f)) go (world_at B (Some f))
+pub first_both : (B : Beginning) (f : Function) → slice_get B.functions B.main ≡ Some f → Both B.rest (first_world B) (talks_at B (Some f)) go (world_at B (Some f))
 first_both B f e = both_run B.heap B.functions B.cells (map closed B.cells) B.fuel [] [] B.main f _ _ (record { held = []; gone = [] }) (alike_refl _) e (starts B.functions (map closed B.cells) B.cells [] [] (first_stacks B.functions B.cells) (omega arith))
 
 pub talks_follow : TalksFollow

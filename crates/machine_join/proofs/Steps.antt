@@ -10,17 +10,17 @@ use Rattle.machine_core.specs.Text.{read, written}
 use Rattle.machine_core.specs.InstructionRows.{text_at, after, told_values, fails}
 use Rattle.machine_core.specs.Moves.{Made, made, TopShape, take_moving, give, see_top, see_catcher, enter_over, over_pcall, over_xpcall, over_handler, end_coroutine, move, top_shape, catcher, handler_value, greatest_depth, Ending, go, returned, calls_primitive, raised, unwinding, spent, main_yielded, main_returned, main_failed, Row, stop, act, Outcome, trapped, ends, run, put_coroutine, back_to_resumer}
 use Rattle.machine_core.specs.FrameRows.{then, expand, hand_over, after_handler, after_entry, raised_to, raised_row, caught, unwound, handed_to}
-use Rattle.machine_core.specs.MachineStep.{pcall_row, xpcall_row, lua_step, woken, top_step, from_world, step_by, step}
+use Rattle.machine_core.specs.MachineStep.{yield_row, pcall_row, xpcall_row, lua_step, woken, top_step, from_world, step_by, step}
 use Rattle.machine_core.specs.RowFits.{IsWaiting}
 use Rattle.machine_core.specs.Talk.{before, talk, talk_step}
-use Rattle.machine_core.specs.TalkRun.{TalkFrame, talking, waiting, protected, handled_by, handling, Now, talks, raising, has_returned, has_failed, is_spent, Talks, ticks, tick_by, calls_over, turn, error_in_handler}
+use Rattle.machine_core.specs.TalkRun.{TalkFrame, talking, waiting, protected, handled_by, handling, Now, talks, raising, has_returned, has_yielded, has_failed, is_spent, Talks, ticks, tick_by, calls_over, turn, error_in_handler}
 use Rattle.machine_core.specs.TalkRun.{returning as talk_returning, unwinding as talk_unwinding, calls_primitive as talk_primitive, raised_to as talk_raised_to, blames as talk_blames}
 use Rattle.machine_join.specs.Join.{primitives}
 use Rattle.machine_join.proofs.Lists.{append_nil}
 use Rattle.machine_join.proofs.Cells.{Held}
 use Rattle.machine_join.proofs.Sim.{CellsOk, Pair, Below, Stacks}
 use Rattle.machine_join.proofs.Worlds.{mk, frame, stack_at, shape_of, top_is, lua_step_is, woken_is}
-use Rattle.machine_join.proofs.Both.{mk_talks, handing, Both, both_run, both_hand, both_raise, both_unwind, both_primitive, both_spent, both_returned, both_failed, tick, Leads, by_move, talk_tick}
+use Rattle.machine_join.proofs.Both.{mk_talks, handing, Both, both_run, both_hand, both_raise, both_unwind, both_primitive, both_spent, both_yielded, both_returned, both_failed, tick, Leads, by_move, talk_tick}
 use Rattle.machine_join.proofs.Blame.{reverse_upward}
 use Rattle.machine_join.proofs.Answered.{told_left}
 use Rattle.machine_join.proofs.Rows.{row_leads, lax_stacks}
@@ -204,12 +204,19 @@ module _ (b d : World) (H : Heap) (fs : List Function) (vs : List Value) (ws : L
   taken_xpcall : (X : Talks) (ms : List Frame) (mv : List Value) → Leads b d X (run (act (enter_over (over_xpcall (read 1)) (read 0) 2) (λ _ s. after_entry s)) mv (W ms [])) → Leads b d X (run xpcall_row [] (W ms mv))
   taken_xpcall X ms mv l = taking X (λ f _. act (enter_over (over_xpcall (read (suc f))) (read f) (suc (suc f))) (λ _ s. after_entry s)) ms mv l
 
-  -- pcall, xpcall and error
+  -- a yield
+  yield_leads : (ms : List Frame) (ts : List TalkFrame) (mv : List Value) → Stacks false fs ws vs ms ts → Leads b d (T ts (has_yielded mv)) (run yield_row [] (W ms mv))
+  unfolding put_coroutine back_to_resumer
+  yield_leads ms ts mv z = (0, both_yielded H fs vs ws fuel ms ts mv z)
+
+  -- pcall, xpcall, error and yield
   pub primitive_leads : (k : ℕ) (ms : List Frame) (ts : List TalkFrame) (mv : List Value) → Stacks false fs ws vs ms ts → Leads b d (tick (T ts (talk_primitive k mv))) (run (primitives k) [] (W ms mv))
   primitive_leads zero ms ts mv z = taken_pcall (calls_over (T ts (talk_primitive 0 mv)) protected (nth mv 0) (drop 1 mv) talk_blames) ms mv (pcall_leads ms ts mv z)
   primitive_leads (suc zero) ms ts mv z = taken_xpcall (calls_over (T ts (talk_primitive 1 mv)) (handled_by (nth mv 1)) (nth mv 0) (drop 2 mv) talk_blames) ms mv (xpcall_leads ms ts mv z)
   primitive_leads (suc (suc zero)) ms ts mv z = (0, both_raise H fs vs ws fuel ms ts (nth mv 0) (lax_stacks fs ws vs ms ts z))
-  primitive_leads (suc (suc (suc k))) ms ts mv z = tt
+  primitive_leads (suc (suc (suc zero))) ms ts mv z = tt
+  primitive_leads (suc (suc (suc (suc zero)))) ms ts mv z = yield_leads ms ts mv z
+  primitive_leads (suc (suc (suc (suc (suc k))))) ms ts mv z = tt
 
 -- a step that is not paid has no effect
 spent_now : (b d : World) (T : Talks) (e : Ending) (W : World) → Both b d T e W → e ≡ spent → T.now ≡ is_spent
@@ -226,6 +233,7 @@ spent_now b d T e W (both_hand H fs vs ws fuel ms ts mv k) q = absurd (by ms q)
 spent_now b d T e W (both_raise H fs vs ws fuel ms ts v k) q = absurd (cc)
 spent_now b d T e W (both_unwind H fs vs ws fuel ms ts v k) q = absurd (cc)
 spent_now b d T e W (both_primitive H fs vs ws fuel ms ts n mv k) q = absurd (cc)
+spent_now b d T e W (both_yielded H fs vs ws fuel ms ts mv k) q = absurd (cc)
 spent_now b d T e W (both_spent _ _ k) q = k
 spent_now b d T e W (both_returned H fs vs fuel _ _ mv x y c z u v k w) q = absurd (cc)
 spent_now b d T e W (both_failed H fs vs fuel _ _ v x y c z u t k w) q = absurd (cc)
@@ -259,6 +267,7 @@ step_leads b d T e W k = leads_from b d (tick T) W (step_by primitives e W) (by 
     by T e W (both_raise H fs vs ws fuel ms ts v k) = raise_leads b d H fs vs ws fuel ms ts v k
     by T e W (both_unwind H fs vs ws fuel ms ts v k) = unwind_leads b d H fs vs ws fuel ms ts k.hs v k.cells k.below k.depth
     by T e W (both_primitive H fs vs ws fuel ms ts n mv k) = primitive_leads b d H fs vs ws fuel n ms ts mv k
+    by T e W (both_yielded H fs vs ws fuel ms ts mv k) = (0, both_yielded H fs vs ws fuel ms ts mv k)
     by T e W (both_spent _ _ k) = subst (λ T. Leads b d T (ends spent W)) (sym (stays T is_spent refl k)) (0, both_spent T W k)
     by T e W (both_returned H fs vs fuel _ _ mv x y c z u v k w) = subst (λ T. Leads b d T (ends main_returned W)) (sym (stays T (has_returned mv) refl x)) (0, both_returned H fs vs fuel T W mv x y c z u v k w)
     by T e W (both_failed H fs vs fuel _ _ v x y c z u t k w) = subst (λ T. Leads b d T (ends main_failed W)) (sym (stays T (has_failed v) refl x)) (0, both_failed H fs vs fuel T W v x y c z u t k w)

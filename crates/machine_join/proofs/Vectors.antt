@@ -13,10 +13,12 @@ use Rattle.int_core.specs.Value.{boolean, integer, string, primitive, a_function
 use Rattle.int_core.specs.Heap.{Heap}
 use Rattle.machine_core.specs.World.{Function, closed, World, put_frames, put_top, push, pop, write_cell}
 use Rattle.machine_core.specs.Moves.{go, with_own, put_coroutine, back_to_resumer, stack_overflow}
-use Rattle.machine_core.specs.MachineStep.{steps, woken}
+use Rattle.machine_core.specs.MachineStep.{steps, and_then, woken}
 use Rattle.machine_core.specs.TalkRun.{TalkFrame, Talks, entered, has_room, talking, talks, ticks}
 use Rattle.machine_core.specs.Talk.{talk_start}
-use Rattle.machine_join.specs.Join.{Beginning, primitives, first_world, first_talks, Final, returned, out_of_budget, final, talked}
+use Rattle.machine_core.specs.Moves.{Outcome, ends as ends'}
+use Rattle.machine_join.specs.Turns.{Turn, MachineTurns, goes_on, is_over, wakes}
+use Rattle.machine_join.specs.Join.{yielded, Beginning, primitives, first_world, first_talks, Final, returned, out_of_budget, final, talked}
 
 -- code with a source and the changes of its line, or without both
 abbrev code : Option (List ℕ) → List ℤ → ℕ → Bool → ℕ → List UpDesc → List Prototype → List Instruction → Prototype
@@ -165,6 +167,36 @@ unpaid_machine = refl
 unpaid_talk : talk (run (counts ∷ []) 0 []) ≡ Some out_of_budget
 unfolding opcodes number_of int_wrap
 unpaid_talk = refl
+
+-- local x = yield(1); return x: a turn ends at the yield, and the next one hands 7
+abbrev yields : Prototype
+yields = code None [] 1 false 2 [] [] (abx LoadI 1 65536 ∷ abc Call 0 2 2 false ∷ abc Return1 0 2 0 false ∷ [])
+
+abbrev asks : Beginning
+asks = run (yields ∷ []) 1 (known (primitive 4) ∷ [])
+
+abbrev first_end : Final
+first_end = yielded (known (integer (pos 1)) ∷ []) empty (functions (yields ∷ [])) 0
+
+abbrev second_end : Final
+second_end = returned (known (integer (pos 7)) ∷ []) empty (functions (yields ∷ [])) [] 3
+
+abbrev seven : Turn
+seven = record { values = known (integer (pos 7)) ∷ []; fuel = 3 }
+
+abbrev machine_yielded : Outcome
+machine_yielded = and_then (ends' go (first_world asks)) (steps primitives 9)
+
+first_machine : final machine_yielded ≡ Some first_end
+unfolding opcodes number_of int_wrap put_frames put_top push pop write_cell with_own put_coroutine back_to_resumer woken
+first_machine = refl
+
+second_machine : final (and_then (wakes seven machine_yielded) (steps primitives 9)) ≡ Some second_end
+unfolding opcodes number_of int_wrap put_frames put_top push pop write_cell with_own put_coroutine back_to_resumer woken
+second_machine = refl
+
+turns_machine : MachineTurns (ends' go (first_world asks)) (seven ∷ []) (first_end ∷ second_end ∷ [])
+turns_machine = goes_on (ends' go (first_world asks)) seven [] 9 first_end (second_end ∷ []) first_machine tt (is_over (wakes seven machine_yielded) [] 9 second_end second_machine tt)
 
 -- talking activations have no more frames than those of the machine
 full : (T : Talks) (frames : List TalkFrame) (n : ℕ) (arguments : List Value) (refused : Talks → List ℕ → Talks) (f : Function) → slice_get T.world.functions n ≡ Some f → has_room frames 1 ≡ false

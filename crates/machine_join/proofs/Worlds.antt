@@ -3,7 +3,7 @@ use Rattle.std.proofs.Common.{ℕ, ◌+◌, ◌-◌, ◌≡◌, List, [], ◌∷
 use Rattle.std.specs.Prelude.{slice_get, nat_le}
 use Rattle.int_core.specs.Value.{Value, bind}
 use Rattle.int_core.specs.Heap.{Heap}
-use Rattle.machine_core.specs.World.{Function, Cell, Wait, Activation, LuaFrame, Frame, lua, pcall, xpcall, handler, closing, in_progress, World, Stack, Place, lua_frame, place_of, put_frames, put_top, push, pop, find_open, close_from}
+use Rattle.machine_core.specs.World.{Function, Cell, Wait, Activation, LuaFrame, Frame, lua, pcall, xpcall, handler, closing, in_progress, suspended, World, Stack, Place, lua_frame, place_of, put_frames, put_top, push, pop, find_open, close_from}
 use Rattle.machine_core.specs.Text.{Own, done}
 use Rattle.machine_core.specs.Moves.{TopShape, lua_top, pcall_top, xpcall_top, handler_top, closing_top, no_top, cells_done, top_now, top_shape, has_room, greatest_depth, push_all}
 use Rattle.machine_core.specs.MachineStep.{top_step, lua_step, woken}
@@ -12,6 +12,10 @@ use Rattle.machine_join.proofs.Lists.{upward, last_is, without_last_is, length_u
 -- a world of one coroutine, whose frames are given from the top
 abbrev pub mk : World → Heap → List Function → List Cell → List Frame → List Value → ℕ → World
 mk b H fs ws ms mv fuel = record b { heap = H; functions = fs; cells = ws; coroutines = in_progress (upward ms) ∷ []; chain = 0 ∷ []; moving = mv; fuel = fuel }
+
+-- the same world once its coroutine yielded
+abbrev pub asleep : World → Heap → List Function → List Cell → List Frame → List Value → ℕ → World
+asleep b H fs ws ms mv fuel = record b { heap = H; functions = fs; cells = ws; coroutines = suspended (upward ms) ∷ []; chain = []; moving = mv; fuel = fuel }
 
 abbrev pub stack_at : List Frame → Stack
 stack_at ms = record { coroutine = 0; frames = upward ms }

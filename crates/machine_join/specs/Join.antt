@@ -3,10 +3,10 @@ use Rattle.std.specs.Prelude.{◌≡◌, ◌≢◌, ℕ, List, [], ◌∷◌, ma
 use Rattle.int_core.specs.Value.{Value, nth}
 use Rattle.int_core.specs.Heap.{Heap}
 use Rattle.machine_core.specs.World.{Function, Cell, closed, Frame, in_progress, World}
-use Rattle.machine_core.specs.Moves.{new_frame, Row, traps, Ending, go, spent, main_returned, main_failed, Outcome, trapped, ends}
-use Rattle.machine_core.specs.MachineStep.{pcall_row, xpcall_row, error_row, steps}
+use Rattle.machine_core.specs.Moves.{new_frame, Row, traps, Ending, go, spent, main_yielded, main_returned, main_failed, Outcome, trapped, ends}
+use Rattle.machine_core.specs.MachineStep.{pcall_row, xpcall_row, error_row, yield_row, steps}
 use Rattle.machine_core.specs.Talk.{talk_start}
-use Rattle.machine_core.specs.TalkRun.{TalkFrame, talking, Now, talks, has_returned, has_failed, is_spent, is_stuck, Talks, ticks}
+use Rattle.machine_core.specs.TalkRun.{TalkFrame, talking, Now, talks, has_returned, has_yielded, has_failed, is_spent, is_stuck, Talks, ticks}
 
 -- what a run begins with: the heap, all functions, the values of the cells that they have, the budget, and the call of the main function.
 -- `rest` is all else of a world, which neither reading looks at
@@ -19,9 +19,10 @@ pub record Beginning : Type 0 where
   pub arguments : List Value
   pub rest : World
 
--- the primitives that move frames within one coroutine, by their numbers: `pcall`, `xpcall`, `error`
+-- the primitives that move frames within one coroutine, by their numbers: `pcall`, `xpcall`, `error`; and `coroutine.yield`, which in the main
+-- coroutine ends the turn
 abbrev pub primitives : ℕ → Row
-primitives n = elim (slice_get (pcall_row ∷ xpcall_row ∷ error_row ∷ []) n) [ None ↦ traps | Some row ↦ row ]
+primitives n = elim (slice_get (pcall_row ∷ xpcall_row ∷ error_row ∷ traps ∷ yield_row ∷ []) n) [ None ↦ traps | Some row ↦ row ]
 
 abbrev pub main_frames : ℕ → List Value → Option Function → List Frame
 main_frames n arguments None = []
@@ -50,16 +51,18 @@ first_talks B = record {
   now = talks;
 }
 
--- to what a run comes: results or an error, with the heap, the functions, the cells, all of them closed, and the budget that are left; or
--- the budget is spent
+-- to what a run comes: results or an error, with the heap, the functions, the cells, all of them closed, and the budget that are left; values
+-- that are yielded, with the heap, the functions and the budget; or the budget is spent
 pub data Final : Type 0 where
   returned : List Value → Heap → List Function → (cells : List Cell) → (fuel : ℕ) → Final
   failed : Value → Heap → List Function → (cells : List Cell) → (fuel : ℕ) → Final
+  yielded : List Value → Heap → List Function → (fuel : ℕ) → Final
   out_of_budget : Final
 
 abbrev pub final_world : Ending → World → Option Final
 final_world main_returned W = Some (returned W.moving W.heap W.functions W.cells W.fuel)
 final_world main_failed W = Some (failed (nth W.moving 0) W.heap W.functions W.cells W.fuel)
+final_world main_yielded W = Some (yielded W.moving W.heap W.functions W.fuel)
 final_world spent W = Some out_of_budget
 final_world _ W = None
 
@@ -70,6 +73,7 @@ final (ends ending W) = final_world ending W
 abbrev pub final_talk : Now → Talks → Option Final
 final_talk (has_returned vs) T = Some (returned vs T.world.heap T.world.functions (map closed T.cells) T.world.fuel)
 final_talk (has_failed e) T = Some (failed e T.world.heap T.world.functions (map closed T.cells) T.world.fuel)
+final_talk (has_yielded vs) T = Some (yielded vs T.world.heap T.world.functions T.world.fuel)
 final_talk is_spent T = Some out_of_budget
 final_talk _ T = None
 
