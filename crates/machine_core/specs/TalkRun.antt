@@ -1,18 +1,20 @@
 -- Whole runs of talking activations in one coroutine: who answers each ask. Cells are values by number, frames are listed from the top, and
 -- of a `World` only tables, metatables, functions and the budget are looked at.
-use Rattle.std.specs.Prelude.{ℕ, zero, suc, true, false, cond, List, [], ◌∷◌, ◌++◌, length, Some, None, slice_get, slice_set, codes}
+use Rattle.std.specs.Prelude.{ℕ, zero, suc, ◌+◌, Bool, true, false, cond, List, [], ◌∷◌, ◌++◌, length, drop, filter_map, Option, Some, None, nat_le, slice_get, slice_set, codes, decimal}
 use Rattle.code_core.specs.Prototype.{Prototype}
 use Rattle.int_core.specs.Value.{boolean, string, primitive, a_table, a_function, Value, known, object, is_nil, nth, bind}
 use Rattle.machine_core.specs.World.{World}
 use Rattle.int_core.specs.Operations.{Settled, found, ask, fault, does, Callee, callee, not_callable, callee_of, greatest_chain, handler_in, of_close}
 use Rattle.int_core.specs.Ask.{Reply, values, faulted, left, CellName, of_local, of_upvalue, returns, throws, Ask, reads_upvalue, writes_upvalue, makes_table, makes_function, fills_table, pays, opens, operates, calls, calls_last, marks, closes, raises, leaves, Answer, Next, goes_on, says, stuck}
 use Rattle.int_core.specs.Heap.{add_table, filled_table}
+use Rattle.code_core.specs.Writable.{string_fits}
+use Rattle.machine_core.specs.Moves.{without_mark, stack_overflow, greatest_depth}
 use Rattle.machine_core.specs.Talk.{State, talk_step, talk_start}
 
--- an activation that runs, or waits for an answer and shares some cells
+-- an activation that runs, or waits at a line for an answer and shares some cells
 pub data TalkFrame : Type 0 where
   talking : (function : ℕ) → State → TalkFrame
-  waiting : (function : ℕ) → (shared : List (ℕ × Value)) → (Answer → State) → TalkFrame
+  waiting : (function : ℕ) → (line : Option ℕ) → (shared : List (ℕ × Value)) → (Answer → State) → TalkFrame
   protected : TalkFrame
   handled_by : Value → TalkFrame
   handling : TalkFrame
@@ -24,6 +26,7 @@ pub data Now : Type 0 where
   unwinding : Value → Now
   calls_primitive : ℕ → List Value → Now
   has_returned : List Value → Now
+  has_yielded : List Value → Now
   has_failed : Value → Now
   is_spent : Now
   is_stuck : Now
@@ -47,27 +50,46 @@ abbrev pub answered : Talks → ℕ → List (ℕ × Value) → (Answer → Stat
 answered T f shared k cell reply below =
     record T { frames = talking f (k (record { reply = reply; shared = shared_out shared T.cells; cell = cell })) ∷ below; now = talks }
 
--- a call, once its frames stand there; `refused` is what becomes of a callee that cannot be called
-abbrev pub entered : Talks → List TalkFrame → Value → List Value → Talks
-entered T frames (known (primitive n)) arguments = record T { frames = frames; now = calls_primitive n arguments }
-entered T frames (object a_function n) arguments = elim (slice_get T.world.functions n) [
+-- where an error was raised: the place of the nearest activation that waits and has one
+abbrev pub place_text : Talks → TalkFrame → Option (List ℕ)
+place_text T (waiting f line shared k) = bind (slice_get T.world.functions f) (λ g. bind g.code.own.source (λ name. bind line (λ line.
+    Some (without_mark name ++ codes ":" ++ decimal line ++ codes ": "))))
+place_text T _ = None
+
+abbrev pub blamed : Talks → List ℕ → Value
+blamed T text =
+    let whole = elim (slice_get (filter_map (place_text T) T.frames) 0) [ None ↦ [] | Some place ↦ place ] ++ text in
+    known (string (cond (string_fits whole) whole (codes "resulting string too large")))
+
+abbrev pub has_room : List TalkFrame → ℕ → Bool
+has_room frames count = nat_le (length frames + count) greatest_depth
+
+-- a call, once its frames stand there; `refused` is what becomes of a callee that cannot be called or has no room
+abbrev pub entered : Talks → List TalkFrame → Value → List Value → (Talks → List ℕ → Talks) → Talks
+entered T frames (known (primitive n)) arguments refused = record T { frames = frames; now = calls_primitive n arguments }
+entered T frames (object a_function n) arguments refused = elim (slice_get T.world.functions n) [
   | None ↦ record T { now = is_stuck }
-  | Some f ↦ record T { frames = talking n (talk_start f.code arguments) ∷ frames; now = talks }
+  | Some f ↦ cond (has_room frames 1) (record T { frames = talking n (talk_start f.code arguments) ∷ frames; now = talks }) (refused T stack_overflow)
 ]
-entered T frames _ arguments = record T { now = is_stuck }
+entered T frames _ arguments refused = record T { now = is_stuck }
 
-abbrev pub paid : Talks → List TalkFrame → Value → List Value → Talks
-paid T frames f arguments = elim T.world.fuel [
+abbrev pub paid : Talks → List TalkFrame → Value → List Value → (Talks → List ℕ → Talks) → Talks
+paid T frames f arguments refused = elim T.world.fuel [
   | zero ↦ record T { now = is_spent }
-  | suc fuel ↦ entered (record T { world = record T.world { fuel = fuel } }) frames f arguments
+  | suc fuel ↦ entered (record T { world = record T.world { fuel = fuel } }) frames f arguments refused
 ]
 
-abbrev pub called : Talks → List TalkFrame → Callee → (List ℕ → Talks) → Talks
-called T frames (callee f arguments) refused = paid T frames f arguments
-called T frames (not_callable text) refused = refused text
+abbrev pub called : Talks → List TalkFrame → Callee → (Talks → List ℕ → Talks) → Talks
+called T frames (callee f arguments) refused = paid T frames f arguments refused
+called T frames (not_callable text) refused = refused T text
 
-abbrev pub calls_value : Talks → List TalkFrame → Value → List Value → (List ℕ → Talks) → Talks
+abbrev pub calls_value : Talks → List TalkFrame → Value → List Value → (Talks → List ℕ → Talks) → Talks
 calls_value T frames f arguments refused = called T frames (callee_of greatest_chain T.world.heap f arguments) refused
+
+-- a call with a frame of another kind under it
+abbrev pub calls_over : Talks → TalkFrame → Value → List Value → (Talks → List ℕ → Talks) → Talks
+calls_over T frame f arguments refused =
+    cond (has_room T.frames 1) (calls_value T (frame ∷ T.frames) f arguments (λ U text. refused (record U { frames = frame ∷ T.frames }) text)) (refused T stack_overflow)
 
 abbrev pub own_cell : Talks → ℕ → ℕ → ℕ
 own_cell T f u = elim (bind (slice_get T.world.functions f) (λ g. slice_get g.cells u)) [ None ↦ 0 | Some c ↦ c ]
@@ -77,10 +99,10 @@ cells_named T f [] = []
 cells_named T f (of_local c ∷ names) = c ∷ cells_named T f names
 cells_named T f (of_upvalue u ∷ names) = own_cell T f u ∷ cells_named T f names
 
-abbrev pub settled : Talks → ℕ → List (ℕ × Value) → (Answer → State) → List TalkFrame → Settled → Talks
-settled T f shared k below (found H vs) = answered (record T { world = record T.world { heap = H } }) f shared k 0 (values vs) below
-settled T f shared k below (ask h arguments) = calls_value T (waiting f shared k ∷ below) h arguments (λ text. answered T f shared k 0 (faulted text) below)
-settled T f shared k below (fault text) = answered T f shared k 0 (faulted text) below
+abbrev pub settled : Talks → ℕ → Option ℕ → List (ℕ × Value) → (Answer → State) → List TalkFrame → Settled → Talks
+settled T f line shared k below (found H vs) = answered (record T { world = record T.world { heap = H } }) f shared k 0 (values vs) below
+settled T f line shared k below (ask h arguments) = calls_value T (waiting f line shared k ∷ below) h arguments (λ U text. answered U f shared k 0 (faulted text) below)
+settled T f line shared k below (fault text) = answered T f shared k 0 (faulted text) below
 
 abbrev pub one : Value → Reply
 one v = values (v ∷ [])
@@ -89,37 +111,38 @@ abbrev pub none : Reply
 none = values []
 
 -- who answers, once the shared values are written
-abbrev pub handle : Ask Prototype → Talks → ℕ → List (ℕ × Value) → (Answer → State) → List TalkFrame → Talks
-handle (reads_upvalue u) T f shared k below = answered T f shared k 0 (one (nth T.cells (own_cell T f u))) below
-handle (writes_upvalue u v) T f shared k below = answered (record T { cells = slice_set T.cells (own_cell T f u) v }) f shared k 0 none below
-handle makes_table T f shared k below =
+abbrev pub handle : Ask Prototype → Talks → ℕ → Option ℕ → List (ℕ × Value) → (Answer → State) → List TalkFrame → Talks
+handle (reads_upvalue u) T f line shared k below = answered T f shared k 0 (one (nth T.cells (own_cell T f u))) below
+handle (writes_upvalue u v) T f line shared k below = answered (record T { cells = slice_set T.cells (own_cell T f u) v }) f shared k 0 none below
+handle makes_table T f line shared k below =
     answered (record T { world = record T.world { heap = add_table T.world.heap } }) f shared k 0 (one (object a_table (length T.world.heap.tables))) below
-handle (makes_function q names) T f shared k below =
+handle (makes_function q names) T f line shared k below =
     answered (record T { world = record T.world { functions = T.world.functions ++ record { code = q; cells = cells_named T f names } ∷ [] } }) f shared k 0
     (one (object a_function (length T.world.functions))) below
-handle (fills_table t last vs) T f shared k below = elim (filled_table T.world.heap t last vs) [
+handle (fills_table t last vs) T f line shared k below = elim (filled_table T.world.heap t last vs) [
   | None ↦ record T { now = is_stuck }
   | Some H ↦ answered (record T { world = record T.world { heap = H } }) f shared k 0 none below
 ]
-handle pays T f shared k below = elim T.world.fuel [
+handle pays T f line shared k below = elim T.world.fuel [
   | zero ↦ record T { now = is_spent }
   | suc fuel ↦ answered (record T { world = record T.world { fuel = fuel } }) f shared k 0 none below
 ]
-handle (opens v) T f shared k below = answered (record T { cells = T.cells ++ v ∷ [] }) f shared k (length T.cells) none below
-handle (operates op arguments) T f shared k below = settled T f shared k below (does op arguments T.world.heap)
-handle (calls g arguments) T f shared k below = calls_value T (waiting f shared k ∷ below) g arguments (λ text. answered T f shared k 0 (faulted text) below)
-handle (calls_last g arguments) T f shared k below = calls_value T below g arguments (λ text. answered T f shared k 0 (faulted text) below)
-handle (marks v name) T f shared k below =
+handle (opens v) T f line shared k below = answered (record T { cells = T.cells ++ v ∷ [] }) f shared k (length T.cells) none below
+handle (operates op arguments) T f line shared k below = settled T f line shared k below (does op arguments T.world.heap)
+handle (calls g arguments) T f line shared k below = calls_value T (waiting f line shared k ∷ below) g arguments (λ U text. answered U f shared k 0 (faulted text) below)
+handle (calls_last g arguments) T f line shared k below = calls_value T below g arguments (λ U text. answered U f shared k 0 (faulted text) below)
+handle (marks v name) T f line shared k below =
     answered T f shared k 0 (cond (is_nil (handler_in T.world.heap of_close v)) (faulted (codes "variable '" ++ name ++ codes "' got a non-closable value")) none) below
-handle (closes v e) T f shared k below =
-    calls_value T (waiting f shared k ∷ below) (handler_in T.world.heap of_close v) (v ∷ e ∷ []) (λ text. answered T f shared k 0 (faulted text) below)
-handle (raises text) T f shared k below = record T { frames = waiting f shared k ∷ below; now = raising (known (string text)) }
-handle (leaves (returns vs)) T f shared k below = record T { frames = below; now = returning vs }
-handle (leaves (throws e)) T f shared k below = record T { frames = below; now = unwinding e }
+handle (closes v e) T f line shared k below =
+    calls_value T (waiting f line shared k ∷ below) (handler_in T.world.heap of_close v) (v ∷ e ∷ []) (λ U text. answered U f shared k 0 (faulted text) below)
+handle (raises text) T f line shared k below =
+    let frames = waiting f line shared k ∷ below in record T { frames = frames; now = raising (blamed (record T { frames = frames }) text) }
+handle (leaves (returns vs)) T f line shared k below = record T { frames = below; now = returning vs }
+handle (leaves (throws e)) T f line shared k below = record T { frames = below; now = unwinding e }
 
 abbrev pub turn : Next Prototype State → Talks → ℕ → List TalkFrame → Talks
 turn (goes_on s) T f below = record T { frames = talking f s ∷ below }
-turn (says q line shared k) T f below = handle q (record T { cells = shared_in shared T.cells }) f shared k below
+turn (says q line shared k) T f below = handle q (record T { cells = shared_in shared T.cells }) f line shared k below
 turn stuck T f below = record T { now = is_stuck }
 
 abbrev pub talk_on : Talks → ℕ → State → List TalkFrame → Talks
@@ -132,7 +155,7 @@ error_in_handler = known (string (codes "error in error handling"))
 abbrev pub handed : List Value → Talks → List TalkFrame → Talks
 handed vs T [] = record T { now = has_returned vs }
 handed vs T (talking f s ∷ below) = record T { now = is_stuck }
-handed vs T (waiting f shared k ∷ below) = answered T f shared k 0 (values vs) below
+handed vs T (waiting f line shared k ∷ below) = answered T f shared k 0 (values vs) below
 handed vs T (protected ∷ below) = record T { frames = below; now = returning (known (boolean true) ∷ vs) }
 handed vs T (handled_by h ∷ below) = record T { frames = below; now = returning (known (boolean true) ∷ vs) }
 handed vs T (handling ∷ below) = record T { frames = below; now = unwinding (nth vs 0) }
@@ -141,7 +164,7 @@ handed vs T (handling ∷ below) = record T { frames = below; now = unwinding (n
 abbrev pub unwound : Value → Talks → List TalkFrame → Talks
 unwound e T [] = record T { now = has_failed e }
 unwound e T (talking f s ∷ below) = record T { now = is_stuck }
-unwound e T (waiting f shared k ∷ below) = answered T f shared k 0 (left e) below
+unwound e T (waiting f line shared k ∷ below) = answered T f shared k 0 (left e) below
 unwound e T (protected ∷ below) = record T { frames = below; now = returning (known (boolean false) ∷ e ∷ []) }
 unwound e T (handled_by h ∷ below) = record T { frames = below; now = returning (known (boolean false) ∷ e ∷ []) }
 unwound e T (handling ∷ below) = record T { frames = below; now = unwinding error_in_handler }
@@ -149,16 +172,19 @@ unwound e T (handling ∷ below) = record T { frames = below; now = unwinding er
 -- the nearest frame that is no activation's calls its message handler, on top of all
 abbrev pub raised_to : Value → Talks → List TalkFrame → Talks
 raised_to e T (talking f s ∷ frames) = raised_to e T frames
-raised_to e T (waiting f shared k ∷ frames) = raised_to e T frames
-raised_to e T (handled_by h ∷ frames) = calls_value T (handling ∷ T.frames) h (e ∷ []) (λ _. record T { now = unwinding error_in_handler })
+raised_to e T (waiting f line shared k ∷ frames) = raised_to e T frames
+raised_to e T (handled_by h ∷ frames) = calls_over T handling h (e ∷ []) (λ U text. record U { now = unwinding error_in_handler })
 raised_to e T _ = record T { now = unwinding e }
 
--- pcall, xpcall and error
+abbrev pub blames : Talks → List ℕ → Talks
+blames T text = record T { now = raising (blamed T text) }
+
+-- pcall, xpcall and error; and yield, which in the main coroutine ends the turn
 abbrev pub primitive_called : ℕ → List Value → Talks → Talks
-primitive_called zero (f ∷ arguments) T = calls_value T (protected ∷ T.frames) f arguments (λ text. record T { frames = protected ∷ T.frames; now = raising (known (string text)) })
-primitive_called (suc zero) (f ∷ h ∷ arguments) T =
-    calls_value T (handled_by h ∷ T.frames) f arguments (λ text. record T { frames = handled_by h ∷ T.frames; now = raising (known (string text)) })
+primitive_called zero arguments T = calls_over T protected (nth arguments 0) (drop 1 arguments) blames
+primitive_called (suc zero) arguments T = calls_over T (handled_by (nth arguments 1)) (nth arguments 0) (drop 2 arguments) blames
 primitive_called (suc (suc zero)) arguments T = record T { now = raising (nth arguments 0) }
+primitive_called (suc (suc (suc (suc zero)))) arguments T = record T { now = has_yielded arguments }
 primitive_called _ _ T = record T { now = is_stuck }
 
 abbrev pub on_top : Talks → List TalkFrame → Talks

@@ -1,0 +1,235 @@
+-- What is asked of a text, so that both readings of it lead to the same: it names what it has read, waits where it calls, and goes on as its
+-- wait says.
+use Rattle.std.proofs.Common.{ℕ, zero, suc, ◌+◌, ◌<◌, ◌≤◌, ◌≡◌, List, [], ◌∷◌, ◌++◌, length, drop, refl, ap, ◌∙◌, arith}
+use Rattle.code_core.specs.Prototype.{Prototype}
+use Rattle.int_core.specs.Value.{Value, nth, bind, Shape, range}
+use Rattle.machine_core.specs.World.{Cell, Wait, running, for_call, for_iterator, for_value, for_truth, dropped, for_concat, for_close, returning, leaving, Activation}
+use Rattle.machine_core.specs.Text.{Arg, read, written, arg, Own, read_register, read_registers, read_list, read_constant, read_varargs, see, write_register, write_registers, write_list, write_nils, end_list, cut_from, close_cells, mark_pending, see_pending, take_pending, drop_pending, keep_results, keep_pending, reads, effect, done, Text, go_by, own, open_cell, quick, operate, call, tail_call, close, closable, raise, leave, trap}
+use Rattle.machine_core.specs.InstructionRows.{rest_at, told_values}
+use Rattle.int_core.specs.Ask.{values}
+use Rattle.machine_core.specs.RowFits.{IsWaiting}
+use Rattle.machine_core.specs.Moves.{named, cells_after, cells_done}
+
+-- a value that is named is among the first ones read
+abbrev pub Reach : ℕ → Arg → Type 0
+Reach len (read n) = n < len
+Reach len (written p) = Unit {0}
+
+abbrev pub WaitReach : ℕ → Wait Arg → Type 0
+WaitReach len (leaving x) = Reach len x
+WaitReach len _ = Unit {0}
+
+-- a move that reads nothing and names only such values
+abbrev pub OwnReach : ℕ → Own → Type 0
+OwnReach len (write_register r x) = Reach len x
+OwnReach len (write_nils at count) = Unit {0}
+OwnReach len end_list = Unit {0}
+OwnReach len (cut_from r) = Unit {0}
+OwnReach len (close_cells r) = Unit {0}
+OwnReach len (mark_pending r) = Unit {0}
+OwnReach len (take_pending r) = Unit {0}
+OwnReach len (drop_pending r) = Unit {0}
+OwnReach len (keep_results from count) = Unit {0}
+OwnReach len keep_pending = Unit {0}
+OwnReach len (see x) = Unit {0}
+OwnReach len _ = ⊥
+
+abbrev pub Reaches : ℕ → List Own → Type 0
+Reaches len [] = Unit {0}
+Reaches len (m ∷ ms) = OwnReach len m × Reaches len ms
+
+-- a wait for values of which no error is known
+abbrev pub IsPlain : Wait Arg → Type 0
+IsPlain running = ⊥
+IsPlain (leaving x) = ⊥
+IsPlain _ = Unit {0}
+
+-- how many values a move reads at least
+abbrev pub least : Own → ℕ
+least (read_register r) = 1
+least _ = 0
+
+-- a text at an instruction of p, in a frame whose wait is w and where len values have been read
+abbrev pub Good : Prototype → ℕ → Wait Value → ℕ → Text → Type 0
+Good p pc w len (go_by z) = w ≡ running
+Good p pc w len (own m k) = (s : Shape) (more : ℕ) → least m ≤ more → Good p pc w (len + more) (k len s)
+Good p pc w len (open_cell r t) = Good p pc w len t
+Good p pc w len (quick q k) = (more : ℕ) → Good p pc w (len + more) (k len)
+Good p pc w len (operate op xs wait prepared t) = IsPlain wait × Reaches len prepared × (t ≡ rest_at wait p pc) × ((n : ℕ) → Good p pc w n t)
+Good p pc w len (call f slot wait prepared) = IsWaiting wait
+Good p pc w len (tail_call f slot) = Unit {0}
+Good p pc w len (close v e wait prepared) = IsWaiting wait × WaitReach len wait × Reaches len prepared
+Good p pc w len (closable v name t) = Good p pc w len t
+Good p pc w len (raise text) = Unit {0}
+Good p pc w len (leave given) = Unit {0}
+Good p pc w len trap = Unit {0}
+
+-- what is read behind does not change what is named
+
+nth_front : (env vs : List Value) (n : ℕ) → n < length env → nth (env ++ vs) n ≡ nth env n
+nth_front [] vs n l = absurd (omega arith)
+nth_front (x ∷ env) vs zero l = refl
+nth_front (x ∷ env) vs (suc n) l = nth_front env vs n (omega arith)
+
+arg_front : (env vs : List Value) (x : Arg) → Reach (length env) x → arg (env ++ vs) x ≡ arg env x
+arg_front env vs (read n) l = nth_front env vs n l
+arg_front env vs (written p) l = refl
+
+pub named_front : (env vs : List Value) (wait : Wait Arg) → WaitReach (length env) wait → named (env ++ vs) wait ≡ named env wait
+named_front env vs running l = refl
+named_front env vs for_call l = refl
+named_front env vs for_iterator l = refl
+named_front env vs for_value l = refl
+named_front env vs for_truth l = refl
+named_front env vs dropped l = refl
+named_front env vs (for_concat i) l = refl
+named_front env vs for_close l = refl
+named_front env vs (returning i) l = refl
+named_front env vs (leaving x) l = ap leaving (arg_front env vs x l)
+
+pub effect_front : (m : Own) (p : Prototype) (env vs : List Value) (a : Activation) → OwnReach (length env) m → effect m p (env ++ vs) a ≡ effect m p env a
+effect_front (write_register r x) p env vs a l = ap (λ v. record a { registers = Rattle.int_core.specs.Value.write r v a.registers }) (arg_front env vs x l)
+effect_front (write_nils at count) p env vs a l = refl
+effect_front end_list p env vs a l = refl
+effect_front (cut_from r) p env vs a l = refl
+effect_front (close_cells r) p env vs a l = refl
+effect_front (mark_pending r) p env vs a l = refl
+effect_front (take_pending r) p env vs a l = refl
+effect_front (drop_pending r) p env vs a l = refl
+effect_front (keep_results from count) p env vs a l = refl
+effect_front keep_pending p env vs a l = refl
+effect_front (see x) p env vs a l = refl
+effect_front (read_register r) p env vs a l = absurd l
+effect_front (read_registers from count) p env vs a l = absurd l
+effect_front (read_list from) p env vs a l = absurd l
+effect_front (read_constant n) p env vs a l = absurd l
+effect_front read_varargs p env vs a l = absurd l
+effect_front (write_registers at count slot) p env vs a l = absurd l
+effect_front (write_list at slot) p env vs a l = absurd l
+effect_front (see_pending r) p env vs a l = absurd l
+
+pub reads_nothing : (m : Own) (p : Prototype) (len : ℕ) (env : List Value) (a : Activation) → OwnReach len m → reads m p env a ≡ []
+reads_nothing (write_register r x) p len env a l = refl
+reads_nothing (write_nils at count) p len env a l = refl
+reads_nothing end_list p len env a l = refl
+reads_nothing (cut_from r) p len env a l = refl
+reads_nothing (close_cells r) p len env a l = refl
+reads_nothing (mark_pending r) p len env a l = refl
+reads_nothing (take_pending r) p len env a l = refl
+reads_nothing (drop_pending r) p len env a l = refl
+reads_nothing (keep_results from count) p len env a l = refl
+reads_nothing keep_pending p len env a l = refl
+reads_nothing (see x) p len env a l = refl
+reads_nothing (read_register r) p len env a l = absurd l
+reads_nothing (read_registers from count) p len env a l = absurd l
+reads_nothing (read_list from) p len env a l = absurd l
+reads_nothing (read_constant n) p len env a l = absurd l
+reads_nothing read_varargs p len env a l = absurd l
+reads_nothing (write_registers at count slot) p len env a l = absurd l
+reads_nothing (write_list at slot) p len env a l = absurd l
+reads_nothing (see_pending r) p len env a l = absurd l
+
+pub done_front : (ms : List Own) (p : Prototype) (env vs : List Value) (a : Activation) → Reaches (length env) ms → done ms p (env ++ vs) a ≡ done ms p env a
+done_front [] p env vs a l = refl
+done_front (m ∷ ms) p env vs a l = ap (done ms p (env ++ vs)) (effect_front m p env vs a l.0) ∙ done_front ms p env vs (effect m p env a) l.1
+
+pub cells_front : (ms : List Own) (p : Prototype) (co f : ℕ) (env vs : List Value) (a : Activation) (ws : List Cell) → Reaches (length env) ms → cells_done ms p co f (env ++ vs) a ws ≡ cells_done ms p co f env a ws
+cells_front [] p co f env vs a ws l = refl
+cells_front (m ∷ ms) p co f env vs a ws l = ap (λ a'. cells_done ms p co f (env ++ vs) a' (cells_after m co f a ws)) (effect_front m p env vs a l.0) ∙ cells_front ms p co f env vs (effect m p env a) (cells_after m co f a ws) l.1
+
+pub least_read : (m : Own) (p : Prototype) (env : List Value) (a : Activation) → least m ≤ length (reads m p env a)
+least_read (read_register r) p env a = omega arith
+least_read (write_register r x) p env a = omega arith
+least_read (write_nils at count) p env a = omega arith
+least_read end_list p env a = omega arith
+least_read (cut_from r) p env a = omega arith
+least_read (close_cells r) p env a = omega arith
+least_read (mark_pending r) p env a = omega arith
+least_read (take_pending r) p env a = omega arith
+least_read (drop_pending r) p env a = omega arith
+least_read (keep_results from count) p env a = omega arith
+least_read keep_pending p env a = omega arith
+least_read (see x) p env a = omega arith
+least_read (read_registers from count) p env a = omega arith
+least_read (read_list from) p env a = omega arith
+least_read (read_constant n) p env a = omega arith
+least_read read_varargs p env a = omega arith
+least_read (write_registers at count slot) p env a = omega arith
+least_read (write_list at slot) p env a = omega arith
+least_read (see_pending r) p env a = omega arith
+
+-- waits
+
+pub named_waits : (env : List Value) (wait : Wait Arg) → IsWaiting wait → IsWaiting (named env wait)
+named_waits env running k = k
+named_waits env for_call k = tt
+named_waits env for_iterator k = tt
+named_waits env for_value k = tt
+named_waits env for_truth k = tt
+named_waits env dropped k = tt
+named_waits env (for_concat i) k = tt
+named_waits env for_close k = tt
+named_waits env (returning i) k = tt
+named_waits env (leaving x) k = tt
+
+pub plain_waits : (wait : Wait Arg) → IsPlain wait → IsWaiting wait
+plain_waits running k = k
+plain_waits for_call k = tt
+plain_waits for_iterator k = tt
+plain_waits for_value k = tt
+plain_waits for_truth k = tt
+plain_waits dropped k = tt
+plain_waits (for_concat i) k = tt
+plain_waits for_close k = tt
+plain_waits (returning i) k = tt
+plain_waits (leaving x) k = absurd k
+
+pub plain_reach : (len : ℕ) (wait : Wait Arg) → IsPlain wait → WaitReach len wait
+plain_reach len running k = tt
+plain_reach len for_call k = tt
+plain_reach len for_iterator k = tt
+plain_reach len for_value k = tt
+plain_reach len for_truth k = tt
+plain_reach len dropped k = tt
+plain_reach len (for_concat i) k = tt
+plain_reach len for_close k = tt
+plain_reach len (returning i) k = tt
+plain_reach len (leaving x) k = absurd k
+
+pub plain_told : (env vs : List Value) (wait : Wait Arg) → IsPlain wait → told_values (named env wait) (values vs) ≡ vs
+plain_told env vs running k = refl
+plain_told env vs for_call k = refl
+plain_told env vs for_iterator k = refl
+plain_told env vs for_value k = refl
+plain_told env vs for_truth k = refl
+plain_told env vs dropped k = refl
+plain_told env vs (for_concat i) k = refl
+plain_told env vs for_close k = refl
+plain_told env vs (returning i) k = refl
+plain_told env vs (leaving x) k = absurd k
+
+pub rest_named : (env : List Value) (wait : Wait Arg) (p : Prototype) (pc : ℕ) → rest_at (named env wait) p pc ≡ rest_at wait p pc
+rest_named env running p pc = refl
+rest_named env for_call p pc = refl
+rest_named env for_iterator p pc = refl
+rest_named env for_value p pc = refl
+rest_named env for_truth p pc = refl
+rest_named env dropped p pc = refl
+rest_named env (for_concat i) p pc = refl
+rest_named env for_close p pc = refl
+rest_named env (returning i) p pc = refl
+rest_named env (leaving x) p pc = refl
+
+-- lists of what was read
+
+pub nth_mid : (env vs : List Value) (v : Value) → nth (env ++ v ∷ vs) (length env) ≡ v
+nth_mid [] vs v = refl
+nth_mid (x ∷ env) vs v = nth_mid env vs v
+
+pub drop_front : (env vs : List Value) → drop (length env) (env ++ vs) ≡ vs
+drop_front [] vs = refl
+drop_front (x ∷ env) vs = drop_front env vs
+
+pub drop_mid : (env vs : List Value) (v : Value) → drop (suc (length env)) (env ++ v ∷ vs) ≡ vs
+drop_mid [] vs v = refl
+drop_mid (x ∷ env) vs v = drop_mid env vs v
