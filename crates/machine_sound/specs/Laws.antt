@@ -1,0 +1,44 @@
+-- What is proved of sound worlds.
+use Rattle.std.specs.Prelude.{ℕ, ◌<◌, ◌≡◌, [], Some, None}
+use Rattle.int_core.specs.Ask.{values}
+use Rattle.machine_core.specs.World.{running, World, Place, place_of}
+use Rattle.machine_core.specs.InstructionRows.{text_at, rest_at, told_values}
+use Rattle.machine_core.specs.FrameRows.{expand}
+use Rattle.machine_core.specs.Moves.{Ending, go, Row, run}
+use Rattle.machine_core.specs.MachineStep.{woken, step, steps}
+use Rattle.machine_sound.specs.Sound.{Solid}
+use Rattle.machine_sound.specs.Safe.{waiting, Safe, EndIs, Good}
+
+-- a world that is sound, behind a row that ended so
+pub record Sound (primitives : ℕ) (ending : Ending) (W : World) : Type 0 where
+  pub solid : Solid primitives W
+  pub ready : EndIs primitives ending W
+
+-- the row of a primitive starts where all frames wait
+abbrev pub PrimitiveSafe : Row → Type 0
+PrimitiveSafe r = Safe (waiting None) [] r
+
+-- the rows of all primitives are safe
+abbrev pub PrimitivesSafe : ℕ → (ℕ → Row) → Type 0
+PrimitivesSafe primitives rows = (n : ℕ) → n < primitives → PrimitiveSafe (rows n)
+
+-- from a sound world no step traps, and the world is sound behind it, as its ending says
+abbrev pub StepsGood : Type 0
+StepsGood = (primitives : ℕ) (rows : ℕ → Row) → PrimitivesSafe primitives rows → (ending : Ending) (W : World) → Sound primitives ending W → Good primitives (step rows ending W)
+
+-- and so any number of steps
+abbrev pub RunsGood : Type 0
+RunsGood = (primitives : ℕ) (rows : ℕ → Row) → PrimitivesSafe primitives rows → (n : ℕ) (ending : Ending) (W : World) → Sound primitives ending W → Good primitives (steps rows n ending W)
+
+-- the text of the instruction at which the frame on top runs does not trap
+abbrev pub RunningTextsGood : Type 0
+RunningTextsGood = (primitives : ℕ) (W : World) (p : Place) → Sound primitives go W → place_of W ≡ Some p → p.top.wait ≡ running → Good primitives (run (expand (text_at p.function.code p.top.own.pc)) [] W)
+
+-- what is left of an instruction does not trap where the answer of its callee moves
+abbrev pub WaitingTextsGood : Type 0
+WaitingTextsGood = (primitives : ℕ) (W : World) (p : Place) → Sound primitives go W → place_of W ≡ Some p → (p.top.wait ≡ running → ⊥)
+    → Good primitives (run (expand (rest_at p.top.wait p.function.code p.top.own.pc)) (told_values p.top.wait (values W.moving)) (woken W p.stack p.top))
+
+-- there is a sound world with a running function
+abbrev pub SomeWorldSound : Type 0
+SomeWorldSound = (primitives : ℕ) × (W : World) × Sound primitives go W
