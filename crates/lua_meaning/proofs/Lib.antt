@@ -1,0 +1,7 @@
+mod Scripts
+mod Loops
+mod Functions
+mod Errors
+mod Metatables
+mod Coroutines
+mod Runs
