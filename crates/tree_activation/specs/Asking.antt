@@ -89,12 +89,14 @@ finishes line l a = asks_quickly (leaves l) line a [] (λ _. over)
 abbrev pub hold : ℕ → ℕ → Activation → Activation
 hold n cell a = record a { captured = record { held = (n, cell) ∷ a.captured.held; gone = a.captured.gone } }
 
+-- a local that has a cell keeps it
+abbrev pub captures_one : Option ℕ → ℕ → ℕ → List ℕ → Control → Activation → List Work → Next Body State
+captures_one (Some cell) line n ns next a k = go (capture line ns next) a k
+captures_one None line n ns next a k = says_so (opens (nth a.locals n)) line a (λ x b. at (capture line ns next) (hold n x.cell b) k)
+
 abbrev pub captures : ℕ → List ℕ → Control → Activation → List Work → Next Body State
 captures line [] next a k = go next a k
-captures line (n ∷ ns) next a k = elim (cell_held n a.captured.held) [
-  | Some _ ↦ go (capture line ns next) a k
-  | None ↦ says_so (opens (nth a.locals n)) line a (λ x b. at (capture line ns next) (hold n x.cell b) k)
-]
+captures line (n ∷ ns) next a k = captures_one (cell_held n a.captured.held) line n ns next a k
 
 -- locals have been declared
 abbrev pub declared : Celling → ℕ → List ℕ → Control → Control

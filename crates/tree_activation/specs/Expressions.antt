@@ -3,7 +3,7 @@
 use Rattle.std.specs.Prelude.{ℕ, ◌+◌, ℤ, Bool, true, false, cond, not, List, [], ◌∷◌, ◌++◌, Option, Some, None}
 use Rattle.int_core.specs.Value.{Value, known, nil, boolean, integer, string, Shape, is_known, nth, shape, holds}
 use Rattle.int_core.specs.Operations.{Event, of_add, of_sub, of_mul, of_mod, of_idiv, of_band, of_bor, of_bxor, of_shl, of_shr, of_unm, of_bnot, computed, by_zero, Operation, index, store, arithmetic, concat, length', equal, less, less_equal}
-use Rattle.int_core.specs.Ask.{reads_upvalue, makes_table, makes_function, fills_table, operates, Next, stuck}
+use Rattle.int_core.specs.Ask.{CellName, reads_upvalue, makes_table, makes_function, fills_table, operates, Next, stuck}
 use Rattle.tree_core.specs.declared.name.Place.{Place}
 use Rattle.tree_core.specs.declared.name.Place.TheVariants.{Unset, Local, Upvalue, GlobalIn, GlobalOf}
 use Rattle.tree_core.specs.declared.operator.UnOp.{UnOp}
@@ -52,11 +52,12 @@ evaluates (Paren line inner) a k = go (evaluate inner) a (first_only ∷ k)
 evaluates (Table line fields) a k = asks_quickly makes_table line a k (λ vs. construct line (first vs) 0 fields)
 
 -- a function, once the locals that it captures have cells
+abbrev pub makes_with : Option (List CellName) → Body → Activation → List Work → Next Body State
+makes_with None body a k = stuck
+makes_with (Some names) body a k = asks_quickly (makes_function body names) (line_of_body body) a k give_first
+
 abbrev pub makes : Body → Activation → List Work → Next Body State
-makes body a k = elim (cell_names (upvalues_of body) a.captured.held) [
-  | None ↦ stuck
-  | Some names ↦ asks_quickly (makes_function body names) (line_of_body body) a k give_first
-]
+makes body a k = makes_with (cell_names (upvalues_of body) a.captured.held) body a k
 
 -- operators
 
@@ -64,12 +65,14 @@ abbrev pub integer_in : Shape → Option ℤ
 integer_in (is_known (integer n)) = Some n
 integer_in _ = None
 
+-- what two integers give, which may be nothing where the right one is 0
+abbrev pub gives_integer : Option ℤ → Event → ℕ → Activation → List Work → Next Body State
+gives_integer None event line a k = go (raise line (by_zero event)) a k
+gives_integer (Some z) event line a k = gives (known (integer z)) a k
+
 -- on two integers it is done at once; else strings that spell integers are converted, or a handler is called
 abbrev pub by_integers : Event → Option ℤ → Option ℤ → ℕ → Value → Value → Activation → List Work → Next Body State
-by_integers event (Some m) (Some n) line v w a k = elim (computed event m n) [
-  | None ↦ go (raise line (by_zero event)) a k
-  | Some z ↦ gives (known (integer z)) a k
-]
+by_integers event (Some m) (Some n) line v w a k = gives_integer (computed event m n) event line a k
 by_integers event _ _ line v w a k = asks (operates (arithmetic event) (v ∷ w ∷ [])) line a k give_first
 
 abbrev pub arithmetic_of : Event → ℕ → Value → Value → Activation → List Work → Next Body State
