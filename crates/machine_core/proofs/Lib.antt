@@ -3,5 +3,4 @@ pub mod MachineTalk
 pub mod MachineFamilies
 pub mod MachineErrors
 pub mod BothReadings
-pub mod RowsKeep
 pub mod RowsFit

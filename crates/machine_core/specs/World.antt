@@ -132,13 +132,13 @@ pop W s = put_frames W s.coroutine (without_last s.frames)
 
 -- cells
 
-abbrev pub register_at : World → ℕ → ℕ → ℕ → Option Value
-register_at W co frame register =
-    bind (bind (slice_get W.coroutines co) frames_of) (λ frames. bind (bind (slice_get frames frame) lua_frame) (λ f. slice_get f.own.registers register))
+abbrev pub register_at : List Coroutine → ℕ → ℕ → ℕ → Option Value
+register_at coroutines co frame register =
+    bind (bind (slice_get coroutines co) frames_of) (λ frames. bind (bind (slice_get frames frame) lua_frame) (λ f. slice_get f.own.registers register))
 
 abbrev pub read_cell : World → Cell → Option Value
 read_cell W (closed v) = Some v
-read_cell W (open_at co frame register) = register_at W co frame register
+read_cell W (open_at co frame register) = register_at W.coroutines co frame register
 
 abbrev pub write_in_frame : ℕ → Value → Frame → Frame
 write_in_frame register v (lua f) = lua (record f { own = record f.own { registers = write register v f.own.registers } })

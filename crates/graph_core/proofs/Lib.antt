@@ -1,0 +1,14 @@
+pub mod Pairwise
+pub mod Same
+pub mod Tables
+pub mod Operations
+pub mod Grow
+pub mod Cells
+pub mod CellWrites
+pub mod OwnMoves
+pub mod Frames
+pub mod OwnFrame
+pub mod Calls
+pub mod OtherFrames
+pub mod Coroutines
+pub mod Keeps
