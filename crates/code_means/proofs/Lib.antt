@@ -1,0 +1,4 @@
+mod Traces
+mod Forms
+mod Pairs
+mod Same
