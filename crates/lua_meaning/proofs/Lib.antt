@@ -5,3 +5,4 @@ mod Errors
 mod Metatables
 mod Coroutines
 mod Runs
+mod Limits

@@ -33,6 +33,11 @@ known_name W f name = elim (slice_get W.functions f) [ None ↦ codes "?" | Some
 abbrev pub with_pending : {S : Type 0} → Asker S → List Value → Asker S
 with_pending asker pending = record asker { pending = pending }
 
+-- a unit is spent; where none is left, the turn has ended
+abbrev pub pays_unit : {F S : Type 0} → (fuel : ℕ) → World F S → Asker S → List (Frame S) → World F S
+pays_unit zero W asker below = now_in W (ends spent)
+pays_unit (suc fuel) W asker below = answered (record W { fuel = fuel }) asker 0 none below
+
 module _ {F S : Type 0} (system : System F S) where
   -- a callee that cannot be called is the activation's own fault
   abbrev pub calls_for : World F S → Asker S → List (Frame S) → List (Frame S) → Value → List Value → World F S
@@ -54,7 +59,7 @@ module _ {F S : Type 0} (system : System F S) where
   handle (makes_function body names) W asker below =
       answered (record W { functions = W.functions ++ made_in W asker.function body names ∷ [] }) asker 0 (one (object a_function (length W.functions))) below
   handle (fills_table t last vs) W asker below = elim (filled_table W.heap t last vs) [ None ↦ breaks W | Some H ↦ answered (record W { heap = H }) asker 0 none below ]
-  handle pays W asker below = elim W.fuel [ zero ↦ now_in W (ends spent) | suc fuel ↦ answered (record W { fuel = fuel }) asker 0 none below ]
+  handle pays W asker below = pays_unit W.fuel W asker below
   handle (opens v) W asker below = answered (record W { cells = W.cells ++ v ∷ [] }) asker (length W.cells) none below
   handle (operates op vs) W asker below = settled W asker below (does op vs W.heap)
   handle (calls f vs) W asker below = calls_for W asker (waiting asker ∷ below) below f vs

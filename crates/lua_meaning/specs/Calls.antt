@@ -4,7 +4,7 @@ use Rattle.std.specs.Prelude.{ℕ, zero, suc, Bool, true, false, cond, List, [],
 use Rattle.int_core.specs.Value.{nil, boolean, string, primitive, a_function, Value, known, object, nth}
 use Rattle.int_core.specs.Operations.{Callee, callee, not_callable, callee_of, greatest_chain, handler_in, of_close}
 use Rattle.int_core.specs.Ask.{values, left}
-use Rattle.lua_meaning.specs.World.{System, Frame, talking, waiting, protected, handled_by, handling, closing, Coroutine, fresh, suspended, running, normal, dead, failed, yielded, returned, failed_with, spent, talks, gives_back, unwinds, calls_primitive, ends, World, now_in, breaks, stack_overflow, has_room, on_frames, runs_main, raises_text, answered}
+use Rattle.lua_meaning.specs.World.{System, Function, Frame, talking, waiting, protected, handled_by, handling, closing, Coroutine, fresh, suspended, running, normal, dead, failed, yielded, returned, failed_with, spent, talks, gives_back, unwinds, calls_primitive, ends, World, now_in, breaks, stack_overflow, has_room, on_frames, runs_main, raises_text, answered}
 
 abbrev pub text : List ℕ → Value
 text bytes = known (string bytes)
@@ -55,25 +55,61 @@ fails_all W e = cond (runs_main W) (now_in W (ends (failed_with e))) (leaves_cor
 abbrev pub error_in_handler : Value
 error_in_handler = text (codes "error in error handling")
 
+abbrev pub error_or_nil : Option Value → Value
+error_or_nil None = known nil
+error_or_nil (Some e) = e
+
+-- what `coroutine.close` gives, with the last error of the closing methods
+abbrev pub all_closed : {F S : Type 0} → World F S → Option Value → World F S
+all_closed W None = now_in W (gives_back (truth true ∷ []))
+all_closed W (Some e) = now_in W (gives_back (truth false ∷ e ∷ []))
+
+-- the most coroutines that resume each other, besides the main one
+abbrev pub greatest_resumes : ℕ
+greatest_resumes = 200
+
+abbrev pub refuses : {F S : Type 0} → World F S → List ℕ → World F S
+refuses W why = now_in W (gives_back (truth false ∷ text why ∷ []))
+
+-- the running coroutine waits, and `co` runs in its place
+abbrev pub goes_along : {F S : Type 0} → World F S → ℕ → List (Frame S) → (chain : List ℕ) → World F S
+goes_along W co frames [] = breaks W
+goes_along W co frames (by ∷ chain) =
+    record W {
+      coroutines = slice_set (slice_set W.coroutines by (normal W.frames)) co running;
+      chain = co ∷ by ∷ chain;
+      frames = frames;
+    }
+
+abbrev pub goes_into : {F S : Type 0} → World F S → ℕ → List (Frame S) → World F S
+goes_into W co frames = goes_along W co frames W.chain
+
+-- a yield of the main coroutine ends the turn
+abbrev pub yields : {F S : Type 0} → World F S → List Value → World F S
+yields W vs = cond (runs_main W) (now_in W (ends (yielded vs))) (leaves_coroutine W (suspended W.frames) (truth true ∷ vs))
+
 module _ {F S : Type 0} (system : System F S) where
   -- calls
 
   -- a function is entered; a call beyond the depth is refused
+  abbrev pub enters_function : World F S → (number : ℕ) → Option (Function F) → List Value → (refused : List ℕ → World F S → World F S) → World F S
+  enters_function W n None arguments refused = breaks W
+  enters_function W n (Some f) arguments refused =
+      cond (has_room W) (record W { frames = talking n [] (system.starts f.made_of arguments) ∷ W.frames; now = talks }) (refused stack_overflow W)
+
   abbrev pub enters : World F S → Value → List Value → (refused : List ℕ → World F S → World F S) → World F S
   enters W (known (primitive n)) arguments refused = now_in W (calls_primitive n arguments)
-  enters W (object a_function n) arguments refused = elim (slice_get W.functions n) [
-    | None ↦ breaks W
-    | Some f ↦ cond (has_room W) (record W { frames = talking n [] (system.starts f.made_of arguments) ∷ W.frames; now = talks }) (refused stack_overflow W)
-  ]
+  enters W (object a_function n) arguments refused = enters_function W n (slice_get W.functions n) arguments refused
   enters W _ arguments refused = breaks W
 
   -- a call costs a unit; where none is left, the turn is spent
+  abbrev pub pays_with : (fuel : ℕ) → World F S → Value → List Value → (refused : List ℕ → World F S → World F S) → World F S
+  pays_with zero W f arguments refused = now_in W (ends spent)
+  pays_with (suc fuel) W f arguments refused = enters (record W { fuel = fuel }) f arguments refused
+
   abbrev pub pays_for : World F S → Callee → (refused : List ℕ → World F S → World F S) → World F S
   pays_for W (not_callable why) refused = refused why W
-  pays_for W (callee f arguments) refused = elim W.fuel [
-    | zero ↦ now_in W (ends spent)
-    | suc fuel ↦ enters (record W { fuel = fuel }) f arguments refused
-  ]
+  pays_for W (callee f arguments) refused = pays_with W.fuel W f arguments refused
 
   abbrev pub calls_value : World F S → Value → List Value → (refused : List ℕ → World F S → World F S) → World F S
   calls_value W f arguments refused = pays_for W (callee_of greatest_chain W.heap f arguments) refused
@@ -84,14 +120,6 @@ module _ {F S : Type 0} (system : System F S) where
       cond (has_room W) (calls_value (on_frames W (frame ∷ W.frames)) f arguments (λ why V. raises_text V why)) (raises_text W stack_overflow)
 
   -- the closing of a coroutine's variables, the last one first, each with the error so far or nil
-
-  abbrev pub error_or_nil : Option Value → Value
-  error_or_nil None = known nil
-  error_or_nil (Some e) = e
-
-  abbrev pub all_closed : World F S → Option Value → World F S
-  all_closed W None = now_in W (gives_back (truth true ∷ []))
-  all_closed W (Some e) = now_in W (gives_back (truth false ∷ e ∷ []))
 
   abbrev pub closes_on : World F S → Option Value → List Value → List (Frame S) → World F S
   closes_on W e [] below = all_closed (on_frames W below) e
@@ -136,24 +164,6 @@ module _ {F S : Type 0} (system : System F S) where
 
   -- moves between coroutines
 
-  -- the most coroutines that resume each other, besides the main one
-  abbrev pub greatest_resumes : ℕ
-  greatest_resumes = 200
-
-  abbrev pub refuses : World F S → List ℕ → World F S
-  refuses W why = now_in W (gives_back (truth false ∷ text why ∷ []))
-
-  -- the running coroutine waits, and `co` runs in its place
-  abbrev pub goes_into : World F S → ℕ → List (Frame S) → World F S
-  goes_into W co frames = elim W.chain [
-    | [] ↦ breaks W
-    | by ∷ chain ↦ record W {
-      coroutines = slice_set (slice_set W.coroutines by (normal W.frames)) co running;
-      chain = co ∷ by ∷ chain;
-      frames = frames;
-    }
-  ]
-
   abbrev pub resumes : World F S → ℕ → Coroutine S → List Value → World F S
   resumes W co (fresh body) vs =
       cond (nat_lt greatest_resumes (length W.chain)) (refuses W (codes "too many nested resumes")) (enters (goes_into W co []) body vs (λ why V. raises_text V why))
@@ -163,10 +173,6 @@ module _ {F S : Type 0} (system : System F S) where
   resumes W co (normal frames) vs = refuses W (codes "cannot resume non-suspended coroutine")
   resumes W co dead vs = refuses W (codes "cannot resume dead coroutine")
   resumes W co (failed e pending) vs = refuses W (codes "cannot resume dead coroutine")
-
-  -- a yield of the main coroutine ends the turn
-  abbrev pub yields : World F S → List Value → World F S
-  yields W vs = cond (runs_main W) (now_in W (ends (yielded vs))) (leaves_coroutine W (suspended W.frames) (truth true ∷ vs))
 
   -- the coroutine is dead from here on, and its variables are closed in the coroutine that runs
   abbrev pub closes_in : World F S → ℕ → Option Value → List Value → World F S

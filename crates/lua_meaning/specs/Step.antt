@@ -62,7 +62,7 @@ module _ {F S : Type 0} (system : System F S) where
   does_primitive lua_xpcall W vs = calls_over system W (handled_by (nth vs 1)) (nth vs 0) (drop 2 vs)
   does_primitive coroutine_create W vs = creates W (nth vs 0)
   does_primitive coroutine_resume W vs = with_coroutine W (codes "resume") (nth vs 0) (λ co c. resumes system W co c (drop 1 vs))
-  does_primitive coroutine_yield W vs = yields system W vs
+  does_primitive coroutine_yield W vs = yields W vs
   does_primitive coroutine_close W vs = with_coroutine W (codes "close") (nth vs 0) (λ co c. closes_coroutine system W co c)
   does_primitive coroutine_status W vs = with_coroutine W (codes "status") (nth vs 0) (λ co c. gives_one W (text (status_of c)))
   does_primitive coroutine_isyieldable W vs = gives_one W (truth true)

@@ -1,5 +1,5 @@
 // The laws of what a script means.
-ghost use Rattle.lua_meaning.specs.Laws.{CutsDoNotShow, EndedStays, MeaningIsOne};
+ghost use Rattle.lua_meaning.specs.Laws.{CutsDoNotShow, EndedStays, KeepsLimits, MeaningIsOne};
 
 /// A turn that has ended stays as it is: more steps change nothing.
 pub fn ended_stays()
@@ -16,4 +16,10 @@ pub fn meaning_is_one()
 /// on all the lines at once.
 pub fn cuts_do_not_show()
     ensures { CutsDoNotShow }
+{}
+
+/// Steps of a world keep each coroutine within the limit on frames, and spend at most what is left
+/// of the budget.
+pub fn keeps_limits()
+    ensures { KeepsLimits }
 {}

@@ -4,4 +4,4 @@
 
 mod law;
 
-pub use law::{cuts_do_not_show, ended_stays, meaning_is_one};
+pub use law::{cuts_do_not_show, ended_stays, keeps_limits, meaning_is_one};
