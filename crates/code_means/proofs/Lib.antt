@@ -2,3 +2,4 @@ mod Traces
 mod Forms
 mod Pairs
 mod Same
+mod WholeRuns

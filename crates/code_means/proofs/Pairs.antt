@@ -15,17 +15,17 @@ use Rattle.tree_core.specs.Tree.{Body, Nil, True, False, Vararg, Table, Unary, A
 use Rattle.code_means.proofs.Traces.{number}
 use Rattle.code_means.proofs.Forms.{name, no_variable, declared, closed, of_local, loc, outer, global, int, str, call, bin, field, block, returning, locals, loc_is, assigns, assign, does, when, fun, vararg_fun, function, text, in_register, variable, code, load_int, jump, jump_back, AskAlike, tree_asks, code_asks}
 
-abbrev one : Value → Reply
+abbrev pub one : Value → Reply
 one v = values (v ∷ [])
 
 -- local a=1 local function f() a=10 return 1 end return a+f()
-abbrev changes_operand : Body
+abbrev pub changes_operand : Body
 changes_operand = vararg_fun [] [] (returning (
     loc_is "a" 0 (int 1)
     ∷ Rattle.tree_core.specs.Tree.LocalFunction 1 (name "f" (LocalPlace 1)) (fun [] (of_local "a" 0 ∷ []) (returning (assign (outer "a" 0) (int 10) ∷ []) (int 1 ∷ []))) ∷ [])
     (bin Plus (loc "a" 0) (call (loc "f" 1) []) ∷ []))
 
-abbrev changes_operand_code : Prototype
+abbrev pub changes_operand_code : Prototype
 changes_operand_code = code 0 true [] [] [] (
     code 0 false [] (in_register 0 ∷ []) [] [] (load_int 0 10 ∷ abc SetUpval 0 0 0 false ∷ load_int 0 1 ∷ abc Return1 0 2 0 false ∷ []) ∷ [])
     (abc VarArgPrep 0 0 0 false ∷ load_int 0 1 ∷ abc LoadNil 1 0 0 false ∷ abx Closure 2 0 ∷ abc Move 1 2 0 false
@@ -47,7 +47,7 @@ unfolding opcodes number_of int_wrap
 inner_function = (refl, refl)
 
 -- local f local c=true while c do local x=0 f=function() return x end x=5 c=false end return f()
-abbrev last_value : Body
+abbrev pub last_value : Body
 last_value = vararg_fun [] [] (returning (
     locals (declared "f" 0 ∷ []) [] ∷ loc_is "c" 1 (True 1)
     ∷ While 1 (loc "c" 1) (block (
@@ -55,7 +55,7 @@ last_value = vararg_fun [] [] (returning (
     ∷ assign (loc "x" 2) (int 5) ∷ assign (loc "c" 1) (False 1) ∷ [])) ∷ [])
     (call (loc "f" 0) [] ∷ []))
 
-abbrev last_value_code : Prototype
+abbrev pub last_value_code : Prototype
 last_value_code = code 0 true [] [] [] (code 0 false [] (in_register 2 ∷ []) [] [] (abc GetUpval 0 0 0 false ∷ abc Return1 0 2 0 false ∷ []) ∷ [])
     (abc VarArgPrep 0 0 0 false ∷ abc LoadNil 0 0 0 false ∷ abc LoadTrue 1 0 0 false ∷ abc Test 1 0 0 false ∷ jump 9
     ∷ load_int 2 0 ∷ abx Closure 3 0 ∷ abc Move 0 3 0 false ∷ load_int 3 5 ∷ abc Move 2 3 0 false ∷ abc LoadFalse 3 0 0 false ∷ abc Move 1 3 0 false
@@ -67,13 +67,13 @@ unfolding opcodes number_of int_wrap
 last_value_in_scope = (refl, refl)
 
 -- function(it) for k in it,1,2 do local g=function() return k end if k==3 then break end end end
-abbrev breaks_out : Body
+abbrev pub breaks_out : Body
 breaks_out = fun ("it" ∷ []) [] (block (
     GenFor 1 (name "k" (LocalPlace 5) ∷ []) (exps (loc "it" 0 ∷ int 1 ∷ int 2 ∷ [])) (block (
     loc_is "g" 6 (function (fun [] (of_local "k" 5 ∷ []) (returning [] (outer "k" 0 ∷ []))))
     ∷ when (bin Equal (loc "k" 5) (int 3)) (Break 1 ∷ []) ∷ [])) ∷ []))
 
-abbrev breaks_out_code : Prototype
+abbrev pub breaks_out_code : Prototype
 breaks_out_code = code 1 false [] [] [] (code 0 false [] (in_register 5 ∷ []) [] [] (abc GetUpval 0 0 0 false ∷ abc Return1 0 2 0 false ∷ []) ∷ [])
     (abc Move 1 0 0 false ∷ load_int 2 1 ∷ load_int 3 2 ∷ abc LoadNil 4 0 0 false ∷ abx TForPrep 1 9
     ∷ abx Closure 7 0 ∷ abc Move 6 7 0 false ∷ abc Move 7 5 0 false ∷ load_int 8 3 ∷ abc Eq 7 8 0 false ∷ jump 2 ∷ abc Close 1 0 0 false ∷ jump 4
@@ -90,14 +90,14 @@ unfolding opcodes number_of int_wrap
 end_of_generic_for = (refl, refl)
 
 -- function(f,v) do local x <close> = v local y=1 f(function() return y end) end return 2 end
-abbrev closes_at_end : Body
+abbrev pub closes_at_end : Body
 closes_at_end = fun ("f" ∷ "v" ∷ []) [] (returning (
     Do 1 (block (
     locals (closed "x" 2 ∷ []) (loc "v" 1 ∷ []) ∷ loc_is "y" 3 (int 1)
     ∷ does (call (loc "f" 0) (function (fun [] (of_local "y" 3 ∷ []) (returning [] (outer "y" 0 ∷ []))) ∷ [])) ∷ [])) ∷ [])
     (int 2 ∷ []))
 
-abbrev closes_at_end_code : Prototype
+abbrev pub closes_at_end_code : Prototype
 closes_at_end_code = code 2 false [] [] (variable "f" 0 9 ∷ variable "v" 0 9 ∷ variable "x" 1 7 ∷ variable "y" 3 7 ∷ [])
     (code 0 false [] (in_register 3 ∷ []) [] [] (abc GetUpval 0 0 0 false ∷ abc Return1 0 2 0 false ∷ []) ∷ [])
     (abc Move 2 1 0 false ∷ abc Tbc 2 0 0 false ∷ load_int 3 1 ∷ abc Move 4 0 0 false ∷ abx Closure 5 0 ∷ abc Call 4 2 1 false ∷ abc Close 2 0 0 false
@@ -127,12 +127,12 @@ unfolding opcodes number_of int_wrap
 not_marked = (refl, refl)
 
 -- function(o) o.a,o.b=1,o:m(2) return {3,x=4,o.c} end
-abbrev makes_tables : Body
+abbrev pub makes_tables : Body
 makes_tables = fun ("o" ∷ []) [] (returning (
     assigns (field (loc "o" 0) "a" ∷ field (loc "o" 0) "b" ∷ []) (int 1 ∷ Method 1 (loc "o" 0) (no_variable "m") (exps (int 2 ∷ [])) ∷ []) ∷ [])
     (Table 1 (fields (Item (int 3) ∷ Keyed 1 (str "x") (int 4) ∷ Item (field (loc "o" 0) "c") ∷ [])) ∷ []))
 
-abbrev makes_tables_code : Prototype
+abbrev pub makes_tables_code : Prototype
 makes_tables_code = code 1 false (text "a" ∷ text "b" ∷ text "m" ∷ text "x" ∷ text "c" ∷ []) [] [] []
     (abc Move 1 0 0 false ∷ abx LoadK 2 0 ∷ abc Move 3 0 0 false ∷ abx LoadK 4 1 ∷ load_int 5 1
     ∷ abc Move 6 0 0 false ∷ abc OpSelf 6 6 2 true ∷ load_int 8 2 ∷ abc Call 6 3 2 false ∷ abc SetTable 3 4 6 false ∷ abc SetTable 1 2 5 false
@@ -145,7 +145,7 @@ unfolding opcodes number_of int_wrap
 assigned_and_constructed = (refl, refl)
 
 -- function() for i=1,2 do local j=i if j==1 then goto continue end (function() i=i+j end)() ::continue:: end end
-abbrev continues : Body
+abbrev pub continues : Body
 continues = fun [] [] (block (
     NumFor 1 (name "i" (LocalPlace 3)) (int 1) (int 2) (block (
     loc_is "j" 4 (loc "i" 3)
@@ -153,7 +153,7 @@ continues = fun [] [] (block (
     ∷ does (call (Paren 1 (function (fun [] (of_local "i" 3 ∷ of_local "j" 4 ∷ []) (block (assign (outer "i" 0) (bin Plus (outer "i" 0) (outer "j" 1)) ∷ []))))) [])
     ∷ Label 1 (no_variable "continue") ∷ [])) ∷ []))
 
-abbrev continues_code : Prototype
+abbrev pub continues_code : Prototype
 continues_code = code 0 false [] [] [] (code 0 false [] (in_register 3 ∷ in_register 4 ∷ []) [] []
     (abc GetUpval 0 0 0 false ∷ abc GetUpval 1 1 0 false ∷ abc Add 0 0 1 false ∷ abc MmBin 0 1 6 false ∷ abc SetUpval 0 0 0 false ∷ abc Return0 0 1 0 false ∷ []) ∷ [])
     (load_int 0 1 ∷ load_int 1 2 ∷ load_int 2 1 ∷ abx ForPrep 0 10
@@ -171,13 +171,13 @@ unfolding opcodes number_of int_wrap
 captured_in_rounds = (refl, refl)
 
 -- function(f) repeat local x=f() local g=function() return x end until x and not f(g) end
-abbrev repeats : Body
+abbrev pub repeats : Body
 repeats = fun ("f" ∷ []) [] (block (
     Repeat 1 (block (
     loc_is "x" 1 (call (loc "f" 0) []) ∷ loc_is "g" 2 (function (fun [] (of_local "x" 1 ∷ []) (returning [] (outer "x" 0 ∷ [])))) ∷ []))
     (And 1 (loc "x" 1) (Unary 1 Negation (call (loc "f" 0) (loc "g" 2 ∷ [])))) ∷ []))
 
-abbrev repeats_code : Prototype
+abbrev pub repeats_code : Prototype
 repeats_code = code 1 false [] [] [] (code 0 false [] (in_register 1 ∷ []) [] [] (abc GetUpval 0 0 0 false ∷ abc Return1 0 2 0 false ∷ []) ∷ [])
     (abc Move 1 0 0 false ∷ abc Call 1 1 2 false ∷ abx Closure 3 0 ∷ abc Move 2 3 0 false
     ∷ abc Move 3 1 0 false ∷ abc Test 3 0 0 false ∷ jump 4 ∷ abc Move 3 0 0 false ∷ abc Move 4 2 0 false ∷ abc Call 3 2 2 false ∷ abc Not 3 3 0 false

@@ -9,7 +9,8 @@ use Rattle.tree_activation.specs.Activation.{start, step}
 use Rattle.code_core.specs.Prototype.{Prototype}
 use Rattle.machine_core.specs.Talk as code
 use Rattle.machine_core.specs.Talk.{talk_start, talk_step}
-use Rattle.code_means.specs.Means.{as_known, Same, Means}
+use Rattle.lua_meaning.specs.World.{as_known}
+use Rattle.code_means.specs.Means.{Same, Means}
 use Rattle.code_means.specs.Asks.{Said, shown, SaysLast, SaysThen, Asks, tree_talk, code_talk}
 
 module _ {A B : Type 0} (R : A → B → Type 0) where

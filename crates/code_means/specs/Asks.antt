@@ -9,7 +9,8 @@ use Rattle.tree_activation.specs.Activation.{start, step}
 use Rattle.code_core.specs.Prototype.{Prototype}
 use Rattle.machine_core.specs.Talk as code
 use Rattle.machine_core.specs.Talk.{talk_start, talk_step}
-use Rattle.code_means.specs.Means.{as_known, Means}
+use Rattle.lua_meaning.specs.World.{as_known}
+use Rattle.code_means.specs.Means.{Means}
 
 -- an ask, its line and the values that it carries; of a function that is made only the cells are kept
 pub record Said : Type 0 where

@@ -1,27 +1,16 @@
 -- What it is that code means a function's body: on any arguments and answers both make the same asks in the same order, and the inner
--- functions mean the inner bodies.
-use Rattle.std.specs.Prelude.{ℕ, zero, suc, Bool, true, false, List, None, codes}
+-- functions mean the inner bodies. Of a function whose lines are not known, an ask is taken without its line and without a variable's name.
+use Rattle.std.specs.Prelude.{ℕ, zero, suc, Bool, List}
 use Rattle.int_core.specs.Value.{Value}
-use Rattle.int_core.specs.Ask.{Ask, marks, Next, goes_on, says, stuck, runs, NextLike}
+use Rattle.int_core.specs.Ask.{runs, NextLike}
 use Rattle.tree_core.specs.Tree.{Body}
 use Rattle.tree_activation.specs.Work.{when_captured}
 use Rattle.tree_activation.specs.Work as tree
 use Rattle.tree_activation.specs.Activation.{start, step}
+use Rattle.lua_meaning.specs.World.{as_known}
 use Rattle.code_core.specs.Prototype.{Prototype}
 use Rattle.machine_core.specs.Talk as code
 use Rattle.machine_core.specs.Talk.{talk_start, talk_step}
-
--- of a function whose lines are not known, an ask has no line and names no variable
-
-abbrev pub without_name : {F : Type 0} → Ask F → Ask F
-without_name (marks v name) = marks v (codes "?")
-without_name q = q
-
-abbrev pub as_known : {F S : Type 0} → (lines : Bool) → Next F S → Next F S
-as_known true next = next
-as_known false (goes_on s) = goes_on s
-as_known false (says q line shared k) = says (without_name q) None shared k
-as_known false stuck = stuck
 
 -- the two talk alike through n asks
 abbrev pub Same : (lines : Bool) → ℕ → Prototype → tree.State → code.State → Type 0

@@ -5,10 +5,10 @@ use Rattle.std.specs.Prelude.{ℤ, nat_lt, slice_get, slice_set, drop, codes}
 use Rattle.int_core.specs.Value.{Value, known, primitive, object, a_function, a_coroutine, is_nil, nth}
 use Rattle.int_core.specs.Heap.{filled_table}
 use Rattle.int_core.specs.Operations.{Callee, callee, not_callable, callee_of, greatest_chain, Settled, found, ask, fault, does, handler_in, of_close, is_function}
-use Rattle.int_core.specs.Ask.{values, faulted, left, Reply, Ask, reads_upvalue, writes_upvalue, makes_table, makes_function, fills_table, pays, opens, operates, calls, calls_last, marks, closes, raises, leaves, returns, throws, Next, goes_on, says, stuck}
-use Rattle.lua_meaning.specs.World.{System, Function, Asker, Frame, talking, waiting, protected, handled_by, handling, closing, Coroutine, fresh, suspended, running, normal, dead, failed, Now, talks, gives_back, raises_error, unwinds, calls_primitive, ends, World, now_in, breaks, greatest_depth, has_room, on_frames, runs_main, raises_text, blamed, answered, cell_of, shared_in}
+use Rattle.int_core.specs.Ask.{faulted, Ask, reads_upvalue, writes_upvalue, makes_table, makes_function, fills_table, pays, opens, operates, calls, calls_last, marks, closes, raises, leaves, returns, throws, Answer, Next, goes_on, says, stuck}
+use Rattle.lua_meaning.specs.World.{System, Function, Asker, Frame, talking, waiting, raising, protected, handled_by, handling, closing, Coroutine, fresh, suspended, running, normal, dead, failed, Now, talks, gives_back, raises_error, unwinds, calls_primitive, ends, World, now_in, breaks, greatest_depth, has_room, on_frames, runs_main, raises_text, blamed, given_to, answered, answered_at_once, as_known, cell_of, shared_in}
 use Rattle.lua_meaning.specs.Calls.{error_in_handler, error_or_nil, put_coroutine, frames_in, back_to, returns_all, fails_all, enters_function, enters, pays_with, pays_for, calls_value, calls_over, closes_on, handed, raised_to, unwound, goes_along, goes_into, resumes, greatest_resumes, yields, closes_in, closes_coroutine}
-use Rattle.lua_meaning.specs.Asks.{calls_for, settled, pays_unit, with_pending, handle, turns, talks_on}
+use Rattle.lua_meaning.specs.Asks.{calls_for, calls_in_place, settled, pays_unit, with_pending, handle, turns, talks_on}
 use Rattle.lua_meaning.specs.Primitives.{Primitive, lua_error, lua_pcall, lua_xpcall, coroutine_close, coroutine_create, coroutine_isyieldable, coroutine_resume, coroutine_running, coroutine_status, coroutine_yield, prelude_out, Done, done, row}
 use Rattle.lua_meaning.specs.Primitives.{refused as no_result}
 use Rattle.lua_meaning.specs.Step.{error_by, level_in, creates, with_coroutine, after_row, does_primitive, has_ended, tick_by, tick, ticks}
@@ -47,9 +47,8 @@ module _ {F S : Type 0} where
   frames_keep : (n : ℕ) (W : World F S) (frames : List (Frame S)) → Keeps n W → length frames ≤ greatest_depth → Keeps n (on_frames W frames)
   frames_keep n W frames k few = record { spends = k.spends; top = few; others = k.others }
 
-  answer_keeps : (n : ℕ) (W : World F S) (asker : Asker S) (cell : ℕ) (reply : Reply) (below : List (Frame S)) → Keeps n W → length below + 1 ≤ greatest_depth
-      → Keeps n (answered W asker cell reply below)
-  answer_keeps n W asker cell reply below k few = record { spends = k.spends; top = omega (arith, few); others = k.others }
+  given_keeps : (n : ℕ) (W : World F S) (asker : Asker S) (x : Answer) (below : List (Frame S)) → Keeps n W → length below + 1 ≤ greatest_depth → Keeps n (given_to W asker x below)
+  given_keeps n W asker x below k few = record { spends = k.spends; top = omega (arith, few); others = k.others }
 
   back_keeps : (n : ℕ) (W : World F S) (c : Coroutine S) (vs : List Value) (chain : List ℕ) → Keeps n W → length (frames_in (Some c)) ≤ greatest_depth → Keeps n (back_to W c vs chain)
   back_keeps n W c vs [] k few = now_keeps n W _ k
@@ -126,7 +125,8 @@ module _ {F S : Type 0} (system : System F S) where
   handed_keeps : (n : ℕ) (W : World F S) (vs : List Value) (frames : List (Frame S)) → Keeps n W → length frames ≤ greatest_depth → Keeps n (handed system W vs frames)
   handed_keeps n W vs [] k few = returns_keep n W vs k
   handed_keeps n W vs (talking f pending s ∷ below) k few = now_keeps n W _ k
-  handed_keeps n W vs (waiting asker ∷ below) k few = answer_keeps n W asker 0 (values vs) below k (omega (arith, few))
+  handed_keeps n W vs (waiting asker ∷ below) k few = given_keeps n W asker _ below k (omega (arith, few))
+  handed_keeps n W vs (raising asker ∷ below) k few = now_keeps n W _ k
   handed_keeps n W vs (protected ∷ below) k few = now_keeps n (on_frames W below) _ (frames_keep n W below k (omega (arith, few)))
   handed_keeps n W vs (handled_by h ∷ below) k few = now_keeps n (on_frames W below) _ (frames_keep n W below k (omega (arith, few)))
   handed_keeps n W vs (handling ∷ below) k few = now_keeps n (on_frames W below) _ (frames_keep n W below k (omega (arith, few)))
@@ -136,6 +136,7 @@ module _ {F S : Type 0} (system : System F S) where
   raised_keeps n W e [] k = either n (runs_main W) _ _ (λ _. now_keeps n W _ k) (λ _. fails_keep n W e k)
   raised_keeps n W e (talking f pending s ∷ frames) k = raised_keeps n W e frames k
   raised_keeps n W e (waiting asker ∷ frames) k = raised_keeps n W e frames k
+  raised_keeps n W e (raising asker ∷ frames) k = raised_keeps n W e frames k
   raised_keeps n W e (handled_by h ∷ frames) k =
       either n (has_room W) _ _
       (λ there. let r = room W there in calls_keep n (on_frames W (handling ∷ W.frames)) h (e ∷ []) (λ why V. now_in V (unwinds error_in_handler))
@@ -148,7 +149,8 @@ module _ {F S : Type 0} (system : System F S) where
   unwound_keeps : (n : ℕ) (W : World F S) (e : Value) (frames : List (Frame S)) → Keeps n W → length frames ≤ greatest_depth → Keeps n (unwound system W e frames)
   unwound_keeps n W e [] k few = fails_keep n W e k
   unwound_keeps n W e (talking f pending s ∷ below) k few = now_keeps n W _ k
-  unwound_keeps n W e (waiting asker ∷ below) k few = answer_keeps n W asker 0 (left e) below k (omega (arith, few))
+  unwound_keeps n W e (waiting asker ∷ below) k few = given_keeps n W asker _ below k (omega (arith, few))
+  unwound_keeps n W e (raising asker ∷ below) k few = given_keeps n W asker _ below k (omega (arith, few))
   unwound_keeps n W e (protected ∷ below) k few = now_keeps n (on_frames W below) _ (frames_keep n W below k (omega (arith, few)))
   unwound_keeps n W e (handled_by h ∷ below) k few = now_keeps n (on_frames W below) _ (frames_keep n W below k (omega (arith, few)))
   unwound_keeps n W e (handling ∷ below) k few = now_keeps n (on_frames W below) _ (frames_keep n W below k (omega (arith, few)))
@@ -196,43 +198,49 @@ module _ {F S : Type 0} (system : System F S) where
   if_there n None V goes k more = k
   if_there n (Some x) V goes k more = more x
 
-  calls_for_keeps : (n : ℕ) (W : World F S) (asker : Asker S) (frames below : List (Frame S)) (f : Value) (vs : List Value) → Keeps n W → length frames ≤ greatest_depth → length below + 1 ≤ greatest_depth
-      → Keeps n (calls_for system W asker frames below f vs)
-  calls_for_keeps n W asker frames below f vs k few fewer =
-      calls_keep n (on_frames W frames) f vs (λ why V. answered V asker 0 (faulted why) below) (frames_keep n W frames k few) (λ why V kept. answer_keeps n V asker 0 (faulted why) below kept fewer)
+  calls_for_keeps : (n : ℕ) (W : World F S) (asker : Asker S) (below : List (Frame S)) (f : Value) (vs : List Value) → Keeps n W → length below + 1 ≤ greatest_depth
+      → Keeps n (calls_for system W asker below f vs)
+  calls_for_keeps n W asker below f vs k few =
+      calls_keep n (on_frames W (waiting asker ∷ below)) f vs (λ why V. answered V asker (faulted why) below) (frames_keep n W (waiting asker ∷ below) k (omega (arith, few)))
+      (λ why V kept. given_keeps n V asker _ below kept few)
+
+  in_place_keeps : (n : ℕ) (W : World F S) (asker : Asker S) (below : List (Frame S)) (f : Value) (vs : List Value) → Keeps n W → length below + 1 ≤ greatest_depth
+      → Keeps n (calls_in_place system W asker below f vs)
+  in_place_keeps n W asker below f vs k few =
+      calls_keep n (on_frames W below) f vs (λ why V. answered_at_once V asker 0 (faulted why) below) (frames_keep n W below k (omega (arith, few)))
+      (λ why V kept. given_keeps n V asker _ below kept few)
 
   settled_keeps : (n : ℕ) (W : World F S) (asker : Asker S) (below : List (Frame S)) (o : Settled) → Keeps n W → length below + 1 ≤ greatest_depth → Keeps n (settled system W asker below o)
-  settled_keeps n W asker below (found H vs) k few = answer_keeps n (record W { heap = H }) asker 0 (values vs) below (record { spends = k.spends; top = k.top; others = k.others }) few
-  settled_keeps n W asker below (ask h vs) k few = calls_for_keeps n W asker (waiting asker ∷ below) below h vs k (omega (arith, few)) few
-  settled_keeps n W asker below (fault why) k few = answer_keeps n W asker 0 (faulted why) below k few
+  settled_keeps n W asker below (found H vs) k few = given_keeps n (record W { heap = H }) asker _ below (record { spends = k.spends; top = k.top; others = k.others }) few
+  settled_keeps n W asker below (ask h vs) k few = calls_for_keeps n W asker below h vs k few
+  settled_keeps n W asker below (fault why) k few = given_keeps n W asker _ below k few
 
   unit_keeps : (n m : ℕ) (W : World F S) (asker : Asker S) (below : List (Frame S)) → W.fuel ≡ m → Keeps n W → length below + 1 ≤ greatest_depth → Keeps n (pays_unit m W asker below)
   unit_keeps n zero W asker below e k few = now_keeps n W _ k
   unit_keeps n (suc m) W asker below e k few =
-      answer_keeps n (record W { fuel = m }) asker 0 (values []) below (let h = k.spends in record { spends = omega (arith, h, e); top = k.top; others = k.others }) few
+      given_keeps n (record W { fuel = m }) asker _ below (let h = k.spends in record { spends = omega (arith, h, e); top = k.top; others = k.others }) few
 
   handle_keeps : (n : ℕ) (q : Ask F) (W : World F S) (asker : Asker S) (below : List (Frame S)) → Keeps n W → length below + 1 ≤ greatest_depth → Keeps n (handle system q W asker below)
   handle_keeps n (reads_upvalue u) W asker below k few =
-      if_there n (cell_of W asker.function u) _ _ (now_keeps n W _ k) (λ c. answer_keeps n W asker 0 _ below k few)
+      if_there n (cell_of W asker.function u) _ _ (now_keeps n W _ k) (λ c. given_keeps n W asker _ below k few)
   handle_keeps n (writes_upvalue u v) W asker below k few =
       if_there n (cell_of W asker.function u) _ _ (now_keeps n W _ k)
-      (λ c. answer_keeps n (record W { cells = slice_set W.cells c v }) asker 0 _ below (record { spends = k.spends; top = k.top; others = k.others }) few)
+      (λ c. given_keeps n (record W { cells = slice_set W.cells c v }) asker _ below (record { spends = k.spends; top = k.top; others = k.others }) few)
   handle_keeps n makes_table W asker below k few = record { spends = k.spends; top = omega (arith, few); others = k.others }
   handle_keeps n (makes_function body names) W asker below k few = record { spends = k.spends; top = omega (arith, few); others = k.others }
   handle_keeps n (fills_table t last vs) W asker below k few =
       if_there n (filled_table W.heap t last vs) _ _ (now_keeps n W _ k)
-      (λ H. answer_keeps n (record W { heap = H }) asker 0 _ below (record { spends = k.spends; top = k.top; others = k.others }) few)
+      (λ H. given_keeps n (record W { heap = H }) asker _ below (record { spends = k.spends; top = k.top; others = k.others }) few)
   handle_keeps n pays W asker below k few = unit_keeps n W.fuel W asker below refl k few
   handle_keeps n (opens v) W asker below k few = record { spends = k.spends; top = omega (arith, few); others = k.others }
   handle_keeps n (operates op vs) W asker below k few = settled_keeps n W asker below (does op vs W.heap) k few
-  handle_keeps n (calls f vs) W asker below k few = calls_for_keeps n W asker (waiting asker ∷ below) below f vs k (omega (arith, few)) few
-  handle_keeps n (calls_last f vs) W asker below k few = calls_for_keeps n W asker below below f vs k (omega (arith, few)) few
+  handle_keeps n (calls f vs) W asker below k few = calls_for_keeps n W asker below f vs k few
+  handle_keeps n (calls_last f vs) W asker below k few = in_place_keeps n W asker below f vs k few
   handle_keeps n (marks v name) W asker below k few =
-      either n (is_nil (handler_in W.heap of_close v)) _ _ (λ _. answer_keeps n W asker 0 _ below k few) (λ _. answer_keeps n W (with_pending asker (v ∷ asker.pending)) 0 _ below k few)
+      either n (is_nil (handler_in W.heap of_close v)) _ _ (λ _. given_keeps n W asker _ below k few) (λ _. given_keeps n W (with_pending asker (v ∷ asker.pending)) _ below k few)
   handle_keeps n (closes v e) W asker below k few =
-      let closer = with_pending asker (drop 1 asker.pending) in
-      calls_for_keeps n W closer (waiting closer ∷ below) below (handler_in W.heap of_close v) (v ∷ e ∷ []) k (omega (arith, few)) few
-  handle_keeps n (raises why) W asker below k few = now_keeps n (on_frames W (waiting asker ∷ below)) _ (frames_keep n W (waiting asker ∷ below) k (omega (arith, few)))
+      calls_for_keeps n W (with_pending asker (drop 1 asker.pending)) below (handler_in W.heap of_close v) (v ∷ e ∷ []) k few
+  handle_keeps n (raises why) W asker below k few = now_keeps n (on_frames W (raising asker ∷ below)) _ (frames_keep n W (raising asker ∷ below) k (omega (arith, few)))
   handle_keeps n (leaves (returns vs)) W asker below k few = now_keeps n (on_frames W below) _ (frames_keep n W below k (omega (arith, few)))
   handle_keeps n (leaves (throws e)) W asker below k few = now_keeps n (on_frames W below) _ (frames_keep n W below k (omega (arith, few)))
 
@@ -245,9 +253,10 @@ module _ {F S : Type 0} (system : System F S) where
 
   talks_keep : (n : ℕ) (W : World F S) (frames : List (Frame S)) → Keeps n W → length frames ≤ greatest_depth → Keeps n (talks_on system W frames)
   talks_keep n W (talking f pending s ∷ below) k few =
-      if_there n (slice_get W.functions f) _ _ (now_keeps n W _ k) (λ g. turns_keep n (system.steps g.made_of s) W f pending below k (omega (arith, few)))
+      if_there n (slice_get W.functions f) _ _ (now_keeps n W _ k) (λ g. turns_keep n (as_known g.has_lines (system.steps g.made_of s)) W f pending below k (omega (arith, few)))
   talks_keep n W [] k few = now_keeps n W _ k
   talks_keep n W (waiting asker ∷ below) k few = now_keeps n W _ k
+  talks_keep n W (raising asker ∷ below) k few = now_keeps n W _ k
   talks_keep n W (protected ∷ below) k few = now_keeps n W _ k
   talks_keep n W (handled_by h ∷ below) k few = now_keeps n W _ k
   talks_keep n W (handling ∷ below) k few = now_keeps n W _ k

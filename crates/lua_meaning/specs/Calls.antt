@@ -4,7 +4,7 @@ use Rattle.std.specs.Prelude.{ℕ, zero, suc, Bool, true, false, cond, List, [],
 use Rattle.int_core.specs.Value.{nil, boolean, string, primitive, a_function, Value, known, object, nth}
 use Rattle.int_core.specs.Operations.{Callee, callee, not_callable, callee_of, greatest_chain, handler_in, of_close}
 use Rattle.int_core.specs.Ask.{values, left}
-use Rattle.lua_meaning.specs.World.{System, Function, Frame, talking, waiting, protected, handled_by, handling, closing, Coroutine, fresh, suspended, running, normal, dead, failed, yielded, returned, failed_with, spent, talks, gives_back, unwinds, calls_primitive, ends, World, now_in, breaks, stack_overflow, has_room, on_frames, runs_main, raises_text, answered}
+use Rattle.lua_meaning.specs.World.{System, Function, Frame, talking, waiting, raising, protected, handled_by, handling, closing, Coroutine, fresh, suspended, running, normal, dead, failed, yielded, returned, failed_with, spent, talks, gives_back, unwinds, calls_primitive, ends, World, now_in, breaks, stack_overflow, has_room, on_frames, runs_main, raises_text, answered}
 
 abbrev pub text : List ℕ → Value
 text bytes = known (string bytes)
@@ -39,6 +39,7 @@ leaves_coroutine W c vs = back_to W c vs W.chain
 abbrev pub pending_in : {S : Type 0} → Frame S → List Value
 pending_in (talking f pending s) = pending
 pending_in (waiting asker) = asker.pending
+pending_in (raising asker) = asker.pending
 pending_in _ = []
 
 -- the values to be closed in all frames, in the order in which they are closed
@@ -130,7 +131,8 @@ module _ {F S : Type 0} (system : System F S) where
   abbrev pub handed : World F S → List Value → List (Frame S) → World F S
   handed W vs [] = returns_all W vs
   handed W vs (talking f pending s ∷ below) = breaks W
-  handed W vs (waiting asker ∷ below) = answered W asker 0 (values vs) below
+  handed W vs (waiting asker ∷ below) = answered W asker (values vs) below
+  handed W vs (raising asker ∷ below) = breaks W
   handed W vs (protected ∷ below) = now_in (on_frames W below) (gives_back (truth true ∷ vs))
   handed W vs (handled_by h ∷ below) = now_in (on_frames W below) (gives_back (truth true ∷ vs))
   handed W vs (handling ∷ below) = now_in (on_frames W below) (unwinds (nth vs 0))
@@ -144,6 +146,7 @@ module _ {F S : Type 0} (system : System F S) where
   raised_to W e [] = cond (runs_main W) (now_in W (unwinds e)) (fails_all W e)
   raised_to W e (talking f pending s ∷ frames) = raised_to W e frames
   raised_to W e (waiting asker ∷ frames) = raised_to W e frames
+  raised_to W e (raising asker ∷ frames) = raised_to W e frames
   raised_to W e (handled_by h ∷ frames) =
       cond (has_room W)
       (calls_value (on_frames W (handling ∷ W.frames)) h (e ∷ []) (λ why V. now_in V (unwinds error_in_handler)))
@@ -156,7 +159,8 @@ module _ {F S : Type 0} (system : System F S) where
   abbrev pub unwound : World F S → Value → List (Frame S) → World F S
   unwound W e [] = fails_all W e
   unwound W e (talking f pending s ∷ below) = breaks W
-  unwound W e (waiting asker ∷ below) = answered W asker 0 (left e) below
+  unwound W e (waiting asker ∷ below) = answered W asker (left e) below
+  unwound W e (raising asker ∷ below) = answered W asker (left e) below
   unwound W e (protected ∷ below) = now_in (on_frames W below) (gives_back (truth false ∷ e ∷ []))
   unwound W e (handled_by h ∷ below) = now_in (on_frames W below) (gives_back (truth false ∷ e ∷ []))
   unwound W e (handling ∷ below) = now_in (on_frames W below) (unwinds error_in_handler)

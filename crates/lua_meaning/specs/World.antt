@@ -1,9 +1,9 @@
 -- The worlds in which activations talk: functions, cells, coroutines, and the chain of coroutines that resumed each other (Lua 5.4 manual,
 -- 2.1, 2.6 and 3.5). What a function is made of, F, and what the state of an activation is, S, is left open.
-use Rattle.std.specs.Prelude.{ℕ, zero, suc, ◌+◌, ◌==◌, Bool, true, false, cond, ◌||◌, List, [], ◌∷◌, ◌++◌, length, Option, Some, None, nat_le, slice_get, slice_set, codes, decimal}
+use Rattle.std.specs.Prelude.{ℕ, zero, suc, ◌+◌, ◌==◌, Bool, true, false, cond, ◌||◌, List, [], ◌∷◌, ◌++◌, length, map, Option, Some, None, nat_le, slice_get, slice_set, codes, decimal}
 use Rattle.int_core.specs.Value.{greatest_string, string, Value, known, nth, bind}
 use Rattle.int_core.specs.Heap.{Heap}
-use Rattle.int_core.specs.Ask.{Reply, Answer, Next}
+use Rattle.int_core.specs.Ask.{Ask, marks, goes_on, says, stuck, Reply, Answer, Next}
 
 -- how activations begin and go on
 pub record System (F S : Type 0) : Type 0 where
@@ -26,11 +26,12 @@ pub record Asker (S : Type 0) : Type 0 where
   pub shared : List (ℕ × Value)
   pub goes : Answer → S
 
--- frames: an activation that talks or waits; a call by `pcall`; one by `xpcall` with its message handler; a message handler's call; and
+-- frames: an activation that talks or waits; one whose own step was at fault, which waits to be left; a call by `pcall`; one by `xpcall` with its message handler; a message handler's call; and
 -- the closing of a coroutine's variables by `coroutine.close`, with the error so far and the values that are left
 pub data Frame (S : Type 0) : Type 0 where
   talking : (function : ℕ) → (pending : List Value) → S → Frame S
   waiting : Asker S → Frame S
+  raising : Asker S → Frame S
   protected : Frame S
   handled_by : Value → Frame S
   handling : Frame S
@@ -105,6 +106,9 @@ runs_main W = elim W.chain [ [] ↦ true | co ∷ chain ↦ elim chain [ [] ↦ 
 
 -- cells
 
+abbrev pub second : ℕ × Value → Value
+second s = s.1
+
 -- the cells that an activation shares get the values that it has; of a cell that is named twice the first value counts, which is the newest
 abbrev pub shared_in : List (ℕ × Value) → List Value → List Value
 shared_in [] cells = cells
@@ -133,7 +137,8 @@ position source line = source_name source ++ codes ":" ++ decimal line ++ codes 
 
 -- the position of a frame, where it is of a function whose lines are known
 abbrev pub position_of : {F S : Type 0} → World F S → Frame S → Option (List ℕ)
-position_of W (waiting asker) = bind (slice_get W.functions asker.function) (λ f. bind asker.line (λ line. cond f.has_lines (Some (position f.source line)) None))
+position_of W (waiting asker) = bind (slice_get W.functions asker.function) (λ f. bind asker.line (λ line. Some (position f.source line)))
+position_of W (raising asker) = bind (slice_get W.functions asker.function) (λ f. bind asker.line (λ line. Some (position f.source line)))
 position_of W _ = None
 
 -- the position of the nth of these frames from the top, counted from 0, or no text
@@ -162,9 +167,27 @@ raises_text W text = now_in W (raises_error (blamed W text))
 
 -- answers
 
-abbrev pub answered : {F S : Type 0} → World F S → Asker S → (cell : ℕ) → Reply → (below : List (Frame S)) → World F S
-answered W asker cell reply below =
-    record W {
-      frames = talking asker.function asker.pending (asker.goes (record { reply = reply; shared = shared_out asker.shared W.cells; cell = cell })) ∷ below;
-      now = talks;
-    }
+abbrev pub given_to : {F S : Type 0} → World F S → Asker S → Answer → (below : List (Frame S)) → World F S
+given_to W asker x below = record W { frames = talking asker.function asker.pending (asker.goes x) ∷ below; now = talks }
+
+-- with the present values of the cells that the asker shares
+abbrev pub answered : {F S : Type 0} → World F S → Asker S → Reply → (below : List (Frame S)) → World F S
+answered W asker reply below = given_to W asker (record { reply = reply; shared = shared_out asker.shared W.cells; cell = 0 }) below
+
+-- no other activation has run, so these cells have the values that the ask carried
+abbrev pub answered_at_once : {F S : Type 0} → World F S → Asker S → (cell : ℕ) → Reply → (below : List (Frame S)) → World F S
+answered_at_once W asker cell reply below = given_to W asker (record { reply = reply; shared = map second asker.shared; cell = cell }) below
+
+-- lines
+
+-- of a function whose lines are not known, an ask has no line and names no variable
+
+abbrev pub without_name : {F : Type 0} → Ask F → Ask F
+without_name (marks v name) = marks v (codes "?")
+without_name q = q
+
+abbrev pub as_known : {F S : Type 0} → (has_lines : Bool) → Next F S → Next F S
+as_known true next = next
+as_known false (goes_on s) = goes_on s
+as_known false (says q line shared k) = says (without_name q) None shared k
+as_known false stuck = stuck
