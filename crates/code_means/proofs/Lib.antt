@@ -1,0 +1,5 @@
+mod Traces
+mod Forms
+mod Pairs
+mod Same
+mod WholeRuns

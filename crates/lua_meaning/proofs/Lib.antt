@@ -1,0 +1,8 @@
+mod Scripts
+mod Loops
+mod Functions
+mod Errors
+mod Metatables
+mod Coroutines
+mod Runs
+mod Limits

@@ -1,0 +1,9 @@
+pub mod World
+pub mod Calls
+pub mod Asks
+pub mod Primitives
+pub mod Step
+pub mod Opening
+pub mod Meaning
+pub mod TreeMeaning
+pub mod Laws

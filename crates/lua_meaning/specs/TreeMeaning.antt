@@ -1,0 +1,18 @@
+-- What a script's tree means: the worlds are those in which activations of trees talk.
+use Rattle.std.specs.Prelude.{ℕ, List, Option}
+use Rattle.tree_core.specs.Tree.{Body}
+use Rattle.tree_activation.specs.Work.{Celling, State}
+use Rattle.tree_activation.specs.Activation.{start, step}
+use Rattle.lua_meaning.specs.World.{System, World}
+use Rattle.lua_meaning.specs.Meaning.{Script, Meaning, meaning, onward}
+use Rattle.lua_meaning.specs.Opening.{Entry, opening, primitives}
+
+-- a local variable gets its cell as `celling` says
+abbrev pub trees : Celling → System Body State
+trees celling = record { starts = start celling; steps = λ body s. step s }
+
+abbrev pub tree_meaning : Celling → (steps : ℕ) → (prelude : List (Entry Body)) → Script Body → List (List ℕ) → (budget : ℕ) → Option (Meaning Body State)
+tree_meaning celling steps prelude script input budget = meaning (trees celling) primitives steps (opening prelude) script input budget
+
+abbrev pub tree_onward : Celling → (steps : ℕ) → World Body State → List (List ℕ) → (budget : ℕ) → Option (Meaning Body State)
+tree_onward celling steps W input budget = onward (trees celling) primitives steps W input budget

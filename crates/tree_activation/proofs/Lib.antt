@@ -1,0 +1,3 @@
+pub mod Sizes
+mod Falling
+mod Progress
