@@ -16,3 +16,4 @@ pub mod Opened
 pub mod Rows
 pub mod Keeps
 pub mod Examples
+pub mod Compose

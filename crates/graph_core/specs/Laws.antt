@@ -1,6 +1,6 @@
 -- Worlds that agree run alike: every move keeps it, so every row does, and any number of steps.
 use Rattle.std.specs.Prelude.{◌≡◌, ℕ, List, [], Option, Some, None}
-use Rattle.int_core.specs.Value.{Value}
+use Rattle.int_core.specs.Value.{Value, bind}
 use Rattle.machine_core.specs.World.{World}
 use Rattle.machine_core.specs.Text.{make_function}
 use Rattle.machine_core.specs.Moves.{Move, outside, Told, Made, move, Row, traps, stop, only, act, Ending, Outcome, trapped, ends, run}
@@ -68,3 +68,10 @@ TurnsBegin = (p : Pairs) (W X : World) (vs ws : List Value) (fuel : ℕ) → Agr
 
 abbrev pub TurnsEnd : Type 0
 TurnsEnd = (p : Pairs) (W X : World) → AgreeInTurn p W X → Agree p W X
+
+-- one pairing after another
+abbrev pub then_pairs : Pairs → Pairs → Pairs
+then_pairs p q = record { objects = λ kind i. bind (p.objects kind i) (q.objects kind); cells = λ i. bind (p.cells i) q.cells }
+
+abbrev pub AgreementComposes : Type 0
+AgreementComposes = (p q : Pairs) (W X Y : World) → Agree p W X → Agree q X Y → Agree (then_pairs p q) W Y

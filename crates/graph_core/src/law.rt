@@ -1,5 +1,5 @@
 // The laws of worlds that agree.
-ghost use Rattle.graph_core.specs.Laws.{MovesKeep, RowsKeep, StepsKeep, TurnsBegin, TurnsEnd};
+ghost use Rattle.graph_core.specs.Laws.{AgreementComposes, MovesKeep, RowsKeep, StepsKeep, TurnsBegin, TurnsEnd};
 
 /// Every move keeps the agreement of two worlds, and so does every row that makes no function, and any number of steps of
 /// the machine, whatever the rows of its primitives are: both trap, or both end in the same way in worlds that agree again.
@@ -15,4 +15,9 @@ pub fn worlds_run_alike()
 pub fn turns_begin_and_end()
     ensures begin { TurnsBegin }
     ensures end { TurnsEnd }
+{}
+
+/// Agreement composes: where a world agrees with a second one, and that with a third, the first agrees with the third.
+pub fn agreement_composes()
+    ensures { AgreementComposes }
 {}

@@ -4,4 +4,4 @@
 
 mod law;
 
-pub use law::{turns_begin_and_end, worlds_run_alike};
+pub use law::{agreement_composes, turns_begin_and_end, worlds_run_alike};
