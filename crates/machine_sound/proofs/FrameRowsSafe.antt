@@ -1,0 +1,179 @@
+-- The rows of frames that are no Lua functions', of errors on their way, and of the primitives that move frames and coroutines are safe.
+use Rattle.std.proofs.Common.{ℕ, zero, suc, ◌≡◌, ◌≤◌, List, [], ◌∷◌, ◌++◌, Option, Some, None, refl, subst, sym, ap, ◌∙◌, length, Bool, true, false}
+use Rattle.std.specs.Prelude.{codes, cond}
+use Rattle.int_core.specs.Value.{Value, known, nil, boolean, string, a_table, a_function, a_coroutine, Shape, is_known, is_object, shape, greatest_string}
+use Rattle.machine_core.specs.Text.{Arg, read, written, arg}
+use Rattle.machine_core.specs.Moves.{over_pcall, over_xpcall, over_handler, over_nothing, CallShape, is_entered, is_primitive, not_paid, not_entered, TopShape, lua_top, pcall_top, xpcall_top, handler_top, closing_top, no_top, ResumeShape, resumed, refused, Row, stop, act, see_top, main_returned}
+use Rattle.machine_core.specs.FrameRows.{handed, hand_over, error_in_handler, gives_up, after_handler, raised_to, raised_row, caught, blames, after_entry, closing_by, closing_row, unwound, handed_to}
+use Rattle.machine_core.specs.MachineStep.{pcall_row, xpcall_row, error_row, not_coroutine, after_resume, resumes, resume_row, yield_row, after_closing, closes_coroutine, close_row}
+use Rattle.machine_sound.specs.Sound.{Top, FitsIfRuns}
+use Rattle.machine_sound.specs.Safe.{Phase, on_lua, waiting, in_resumed, handing, calling, ended, between, TopEvent', seen_lua, seen_other, HeldLua, ClosingEvent, takes_one, takes_none, takes_error, IsNoLua, IsOtherTop, ResumeEvent, RefusalOk, after_catcher, after_end, after_over, after_resuming, after_beginning, after_handing, see_leads, EndsWell, Safe}
+use Rattle.machine_sound.proofs.Values.{le_of}
+use Rattle.machine_sound.proofs.Rests.{fails_safe}
+
+held_ends : (b : Bool) (t : Top) → b ≡ false → FitsIfRuns b t
+held_ends true t e = absurd (cc)
+held_ends false t e = tt
+
+-- what moves is for whatever is on top
+
+other_handed : (s : TopShape) (env : List Value) → Safe (waiting (Some s)) env (handed s)
+other_handed lua_top env = tt
+other_handed pcall_top env = tt
+other_handed xpcall_top env = tt
+other_handed handler_top env = tt
+other_handed closing_top env = tt
+other_handed (no_top b) env = tt
+
+pub hand_over_safe : (s : Option TopShape) (env : List Value) → Safe (waiting s) env hand_over
+hand_over_safe s env = (tt, λ e. from e)
+  where
+    from : (e : TopEvent') → Safe (see_leads e).phase (env ++ (see_leads e).values) (handed (see_leads e).told)
+    from (seen_lua held) = held_ends held.top.runs held.top held.waits
+    from (seen_other k l) = other_handed k (env ++ [])
+
+handing_safe : (env : List Value) → Safe handing env hand_over
+handing_safe env = (tt, λ e. from e)
+  where
+    from : (k : TopShape) → Safe (after_handing k) (env ++ []) (handed k)
+    from lua_top = tt
+    from pcall_top = tt
+    from xpcall_top = tt
+    from handler_top = tt
+    from closing_top = tt
+    from (no_top b) = tt
+
+-- calls
+
+entry_safe : (env : List Value) (c : CallShape) → Safe (after_over c) env (after_entry c)
+entry_safe env is_entered = tt
+entry_safe env (is_primitive n) = refl
+entry_safe env not_paid = tt
+entry_safe env (not_entered text) = (tt, λ _. tt)
+
+gives_up_safe : (s : Option TopShape) (env : List Value) → Safe (waiting s) env gives_up
+gives_up_safe s env = ((le_of _ greatest_string refl, tt), λ _. tt)
+
+handler_safe : (env : List Value) (c : CallShape) → Safe (after_over c) env (after_handler c)
+handler_safe env is_entered = tt
+handler_safe env (is_primitive n) = refl
+handler_safe env not_paid = tt
+handler_safe env (not_entered text) = gives_up_safe None env
+
+-- errors
+
+pub raised_safe : Safe (waiting None) [] raised_row
+raised_safe = (tt, λ e. from e.0 e.1)
+  where
+    from : (s : TopShape) (vs : List Value) → Safe (after_catcher s) vs (raised_to s 0)
+    from xpcall_top vs = (tt, λ es. ((tt, tt), λ c. handler_safe ((vs ++ es) ++ []) c))
+    from (no_top true) vs = tt
+    from (no_top false) vs = (tt, λ es. (tt, λ _. ((tt, (tt, tt)), λ _. hand_over_safe None (((vs ++ es) ++ []) ++ []))))
+    from lua_top vs = tt
+    from pcall_top vs = tt
+    from handler_top vs = tt
+    from closing_top vs = tt
+
+caught_safe : (s : TopShape) (env : List Value) → IsOtherTop (Some s) → Safe (waiting (Some s)) env caught
+caught_safe s env k = (tt, λ es. (k, λ _. ((tt, (tt, tt)), λ _. hand_over_safe None (((env ++ es) ++ []) ++ []))))
+
+closing_row_safe : (env : List Value) → Safe (waiting (Some closing_top)) env closing_row
+closing_row_safe env = (tt, λ e. from e)
+  where
+    from : (e : ClosingEvent) → Safe (waiting (Some closing_top)) (env ++ Rattle.machine_sound.specs.Safe.closing_values e) (closing_by (Rattle.machine_sound.specs.Safe.closing_told e) (length env))
+    from (takes_one v x) = ((tt, tt), λ h. ((tt, tt), λ c. entry_safe _ c))
+    from takes_none = (tt, λ _. ((tt, tt), λ _. hand_over_safe None _))
+    from (takes_error x) = (tt, λ _. ((tt, (tt, tt)), λ _. hand_over_safe None _))
+
+pub unwinding_safe : Safe (waiting None) [] (act see_top (λ _ top. unwound top))
+unwinding_safe = (tt, λ e. from e)
+  where
+    other : (s : TopShape) → IsNoLua s → Safe (waiting (Some s)) [] (unwound s)
+    other lua_top k = absurd k
+    other pcall_top k = caught_safe pcall_top [] tt
+    other xpcall_top k = caught_safe xpcall_top [] tt
+    other handler_top k = (tt, λ _. gives_up_safe None [])
+    other closing_top k = (tt, λ es. ((tt, tt), λ _. closing_row_safe (es ++ [])))
+    other (no_top b) k = tt
+    from : (e : TopEvent') → Safe (see_leads e).phase ([] ++ (see_leads e).values) (unwound (see_leads e).told)
+    from (seen_lua held) = (tt, λ vs. fails_safe held.top vs held.place held.pending)
+    from (seen_other k l) = other k l
+
+-- results
+
+ended_main : (b : Bool) → Some (no_top true) ≡ Some (no_top b) → EndsWell main_returned (after_end b)
+ended_main true e = tt
+ended_main false e = absurd (cc)
+
+ended_other : (b : Bool) (env : List Value) (r : Row) → Some (no_top false) ≡ Some (no_top b) → Safe (waiting None) env r → Safe (after_end b) env r
+ended_other true env r e s = absurd (cc)
+ended_other false env r e s = s
+
+pub returned_safe : Safe (waiting None) [] (act see_top (λ _ top. handed_to top))
+returned_safe = (tt, λ e. from e)
+  where
+    other : (s : TopShape) → IsNoLua s → Safe (waiting (Some s)) [] (handed_to s)
+    other lua_top k = absurd k
+    other pcall_top k = (tt, λ vs. (tt, λ _. ((tt, tt), λ _. hand_over_safe None ((vs ++ []) ++ []))))
+    other xpcall_top k = (tt, λ vs. (tt, λ _. ((tt, tt), λ _. hand_over_safe None ((vs ++ []) ++ []))))
+    other handler_top k = (tt, λ vs. (tt, λ _. ((tt, tt), λ _. tt)))
+    other closing_top k = closing_row_safe []
+    other (no_top true) k = (tt, λ e. ended_main e.in_main e.is)
+    other (no_top false) k = (tt, λ vs. (tt, λ e. ended_other e.in_main (vs ++ []) (Rattle.machine_core.specs.FrameRows.then (Rattle.machine_core.specs.Moves.give_with (written (boolean true) ∷ []) 0) hand_over) e.is ((tt, tt), λ _. hand_over_safe None ((vs ++ []) ++ []))))
+    from : (e : TopEvent') → Safe (see_leads e).phase ([] ++ (see_leads e).values) (handed_to (see_leads e).told)
+    from (seen_lua held) = held_ends held.top.runs held.top held.waits
+    from (seen_other k l) = other k l
+
+-- primitives
+
+pub pcall_safe : Safe (waiting None) [] pcall_row
+pcall_safe = (tt, λ vs. ((tt, tt), λ c. entry_safe (vs ++ []) c))
+
+pub xpcall_safe : Safe (waiting None) [] xpcall_row
+xpcall_safe = (tt, λ vs. ((tt, tt), λ c. entry_safe (vs ++ []) c))
+
+pub error_safe : Safe (waiting None) [] error_row
+error_safe = (tt, λ vs. ((tt, tt), λ _. tt))
+
+resumed_safe : (env : List Value) (r : ResumeShape) → RefusalOk r → Safe (after_resuming r) env (after_resume r)
+resumed_safe env (resumed is_entered) k = handing_safe env
+resumed_safe env (resumed (is_primitive n)) k = refl
+resumed_safe env (resumed not_paid) k = tt
+resumed_safe env (resumed (not_entered text)) k = (tt, λ _. tt)
+resumed_safe env (refused text) k = ((tt, (k, tt)), λ _. hand_over_safe None (env ++ []))
+
+-- nothing was read
+nothing_more : (x : Phase) (env : List Value) (r : Row) → Safe x env r → Safe x (env ++ []) r
+nothing_more x env r s = subst (λ l. Safe x l r) (sym (Rattle.std.proofs.lemmas.List.append-nil env)) s
+
+pub resume_safe : Safe (waiting None) [] resume_row
+resume_safe = (tt, λ vs. (tt, λ _. nothing_more (waiting None) vs (resumes (shape (arg vs (read 0))) 0) (from vs (shape (arg vs (read 0))) refl)))
+  where
+    from : (vs : List Value) (s : Shape) → shape (arg vs (read 0)) ≡ s → Safe (waiting None) vs (resumes s 0)
+    from vs (is_object a_coroutine) e = (e, λ r. resumed_safe (vs ++ []) r.shape' r.right)
+    from vs (is_object a_table) e = (tt, λ _. tt)
+    from vs (is_object a_function) e = (tt, λ _. tt)
+    from vs (is_known p) e = (tt, λ _. tt)
+
+pub yield_safe : Safe (waiting None) [] yield_row
+yield_safe = (tt, λ b. from b)
+  where
+    from : (b : Bool) → Safe (after_end b) [] (cond b (stop Rattle.machine_core.specs.Moves.main_yielded) (act Rattle.machine_core.specs.Moves.take_moving (λ v _. Rattle.machine_core.specs.FrameRows.then (Rattle.machine_core.specs.Moves.give_with (written (boolean true) ∷ []) v) hand_over)))
+    from true = tt
+    from false = (tt, λ vs. ((tt, tt), λ _. hand_over_safe None (vs ++ [])))
+
+begun_safe : (env : List Value) (r : ResumeShape) → Safe (after_beginning r) env (after_closing r)
+begun_safe env (resumed is_entered) = closing_row_safe env
+begun_safe env (resumed (is_primitive n)) = refl
+begun_safe env (resumed not_paid) = tt
+begun_safe env (resumed (not_entered text)) = (tt, λ _. tt)
+begun_safe env (refused text) = (tt, λ _. tt)
+
+pub close_safe : Safe (waiting None) [] close_row
+close_safe = (tt, λ vs. (tt, λ _. nothing_more (waiting None) vs (closes_coroutine (shape (arg vs (read 0))) 0) (from vs (shape (arg vs (read 0))) refl)))
+  where
+    from : (vs : List Value) (s : Shape) → shape (arg vs (read 0)) ≡ s → Safe (waiting None) vs (closes_coroutine s 0)
+    from vs (is_object a_coroutine) e = (e, λ r. begun_safe (vs ++ []) r.shape')
+    from vs (is_object a_table) e = (tt, λ _. tt)
+    from vs (is_object a_function) e = (tt, λ _. tt)
+    from vs (is_known p) e = (tt, λ _. tt)

@@ -1,0 +1,153 @@
+-- A step of a Lua frame on top does not trap: it runs its instruction, or what is left of one for which the answer came.
+use Rattle.std.proofs.Common.{ℕ, zero, suc, ◌≡◌, ◌<◌, ◌≤◌, ◌+◌, List, [], ◌∷◌, ◌++◌, Option, Some, None, refl, subst, sym, ap, ◌∙◌, length, Bool, true, false, arith}
+use Rattle.std.specs.Prelude.{slice_get, IsTrue}
+use Rattle.int_core.specs.Value.{Value, bind, last}
+use Rattle.code_core.specs.declared.opcode.Opcode.{Opcode}
+use Rattle.code_core.specs.declared.instruction.Instruction.{Instruction}
+use Rattle.code_core.specs.Prototype.{Prototype}
+use Rattle.code_core.specs.Check.{CodeIsChecked, at}
+use Rattle.machine_core.specs.World.{Function, Cell, Wait, running, for_call, for_iterator, for_value, for_truth, dropped, for_concat, for_close, returning, leaving, LuaFrame, Frame, lua, in_progress, World, Stack, stack_of}
+use Rattle.machine_core.specs.InstructionRows.{text_at, rest_at, after, told_values}
+use Rattle.int_core.specs.Ask.{values}
+use Rattle.machine_core.specs.Moves.{Ending, go, returned, calls_primitive, raised, unwinding, spent, main_yielded, main_returned, main_failed, Row, Outcome, trapped, ends, run}
+use Rattle.machine_core.specs.FrameRows.{expand}
+use Rattle.machine_core.specs.MachineStep.{woken, lua_step, frame_step, top_step, from_world, step_by, step}
+use Rattle.machine_sound.specs.Sound.{Each, Sizes, sizes, Valid, WaitOk, waits_at, waiting_size, LuaWaits, Solid, Top, RunsOrWaits, TopIs, Fits, FitsIfRuns, Settled}
+use Rattle.machine_sound.specs.Safe.{on_lua, Is, Safe, EndIs, Good}
+use Rattle.machine_sound.proofs.Lists.{each_none, each_one, each_on, bind_at, last_push}
+use Rattle.machine_sound.proofs.Grow.{Grows, grows_then, values_on}
+use Rattle.machine_sound.proofs.Own.{OwnIs}
+use Rattle.machine_sound.proofs.Frames.{set_stack, stack_is, the_place, top_put, top_ok, function_ok, own_known, frame_so, new_grows, new_solid, new_top, new_world}
+use Rattle.machine_sound.proofs.Waits.{with_moving, moving_grows, moving_solid}
+use Rattle.machine_sound.proofs.Calls.{fuel_top}
+use Rattle.machine_sound.proofs.RowsOfCode.{text_safe}
+use Rattle.machine_sound.proofs.Rests.{rest_text_safe}
+use Rattle.machine_sound.proofs.All.{all_rows_good}
+
+-- a step that costs a unit while none is left changes nothing
+pub from_world_good : (n : ℕ) (W : World) (o : Outcome) → Solid n W → Good n o → Good n (from_world W o)
+from_world_good n W trapped s g = absurd g
+from_world_good n W (ends spent V) s g = (s, tt)
+from_world_good n W (ends go V) s g = g
+from_world_good n W (ends returned V) s g = g
+from_world_good n W (ends (calls_primitive k) V) s g = g
+from_world_good n W (ends raised V) s g = g
+from_world_good n W (ends unwinding V) s g = g
+from_world_good n W (ends main_yielded V) s g = g
+from_world_good n W (ends main_returned V) s g = g
+from_world_good n W (ends main_failed V) s g = g
+
+-- the step of the frame on top
+pub top_step_is : (n : ℕ) (t : Top) (W : World) (h : TopIs n t W) → top_step W ≡ Some (lua_step W (record { coroutine = h.coroutine; frames = h.base ++ lua h.top ∷ [] }) h.top h.function.code h.top.wait)
+top_step_is n t W h =
+    bind_at _ (stack_of W) _ (stack_is W h.coroutine (h.base ++ lua h.top ∷ []) h.last h.frames)
+    ∙ bind_at _ (last (h.base ++ lua h.top ∷ [])) (lua h.top) (last_push h.base (lua h.top))
+    ∙ bind_at _ (slice_get W.functions h.top.function) h.function h.there
+
+module _ (n : ℕ) (t : Top) (W : World) (h : TopIs n t W) (s : Solid n W) where
+  code_checked : CodeIsChecked t.code
+  code_checked = subst CodeIsChecked h.code (function_ok n t W h s).code.code
+
+  -- the bounds that every frame has
+  abbrev usual : Top
+  usual = record t { pending = t.code.own.stack; cells = t.code.own.stack }
+
+  usual_is : t.cells ≤ t.code.own.stack → TopIs n usual W
+  usual_is l =
+      let k = own_known n t W h s in
+      let q = ap (λ (p : Prototype). p.own.stack) h.code in
+      record {
+        coroutine = h.coroutine; base = h.base; top = h.top; function = h.function; last = h.last; frames = h.frames; there = h.there; below = h.below;
+        code = h.code; pc = h.pc; size = h.size; opened = h.opened; pending = subst (λ m. Each (λ r. r < m) h.top.own.pending) q k.pending;
+        cells = λ i r e. (let a = h.cells i r e in omega arith); captured = h.captured; wait = h.wait }
+
+  -- a frame that runs
+  pub runs_good : t.runs ≡ true → Fits t → Good n (run (expand (text_at h.function.code h.top.own.pc)) [] W)
+  runs_good r f =
+      let u = usual_is f.cells in
+      let f' : Fits usual = record { instruction = f.instruction; at_pc = f.at_pc; opcode = f.opcode; is_opcode = f.is_opcode; no_extra = f.no_extra; fits_mark = f.fits_mark; cells = omega arith } in
+      let x = text_safe usual code_checked f' refl refl r in
+      let g = all_rows_good n (expand (text_at t.code t.pc)) (on_lua usual) [] W (record { solid = s; phase = u; valid = each_none (Valid (sizes n W)) }) x in
+      subst (λ p. Good n (run (expand (text_at p h.top.own.pc)) [] W)) (sym h.code) (subst (λ pc. Good n (run (expand (text_at t.code pc)) [] W)) (sym h.pc) g)
+
+  -- a frame that waited
+  module _ (w : LuaWaits (sizes n W) h.top) where
+    abbrev woken_top : Top
+    woken_top = record { code = t.code; pc = t.pc; size = t.size; opened = t.opened; pending = t.code.own.stack; cells = t.size; captured = []; runs = true }
+
+    known_woken : OwnIs (sizes n W) W.cells h.function.code h.coroutine (length h.base) woken_top h.top.own W.cells
+    known_woken =
+        let k = own_known n t W h s in
+        let q = ap (λ (p : Prototype). p.own.stack) h.code in
+        record {
+          code = k.code; pc = k.pc; size = k.size; opened = k.opened; bound = subst (λ m. Each (λ r. r < m) h.top.own.pending) q k.pending; stack = k.stack;
+          registers = k.registers; varargs = k.varargs; pending = k.pending; cells_below = k.cells_there; cells_there = k.cells_there;
+          still_open = k.still_open; closed_ok = k.closed_ok; count = k.count; captured = each_none (λ r. Rattle.std.specs.Prelude.IsSome (Rattle.machine_core.specs.World.find_open h.coroutine (length h.base) r W.cells)) }
+
+    abbrev P : World
+    P = new_world n t W h s woken_top running h.top.own W.cells known_woken tt
+
+    solid_p : Solid n P
+    solid_p = new_solid n t W h s woken_top running h.top.own W.cells known_woken tt
+
+    top_p : TopIs n woken_top P
+    top_p = new_top n t W h s woken_top running h.top.own W.cells known_woken tt refl
+
+    grows_p : Grows (sizes n W) (sizes n P)
+    grows_p = new_grows n t W h s woken_top running h.top.own W.cells known_woken tt
+
+    woken_is : woken W (record { coroutine = h.coroutine; frames = h.base ++ lua h.top ∷ [] }) h.top ≡ with_moving P [] P.fuel
+    unfolding woken
+    woken_is = ap (λ (V : World). record V { moving = [] }) (top_put W (record { coroutine = h.coroutine; frames = h.base ++ lua h.top ∷ [] }) h.base h.top (record h.top { wait = running }) refl)
+
+    told_ok : (wait : Wait Value) → WaitOk (sizes n W) wait → Each (Valid (sizes n W)) (told_values wait (values W.moving))
+    told_ok (leaving e) k = each_one (Valid (sizes n W)) e k
+    told_ok running k = s.moving
+    told_ok for_call k = s.moving
+    told_ok for_iterator k = s.moving
+    told_ok for_value k = s.moving
+    told_ok for_truth k = s.moving
+    told_ok dropped k = s.moving
+    told_ok (for_concat c) k = s.moving
+    told_ok for_close k = s.moving
+    told_ok (returning c) k = s.moving
+
+    step_is : (wait : Wait Value) (op : Opcode) (i : Instruction) → IsTrue (waits_at wait op i) → lua_step W (record { coroutine = h.coroutine; frames = h.base ++ lua h.top ∷ [] }) h.top h.function.code wait ≡ run (expand (rest_at wait h.function.code h.top.own.pc)) (told_values wait (values W.moving)) (woken W (record { coroutine = h.coroutine; frames = h.base ++ lua h.top ∷ [] }) h.top)
+    step_is running op i f = absurd (cc)
+    step_is (leaving e) op i f = refl
+    step_is for_call op i f = refl
+    step_is for_iterator op i f = refl
+    step_is for_value op i f = refl
+    step_is for_truth op i f = refl
+    step_is dropped op i f = refl
+    step_is (for_concat c) op i f = refl
+    step_is for_close op i f = refl
+    step_is (returning c) op i f = refl
+
+    pub waited_good : Good n (lua_step W (record { coroutine = h.coroutine; frames = h.base ++ lua h.top ∷ [] }) h.top h.function.code h.top.wait)
+    waited_good =
+        let wait = h.top.wait in
+        let vs = told_values wait (values W.moving) in
+        let V = with_moving P [] P.fuel in
+        let e : w.function ≡ h.function = Rattle.machine_sound.proofs.Lists.some_is w.there h.there in
+        let c : w.function.code ≡ t.code = ap (λ (f : Function). f.code) e ∙ h.code in
+        let at_pc : at t.code t.pc ≡ Some w.instruction = ap (λ p. at p t.pc) (sym c) ∙ ap (at w.function.code) (sym h.pc) ∙ w.at_pc in
+        let size : t.size ≡ waiting_size wait w.instruction t.code.own.stack = sym h.size ∙ w.size ∙ ap (λ (p : Prototype). waiting_size wait w.instruction p.own.stack) c in
+        let x = rest_text_safe wait w.opcode woken_top w.instruction vs (record { checked = code_checked; at_pc = at_pc; is_opcode = w.is_opcode; pending = refl; cells = refl; runs = refl }) w.fits size in
+        let ok = (top_ok n t W h s).error in
+        let g = grows_then (sizes n W) (sizes n P) (sizes n V) grows_p (moving_grows n P [] P.fuel) in
+        let i : Is n (on_lua woken_top) vs V = record { solid = moving_solid n P [] P.fuel solid_p (each_none (Valid (sizes n P))); phase = fuel_top n woken_top P [] P.fuel solid_p top_p (each_none (Valid (sizes n P))); valid = values_on (sizes n W) (sizes n V) g vs (told_ok wait ok) } in
+        let r = all_rows_good n (expand (rest_at wait t.code t.pc)) (on_lua woken_top) vs V i x in
+        let r' = subst (λ p. Good n (run (expand (rest_at wait p h.top.own.pc)) vs V)) (sym h.code) (subst (λ pc. Good n (run (expand (rest_at wait t.code pc)) vs V)) (sym h.pc) r) in
+        subst (λ o. Good n o) (sym (step_is wait w.opcode w.instruction w.fits)) (subst (λ V. Good n (run (expand (rest_at wait h.function.code h.top.own.pc)) vs V)) (sym woken_is) r')
+
+-- either
+lua_step_good : (n : ℕ) (t : Top) (W : World) (h : TopIs n t W) (s : Solid n W) (b : Bool) → t.runs ≡ b → RunsOrWaits b (sizes n W) h.top → FitsIfRuns b t → Good n (lua_step W (record { coroutine = h.coroutine; frames = h.base ++ lua h.top ∷ [] }) h.top h.function.code h.top.wait)
+lua_step_good n t W h s true e w f = subst (λ wait. Good n (lua_step W (record { coroutine = h.coroutine; frames = h.base ++ lua h.top ∷ [] }) h.top h.function.code wait)) (sym w) (runs_good n t W h s e f)
+lua_step_good n t W h s false e w f = waited_good n t W h s w
+
+pub go_good : (n : ℕ) (primitives : ℕ → Row) (W : World) → Solid n W → Settled n W → Good n (step primitives go W)
+go_good n primitives W s k =
+    let h = k.is_top in
+    let g = lua_step_good n k.top W h s k.top.runs refl h.wait k.fits in
+    from_world_good n W (step_by primitives go W) s (subst (λ (o : Option Outcome). Good n (elim o [ None ↦ trapped | Some o ↦ o ])) (sym (top_step_is n k.top W h)) g)

@@ -1,0 +1,36 @@
+-- No step of a sound world traps.
+use Rattle.std.proofs.Common.{ℕ, zero, suc, ◌<◌, List, [], Option, None}
+use Rattle.machine_core.specs.World.{World}
+use Rattle.machine_core.specs.Moves.{Ending, go, returned, calls_primitive, raised, unwinding, spent, main_yielded, main_returned, main_failed, Row, Outcome, trapped, ends, act, see_top}
+use Rattle.machine_core.specs.FrameRows.{raised_row, unwound, handed_to}
+use Rattle.machine_core.specs.MachineStep.{step_by, step, steps, and_then}
+use Rattle.machine_sound.specs.Sound.{sizes, Valid, Solid, StackWaits}
+use Rattle.machine_sound.specs.Safe.{waiting, Is, Safe, Good}
+use Rattle.machine_sound.specs.Laws.{Sound, PrimitivesSafe, StepsGood, RunsGood}
+use Rattle.machine_sound.proofs.Lists.{each_none}
+use Rattle.machine_sound.proofs.All.{all_rows_good}
+use Rattle.machine_sound.proofs.LuaSteps.{from_world_good, go_good}
+use Rattle.machine_sound.proofs.FrameRowsSafe.{returned_safe, raised_safe, unwinding_safe}
+
+-- a row that begins where all frames wait
+from_waiting : (n : ℕ) (r : Row) (W : World) → Solid n W → StackWaits n W → Safe (waiting None) [] r → Good n (Rattle.machine_core.specs.Moves.run r [] W)
+from_waiting n r W s h k = all_rows_good n r (waiting None) [] W (record { solid = s; phase = record { all = h; top = tt }; valid = each_none (Valid (sizes n W)) }) k
+
+pub steps_good : StepsGood
+steps_good n rows p go W s = go_good n rows W s.solid s.ready
+steps_good n rows p returned W s = from_world_good n W (step_by rows returned W) s.solid (from_waiting n (act see_top (λ _ top. handed_to top)) W s.solid s.ready returned_safe)
+steps_good n rows p (calls_primitive k) W s = from_world_good n W (step_by rows (calls_primitive k) W) s.solid (from_waiting n (rows k) W s.solid s.ready.all (p k s.ready.there))
+steps_good n rows p raised W s = from_world_good n W (step_by rows raised W) s.solid (from_waiting n raised_row W s.solid s.ready raised_safe)
+steps_good n rows p unwinding W s = from_world_good n W (step_by rows unwinding W) s.solid (from_waiting n (act see_top (λ _ top. unwound top)) W s.solid s.ready unwinding_safe)
+steps_good n rows p spent W s = (s.solid, tt)
+steps_good n rows p main_yielded W s = (s.solid, s.ready)
+steps_good n rows p main_returned W s = (s.solid, s.ready)
+steps_good n rows p main_failed W s = (s.solid, s.ready)
+
+then_good : (n : ℕ) (o : Outcome) (f : Ending → World → Outcome) → Good n o → ((e : Ending) (W : World) → Sound n e W → Good n (f e W)) → Good n (and_then o f)
+then_good n trapped f g k = absurd g
+then_good n (ends e W) f g k = k e W (record { solid = g.0; ready = g.1 })
+
+pub runs_good : RunsGood
+runs_good n rows p zero e W s = (s.solid, s.ready)
+runs_good n rows p (suc m) e W s = then_good n (step rows e W) (steps rows m) (steps_good n rows p e W s) (λ e W s. runs_good n rows p m e W s)

@@ -1,0 +1,32 @@
+-- What is proved of sound worlds.
+use Rattle.std.specs.Prelude.{ℕ, ◌<◌, List, [], Option, None}
+use Rattle.machine_core.specs.World.{World}
+use Rattle.machine_core.specs.Moves.{Ending, go, Row, Outcome}
+use Rattle.machine_core.specs.MachineStep.{step, steps, pcall_row, xpcall_row, error_row, resume_row, yield_row, close_row}
+use Rattle.machine_sound.specs.Sound.{Solid, Settled}
+use Rattle.machine_sound.specs.Safe.{waiting, Safe, EndIs, Good}
+
+-- a world that is sound, behind a row that ended so
+pub record Sound (primitives : ℕ) (ending : Ending) (W : World) : Type 0 where
+  pub solid : Solid primitives W
+  pub ready : EndIs primitives ending W
+
+-- the row of a primitive starts where all frames wait
+abbrev pub PrimitiveSafe : Row → Type 0
+PrimitiveSafe r = Safe (waiting None) [] r
+
+-- the rows of all primitives are safe
+abbrev pub PrimitivesSafe : ℕ → (ℕ → Row) → Type 0
+PrimitivesSafe primitives rows = (n : ℕ) → n < primitives → PrimitiveSafe (rows n)
+
+-- from a sound world no step traps, and the world is sound behind it, as its ending says
+abbrev pub StepsGood : Type 0
+StepsGood = (primitives : ℕ) (rows : ℕ → Row) → PrimitivesSafe primitives rows → (ending : Ending) (W : World) → Sound primitives ending W → Good primitives (step rows ending W)
+
+-- and so any number of steps
+abbrev pub RunsGood : Type 0
+RunsGood = (primitives : ℕ) (rows : ℕ → Row) → PrimitivesSafe primitives rows → (n : ℕ) (ending : Ending) (W : World) → Sound primitives ending W → Good primitives (steps rows n ending W)
+
+-- there is a sound world with a running function
+abbrev pub SomeWorldSound : Type 0
+SomeWorldSound = (primitives : ℕ) × (W : World) × Sound primitives go W

@@ -1,0 +1,36 @@
+// The laws, each with what it speaks of in `specs/`.
+ghost use Rattle.machine_core.specs.MachineStep.{close_row, error_row, pcall_row, resume_row, xpcall_row, yield_row};
+ghost use Rattle.machine_sound.specs.Laws.{PrimitiveSafe, RunsGood, SomeWorldSound, StepsGood};
+ghost use Rattle.machine_sound.specs.Safe.{MovesGood, RowsGood};
+
+/// A move that is ready in a sound world does not trap, and neither does a row that is safe; both leave a sound world.
+pub fn rows_do_not_trap()
+    ensures moves { MovesGood }
+    ensures rows { RowsGood }
+{
+}
+
+/// From a sound world, whose code is checked, no step traps, and the world is sound behind it, as its ending says: whatever the
+/// instruction, the wait and the frame on top, where the rows of the primitives are safe. So does no number of steps.
+pub fn steps_do_not_trap()
+    ensures step { StepsGood }
+    ensures runs { RunsGood }
+{
+}
+
+/// The rows of the primitives that move frames and coroutines are safe.
+pub fn primitives_do_not_trap()
+    ensures pcall { PrimitiveSafe pcall_row }
+    ensures xpcall { PrimitiveSafe xpcall_row }
+    ensures error { PrimitiveSafe error_row }
+    ensures resume { PrimitiveSafe resume_row }
+    ensures yields { PrimitiveSafe yield_row }
+    ensures close { PrimitiveSafe close_row }
+{
+}
+
+/// There is a sound world in which a function runs, so the laws above speak of something.
+pub fn some_world_is_sound()
+    ensures { SomeWorldSound }
+{
+}
