@@ -1,11 +1,11 @@
 -- Every move that a row may make in a phase does not trap there, and leaves what is known behind it.
-use Rattle.std.proofs.Common.{ℕ, List, Option, Some, None}
+use Rattle.std.proofs.Common.{ℕ, List, Option}
 use Rattle.int_core.specs.Value.{Value}
 use Rattle.machine_core.specs.World.{World}
 use Rattle.machine_core.specs.Text.{read_upvalue, write_upvalue, make_table, make_function, fill_table, pay}
 use Rattle.machine_core.specs.Moves.{Move, on_own, move_pc, open_register, outside, settle, enter, enter_tail, find_close, is_closable, begin_leaving, leave_frame, take_moving, look, give, give_with, blame, enter_over, see_top, see_catcher, pop_frame, take_closing, set_error, end_coroutine, fail_coroutine, suspend, resume, begin_closing, TopShape}
 use Rattle.machine_sound.specs.Sound.{Top}
-use Rattle.machine_sound.specs.Safe.{Phase, on_lua, waiting, in_resumed, handing, calling, ended, between, Is, Ready, MoveGood, MovesGood, RowsGood}
+use Rattle.machine_sound.specs.Safe.{on_lua, waiting, in_resumed, handing, Is, Ready, MoveGood, MovesGood, RowsGood}
 use Rattle.machine_sound.proofs.Moves.{own_move, pc_move}
 use Rattle.machine_sound.proofs.Outside.{settle_move, find_close_move, is_closable_move, take_moving_move, make_table_move, fill_table_move, pay_move}
 use Rattle.machine_sound.proofs.Cells.{read_upvalue_move, open_register_move, make_function_move}

@@ -1,22 +1,22 @@
 -- Cells: the values of upvalues, cells for registers, and functions that share them.
-use Rattle.std.proofs.Common.{ℕ, zero, suc, ◌+◌, ◌-◌, ◌<◌, ◌≤◌, ◌≡◌, ◌⊎◌, inl, inr, ⊎_elim, List, [], ◌∷◌, ◌++◌, Option, Some, None, refl, subst, sym, ap, ◌∙◌, length, arith, Bool, true, false, cond, length-append}
-use Rattle.std.specs.Prelude.{slice_get, slice_set, nat_eq, nat_lt, IsTrue, IsSome, ◌&&◌}
+use Rattle.std.proofs.Common.{ℕ, zero, suc, ◌+◌, ◌<◌, ◌≡◌, ◌⊎◌, inl, inr, ⊎_elim, List, [], ◌∷◌, ◌++◌, Option, Some, None, refl, subst, sym, ap, ◌∙◌, length, arith, Bool, true, false, cond, length-append}
+use Rattle.std.specs.Prelude.{slice_get, nat_eq, IsSome}
 use Rattle.std.proofs.lemmas.Bool.Decides.{nat_tests}
-use Rattle.int_core.specs.Value.{Value, known, object, a_function, bind, last}
+use Rattle.int_core.specs.Value.{Value, object, a_function, bind}
 use Rattle.code_core.specs.declared.proto.UpDesc.{UpDesc}
 use Rattle.code_core.specs.Prototype.{Prototype, Prototypes, none, more, list_of}
 use Rattle.code_core.specs.Check.{IsChecked, AllChecked}
-use Rattle.machine_core.specs.World.{Function, Cell, closed, open_at, LuaFrame, Frame, lua, pcall, xpcall, handler, closing, Coroutine, fresh, suspended, in_progress, normal, dead, failed, World, frames_of, lua_frame, Place, place_of, register_at, read_cell, is_open_at, find_open_from, find_open}
-use Rattle.machine_core.specs.Text.{Quick, read_upvalue, make_function}
-use Rattle.machine_core.specs.Moves.{Move, open_register, outside, Told, Made, made, move, opened_cells, captured, made_function, own_cell, do_outside}
+use Rattle.machine_core.specs.World.{Function, Cell, closed, open_at, LuaFrame, Frame, lua, pcall, xpcall, handler, closing, Coroutine, fresh, suspended, in_progress, normal, dead, failed, World, frames_of, lua_frame, place_of, read_cell, is_open_at, find_open_from, find_open}
+use Rattle.machine_core.specs.Text.{read_upvalue, make_function}
+use Rattle.machine_core.specs.Moves.{open_register, made, move, opened_cells, captured, own_cell}
 use Rattle.machine_sound.specs.Sound.{Each, Sizes, sizes, Valid, TableOk, FunctionOk, LuaOk, FrameOk, FramesOk, CoroutineOk, registers_in, registers_of, CellOk, OneEach, Solid, Top, RunsOrWaits, TopIs}
-use Rattle.machine_sound.specs.Safe.{on_lua, Is, TopReady, QuickReady, CapturesOk, InnerOk, MoveGood}
-use Rattle.machine_sound.proofs.Lists.{each_none, each_cons, each_one, each_push, each_on, bind_at, bind_some, get_there, get_push_old, get_push_new, push_cases, some_is}
+use Rattle.machine_sound.specs.Safe.{on_lua, Is, TopReady, CapturesOk, MoveGood}
+use Rattle.machine_sound.proofs.Lists.{each_none, each_cons, each_one, each_push, each_on, bind_at, get_there, get_push_old, push_cases}
 use Rattle.machine_sound.proofs.Values.{lt_true}
-use Rattle.machine_sound.proofs.Grow.{Grows, grows_self, values_on, valid_on, table_on, function_on, coroutine_on, cell_on, roots_on, lua_waits_on, each_waits_on}
+use Rattle.machine_sound.proofs.Grow.{Grows, grows_self, values_on, table_on, function_on, coroutine_on, cell_on, roots_on, lua_waits_on, each_waits_on}
 use Rattle.machine_sound.proofs.Frames.{the_place, place_is, function_ok, registers_top}
 use Rattle.machine_sound.proofs.Moves.{made_so}
-use Rattle.machine_sound.proofs.Outside.{with_outside, OutsideOk, goes_outside, goes_still, quick_is, QuickGood}
+use Rattle.machine_sound.proofs.Outside.{OutsideOk, goes_outside, goes_still, quick_is, QuickGood}
 
 -- reading a cell
 
@@ -71,11 +71,12 @@ cell_read n W s (closed v) h = (v, refl, h)
 cell_read n W s (open_at co f r) h =
     let p = stands W co f r h in
     let ok = lua_right (sizes n W) p.frame p.top p.is_lua ((frames_right (sizes n W) p.of p.frames p.are (s.coroutines co p.of p.is)).each f p.frame p.there) in
-    let v = get_there p.top.own.registers r p.within in
-    (v.0,
-     bind_at _ (bind (slice_get W.coroutines co) frames_of) p.frames (bind_at frames_of (slice_get W.coroutines co) p.of p.is ∙ p.are)
-       ∙ bind_at _ (bind (slice_get p.frames f) lua_frame) p.top (bind_at lua_frame (slice_get p.frames f) p.frame p.there ∙ p.is_lua) ∙ v.1,
-     ok.registers r v.0 v.1)
+    let v = get_there p.top.own.registers r p.within in (
+      v.0,
+      bind_at _ (bind (slice_get W.coroutines co) frames_of) p.frames (bind_at frames_of (slice_get W.coroutines co) p.of p.is ∙ p.are)
+          ∙ bind_at _ (bind (slice_get p.frames f) lua_frame) p.top (bind_at lua_frame (slice_get p.frames f) p.frame p.there ∙ p.is_lua) ∙ v.1,
+      ok.registers r v.0 v.1,
+    )
 
 -- the cell of an upvalue
 pub record OwnCell (n : ℕ) (t : Top) (W : World) (h : TopIs n t W) (u : ℕ) : Type 0 where
@@ -92,18 +93,23 @@ own_cell_there n t W h u s l =
     let id = get_there h.function.cells u (let a = f.count in omega arith) in
     let c = get_there W.cells id.0 (f.cells u id.0 id.1) in
     record {
-      number = id.0; cell = c.0;
+      number = id.0;
+      cell = c.0;
       is = bind_at _ (slice_get h.function.cells u) id.0 id.1 ∙ bind_at _ (slice_get W.cells id.0) c.0 c.1;
-      there = c.1; right = s.cells id.0 c.0 c.1 }
+      there = c.1;
+      right = s.cells id.0 c.0 c.1;
+    }
 
 pub read_upvalue_move : (n : ℕ) (u : ℕ) → QuickGood n (read_upvalue u)
 read_upvalue_move n u t env W i r =
     let c = own_cell_there n t W i.phase u i.solid r in
     let v = cell_read n W i.solid c.cell c.right in
     record {
-      event = v.0; world = W;
+      event = v.0;
+      world = W;
       is = quick_is n (read_upvalue u) t env W i ∙ bind_at _ (own_cell W (the_place n t W i.phase) u) (c.number, c.cell) c.is ∙ bind_at _ (read_cell W c.cell) v.0 v.1;
-      holds = goes_still n t env (v.0 ∷ []) W i (each_one (Valid (sizes n W)) v.0 v.2) }
+      holds = goes_still n t env (v.0 ∷ []) W i (each_one (Valid (sizes n W)) v.0 v.2);
+    }
 
 -- finding cells
 
@@ -155,6 +161,7 @@ with_cell W c = record W { cells = W.cells ++ c ∷ [] }
 module _ (n : ℕ) (t : Top) (W : World) (h : TopIs n t W) (s : Solid n W) (r : ℕ) (l : r < t.size) (b : r < t.cells) (e : find_open h.coroutine (length h.base) r W.cells ≡ None) where
   abbrev new : Cell
   new = open_at h.coroutine (length h.base) r
+
   abbrev V : World
   V = with_cell W (open_at h.coroutine (length h.base) r)
 
@@ -166,6 +173,7 @@ module _ (n : ℕ) (t : Top) (W : World) (h : TopIs n t W) (s : Solid n W) (r : 
     where
       clash : (m : ℕ) → slice_get W.cells m ≡ Some (open_at d g q) → open_at h.coroutine (length h.base) r ≡ open_at d g q → i ≡ j
       clash m x y = absurd (find_none 0 h.coroutine (length h.base) r W.cells e m (x ∙ ap Some (sym y)))
+
       both : (slice_get W.cells i ≡ Some (open_at d g q)) ⊎ ((i ≡ length W.cells) × (new ≡ open_at d g q)) → (slice_get W.cells j ≡ Some (open_at d g q)) ⊎ ((j ≡ length W.cells) × (new ≡ open_at d g q)) → i ≡ j
       both (inl x) (inl y) = s.one_each i j d g q x y
       both (inl x) (inr y) = clash i x y.1
@@ -184,17 +192,31 @@ module _ (n : ℕ) (t : Top) (W : World) (h : TopIs n t W) (s : Solid n W) (r : 
         cells = each_push (CellOk y W.coroutines) W.cells new (each_on (CellOk z W.coroutines) (CellOk y W.coroutines) (cell_on z y g W.coroutines) W.cells s.cells) (let c = h.size in let q : r < registers_of W.coroutines h.coroutine (length h.base) = omega arith in q);
         one_each = one;
         coroutines = each_on (CoroutineOk z) (CoroutineOk y) (coroutine_on z y g) W.coroutines s.coroutines;
-        chain = s.chain; moving = values_on z y g W.moving s.moving; roots = roots_on z y g W V s.roots refl refl refl refl refl refl }
+        chain = s.chain;
+        moving = values_on z y g W.moving s.moving;
+        roots = roots_on z y g W V s.roots refl refl refl refl refl refl;
+      }
 
   pub cell_top : TopIs n (record t { captured = r ∷ t.captured }) V
   cell_top = record {
-      coroutine = h.coroutine; base = h.base; top = h.top; function = h.function; last = h.last; frames = h.frames; there = h.there;
-      below = each_waits_on (sizes n W) (sizes n V) cell_grows h.base h.below;
-      code = h.code; pc = h.pc; size = h.size; opened = h.opened; pending = h.pending;
-      cells = λ i q x. ⊎_elim (λ o. h.cells i q o) (λ o. (let p : r ≡ q = (let w = o.1 in cc) in omega arith)) (push_cases W.cells new (open_at h.coroutine (length h.base) q) i x);
-      captured = each_cons (λ r. IsSome (find_open h.coroutine (length h.base) r V.cells)) r t.captured (find_new 0 h.coroutine (length h.base) r W.cells)
+    coroutine = h.coroutine;
+    base = h.base;
+    top = h.top;
+    function = h.function;
+    last = h.last;
+    frames = h.frames;
+    there = h.there;
+    below = each_waits_on (sizes n W) (sizes n V) cell_grows h.base h.below;
+    code = h.code;
+    pc = h.pc;
+    size = h.size;
+    opened = h.opened;
+    pending = h.pending;
+    cells = λ i q x. ⊎_elim (λ o. h.cells i q o) (λ o. (let p : r ≡ q = (let w = o.1 in cc) in omega arith)) (push_cases W.cells new (open_at h.coroutine (length h.base) q) i x);
+    captured = each_cons (λ r. IsSome (find_open h.coroutine (length h.base) r V.cells)) r t.captured (find_new 0 h.coroutine (length h.base) r W.cells)
         (each_on (λ r. IsSome (find_open h.coroutine (length h.base) r W.cells)) (λ r. IsSome (find_open h.coroutine (length h.base) r V.cells)) (λ q x. find_push 0 h.coroutine (length h.base) q W.cells (new ∷ []) x) t.captured h.captured);
-      wait = waits t.runs h.wait }
+    wait = waits t.runs h.wait;
+  }
     where
       waits : (b : Bool) → RunsOrWaits b (sizes n W) h.top → RunsOrWaits b (sizes n V) h.top
       waits true k = k
@@ -203,28 +225,49 @@ module _ (n : ℕ) (t : Top) (W : World) (h : TopIs n t W) (s : Solid n W) (r : 
 -- the register has one already
 cell_known : (n : ℕ) (t : Top) (W : World) (h : TopIs n t W) (r : ℕ) → IsSome (find_open h.coroutine (length h.base) r W.cells) → TopIs n (record t { captured = r ∷ t.captured }) W
 cell_known n t W h r e = record {
-    coroutine = h.coroutine; base = h.base; top = h.top; function = h.function; last = h.last; frames = h.frames; there = h.there; below = h.below;
-    code = h.code; pc = h.pc; size = h.size; opened = h.opened; pending = h.pending; cells = h.cells;
-    captured = each_cons (λ r. IsSome (find_open h.coroutine (length h.base) r W.cells)) r t.captured e h.captured;
-    wait = h.wait }
+  coroutine = h.coroutine;
+  base = h.base;
+  top = h.top;
+  function = h.function;
+  last = h.last;
+  frames = h.frames;
+  there = h.there;
+  below = h.below;
+  code = h.code;
+  pc = h.pc;
+  size = h.size;
+  opened = h.opened;
+  pending = h.pending;
+  cells = h.cells;
+  captured = each_cons (λ r. IsSome (find_open h.coroutine (length h.base) r W.cells)) r t.captured e h.captured;
+  wait = h.wait;
+}
 
 pub open_register_move : (n r : ℕ) (t : Top) (env : List Value) (W : World) → Is n (on_lua t) env W → TopReady t env (open_register r) → MoveGood n (on_lua t) env (open_register r) W
 open_register_move n r t env W i l = from (find_open h.coroutine (length h.base) r W.cells) refl
   where
     h : TopIs n t W
     h = i.phase
+
     is : (o : Option ℕ) → find_open i.phase.coroutine (length i.phase.base) r W.cells ≡ o → move (open_register r) env W ≡ Some (record { world = record W { cells = opened_cells o i.phase.coroutine (length i.phase.base) r W.cells }; values = []; told = tt })
     is o e =
         bind_at _ (place_of W) (the_place n t W i.phase) (place_is n t W i.phase)
         ∙ ap (λ b. cond b (made (record W { cells = opened_cells (find_open i.phase.coroutine (length i.phase.base) r W.cells) i.phase.coroutine (length i.phase.base) r W.cells }) [] tt) None) (lt_true r (length i.phase.top.own.registers) (let a = i.phase.size in let b = l.0 in omega arith))
         ∙ ap (λ o. Some (record { world = record W { cells = opened_cells o i.phase.coroutine (length i.phase.base) r W.cells }; values = []; told = tt })) e
+
     from : (o : Option ℕ) → find_open i.phase.coroutine (length i.phase.base) r W.cells ≡ o → MoveGood n (on_lua t) env (open_register r) W
     from (Some m) e = record {
-        event = tt; world = W; is = is (Some m) e;
-        holds = made_so n (on_lua t) (on_lua (record t { captured = r ∷ t.captured })) env [] W W i (grows_self (sizes n W)) i.solid (cell_known n t W i.phase r (rw e refl)) (each_none (Valid (sizes n W))) }
+      event = tt;
+      world = W;
+      is = is (Some m) e;
+      holds = made_so n (on_lua t) (on_lua (record t { captured = r ∷ t.captured })) env [] W W i (grows_self (sizes n W)) i.solid (cell_known n t W i.phase r (rw e refl)) (each_none (Valid (sizes n W)));
+    }
     from None e = record {
-        event = tt; world = with_cell W (open_at i.phase.coroutine (length i.phase.base) r); is = is None e;
-        holds = made_so n (on_lua t) (on_lua (record t { captured = r ∷ t.captured })) env [] W (with_cell W (open_at i.phase.coroutine (length i.phase.base) r)) i (cell_grows n t W i.phase i.solid r l.0 l.1 e) (cell_solid n t W i.phase i.solid r l.0 l.1 e) (cell_top n t W i.phase i.solid r l.0 l.1 e) (each_none (Valid (sizes n (with_cell W (open_at i.phase.coroutine (length i.phase.base) r))))) }
+      event = tt;
+      world = with_cell W (open_at i.phase.coroutine (length i.phase.base) r);
+      is = is None e;
+      holds = made_so n (on_lua t) (on_lua (record t { captured = r ∷ t.captured })) env [] W (with_cell W (open_at i.phase.coroutine (length i.phase.base) r)) i (cell_grows n t W i.phase i.solid r l.0 l.1 e) (cell_solid n t W i.phase i.solid r l.0 l.1 e) (cell_top n t W i.phase i.solid r l.0 l.1 e) (each_none (Valid (sizes n (with_cell W (open_at i.phase.coroutine (length i.phase.base) r)))));
+    }
 
 -- functions
 
@@ -247,7 +290,8 @@ captured_so W co k outer p cells n w c (u ∷ us) h =
       ids = f.0 ∷ ih.ids;
       is = bind_at _ (cond u.in_stack (find_open co k u.index W.cells) (slice_get outer u.index)) f.0 f.1 ∙ bind_at _ (captured us co k outer W.cells) ih.ids ih.is;
       count = ap suc ih.count;
-      within = each_cons (λ c. c < length W.cells) f.0 ih.ids f.2 ih.within }
+      within = each_cons (λ c. c < length W.cells) f.0 ih.ids f.2 ih.within;
+    }
   where
     first : (b : Bool) (x : ℕ) → cond b ((i : ℕ) × (slice_get cells i ≡ Some x)) (x < length p.own.upvalues) → (m : ℕ) × (cond b (find_open co k x W.cells) (slice_get outer x) ≡ Some m) × (m < length W.cells)
     first true x g = let m = some_get (find_open co k x W.cells) (c g.0 x g.1) in (m.0, m.1, let q = find_within 0 co k x W.cells m.0 m.1 in omega arith)
@@ -275,12 +319,15 @@ make_function_move n m t env W i r =
     let gr : Grows z y = record { primitives = refl; tables = omega arith; some = omega arith; functions = λ i k e. get_push_old W.functions (g ∷ []) i k e; cells = omega arith; coroutines = omega arith } in
     let ok : FunctionOk y g = record { code = inner_checked h.function.code.inner m q f.code.inner there; count = x.count; cells = x.within } in
     let o : OutsideOk n W V = record {
-        grows = gr;
-        tables = each_on (TableOk z) (TableOk y) (table_on z y gr) W.heap.tables s.tables;
-        metatable = refl;
-        functions = each_push (FunctionOk y) W.functions g (each_on (FunctionOk z) (FunctionOk y) (function_on z y gr) W.functions s.functions) ok;
-        moving = values_on z y gr W.moving s.moving } in
+      grows = gr;
+      tables = each_on (TableOk z) (TableOk y) (table_on z y gr) W.heap.tables s.tables;
+      metatable = refl;
+      functions = each_push (FunctionOk y) W.functions g (each_on (FunctionOk z) (FunctionOk y) (function_on z y gr) W.functions s.functions) ok;
+      moving = values_on z y gr W.moving s.moving;
+    } in
     record {
-      event = length W.functions; world = V;
+      event = length W.functions;
+      world = V;
       is = quick_is n (make_function m) t env W i ∙ bind_at _ (slice_get (list_of h.function.code.inner) m) q there ∙ bind_at _ (captured q.own.upvalues h.coroutine (length h.base) h.function.cells W.cells) x.ids x.is;
-      holds = goes_outside n t env (object a_function (length W.functions) ∷ []) W W.heap (W.functions ++ g ∷ []) W.moving W.fuel o i (each_one (Valid y) (object a_function (length W.functions)) (omega arith)) }
+      holds = goes_outside n t env (object a_function (length W.functions) ∷ []) W W.heap (W.functions ++ g ∷ []) W.moving W.fuel o i (each_one (Valid y) (object a_function (length W.functions)) (omega arith));
+    }

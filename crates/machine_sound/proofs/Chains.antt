@@ -1,11 +1,11 @@
 -- The chain of coroutines, with one more at its end and with one less.
-use Rattle.std.proofs.Common.{ℕ, zero, suc, ◌+◌, ◌-◌, ◌<◌, ◌≤◌, ◌≡◌, ◌⊎◌, inl, inr, ⊎_elim, List, [], ◌∷◌, ◌++◌, Option, Some, None, refl, subst, sym, ap, ◌∙◌, length, arith, length-append}
+use Rattle.std.proofs.Common.{ℕ, suc, ◌+◌, ◌-◌, ◌<◌, ◌≤◌, ◌≡◌, ◌⊎◌, inl, inr, ⊎_elim, List, [], ◌∷◌, ◌++◌, Option, Some, subst, sym, ap, ◌∙◌, length, arith, length-append}
 use Rattle.std.specs.Prelude.{slice_get, slice_set}
 use Rattle.std.proofs.lemmas.Bool.{cases_eq}
-use Rattle.int_core.specs.Value.{last, without_last}
+use Rattle.int_core.specs.Value.{last}
 use Rattle.machine_core.specs.Moves.{greatest_resumes}
 use Rattle.machine_sound.specs.Sound.{Standing, runs, resumed_another, apart, ChainOk}
-use Rattle.machine_sound.proofs.Lists.{get_set_same, get_set_other, get_push_old, get_push_new, push_cases, get_within, get_front, some_is, last_push, last_splits}
+use Rattle.machine_sound.proofs.Lists.{get_set_same, get_set_other, get_push_old, get_push_new, push_cases, get_within, get_front, some_is}
 
 pub last_get : (ch : List ℕ) (r : ℕ) → last ch ≡ Some r → (slice_get ch (length ch - 1) ≡ Some r) × (0 < length ch)
 last_get [] r h = absurd (cc)
@@ -44,6 +44,7 @@ module _ (main : Option ℕ) (st : List Standing) (ch : List ℕ) (r n : ℕ) (h
           let f : i ≡ length ch - 1 = omega arith in
           let g : co ≡ r = some_is (sym (ap (slice_get ch) f) ∙ e) (last_get ch r l).0 in
           subst (λ co. slice_get (slice_set (slice_set st r resumed_another) n runs) co ≡ Some resumed_another) (sym g) at_r
+
       before' : (suc i ≡ length ch → ⊥) → slice_get (slice_set (slice_set st r resumed_another) n runs) co ≡ Some resumed_another
       before' q =
           let w = get_within ch i co e in
@@ -52,20 +53,22 @@ module _ (main : Option ℕ) (st : List Standing) (ch : List ℕ) (r n : ℕ) (h
 
   pub chain_forward : ChainOk main new (ch ++ n ∷ [])
   chain_forward = record {
-      first = λ co e. h.first co (sym (get_front ch (n ∷ []) 0 (last_get ch r l).1) ∙ e);
-      last_runs = λ i co e q. ⊎_elim (λ (x : slice_get ch i ≡ Some co). absurd (let w = get_within ch i co x in let m = long in omega arith)) (λ x. subst (λ co. slice_get new co ≡ Some runs) x.1 at_n) (push_cases ch n co i e);
-      before = λ i co e q. ⊎_elim (λ (x : slice_get ch i ≡ Some co). now_before i co x) (λ x. absurd (let w = x.0 in let m = long in omega arith)) (push_cases ch n co i e);
-      running_in = λ co x. place co (inl x);
-      normal_in = λ co x. place co (inr x);
-      once = only;
-      bound = let m = long in omega arith }
+    first = λ co e. h.first co (sym (get_front ch (n ∷ []) 0 (last_get ch r l).1) ∙ e);
+    last_runs = λ i co e q. ⊎_elim (λ (x : slice_get ch i ≡ Some co). absurd (let w = get_within ch i co x in let m = long in omega arith)) (λ x. subst (λ co. slice_get new co ≡ Some runs) x.1 at_n) (push_cases ch n co i e);
+    before = λ i co e q. ⊎_elim (λ (x : slice_get ch i ≡ Some co). now_before i co x) (λ x. absurd (let w = x.0 in let m = long in omega arith)) (push_cases ch n co i e);
+    running_in = λ co x. place co (inl x);
+    normal_in = λ co x. place co (inr x);
+    once = only;
+    bound = let m = long in omega arith;
+  }
     where
       place : (co : ℕ) → (slice_get (slice_set (slice_set st r resumed_another) n runs) co ≡ Some runs) ⊎ (slice_get (slice_set (slice_set st r resumed_another) n runs) co ≡ Some resumed_another) → (i : ℕ) × (slice_get (ch ++ n ∷ []) i ≡ Some co)
       place co x = ⊎_elim (λ (p : co ≡ n). (length ch, get_push_new ch n ∙ ap Some (sym p)))
-        (λ p. ⊎_elim (λ (q : co ≡ r). (length ch - 1, get_push_old ch (n ∷ []) (length ch - 1) co ((last_get ch r l).0 ∙ ap Some (sym q))))
+          (λ p. ⊎_elim (λ (q : co ≡ r). (length ch - 1, get_push_old ch (n ∷ []) (length ch - 1) co ((last_get ch r l).0 ∙ ap Some (sym q))))
           (λ q. ⊎_elim
-            (λ z. let y = h.running_in co (sym (at_other co q p) ∙ z) in (y.0, get_push_old ch (n ∷ []) y.0 co y.1))
-            (λ z. let y = h.normal_in co (sym (at_other co q p) ∙ z) in (y.0, get_push_old ch (n ∷ []) y.0 co y.1)) x) (cases_eq co r)) (cases_eq co n)
+          (λ z. let y = h.running_in co (sym (at_other co q p) ∙ z) in (y.0, get_push_old ch (n ∷ []) y.0 co y.1))
+          (λ z. let y = h.normal_in co (sym (at_other co q p) ∙ z) in (y.0, get_push_old ch (n ∷ []) y.0 co y.1)) x) (cases_eq co r)) (cases_eq co n)
+
       only : (i j co : ℕ) → slice_get (ch ++ n ∷ []) i ≡ Some co → slice_get (ch ++ n ∷ []) j ≡ Some co → i ≡ j
       only i j co x y = both (push_cases ch n co i x) (push_cases ch n co j y)
         where
@@ -106,14 +109,18 @@ module _ (main : Option ℕ) (st : List Standing) (ch : List ℕ) (co : ℕ) (h 
   -- there is none left
   pub chain_empty : ch ≡ [] → ChainOk main (slice_set st co apart) []
   chain_empty e = record {
-      first = λ x q. absurd (cc); last_runs = λ i x q l. absurd (cc); before = λ i x q l. absurd (cc);
-      running_in = λ x q. ⊎_elim
+    first = λ x q. absurd (cc);
+    last_runs = λ i x q l. absurd (cc);
+    before = λ i x q l. absurd (cc);
+    running_in = λ x q. ⊎_elim
         (λ (p : x ≡ co). absurd (let c : Some apart ≡ Some runs = sym (ap (slice_get (slice_set st co apart)) p ∙ not_co) ∙ q in cc))
         (λ p. absurd (no_other x p (sym (get_set_other st co x apart (λ e. p (sym e))) ∙ q))) (cases_eq x co);
-      normal_in = λ x q. ⊎_elim
+    normal_in = λ x q. ⊎_elim
         (λ (p : x ≡ co). absurd (let c : Some apart ≡ Some resumed_another = sym (ap (slice_get (slice_set st co apart)) p ∙ not_co) ∙ q in cc))
         (λ p. let y = within_front x p (sym (get_set_other st co x apart (λ e. p (sym e))) ∙ q) in absurd (let z : slice_get [] y.0 ≡ Some x = ap (λ l. slice_get l y.0) (sym e) ∙ y.1 in cc)) (cases_eq x co);
-      once = λ i j x q l. absurd (cc); bound = omega arith }
+    once = λ i j x q l. absurd (cc);
+    bound = omega arith;
+  }
 
   -- the one before it runs again
   module _ (r : ℕ) (l : last ch ≡ Some r) where
@@ -137,12 +144,13 @@ module _ (main : Option ℕ) (st : List Standing) (ch : List ℕ) (co : ℕ) (h 
 
     pub chain_back : ChainOk main back ch
     chain_back = record {
-        first = λ x e. h.first x (get_push_old ch (co ∷ []) 0 x e);
-        last_runs = λ i x e q. (let f : i ≡ length ch - 1 = omega arith in let g : x ≡ r = some_is (sym (ap (slice_get ch) f) ∙ e) (last_get ch r l).0 in subst (λ x. slice_get back x ≡ Some runs) (sym g) back_r);
-        before = λ i x e q. back_other x (λ p. gone i (e ∙ ap Some p)) (λ p. let k = h.once i (length ch - 1) x (get_push_old ch (co ∷ []) i x e) (get_push_old ch (co ∷ []) (length ch - 1) x ((last_get ch r l).0 ∙ ap Some (sym p))) in omega arith) ∙ was_before i x e;
-        running_in = λ x e. ⊎_elim (λ (p : x ≡ r). (length ch - 1, (last_get ch r l).0 ∙ ap Some (sym p)))
+      first = λ x e. h.first x (get_push_old ch (co ∷ []) 0 x e);
+      last_runs = λ i x e q. (let f : i ≡ length ch - 1 = omega arith in let g : x ≡ r = some_is (sym (ap (slice_get ch) f) ∙ e) (last_get ch r l).0 in subst (λ x. slice_get back x ≡ Some runs) (sym g) back_r);
+      before = λ i x e q. back_other x (λ p. gone i (e ∙ ap Some p)) (λ p. let k = h.once i (length ch - 1) x (get_push_old ch (co ∷ []) i x e) (get_push_old ch (co ∷ []) (length ch - 1) x ((last_get ch r l).0 ∙ ap Some (sym p))) in omega arith) ∙ was_before i x e;
+      running_in = λ x e. ⊎_elim (λ (p : x ≡ r). (length ch - 1, (last_get ch r l).0 ∙ ap Some (sym p)))
           (λ p. ⊎_elim (λ (q : x ≡ co). absurd (let c : Some apart ≡ Some runs = sym (ap (slice_get back) q ∙ back_co) ∙ e in cc)) (λ q. absurd (no_other x q (sym (back_other x q p) ∙ e))) (cases_eq x co)) (cases_eq x r);
-        normal_in = λ x e. ⊎_elim (λ (p : x ≡ r). (length ch - 1, (last_get ch r l).0 ∙ ap Some (sym p)))
+      normal_in = λ x e. ⊎_elim (λ (p : x ≡ r). (length ch - 1, (last_get ch r l).0 ∙ ap Some (sym p)))
           (λ p. ⊎_elim (λ (q : x ≡ co). absurd (let c : Some apart ≡ Some resumed_another = sym (ap (slice_get back) q ∙ back_co) ∙ e in cc)) (λ q. within_front x q (sym (back_other x q p) ∙ e)) (cases_eq x co)) (cases_eq x r);
-        once = λ i j x a b. h.once i j x (get_push_old ch (co ∷ []) i x a) (get_push_old ch (co ∷ []) j x b);
-        bound = (let a = h.bound in let m = whole in omega arith) }
+      once = λ i j x a b. h.once i j x (get_push_old ch (co ∷ []) i x a) (get_push_old ch (co ∷ []) j x b);
+      bound = (let a = h.bound in let m = whole in omega arith);
+    }

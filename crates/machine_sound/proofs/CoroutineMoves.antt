@@ -1,25 +1,24 @@
 -- Moves that end, fail, suspend, resume and close coroutines.
-use Rattle.std.proofs.Common.{ℕ, zero, suc, ◌+◌, ◌-◌, ◌<◌, ◌≤◌, ◌≡◌, ◌⊎◌, inl, inr, ⊎_elim, List, [], ◌∷◌, ◌++◌, Option, Some, None, refl, subst, sym, ap, ◌∙◌, length, drop, map, arith, Bool, true, false, cond, length-append}
-use Rattle.std.specs.Prelude.{slice_get, slice_set, nat_le, nat_lt, IsTrue, codes, flat_map, ◌&&◌}
+use Rattle.std.proofs.Common.{ℕ, ◌<◌, ◌≤◌, ◌≡◌, inl, inr, ⊎_elim, List, [], ◌∷◌, ◌++◌, Option, Some, None, refl, subst, sym, ap, ◌∙◌, length, drop, map, arith, Bool, true, false, cond}
+use Rattle.std.specs.Prelude.{slice_get, slice_set, nat_lt, codes, flat_map, ◌&&◌}
 use Rattle.std.proofs.lemmas.Bool.{cases_eq}
 use Rattle.std.proofs.lemmas.Bool.Decides.{nat_tests}
 use Rattle.std.proofs.lemmas.List.{map-set}
-use Rattle.int_core.specs.Value.{Value, known, nil, object, a_table, a_function, a_coroutine, Shape, is_object, shape, bind, last, greatest_string}
-use Rattle.int_core.specs.Operations.{is_function}
-use Rattle.machine_core.specs.World.{Function, Cell, closed, open_at, LuaFrame, Frame, lua, pcall, xpcall, handler, closing, Coroutine, fresh, suspended, in_progress, normal, dead, failed, World, frames_of, Stack, stack_of, push}
+use Rattle.int_core.specs.Value.{Value, known, object, a_table, a_function, a_coroutine, is_object, shape, bind, last, greatest_string}
+use Rattle.machine_core.specs.World.{closed, open_at, Frame, lua, pcall, xpcall, handler, closing, Coroutine, fresh, suspended, in_progress, normal, dead, failed, World, Stack, stack_of}
 use Rattle.machine_core.specs.Text.{Arg, read, written, arg}
 use Rattle.machine_core.specs.Moves.{Move, take_moving, see_top, end_coroutine, fail_coroutine, suspend, resume, begin_closing, greatest_depth, greatest_resumes, CallShape, is_entered, is_primitive, not_paid, not_entered, stack_overflow, TopShape, lua_top, no_top, closing_top, top_shape, top_now, runs_main, ResumeShape, resumed, refused, pending_values, all_closed_from, put_coroutine, back_to_resumer, ends_as, starts_in, can_start, resumes, closes_in, closes_coroutine, coroutine_number, has_room, enters, Told, Made, made, move}
-use Rattle.machine_sound.specs.Sound.{Each, Sizes, sizes, Valid, OptionOk, FrameOk, FrameWaits, FramesOk, AllWait, CoroutineOk, Standing, runs, resumed_another, apart, standing, ChainOk, registers_in, registers_of, CellOk, Solid, Settled, StackWaits}
-use Rattle.machine_sound.specs.Safe.{Phase, waiting, in_resumed, calling, ended, between, handing, Is, IsPhase, ArgOk, WaitsUnder, WaitsResumed, Calls, IsNoTop, EndEvent, ResumeEvent, RefusalOk, after_end, after_resuming, after_beginning, after_handing, Ready, MoveGood}
+use Rattle.machine_sound.specs.Sound.{Each, sizes, Valid, FrameOk, FrameWaits, AllWait, CoroutineOk, runs, resumed_another, apart, standing, ChainOk, registers_in, registers_of, CellOk, Solid, Settled, StackWaits}
+use Rattle.machine_sound.specs.Safe.{waiting, in_resumed, between, handing, Is, IsPhase, after_end, after_resuming, after_handing, Ready, MoveGood}
 use Rattle.machine_sound.proofs.Lists.{each_none, each_set, each_push, each_on, bind_at, get_set_same, get_set_other, length_set, get_map, get_there, last_push, some_is}
 use Rattle.machine_sound.proofs.Values.{arg_valid, nth_ok, le_of}
-use Rattle.machine_sound.proofs.Grow.{Grows, grows_self, grows_then, values_on, valid_on, option_on, frames_on, each_waits_on}
-use Rattle.machine_sound.proofs.Waits.{with_moving, moving_grows, moving_solid, moving_waits, waits_stack, pushed, pushed_grows, pushed_solid, pushed_there, push_is, Entered, EnteredAs, enters_good}
+use Rattle.machine_sound.proofs.Grow.{Grows, grows_self, grows_then, values_on, valid_on, each_waits_on}
+use Rattle.machine_sound.proofs.Waits.{with_moving, moving_grows, moving_solid, moving_waits, waits_stack, EnteredAs, enters_good}
 use Rattle.machine_sound.proofs.Held.{lua_settles}
 use Rattle.machine_sound.proofs.Moves.{made_so}
 use Rattle.machine_sound.proofs.WaitingMoves.{WaitingGood, top_is}
 use Rattle.machine_sound.proofs.Chains.{chain_forward}
-use Rattle.machine_sound.proofs.Coroutines.{with_coroutines, coroutines_grow, coroutines_solid, registers_by, registers_are, CellsLeft, buried_cells, pendings_valid, BackTo, goes_back}
+use Rattle.machine_sound.proofs.Coroutines.{with_coroutines, coroutines_grow, coroutines_solid, registers_by, registers_are, CellsLeft, buried_cells, pendings_valid, goes_back}
 
 -- endings
 
@@ -43,9 +42,11 @@ end_coroutine_waits n (Some (no_top b)) env W i r =
     let g = goes_back n W i.solid h dead refl tt (all_closed_from h.coroutine 0 h.frames W.cells) (dead_cells n W i.solid h dead) in
     let m = main_of W (last h.frames) b i.phase.top in
     record {
-      event = record { in_main = b; is = refl }; world = g.world;
+      event = record { in_main = b; is = refl };
+      world = g.world;
       is = bind_at (λ V. made V [] (runs_main W)) (ends_as W dead) _ (ends_is n W h dead) ∙ ap (λ V. made V [] (runs_main W)) g.is ∙ ap (made g.world []) m;
-      holds = made_so n (waiting (Some (no_top b))) (after_end b) env [] W g.world i g.grows g.solid (g.phase b m) (each_none (Valid (sizes n g.world))) }
+      holds = made_so n (waiting (Some (no_top b))) (after_end b) env [] W g.world i g.grows g.solid (g.phase b m) (each_none (Valid (sizes n g.world)));
+    }
 end_coroutine_waits n _ env W i r = absurd r
 
 pub suspend_waits : (n : ℕ) → WaitingGood n suspend
@@ -54,13 +55,18 @@ suspend_waits n s env W i r =
     let z = sizes n W in
     let fr = i.solid.coroutines h.coroutine (in_progress h.frames) h.running in
     let left : CellsLeft n W h.coroutine (suspended h.frames) W.cells = record {
-        count = refl; still_open = λ i e g r x. x; closed_ok = λ j v e. i.solid.cells j (closed v) e;
-        there = λ j g r x. subst (λ m. r < m) (registers_are W.coroutines h.coroutine g (in_progress h.frames) h.running) (i.solid.cells j (open_at h.coroutine g r) x) } in
+      count = refl;
+      still_open = λ i e g r x. x;
+      closed_ok = λ j v e. i.solid.cells j (closed v) e;
+      there = λ j g r x. subst (λ m. r < m) (registers_are W.coroutines h.coroutine g (in_progress h.frames) h.running) (i.solid.cells j (open_at h.coroutine g r) x);
+    } in
     let g = goes_back n W i.solid h (suspended h.frames) refl (record { right = fr; waits = h.waits }) W.cells left in
     record {
-      event = runs_main W; world = g.world;
+      event = runs_main W;
+      world = g.world;
       is = bind_at _ (stack_of W) (record { coroutine = h.coroutine; frames = h.frames }) (waits_stack n W h) ∙ ap (λ V. made V [] (runs_main W)) g.is;
-      holds = made_so n (waiting s) (after_end (runs_main W)) env [] W g.world i g.grows g.solid (g.phase (runs_main W) refl) (each_none (Valid (sizes n g.world))) }
+      holds = made_so n (waiting s) (after_end (runs_main W)) env [] W g.world i g.grows g.solid (g.phase (runs_main W) refl) (each_none (Valid (sizes n g.world)));
+    }
 
 pub fail_resumed : (n : ℕ) (x : Arg) (env : List Value) (W : World) → Is n in_resumed env W → Ready in_resumed env (fail_coroutine x) → MoveGood n in_resumed env (fail_coroutine x) W
 fail_resumed n x env W i r =
@@ -70,16 +76,21 @@ fail_resumed n x env W i r =
     let d = failed (arg env x) (flat_map pending_values h.frames) in
     let g = goes_back n W i.solid h d refl (arg_valid z env x i.valid r, pendings_valid z h.frames fr.each) (all_closed_from h.coroutine 0 h.frames W.cells) (dead_cells n W i.solid h d) in
     record {
-      event = tt; world = g.world;
+      event = tt;
+      world = g.world;
       is = bind_at _ (stack_of W) (record { coroutine = h.coroutine; frames = h.frames }) (waits_stack n W h) ∙ bind_at (λ V. made V [] tt) (ends_as W d) _ (ends_is n W h d) ∙ ap (λ V. made V [] tt) g.is;
-      holds = made_so n in_resumed (waiting None) env [] W g.world i g.grows g.solid (g.phase false i.phase.resumed_one) (each_none (Valid (sizes n g.world))) }
+      holds = made_so n in_resumed (waiting None) env [] W g.world i g.grows g.solid (g.phase false i.phase.resumed_one) (each_none (Valid (sizes n g.world)));
+    }
 
 pub take_moving_resumed : (n : ℕ) (env : List Value) (W : World) → Is n in_resumed env W → MoveGood n in_resumed env take_moving W
 take_moving_resumed n env W i =
     let V = with_moving W [] W.fuel in
     record {
-      event = W.moving; world = V; is = refl;
-      holds = made_so n in_resumed in_resumed env W.moving W V i (moving_grows n W [] W.fuel) (moving_solid n W [] W.fuel i.solid (each_none (Valid (sizes n W)))) (record { all = moving_waits n W [] W.fuel i.phase.all; resumed_one = i.phase.resumed_one }) (values_on (sizes n W) (sizes n V) (moving_grows n W [] W.fuel) W.moving i.solid.moving) }
+      event = W.moving;
+      world = V;
+      is = refl;
+      holds = made_so n in_resumed in_resumed env W.moving W V i (moving_grows n W [] W.fuel) (moving_solid n W [] W.fuel i.solid (each_none (Valid (sizes n W)))) (record { all = moving_waits n W [] W.fuel i.phase.all; resumed_one = i.phase.resumed_one }) (values_on (sizes n W) (sizes n V) (moving_grows n W [] W.fuel) W.moving i.solid.moving);
+    }
 
 -- handing over
 
@@ -94,14 +105,20 @@ handed_phase n W s h (no_top b) e = record { all = h; top = e }
 pub see_top_handing : (n : ℕ) (env : List Value) (W : World) → Is n handing env W → MoveGood n handing env see_top W
 see_top_handing n env W i = ⊎_elim
     (λ (h : StackWaits n W). record {
-      event = top_shape W (last h.frames); world = W; is = bind_at (λ top. made W [] top) (top_now W) (top_shape W (last h.frames)) (top_is n W h);
-      holds = made_so n handing (after_handing (top_shape W (last h.frames))) env [] W W i (grows_self (sizes n W)) i.solid (handed_phase n W i.solid h (top_shape W (last h.frames)) refl) (each_none (Valid (sizes n W))) })
+      event = top_shape W (last h.frames);
+      world = W;
+      is = bind_at (λ top. made W [] top) (top_now W) (top_shape W (last h.frames)) (top_is n W h);
+      holds = made_so n handing (after_handing (top_shape W (last h.frames))) env [] W W i (grows_self (sizes n W)) i.solid (handed_phase n W i.solid h (top_shape W (last h.frames)) refl) (each_none (Valid (sizes n W)));
+    })
     (λ (k : Settled n W).
-      let t = k.is_top in
-      let e : top_now W ≡ Some lua_top = bind_at (λ (s : Stack). Some (top_shape W (last s.frames))) (stack_of W) _ (Rattle.machine_sound.proofs.Frames.stack_is W t.coroutine (t.base ++ lua t.top ∷ []) t.last t.frames) ∙ ap (λ o. Some (top_shape W o)) (last_push t.base (lua t.top)) in
-      record {
-        event = lua_top; world = W; is = bind_at (λ top. made W [] top) (top_now W) lua_top e;
-        holds = made_so n handing between env [] W W i (grows_self (sizes n W)) i.solid k (each_none (Valid (sizes n W))) })
+    let t = k.is_top in
+    let e : top_now W ≡ Some lua_top = bind_at (λ (s : Stack). Some (top_shape W (last s.frames))) (stack_of W) _ (Rattle.machine_sound.proofs.Frames.stack_is W t.coroutine (t.base ++ lua t.top ∷ []) t.last t.frames) ∙ ap (λ o. Some (top_shape W o)) (last_push t.base (lua t.top)) in
+    record {
+      event = lua_top;
+      world = W;
+      is = bind_at (λ top. made W [] top) (top_now W) lua_top e;
+      holds = made_so n handing between env [] W W i (grows_self (sizes n W)) i.solid k (each_none (Valid (sizes n W)));
+    })
     i.phase
 
 -- a coroutine that is named
@@ -161,9 +178,9 @@ module _ (n : ℕ) (W : World) (s : Solid n W) (h : StackWaits n W) (co : ℕ) (
   registers_same e g = ⊎_elim
       (λ (q : e ≡ co). subst (λ e. registers_of cos e g ≡ registers_of W.coroutines e g) (sym q) (registers_are cos co g (in_progress gs) here ∙ same g ∙ sym (registers_are W.coroutines co g c there)))
       (λ q. rw (get_set_other held co e (in_progress gs) (λ k. q (sym k)), registers_of)
-        (⊎_elim
-          (λ (p : e ≡ h.coroutine). subst (λ e. registers_of held e g ≡ registers_of W.coroutines e g) (sym p) (registers_are held h.coroutine g (normal h.frames) (get_set_same W.coroutines h.coroutine (in_progress h.frames) (normal h.frames) h.running) ∙ sym (registers_are W.coroutines h.coroutine g (in_progress h.frames) h.running)))
-          (λ p. rw (get_set_other W.coroutines h.coroutine e (normal h.frames) (λ k. p (sym k)), registers_of) refl) (cases_eq e h.coroutine)))
+      (⊎_elim
+      (λ (p : e ≡ h.coroutine). subst (λ e. registers_of held e g ≡ registers_of W.coroutines e g) (sym p) (registers_are held h.coroutine g (normal h.frames) (get_set_same W.coroutines h.coroutine (in_progress h.frames) (normal h.frames) h.running) ∙ sym (registers_are W.coroutines h.coroutine g (in_progress h.frames) h.running)))
+      (λ p. rw (get_set_other W.coroutines h.coroutine e (normal h.frames) (λ k. p (sym k)), registers_of) refl) (cases_eq e h.coroutine)))
       (cases_eq e co)
 
   cells_ok : Each (CellOk (sizes n W) cos) W.cells
@@ -202,15 +219,20 @@ resume_waits n x slot s env W i r = from (named_there n env W x i.valid r).corou
   where
     number : ℕ
     number = (named_there n env W x i.valid r).number
+
     is : (c : Coroutine) → slice_get W.coroutines (named_there n env W x i.valid r).number ≡ Some c → move (resume x slot) env W ≡ resumes W (record { coroutine = i.phase.all.coroutine; frames = i.phase.all.frames }) (named_there n env W x i.valid r).number c (drop slot env)
     is c e = bind_at _ (stack_of W) (record { coroutine = i.phase.all.coroutine; frames = i.phase.all.frames }) (waits_stack n W i.phase.all) ∙ bind_at _ (coroutine_number (arg env x)) (named_there n env W x i.valid r).number (named_there n env W x i.valid r).is_number ∙ bind_at _ (slice_get W.coroutines (named_there n env W x i.valid r).number) c e
+
     refuses : (text : List ℕ) → length text ≤ greatest_string → move (resume x slot) env W ≡ made W [] (refused text) → MoveGood n (waiting s) env (resume x slot) W
     refuses text l e = record { event = record { shape' = refused text; right = l }; world = W; is = e; holds = made_so n (waiting s) (waiting None) env [] W W i (grows_self (sizes n W)) i.solid (record { all = i.phase.all; top = tt }) (each_none (Valid (sizes n W))) }
+
     limit : (c : Coroutine) → can_start c ≡ true → (b : Bool) → nat_lt greatest_resumes (length W.chain) ≡ b → resumes W (record { coroutine = i.phase.all.coroutine; frames = i.phase.all.frames }) (named_there n env W x i.valid r).number c (drop slot env) ≡ cond b (made W [] (refused (codes "too many nested resumes"))) (starts_in (put_coroutine W i.phase.all.coroutine (normal i.phase.all.frames)) (named_there n env W x i.valid r).number c (drop slot env))
     limit c t b e = ap (λ t. cond (t && nat_lt greatest_resumes (length W.chain)) (made W [] (refused (codes "too many nested resumes"))) (starts_in (cond t (put_coroutine W i.phase.all.coroutine (normal i.phase.all.frames)) W) (named_there n env W x i.valid r).number c (drop slot env))) t
-      ∙ ap (λ b. cond b (made W [] (refused (codes "too many nested resumes"))) (starts_in (put_coroutine W i.phase.all.coroutine (normal i.phase.all.frames)) (named_there n env W x i.valid r).number c (drop slot env))) e
+        ∙ ap (λ b. cond b (made W [] (refused (codes "too many nested resumes"))) (starts_in (put_coroutine W i.phase.all.coroutine (normal i.phase.all.frames)) (named_there n env W x i.valid r).number c (drop slot env))) e
+
     low : nat_lt greatest_resumes (length W.chain) ≡ false → length W.chain ≤ greatest_resumes
     low e = grind (arith, nat_tests)
+
     goes : (c : Coroutine) → slice_get W.coroutines (named_there n env W x i.valid r).number ≡ Some c → (b : Bool) → nat_lt greatest_resumes (length W.chain) ≡ b → can_start c ≡ true → MoveGood n (waiting s) env (resume x slot) W
     goes c e true l t = refuses (codes "too many nested resumes") (le_of _ greatest_string refl) (is c e ∙ limit c t true l)
     goes (suspended gs) e false l t =
@@ -224,9 +246,11 @@ resume_waits n x slot s env W i r = from (named_there n env W x i.valid r).corou
         let V = with_moving P (drop slot env) P.fuel in
         let valid = values_on (sizes n W) (sizes n P) g (drop slot env) (Rattle.machine_sound.proofs.Lists.each_drop (Valid (sizes n W)) slot env i.valid) in
         record {
-          event = record { shape' = resumed is_entered; right = tt }; world = V;
+          event = record { shape' = resumed is_entered; right = tt };
+          world = V;
           is = is (suspended gs) e ∙ limit (suspended gs) refl false l ∙ suspended_is W (record { coroutine = h.coroutine; frames = h.frames }) co gs (drop slot env);
-          holds = made_so n (waiting s) handing env [] W V i (grows_then (sizes n W) (sizes n P) (sizes n V) g (moving_grows n P (drop slot env) P.fuel)) (moving_solid n P (drop slot env) P.fuel ps valid) (inl (moving_waits n P (drop slot env) P.fuel pw)) (each_none (Valid (sizes n V))) }
+          holds = made_so n (waiting s) handing env [] W V i (grows_then (sizes n W) (sizes n P) (sizes n V) g (moving_grows n P (drop slot env) P.fuel)) (moving_solid n P (drop slot env) P.fuel ps valid) (inl (moving_waits n P (drop slot env) P.fuel pw)) (each_none (Valid (sizes n V)));
+        }
     goes (fresh body) e false l t =
         let co = (named_there n env W x i.valid r).number in
         let h = i.phase.all in
@@ -240,13 +264,16 @@ resume_waits n x slot s env W i r = from (named_there n env W x i.valid r).corou
         let vs = drop slot env in
         let y = enters_good n P ps pw vs (values_on z (sizes n P) g vs (Rattle.machine_sound.proofs.Lists.each_drop (Valid z) slot env i.valid)) body (valid_on z (sizes n P) g body ok.0) ok.1 in
         record {
-          event = record { shape' = resumed y.shape; right = tt }; world = y.world;
+          event = record { shape' = resumed y.shape; right = tt };
+          world = y.world;
           is = is (fresh body) e ∙ limit (fresh body) refl false l ∙ fresh_is W (record { coroutine = h.coroutine; frames = h.frames }) co body vs ∙ bind_at (λ d. made d.world [] (resumed d.told)) (enters P body vs) _ y.is;
-          holds = made_so n (waiting s) (after_resuming (resumed y.shape)) env [] W y.world i (grows_then z (sizes n P) (sizes n y.world) g y.grows) y.solid (resumed_phase n P y.world pw y.shape y.as') (each_none (Valid (sizes n y.world))) }
+          holds = made_so n (waiting s) (after_resuming (resumed y.shape)) env [] W y.world i (grows_then z (sizes n P) (sizes n y.world) g y.grows) y.solid (resumed_phase n P y.world pw y.shape y.as') (each_none (Valid (sizes n y.world)));
+        }
     goes (in_progress gs) e false l t = absurd (cc)
     goes (normal gs) e false l t = absurd (cc)
     goes dead e false l t = absurd (cc)
     goes (failed v vs) e false l t = absurd (cc)
+
     from : (c : Coroutine) → slice_get W.coroutines (named_there n env W x i.valid r).number ≡ Some c → MoveGood n (waiting s) env (resume x slot) W
     from (fresh body) e = goes (fresh body) e (nat_lt greatest_resumes (length W.chain)) refl refl
     from (suspended gs) e = goes (suspended gs) e (nat_lt greatest_resumes (length W.chain)) refl refl

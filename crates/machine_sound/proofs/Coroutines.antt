@@ -1,17 +1,17 @@
 -- Worlds with other coroutines: one that ends, fails or is suspended, after which the one that resumed it goes on.
-use Rattle.std.proofs.Common.{ℕ, zero, suc, ◌+◌, ◌-◌, ◌<◌, ◌≤◌, ◌≡◌, ◌⊎◌, inl, inr, ⊎_elim, List, [], ◌∷◌, ◌++◌, Option, Some, None, refl, subst, sym, ap, ◌∙◌, length, map, arith, Bool, true, false, cond, length-append}
-use Rattle.std.specs.Prelude.{slice_get, slice_set, nat_eq, nat_lt, flat_map}
+use Rattle.std.proofs.Common.{ℕ, zero, suc, ◌-◌, ◌<◌, ◌≤◌, ◌≡◌, ⊎_elim, List, [], ◌∷◌, ◌++◌, Option, Some, None, refl, subst, sym, ap, ◌∙◌, length, map, arith, Bool, true, false, length-append}
+use Rattle.std.specs.Prelude.{slice_get, slice_set, flat_map}
 use Rattle.std.proofs.lemmas.Bool.{cases_eq}
 use Rattle.std.proofs.lemmas.Bool.Decides.{nat_tests}
 use Rattle.std.proofs.lemmas.List.{map-set}
-use Rattle.int_core.specs.Value.{Value, known, nil, nth, bind, last, without_last}
-use Rattle.machine_core.specs.World.{Function, Cell, closed, open_at, LuaFrame, Frame, lua, pcall, xpcall, handler, closing, Coroutine, fresh, suspended, in_progress, normal, dead, failed, World, frames_of, Stack, stack_of, close_from}
+use Rattle.int_core.specs.Value.{Value, nth, last, without_last}
+use Rattle.machine_core.specs.World.{Cell, closed, open_at, Frame, lua, pcall, xpcall, handler, closing, Coroutine, fresh, suspended, in_progress, normal, dead, failed, World, frames_of, close_from}
 use Rattle.machine_core.specs.Moves.{pending_values, all_closed_from, put_coroutine, awake, back_to_resumer, runs_main}
-use Rattle.machine_sound.specs.Sound.{Each, Sizes, sizes, Valid, TableOk, FunctionOk, LuaOk, FrameOk, FrameWaits, FramesOk, AllWait, CoroutineOk, Standing, runs, resumed_another, apart, standing, ChainOk, registers_in, registers_of, CellOk, OneEach, Solid, StackWaits}
-use Rattle.machine_sound.specs.Safe.{Phase, ended, waiting, IsPhase, after_end}
+use Rattle.machine_sound.specs.Sound.{Each, Sizes, sizes, Valid, TableOk, FunctionOk, FrameOk, FramesOk, AllWait, CoroutineOk, runs, resumed_another, apart, standing, ChainOk, registers_in, registers_of, CellOk, OneEach, Solid, StackWaits}
+use Rattle.machine_sound.specs.Safe.{IsPhase, after_end}
 use Rattle.machine_sound.proofs.Lists.{each_none, each_set, each_append, each_tail, each_on, get_set_same, get_set_other, length_set, get_map, map_get, last_push, last_splits, some_is}
 use Rattle.machine_sound.proofs.Values.{nth_ok}
-use Rattle.machine_sound.proofs.Grow.{Grows, values_on, valid_on, table_on, function_on, coroutine_on, frames_on, each_waits_on, cell_on, roots_on}
+use Rattle.machine_sound.proofs.Grow.{Grows, values_on, table_on, function_on, coroutine_on, each_waits_on, cell_on, roots_on}
 use Rattle.machine_sound.proofs.Own.{close_length, close_open, close_closed}
 use Rattle.machine_sound.proofs.Chains.{last_get, chain_empty, chain_back, r_was}
 
@@ -34,7 +34,10 @@ module _ (n : ℕ) (W : World) (s : Solid n W) (cells : List Cell) (cos : List C
         cells = each_on (CellOk z cos) (CellOk y cos) (cell_on z y g cos) cells c;
         one_each = o;
         coroutines = each_on (CoroutineOk z) (CoroutineOk y) (coroutine_on z y g) cos k;
-        chain = h; moving = values_on z y g W.moving s.moving; roots = roots_on z y g W with_coroutines s.roots refl refl refl refl refl refl }
+        chain = h;
+        moving = values_on z y g W.moving s.moving;
+        roots = roots_on z y g W with_coroutines s.roots refl refl refl refl refl refl;
+      }
 
 -- the registers that a coroutine's frames have
 abbrev pub registers_by : Coroutine → ℕ → ℕ
@@ -70,10 +73,11 @@ at_head g n l e = omega arith
 -- a frame that is no Lua function's has no cells
 past_other : (co n : ℕ) (f : Frame) (fs : List Frame) (cs : List Cell) (i d g q : ℕ) → registers_in (f ∷ fs) 0 ≡ 0 → StillOpen co (suc n) fs cs i d g q → StillOpen co n (f ∷ fs) cs i d g q
 past_other co n f fs cs i d g q z h = record {
-    was = h.was;
-    elsewhere = λ e l b. ⊎_elim
+  was = h.was;
+  elsewhere = λ e l b. ⊎_elim
       (λ (k : g ≡ n). (let m : g - n ≡ 0 = omega arith in let c = subst (λ m. q < registers_in (f ∷ fs) m) m b in let c' = subst (λ m. q < m) z c in omega arith))
-      (λ k. h.elsewhere e (omega arith) (subst (λ m. q < registers_in (f ∷ fs) m) (at_head g n l k) b)) (cases_eq g n) }
+      (λ k. h.elsewhere e (omega arith) (subst (λ m. q < registers_in (f ∷ fs) m) (at_head g n l k) b)) (cases_eq g n);
+}
 
 pub all_open : (co n : ℕ) (fs : List Frame) (cs : List Cell) (i d g q : ℕ) → slice_get (all_closed_from co n fs cs) i ≡ Some (open_at d g q) → StillOpen co n fs cs i d g q
 all_open co n [] cs i d g q h = record { was = h; elsewhere = λ e l b. omega arith }
@@ -83,8 +87,9 @@ all_open co n (lua f ∷ fs) cs i d g q h =
     record {
       was = c.0;
       elsewhere = λ e l b. ⊎_elim
-        (λ (k : g ≡ n). (let m = c.1 e k in omega arith))
-        (λ k. x.elsewhere e (omega arith) (subst (λ m. q < registers_in (lua f ∷ fs) m) (at_head g n l k) b)) (cases_eq g n) }
+          (λ (k : g ≡ n). (let m = c.1 e k in omega arith))
+          (λ k. x.elsewhere e (omega arith) (subst (λ m. q < registers_in (lua f ∷ fs) m) (at_head g n l k) b)) (cases_eq g n);
+    }
 all_open co n (pcall ∷ fs) cs i d g q h = past_other co n pcall fs cs i d g q refl (all_open co (suc n) fs cs i d g q h)
 all_open co n (xpcall v ∷ fs) cs i d g q h = past_other co n (xpcall v) fs cs i d g q refl (all_open co (suc n) fs cs i d g q h)
 all_open co n (handler ∷ fs) cs i d g q h = past_other co n handler fs cs i d g q refl (all_open co (suc n) fs cs i d g q h)
@@ -101,15 +106,16 @@ all_closed z co n (closing x vs ∷ fs) cs f c i v e = all_closed z co (suc n) f
 -- all cells of a coroutine are closed where its frames are gone
 pub buried_cells : (n : ℕ) (W : World) (s : Solid n W) (co : ℕ) (c d : Coroutine) (fs : List Frame) → slice_get W.coroutines co ≡ Some c → frames_of c ≡ Some fs → FramesOk (sizes n W) fs → CellsLeft n W co d (all_closed_from co 0 fs W.cells)
 buried_cells n W s co c d fs e k f = record {
-    count = all_length co 0 fs W.cells;
-    still_open = λ i d g r x. (all_open co 0 fs W.cells i d g r x).was;
-    closed_ok = all_closed (sizes n W) co 0 fs W.cells f.each (λ i v e. s.cells i (closed v) e);
-    there = λ i g r x.
+  count = all_length co 0 fs W.cells;
+  still_open = λ i d g r x. (all_open co 0 fs W.cells i d g r x).was;
+  closed_ok = all_closed (sizes n W) co 0 fs W.cells f.each (λ i v e. s.cells i (closed v) e);
+  there = λ i g r x.
       let o = all_open co 0 fs W.cells i co g r x in
       let a : r < registers_of W.coroutines co g = s.cells i (open_at co g r) o.was in
       let b : registers_of W.coroutines co g ≡ registers_in fs g = registers_are W.coroutines co g c e ∙ ap (λ o. elim o as (λ _. ℕ) [ None ↦ 0 | Some frames ↦ registers_in frames g ]) k in
       let m : g - 0 ≡ g = omega arith in
-      absurd (o.elsewhere refl (omega arith) (subst (λ m. r < registers_in fs m) (sym m) (subst (λ m. r < m) b a))) }
+      absurd (o.elsewhere refl (omega arith) (subst (λ m. r < registers_in fs m) (sym m) (subst (λ m. r < m) b a)));
+}
 
 -- the values of pending variables
 pending_valid : (z : Sizes) (f : Frame) → FrameOk z f → Each (Valid z) (pending_values f)
@@ -213,7 +219,9 @@ module _ (n : ℕ) (W : World) (s : Solid n W) (h : StackWaits n W) (d : Corouti
             is = back_none W cells h.coroutine d e;
             grows = coroutines_grow n W s cells (slice_set W.coroutines h.coroutine d) (without_last W.chain) left.count size_less;
             solid = coroutines_solid n W s cells (slice_set W.coroutines h.coroutine d) (without_last W.chain) left.count size_less cells_less one_each coroutines_less c;
-            phase = λ b q. subst (λ b. IsPhase n (after_end b) (with_coroutines n W s cells (slice_set W.coroutines h.coroutine d) (without_last W.chain) left.count size_less)) (sym (main_runs b z q)) z }
+            phase = λ b q. subst (λ b. IsPhase n (after_end b) (with_coroutines n W s cells (slice_set W.coroutines h.coroutine d) (without_last W.chain) left.count size_less)) (sym (main_runs b z q)) z;
+          }
+
       some' : (r : ℕ) → last (without_last W.chain) ≡ Some r → BackTo n W (back_to_resumer (put_coroutine (record W { cells = cells }) h.coroutine d))
       some' r e =
           let was = r_was W.main (map standing W.coroutines) (without_last W.chain) h.coroutine chained r e in
@@ -229,8 +237,8 @@ module _ (n : ℕ) (W : World) (s : Solid n W) (h : StackWaits n W) (d : Corouti
           let fr : AllWait (sizes n W) f.0 = s.coroutines r (normal f.0) there in
           let here = get_set_same (slice_set W.coroutines h.coroutine d) r (normal f.0) (in_progress f.0) still in
           let same : (e g : ℕ) → registers_of cos e g ≡ registers_of (slice_set W.coroutines h.coroutine d) e g = (λ e g. ⊎_elim
-            (λ (q : e ≡ r). subst (λ e. registers_of cos e g ≡ registers_of (slice_set W.coroutines h.coroutine d) e g) (sym q) (registers_are cos r g (in_progress f.0) here ∙ sym (registers_are (slice_set W.coroutines h.coroutine d) r g (normal f.0) still)))
-            (λ q. rw (get_set_other (slice_set W.coroutines h.coroutine d) r e (in_progress f.0) (λ k. q (sym k)), registers_of) refl) (cases_eq e r)) in
+          (λ (q : e ≡ r). subst (λ e. registers_of cos e g ≡ registers_of (slice_set W.coroutines h.coroutine d) e g) (sym q) (registers_are cos r g (in_progress f.0) here ∙ sym (registers_are (slice_set W.coroutines h.coroutine d) r g (normal f.0) still)))
+          (λ q. rw (get_set_other (slice_set W.coroutines h.coroutine d) r e (in_progress f.0) (λ k. q (sym k)), registers_of) refl) (cases_eq e r)) in
           let cs : Each (CellOk (sizes n W) cos) cells = (λ i c x. on_cell cos same c (cells_less i c x)) in
           let g = coroutines_grow n W s cells cos (without_last W.chain) left.count size in
           let V = with_coroutines n W s cells cos (without_last W.chain) left.count size in
@@ -240,11 +248,15 @@ module _ (n : ℕ) (W : World) (s : Solid n W) (h : StackWaits n W) (d : Corouti
             grows = g;
             solid = coroutines_solid n W s cells cos (without_last W.chain) left.count size cs one_each (each_set (CoroutineOk (sizes n W)) (slice_set W.coroutines h.coroutine d) r (in_progress f.0) coroutines_less fr.right) chain;
             phase = λ b q. subst (λ b. IsPhase n (after_end b) V) (sym (not_main b r e q)) (record {
-              all = record { coroutine = r; frames = f.0; last = e; running = here; waits = each_waits_on (sizes n W) (sizes n V) g f.0 fr.waits }; top = tt }) }
+              all = record { coroutine = r; frames = f.0; last = e; running = here; waits = each_waits_on (sizes n W) (sizes n V) g f.0 fr.waits };
+              top = tt;
+            });
+          }
         where
           on_cell : (cos : List Coroutine) → ((e g : ℕ) → registers_of cos e g ≡ registers_of (slice_set W.coroutines h.coroutine d) e g) → (c : Cell) → CellOk (sizes n W) (slice_set W.coroutines h.coroutine d) c → CellOk (sizes n W) cos c
           on_cell cos m (closed v) k = k
           on_cell cos m (open_at e g q) k = subst (λ x. q < x) (sym (m e g)) k
+
       from : (o : Option ℕ) → last (without_last W.chain) ≡ o → BackTo n W (back_to_resumer (put_coroutine (record W { cells = cells }) h.coroutine d))
       from None e = none' e
       from (Some r) e = some' r e

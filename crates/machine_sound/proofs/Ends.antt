@@ -1,10 +1,8 @@
 -- What a world is where a row ends well.
-use Rattle.std.proofs.Common.{ℕ, ◌≡◌, List, [], ◌∷◌, ◌++◌, Option, Some, None, refl, subst, sym, ap, ◌∙◌, length, Bool, true, false}
-use Rattle.std.specs.Prelude.{slice_get}
-use Rattle.int_core.specs.Value.{last, without_last}
-use Rattle.machine_core.specs.World.{World, Frame, lua, pcall, xpcall, handler, closing, Function}
-use Rattle.machine_core.specs.Moves.{TopShape, lua_top, top_shape, Ending, go, returned, calls_primitive, raised, unwinding, spent, main_yielded, main_returned, main_failed}
-use Rattle.machine_sound.specs.Sound.{Each, sizes, Settled, StackWaits, Solid, Top, TopIs, LuaWaits, FrameWaits}
+use Rattle.std.proofs.Common.{ℕ, Some, None}
+use Rattle.machine_core.specs.World.{World}
+use Rattle.machine_core.specs.Moves.{lua_top, Ending, go, returned, calls_primitive, raised, unwinding, spent, main_yielded, main_returned, main_failed}
+use Rattle.machine_sound.specs.Sound.{Solid}
 use Rattle.machine_sound.specs.Safe.{Phase, on_lua, waiting, calling, ended, between, IsPhase, EndsWell, EndIs}
 use Rattle.machine_sound.proofs.Held.{lua_settles}
 

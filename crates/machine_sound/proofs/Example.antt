@@ -1,20 +1,18 @@
 -- A sound world: the main coroutine runs a function that returns an integer.
-use Rattle.std.proofs.Common.{ℕ, zero, suc, ◌≡◌, ◌<◌, List, [], ◌∷◌, ◌++◌, Option, Some, None, refl, subst, sym, ap, length, Bool, true, false, arith}
+use Rattle.std.proofs.Common.{ℕ, zero, suc, ◌≡◌, ◌<◌, List, [], ◌∷◌, Option, Some, None, refl, subst, true, false, arith}
 use Rattle.std.specs.Prelude.{pos, slice_get, IsTrue}
 use Rattle.std.specs.List.{list_all}
 use Rattle.int_core.specs.Value.{Value, known, nil, integer}
-use Rattle.int_core.specs.Heap.{Table}
-use Rattle.code_core.specs.declared.opcode.Opcode.{Opcode}
 use Rattle.code_core.specs.declared.opcode.Opcode.TheVariants.{LoadI, Return1}
 use Rattle.code_core.specs.declared.instruction.Instruction.{Instruction}
 use Rattle.code_core.specs.Opcode.{opcodes, number_of}
 use Rattle.code_core.specs.Instruction.{opcode_of, abc, abx}
 use Rattle.code_core.specs.Prototype.{Prototype, none}
-use Rattle.code_core.specs.Check.{IsChecked, CodeIsChecked, AllHold, Rule, rules, at, is_sized, is_described}
+use Rattle.code_core.specs.Check.{IsChecked, AllHold, Rule, rules, at}
 use Rattle.machine_core.specs.World.{Function, Cell, open_at, running, Activation, LuaFrame, Frame, lua, Coroutine, in_progress, World}
 use Rattle.machine_core.specs.Moves.{Ending, go, returned, main_returned, Row, Outcome, trapped, ends}
 use Rattle.machine_core.specs.MachineStep.{steps, error_row}
-use Rattle.machine_sound.specs.Sound.{Each, sizes, Valid, TableOk, FunctionOk, LuaOk, FrameOk, FrameWaits, CoroutineOk, CellOk, Standing, runs, resumed_another, Solid, Settled}
+use Rattle.machine_sound.specs.Sound.{sizes, Valid, TableOk, FunctionOk, LuaOk, FrameOk, FrameWaits, CoroutineOk, CellOk, runs, resumed_another}
 use Rattle.machine_sound.specs.Laws.{Sound}
 use Rattle.machine_sound.proofs.Lists.{each_none, each_one}
 use Rattle.machine_sound.proofs.Values.{both_of, each_nils}
@@ -22,9 +20,19 @@ use Rattle.machine_sound.proofs.Values.{both_of, each_nils}
 abbrev code : Prototype
 code = record {
   own = record {
-    source = None; line_defined = 0; last_line = 0; params = 0; vararg = false; stack = 2;
+    source = None;
+    line_defined = 0;
+    last_line = 0;
+    params = 0;
+    vararg = false;
+    stack = 2;
     code = abx LoadI 0 65542 ∷ abc Return1 0 2 0 false ∷ [];
-    constants = []; upvalues = []; line_info = []; abs_lines = []; locals = []; up_names = [];
+    constants = [];
+    upvalues = [];
+    line_info = [];
+    abs_lines = [];
+    locals = [];
+    up_names = [];
   };
   inner = none;
 }
@@ -55,9 +63,19 @@ frame = record { function = 0; wait = running; own = record { pc = 0; registers 
 abbrev pub world : World
 world = record {
   heap = record { tables = record { rows = []; metatable = None } ∷ []; string_metatable = None };
-  functions = function ∷ []; cells = []; coroutines = in_progress (lua frame ∷ []) ∷ [];
-  globals = 0; prelude_environment = 0; prelude_functions = []; special_key = []; max_depth = pos 0;
-  main = Some 0; chain = 0 ∷ []; moving = []; printed = []; fuel = 0;
+  functions = function ∷ [];
+  cells = [];
+  coroutines = in_progress (lua frame ∷ []) ∷ [];
+  globals = 0;
+  prelude_environment = 0;
+  prelude_functions = [];
+  special_key = [];
+  max_depth = pos 0;
+  main = Some 0;
+  chain = 0 ∷ [];
+  moving = [];
+  printed = [];
+  fuel = 0;
 }
 
 abbrev came : Outcome → Option (Ending × List Value)
@@ -74,8 +92,14 @@ zero_of co e = cc
 
 lua_ok : LuaOk (sizes 6 world) frame
 lua_ok = record {
-    function = function; there = refl; stack = omega arith;
-    registers = each_nils (Valid (sizes 6 world)) tt 2; varargs = each_none (Valid (sizes 6 world)); pending = each_none (λ r. r < 2); error = tt }
+  function = function;
+  there = refl;
+  stack = omega arith;
+  registers = each_nils (Valid (sizes 6 world)) tt 2;
+  varargs = each_none (Valid (sizes 6 world));
+  pending = each_none (λ r. r < 2);
+  error = tt;
+}
 
 first_opcode : opcode_of (abx LoadI 0 65542) ≡ Some LoadI
 unfolding opcodes number_of
@@ -83,35 +107,60 @@ first_opcode = refl
 
 pub world_sound : Sound 6 go world
 world_sound = record {
-    solid = record {
-      tables = each_one (TableOk (sizes 6 world)) (record { rows = []; metatable = None }) (record { rows = each_none (λ (row : Value × Value). Valid (sizes 6 world) row.0 × Valid (sizes 6 world) row.1); metatable = tt });
-      functions = each_one (FunctionOk (sizes 6 world)) function (record { code = code_checked; count = refl; cells = each_none (λ c. c < 0) });
-      cells = each_none (CellOk (sizes 6 world) world.coroutines);
-      one_each = λ i j co f r a b. absurd (cc);
-      coroutines = each_one (CoroutineOk (sizes 6 world)) (in_progress (lua frame ∷ [])) (record { each = each_one (FrameOk (sizes 6 world)) (lua frame) lua_ok; depth = omega arith });
-      chain = record {
-        first = λ co e. e;
-        last_runs = last_runs;
-        before = λ i co e l. absurd (omega arith);
-        running_in = running_in; normal_in = normal_in; once = once; bound = omega arith };
-      moving = each_none (Valid (sizes 6 world));
-      roots = record { string_metatable = tt; globals = omega arith; prelude_environment = omega arith; prelude_functions = each_none (λ f. f < 1); special_key = omega arith; main = omega arith } };
-    ready = record {
-      top = record { code = code; pc = 0; size = 2; opened = 0; pending = 0; cells = 0; captured = []; runs = true };
-      is_top = record {
-        coroutine = 0; base = []; top = frame; function = function; last = refl; frames = refl; there = refl; below = each_none (FrameWaits (sizes 6 world));
-        code = refl; pc = refl; size = refl; opened = refl; pending = each_none (λ r. r < 0); cells = λ i r e. absurd (cc); captured = each_none (λ r. Rattle.std.specs.Prelude.IsSome (Rattle.machine_core.specs.World.find_open 0 0 r world.cells)); wait = refl };
-      fits = record { instruction = abx LoadI 0 65542; at_pc = refl; opcode = LoadI; is_opcode = first_opcode; no_extra = refl; fits_mark = refl; cells = omega arith } } }
+  solid = record {
+    tables = each_one (TableOk (sizes 6 world)) (record { rows = []; metatable = None }) (record { rows = each_none (λ (row : Value × Value). Valid (sizes 6 world) row.0 × Valid (sizes 6 world) row.1); metatable = tt });
+    functions = each_one (FunctionOk (sizes 6 world)) function (record { code = code_checked; count = refl; cells = each_none (λ c. c < 0) });
+    cells = each_none (CellOk (sizes 6 world) world.coroutines);
+    one_each = λ i j co f r a b. absurd (cc);
+    coroutines = each_one (CoroutineOk (sizes 6 world)) (in_progress (lua frame ∷ [])) (record { each = each_one (FrameOk (sizes 6 world)) (lua frame) lua_ok; depth = omega arith });
+    chain = record {
+      first = λ co e. e;
+      last_runs = last_runs;
+      before = λ i co e l. absurd (omega arith);
+      running_in = running_in;
+      normal_in = normal_in;
+      once = once;
+      bound = omega arith;
+    };
+    moving = each_none (Valid (sizes 6 world));
+    roots = record { string_metatable = tt; globals = omega arith; prelude_environment = omega arith; prelude_functions = each_none (λ f. f < 1); special_key = omega arith; main = omega arith };
+  };
+  ready = record {
+    top = record { code = code; pc = 0; size = 2; opened = 0; pending = 0; cells = 0; captured = []; runs = true };
+    is_top = record {
+      coroutine = 0;
+      base = [];
+      top = frame;
+      function = function;
+      last = refl;
+      frames = refl;
+      there = refl;
+      below = each_none (FrameWaits (sizes 6 world));
+      code = refl;
+      pc = refl;
+      size = refl;
+      opened = refl;
+      pending = each_none (λ r. r < 0);
+      cells = λ i r e. absurd (cc);
+      captured = each_none (λ r. Rattle.std.specs.Prelude.IsSome (Rattle.machine_core.specs.World.find_open 0 0 r world.cells));
+      wait = refl;
+    };
+    fits = record { instruction = abx LoadI 0 65542; at_pc = refl; opcode = LoadI; is_opcode = first_opcode; no_extra = refl; fits_mark = refl; cells = omega arith };
+  };
+}
   where
     last_runs : (i co : ℕ) → slice_get (0 ∷ []) i ≡ Some co → suc i ≡ 1 → slice_get (runs ∷ []) co ≡ Some runs
     last_runs zero co e l = subst (λ co. slice_get (runs ∷ []) co ≡ Some runs) (zero_of co e) refl
     last_runs (suc i) co e l = absurd (cc)
+
     running_in : (co : ℕ) → slice_get (runs ∷ []) co ≡ Some runs → (i : ℕ) × (slice_get (0 ∷ []) i ≡ Some co)
     running_in zero e = (0, refl)
     running_in (suc co) e = absurd (cc)
+
     normal_in : (co : ℕ) → slice_get (runs ∷ []) co ≡ Some resumed_another → (i : ℕ) × (slice_get (0 ∷ []) i ≡ Some co)
     normal_in zero e = absurd (cc)
     normal_in (suc co) e = absurd (cc)
+
     once : (i j co : ℕ) → slice_get (0 ∷ []) i ≡ Some co → slice_get (0 ∷ []) j ≡ Some co → i ≡ j
     once zero zero co a b = refl
     once zero (suc j) co a b = absurd (cc)

@@ -1,11 +1,11 @@
 -- The rows of frames that are no Lua functions', of errors on their way, and of the primitives that move frames and coroutines are safe.
-use Rattle.std.proofs.Common.{ℕ, zero, suc, ◌≡◌, ◌≤◌, List, [], ◌∷◌, ◌++◌, Option, Some, None, refl, subst, sym, ap, ◌∙◌, length, Bool, true, false}
-use Rattle.std.specs.Prelude.{codes, cond}
-use Rattle.int_core.specs.Value.{Value, known, nil, boolean, string, a_table, a_function, a_coroutine, Shape, is_known, is_object, shape, greatest_string}
-use Rattle.machine_core.specs.Text.{Arg, read, written, arg}
+use Rattle.std.proofs.Common.{◌≡◌, List, [], ◌∷◌, ◌++◌, Option, Some, None, refl, subst, sym, length, Bool, true, false}
+use Rattle.std.specs.Prelude.{cond}
+use Rattle.int_core.specs.Value.{Value, boolean, a_table, a_function, a_coroutine, Shape, is_known, is_object, shape, greatest_string}
+use Rattle.machine_core.specs.Text.{read, written, arg}
 use Rattle.machine_core.specs.Moves.{over_pcall, over_xpcall, over_handler, over_nothing, CallShape, is_entered, is_primitive, not_paid, not_entered, TopShape, lua_top, pcall_top, xpcall_top, handler_top, closing_top, no_top, ResumeShape, resumed, refused, Row, stop, act, see_top, main_returned}
 use Rattle.machine_core.specs.FrameRows.{handed, hand_over, error_in_handler, gives_up, after_handler, raised_to, raised_row, caught, blames, after_entry, closing_by, closing_row, unwound, handed_to}
-use Rattle.machine_core.specs.MachineStep.{pcall_row, xpcall_row, error_row, not_coroutine, after_resume, resumes, resume_row, yield_row, after_closing, closes_coroutine, close_row}
+use Rattle.machine_core.specs.MachineStep.{pcall_row, xpcall_row, error_row, after_resume, resumes, resume_row, yield_row, after_closing, closes_coroutine, close_row}
 use Rattle.machine_sound.specs.Sound.{Top, FitsIfRuns}
 use Rattle.machine_sound.specs.Safe.{Phase, on_lua, waiting, in_resumed, handing, calling, ended, between, TopEvent', seen_lua, seen_other, HeldLua, ClosingEvent, takes_one, takes_none, takes_error, IsNoLua, IsOtherTop, ResumeEvent, RefusalOk, after_catcher, after_end, after_over, after_resuming, after_beginning, after_handing, see_leads, EndsWell, Safe}
 use Rattle.machine_sound.proofs.Values.{le_of}
@@ -95,6 +95,7 @@ unwinding_safe = (tt, λ e. from e)
     other handler_top k = (tt, λ _. gives_up_safe None [])
     other closing_top k = (tt, λ es. ((tt, tt), λ _. closing_row_safe (es ++ [])))
     other (no_top b) k = tt
+
     from : (e : TopEvent') → Safe (see_leads e).phase ([] ++ (see_leads e).values) (unwound (see_leads e).told)
     from (seen_lua held) = (tt, λ vs. fails_safe held.top vs held.place held.pending)
     from (seen_other k l) = other k l
@@ -120,6 +121,7 @@ returned_safe = (tt, λ e. from e)
     other closing_top k = closing_row_safe []
     other (no_top true) k = (tt, λ e. ended_main e.in_main e.is)
     other (no_top false) k = (tt, λ vs. (tt, λ e. ended_other e.in_main (vs ++ []) (Rattle.machine_core.specs.FrameRows.then (Rattle.machine_core.specs.Moves.give_with (written (boolean true) ∷ []) 0) hand_over) e.is ((tt, tt), λ _. hand_over_safe None ((vs ++ []) ++ []))))
+
     from : (e : TopEvent') → Safe (see_leads e).phase ([] ++ (see_leads e).values) (handed_to (see_leads e).told)
     from (seen_lua held) = held_ends held.top.runs held.top held.waits
     from (seen_other k l) = other k l

@@ -1,16 +1,14 @@
 -- Solid worlds with other frames of the running coroutine, and with some of its cells closed.
-use Rattle.std.proofs.Common.{ℕ, zero, suc, ◌+◌, ◌-◌, ◌<◌, ◌≤◌, ◌≡◌, ◌≢◌, ◌⊎◌, inl, inr, ⊎_elim, List, [], ◌∷◌, ◌++◌, Option, Some, None, refl, subst, sym, ap, ◌∙◌, length, take, map, arith, length-append, Bool, true, false}
-use Rattle.std.specs.Prelude.{slice_get, slice_set, IsSome}
+use Rattle.std.proofs.Common.{ℕ, zero, suc, ◌-◌, ◌<◌, ◌≡◌, ⊎_elim, List, [], ◌∷◌, ◌++◌, Some, refl, subst, sym, ap, ◌∙◌, length, arith, length-append}
+use Rattle.std.specs.Prelude.{slice_get, slice_set}
 use Rattle.std.proofs.lemmas.Bool.{cases_eq}
-use Rattle.int_core.specs.Value.{Value, bind, last, without_last}
-use Rattle.code_core.specs.Prototype.{Prototype}
-use Rattle.machine_core.specs.World.{Function, Cell, closed, open_at, Wait, running, leaving, Activation, LuaFrame, Frame, lua, pcall, xpcall, handler, closing, Coroutine, in_progress, World, frames_of, running_frames, Stack, stack_of, lua_frame, Place, place_of, put_frames, put_top}
+use Rattle.int_core.specs.Value.{Value, bind, last}
+use Rattle.machine_core.specs.World.{Function, Cell, closed, open_at, Wait, Activation, LuaFrame, Frame, lua, in_progress, World, Stack, stack_of, lua_frame, Place, place_of, put_frames, put_top}
 use Rattle.machine_core.specs.Text.{Own, done}
-use Rattle.machine_core.specs.Moves.{greatest_depth, cells_done, with_own}
-use Rattle.machine_sound.specs.Sound.{Each, Sizes, sizes, Valid, TableOk, FunctionOk, WaitOk, LuaOk, FrameOk, LuaWaits, FrameWaits, FramesOk, CoroutineOk, standing, ChainOk, registers_in, registers_of, CellOk, OneEach, RootsOk, Solid, Top, RunsOrWaits, TopIs}
-use Rattle.machine_sound.specs.Safe.{stack_of as code_stack, AllReady, after_all}
-use Rattle.machine_sound.proofs.Lists.{get_set_same, get_set_other, length_set, get_push_old, get_push_new, push_cases, get_within, some_is, each_none, each_set, each_push, each_front, each_last, each_on, bind_at, bind_some, map_set, last_push, without_push}
-use Rattle.machine_sound.proofs.Grow.{Grows, grows_self, valid_on, values_on, table_on, function_on, frames_on, coroutine_on, cell_on, roots_on, lua_waits_on, each_waits_on}
+use Rattle.machine_core.specs.Moves.{cells_done, with_own}
+use Rattle.machine_sound.specs.Sound.{Each, sizes, Valid, TableOk, FunctionOk, WaitOk, LuaOk, FrameOk, FramesOk, CoroutineOk, standing, ChainOk, registers_in, registers_of, CellOk, Solid, Top, RunsOrWaits, TopIs}
+use Rattle.machine_sound.proofs.Lists.{get_set_same, get_set_other, length_set, get_push_new, some_is, each_set, each_push, each_front, each_last, each_on, bind_at, map_set, last_push, without_push}
+use Rattle.machine_sound.proofs.Grow.{Grows, valid_on, values_on, table_on, function_on, frames_on, coroutine_on, roots_on, each_waits_on}
 use Rattle.machine_sound.proofs.Own.{OwnIs}
 
 -- the world with other cells, and other frames of a running coroutine
@@ -30,8 +28,13 @@ module _ (n : ℕ) (W : World) (co : ℕ) (fs gs : List Frame) (cells : List Cel
 
   pub stack_grows : Grows (sizes n W) (sizes n (set_stack W cells co gs))
   stack_grows = record {
-      primitives = refl; tables = omega arith; some = omega arith; functions = λ i f h. h;
-      cells = let k = f.count in omega arith; coroutines = let k = length_set W.coroutines co (in_progress gs) in omega arith }
+    primitives = refl;
+    tables = omega arith;
+    some = omega arith;
+    functions = λ i f h. h;
+    cells = let k = f.count in omega arith;
+    coroutines = let k = length_set W.coroutines co (in_progress gs) in omega arith;
+  }
 
   registers_same : (g : ℕ) → registers_of (slice_set W.coroutines co (in_progress gs)) co g ≡ registers_in gs g
   registers_same g = rw (get_set_same W.coroutines co (in_progress fs) (in_progress gs) c, registers_of) refl
@@ -60,7 +63,8 @@ module _ (n : ℕ) (W : World) (co : ℕ) (fs gs : List Frame) (cells : List Cel
         coroutines = each_set (CoroutineOk y) W.coroutines co (in_progress gs) (each_on (CoroutineOk z) (CoroutineOk y) (coroutine_on z y g) W.coroutines s.coroutines) (frames_on z y g gs k);
         chain = subst (λ st. ChainOk W.main st W.chain) (sym (map_set standing W.coroutines co (in_progress fs) (in_progress gs) c refl)) s.chain;
         moving = values_on z y g W.moving s.moving;
-        roots = roots_on z y g W after s.roots refl refl refl refl refl refl }
+        roots = roots_on z y g W after s.roots refl refl refl refl refl refl;
+      }
 
   pub stack_there : slice_get (slice_set W.coroutines co (in_progress gs)) co ≡ Some (in_progress gs)
   stack_there = get_set_same W.coroutines co (in_progress fs) (in_progress gs) c
@@ -118,14 +122,22 @@ module _ (n : ℕ) (t : Top) (W : World) (h : TopIs n t W) where
       let e : k.function ≡ h.function = some_is k.there h.there in
       let q = ap (λ (f : Function). f.code.own.stack) e in
       record {
-        code = sym h.code; pc = h.pc; size = h.size; opened = h.opened; bound = h.pending;
+        code = sym h.code;
+        pc = h.pc;
+        size = h.size;
+        opened = h.opened;
+        bound = h.pending;
         stack = (let a = k.stack in let b = h.size in omega arith);
-        registers = k.registers; varargs = k.varargs; pending = subst (λ m. Each (λ r. r < m) h.top.own.pending) q k.pending;
+        registers = k.registers;
+        varargs = k.varargs;
+        pending = subst (λ m. Each (λ r. r < m) h.top.own.pending) q k.pending;
         cells_below = h.cells;
         cells_there = λ i r e. (let a = subst (λ m. r < m) (there r) (s.cells i _ e) in let b = h.size in omega arith);
         still_open = λ i d g r e. e;
         closed_ok = λ i v e. s.cells i (closed v) e;
-        count = refl; captured = h.captured }
+        count = refl;
+        captured = h.captured;
+      }
     where
       there : (r : ℕ) → registers_of W.coroutines h.coroutine (length h.base) ≡ length h.top.own.registers
       there r = rw (h.frames, registers_of) (registers_top h.base h.top)
@@ -144,8 +156,9 @@ module _ (n : ℕ) (t : Top) (W : World) (h : TopIs n t W) where
 
     new_frames : FramesOk (sizes n W) (h.base ++ lua (frame_so w own) ∷ [])
     new_frames = record {
-        each = each_push (FrameOk (sizes n W)) h.base (lua (frame_so w own)) (each_front (FrameOk (sizes n W)) h.base (lua h.top ∷ []) (frames_ok s).each) new_ok;
-        depth = (let a = (frames_ok s).depth in let b = length-append h.base (lua h.top ∷ []) in let c = length-append h.base (lua (frame_so w own) ∷ []) in omega arith) }
+      each = each_push (FrameOk (sizes n W)) h.base (lua (frame_so w own)) (each_front (FrameOk (sizes n W)) h.base (lua h.top ∷ []) (frames_ok s).each) new_ok;
+      depth = (let a = (frames_ok s).depth in let b = length-append h.base (lua h.top ∷ []) in let c = length-append h.base (lua (frame_so w own) ∷ []) in omega arith);
+    }
 
     new_fit : CellsFit n W h.coroutine (h.base ++ lua (frame_so w own) ∷ []) cells
     new_fit = record { count = k.count; still_open = k.still_open; closed_ok = k.closed_ok; there = there }
@@ -153,14 +166,14 @@ module _ (n : ℕ) (t : Top) (W : World) (h : TopIs n t W) where
         there : (i g r : ℕ) → slice_get cells i ≡ Some (open_at h.coroutine g r) → r < registers_in (h.base ++ lua (frame_so w own) ∷ []) g
         there i g r o = ⊎_elim
             (λ (q : g ≡ length h.base).
-              let a = k.cells_there i r (subst (λ g. slice_get cells i ≡ Some (open_at h.coroutine g r)) q o) in
-              let b = k.size in
-              let l : r < length own.registers = omega arith in
-              subst (λ g. r < registers_in (h.base ++ lua (frame_so w own) ∷ []) g) (sym q) (subst (λ m. r < m) (sym (registers_top h.base (frame_so w own))) l))
+            let a = k.cells_there i r (subst (λ g. slice_get cells i ≡ Some (open_at h.coroutine g r)) q o) in
+            let b = k.size in
+            let l : r < length own.registers = omega arith in
+            subst (λ g. r < registers_in (h.base ++ lua (frame_so w own) ∷ []) g) (sym q) (subst (λ m. r < m) (sym (registers_top h.base (frame_so w own))) l))
             (λ q.
-              let a : r < registers_of W.coroutines h.coroutine g = s.cells i (open_at h.coroutine g r) (k.still_open i h.coroutine g r o) in
-              let b : registers_of W.coroutines h.coroutine g ≡ registers_in (h.base ++ lua h.top ∷ []) g = rw (h.frames, registers_of) refl in
-              subst (λ m. r < m) (b ∙ registers_other h.base (lua h.top) (lua (frame_so w own)) g q) a)
+            let a : r < registers_of W.coroutines h.coroutine g = s.cells i (open_at h.coroutine g r) (k.still_open i h.coroutine g r o) in
+            let b : registers_of W.coroutines h.coroutine g ≡ registers_in (h.base ++ lua h.top ∷ []) g = rw (h.frames, registers_of) refl in
+            subst (λ m. r < m) (b ∙ registers_other h.base (lua h.top) (lua (frame_so w own)) g q) a)
             (cases_eq g (length h.base))
 
     abbrev pub new_world : World
@@ -174,7 +187,20 @@ module _ (n : ℕ) (t : Top) (W : World) (h : TopIs n t W) where
 
     pub new_top : RunsOrWaits u.runs (sizes n new_world) (frame_so w own) → TopIs n u new_world
     new_top r = record {
-        coroutine = h.coroutine; base = h.base; top = frame_so w own; function = h.function; last = h.last;
-        frames = stack_there n W h.coroutine (h.base ++ lua h.top ∷ []) (h.base ++ lua (frame_so w own) ∷ []) cells h.frames new_fit;
-        there = h.there; below = each_waits_on (sizes n W) (sizes n new_world) new_grows h.base h.below;
-        code = sym k.code; pc = k.pc; size = k.size; opened = k.opened; pending = k.bound; cells = k.cells_below; captured = k.captured; wait = r }
+      coroutine = h.coroutine;
+      base = h.base;
+      top = frame_so w own;
+      function = h.function;
+      last = h.last;
+      frames = stack_there n W h.coroutine (h.base ++ lua h.top ∷ []) (h.base ++ lua (frame_so w own) ∷ []) cells h.frames new_fit;
+      there = h.there;
+      below = each_waits_on (sizes n W) (sizes n new_world) new_grows h.base h.below;
+      code = sym k.code;
+      pc = k.pc;
+      size = k.size;
+      opened = k.opened;
+      pending = k.bound;
+      cells = k.cells_below;
+      captured = k.captured;
+      wait = r;
+    }

@@ -1,10 +1,10 @@
 -- Ids stay valid as a world grows.
 use Rattle.std.proofs.Common.{ℕ, zero, suc, ◌+◌, ◌-◌, ◌<◌, ◌≤◌, ◌≡◌, List, [], ◌∷◌, Option, Some, None, refl, subst, sym, ap, length, arith}
 use Rattle.std.specs.Prelude.{slice_get}
-use Rattle.int_core.specs.Value.{Plain, nil, boolean, integer, string, primitive, Value, known, object, a_table, a_function, a_coroutine}
+use Rattle.int_core.specs.Value.{Plain, Value, known, object, a_table, a_function, a_coroutine}
 use Rattle.int_core.specs.Heap.{Table}
-use Rattle.machine_core.specs.World.{Function, Cell, closed, open_at, Wait, running, for_call, for_iterator, for_value, for_truth, dropped, for_concat, for_close, returning, leaving, LuaFrame, Frame, lua, pcall, xpcall, handler, closing, Coroutine, fresh, suspended, in_progress, normal, dead, failed, World}
-use Rattle.machine_sound.specs.Sound.{Each, Sizes, sizes, PlainOk, Valid, OptionOk, TableOk, FunctionOk, WaitOk, LuaOk, FrameOk, LuaWaits, FrameWaits, FramesOk, AllWait, CoroutineOk, CellOk, RootsOk}
+use Rattle.machine_core.specs.World.{Function, Cell, closed, open_at, Wait, leaving, LuaFrame, Frame, lua, pcall, xpcall, handler, closing, Coroutine, fresh, suspended, in_progress, normal, dead, failed, World}
+use Rattle.machine_sound.specs.Sound.{Each, Sizes, PlainOk, Valid, OptionOk, TableOk, FunctionOk, WaitOk, LuaOk, FrameOk, LuaWaits, FrameWaits, FramesOk, AllWait, CoroutineOk, CellOk, RootsOk}
 use Rattle.machine_sound.proofs.Lists.{each_on}
 
 pub record Grows (z y : Sizes) : Type 0 where
@@ -20,12 +20,13 @@ grows_self z = record { primitives = refl; tables = omega arith; some = omega ar
 
 pub grows_then : (x y z : Sizes) → Grows x y → Grows y z → Grows x z
 grows_then x y z g h = record {
-    primitives = Rattle.std.proofs.Common.◌∙◌ h.primitives g.primitives;
-    tables = let a = g.tables in let b = h.tables in omega arith;
-    some = let a = g.some in let b = h.some in omega arith;
-    functions = λ i f e. h.functions i f (g.functions i f e);
-    cells = let a = g.cells in let b = h.cells in omega arith;
-    coroutines = let a = g.coroutines in let b = h.coroutines in omega arith }
+  primitives = Rattle.std.proofs.Common.◌∙◌ h.primitives g.primitives;
+  tables = let a = g.tables in let b = h.tables in omega arith;
+  some = let a = g.some in let b = h.some in omega arith;
+  functions = λ i f e. h.functions i f (g.functions i f e);
+  cells = let a = g.cells in let b = h.cells in omega arith;
+  coroutines = let a = g.coroutines in let b = h.coroutines in omega arith;
+}
 
 module _ (z y : Sizes) (g : Grows z y) where
   plain_on : (p : Plain) → PlainOk z.primitives p → PlainOk y.primitives p
@@ -49,8 +50,9 @@ module _ (z y : Sizes) (g : Grows z y) where
 
   pub table_on : (t : Table) → TableOk z t → TableOk y t
   table_on t h = record {
-      rows = each_on (λ (row : Value × Value). Valid z row.0 × Valid z row.1) (λ row. Valid y row.0 × Valid y row.1) (λ row k. (valid_on row.0 k.0, valid_on row.1 k.1)) t.rows h.rows;
-      metatable = meta_on t.metatable h.metatable }
+    rows = each_on (λ (row : Value × Value). Valid z row.0 × Valid z row.1) (λ row. Valid y row.0 × Valid y row.1) (λ row k. (valid_on row.0 k.0, valid_on row.1 k.1)) t.rows h.rows;
+    metatable = meta_on t.metatable h.metatable;
+  }
 
   pub function_on : (f : Function) → FunctionOk z f → FunctionOk y f
   function_on f h = record { code = h.code; count = h.count; cells = each_on (λ c. c < z.cells) (λ c. c < y.cells) (λ c k. let j = g.cells in omega arith) f.cells h.cells }
@@ -61,8 +63,14 @@ module _ (z y : Sizes) (g : Grows z y) where
 
   pub lua_on : (f : LuaFrame) → LuaOk z f → LuaOk y f
   lua_on f h = record {
-      function = h.function; there = g.functions f.function h.function h.there; stack = h.stack;
-      registers = values_on f.own.registers h.registers; varargs = values_on f.own.varargs h.varargs; pending = h.pending; error = wait_on f.wait h.error }
+    function = h.function;
+    there = g.functions f.function h.function h.there;
+    stack = h.stack;
+    registers = values_on f.own.registers h.registers;
+    varargs = values_on f.own.varargs h.varargs;
+    pending = h.pending;
+    error = wait_on f.wait h.error;
+  }
 
   pub frame_on : (f : Frame) → FrameOk z f → FrameOk y f
   frame_on (lua f) h = lua_on f h
@@ -73,8 +81,16 @@ module _ (z y : Sizes) (g : Grows z y) where
 
   pub lua_waits_on : (f : LuaFrame) → LuaWaits z f → LuaWaits y f
   lua_waits_on f h = record {
-      function = h.function; there = g.functions f.function h.function h.there; instruction = h.instruction; at_pc = h.at_pc;
-      opcode = h.opcode; is_opcode = h.is_opcode; fits = h.fits; size = h.size; kept = h.kept }
+    function = h.function;
+    there = g.functions f.function h.function h.there;
+    instruction = h.instruction;
+    at_pc = h.at_pc;
+    opcode = h.opcode;
+    is_opcode = h.is_opcode;
+    fits = h.fits;
+    size = h.size;
+    kept = h.kept;
+  }
 
   pub waits_on : (f : Frame) → FrameWaits z f → FrameWaits y f
   waits_on (lua f) h = lua_waits_on f h
@@ -107,9 +123,10 @@ module _ (z y : Sizes) (g : Grows z y) where
   -- with the same roots
   pub roots_on : (W V : World) → RootsOk z W → W.globals ≡ V.globals → W.prelude_environment ≡ V.prelude_environment → W.prelude_functions ≡ V.prelude_functions → W.special_key ≡ V.special_key → W.main ≡ V.main → W.heap.string_metatable ≡ V.heap.string_metatable → RootsOk y V
   roots_on W V h a b c d e s = record {
-      string_metatable = subst (λ m. OptionOk (λ m. m < y.tables) m) s (meta_on W.heap.string_metatable h.string_metatable);
-      globals = let k = h.globals in let j = g.tables in omega arith;
-      prelude_environment = let k = h.prelude_environment in let j = g.tables in omega arith;
-      prelude_functions = subst (λ fs. Each (λ f. f < length y.functions) fs) c (each_on (λ f. f < length z.functions) (λ f. f < length y.functions) (λ f k. let j = g.some in omega arith) W.prelude_functions h.prelude_functions);
-      special_key = let k = h.special_key in let j = ap length d in omega arith;
-      main = subst (λ m. OptionOk (λ co. co < y.coroutines) m) e (option_on (λ co. co < z.coroutines) (λ co. co < y.coroutines) (λ co k. let j = g.coroutines in omega arith) W.main h.main) }
+    string_metatable = subst (λ m. OptionOk (λ m. m < y.tables) m) s (meta_on W.heap.string_metatable h.string_metatable);
+    globals = let k = h.globals in let j = g.tables in omega arith;
+    prelude_environment = let k = h.prelude_environment in let j = g.tables in omega arith;
+    prelude_functions = subst (λ fs. Each (λ f. f < length y.functions) fs) c (each_on (λ f. f < length z.functions) (λ f. f < length y.functions) (λ f k. let j = g.some in omega arith) W.prelude_functions h.prelude_functions);
+    special_key = let k = h.special_key in let j = ap length d in omega arith;
+    main = subst (λ m. OptionOk (λ co. co < y.coroutines) m) e (option_on (λ co. co < z.coroutines) (λ co. co < y.coroutines) (λ co k. let j = g.coroutines in omega arith) W.main h.main);
+  }

@@ -1,14 +1,14 @@
 -- What operations look at and leave: handlers, chains and values are valid, and the tables stay right.
-use Rattle.std.proofs.Common.{ℕ, zero, suc, ◌+◌, ◌-◌, ◌<◌, ◌≤◌, ◌≡◌, List, [], ◌∷◌, ◌++◌, Option, Some, None, refl, subst, sym, ap, ◌∙◌, length, arith, Bool, true, false, cond}
+use Rattle.std.proofs.Common.{ℕ, zero, suc, ◌<◌, ◌≡◌, List, [], ◌∷◌, ◌++◌, Option, Some, None, refl, ◌∙◌, length, Bool, true, false, cond}
 use Rattle.std.specs.Prelude.{ℤ, pos, slice_get, slice_set, not, IsTrue, filter, codes, if◌then◌else◌, nat_le, nat_lt, count_by, unwrap_or}
 use Rattle.std.specs.Map.{lookup, set_value}
 use Rattle.int_core.specs.Rows.{get, set, kept, has_row, is_filled, is_cleared, border}
-use Rattle.int_core.specs.Value.{nil, boolean, integer, string, primitive, a_table, a_function, a_coroutine, Value, known, object, Shape, same, is_nil, table_values, bind, greatest_string}
-use Rattle.int_core.specs.Heap.{Table, Heap, raw_get, raw_set, metatable_of, filled, filled_table, add_table}
+use Rattle.int_core.specs.Value.{nil, boolean, integer, string, primitive, a_table, a_function, a_coroutine, Value, known, object, same, is_nil, table_values, bind, greatest_string}
+use Rattle.int_core.specs.Heap.{Table, Heap, raw_get, raw_set, metatable_of, filled}
 use Rattle.int_core.specs.Operations
 use Rattle.int_core.specs.Operations.{Event, of_call, of_index, of_newindex, of_len, of_eq, of_concat, handler_in, handler_of, is_function, Settled, found, ask, fault, asked, greatest_chain, indexed, index_of, set_raw, stored, store_of, Callee, callee, not_callable, callee_of, arithmetic_on, joined, concat_on, raw_length, length_on, truth, equal_on, ordered, computed, number_in, text_of, is_number, is_text, of_type, wrong_operand, at_fault, by_zero, cannot_compare, event_name, Operation, index, store, arithmetic, concat, length', equal, less, less_equal, does}
 use Rattle.machine_sound.specs.Sound.{Each, Sizes, Valid, OptionOk, TableOk}
-use Rattle.machine_sound.proofs.Lists.{get_there, each_none, each_cons, each_tail, each_one, each_push, each_filter, each_set, get_set_same, length_set}
+use Rattle.machine_sound.proofs.Lists.{each_none, each_cons, each_tail, each_one, each_push, each_filter, each_set, length_set}
 use Rattle.machine_sound.proofs.Values.{le_of}
 
 abbrev pub RowOk : Sizes → Value × Value → Type 0
@@ -21,6 +21,7 @@ module _ (z : Sizes) where
       pick : (b : Bool) (v : Value) (o : Option Value) → Valid z v → Valid z (unwrap_or o (known nil)) → Valid z (unwrap_or (cond b (Some v) o) (known nil))
       pick true v o h k = h
       pick false v o h k = k
+
       go : (rows : List (Value × Value)) → Each (RowOk z) rows → Valid z (unwrap_or (lookup (same key) rows) (known nil))
       go [] h = tt
       go (row ∷ rows) h = pick (same key row.0) row.1 (lookup (same key) rows) (h zero row refl).1 (go rows (each_tail (RowOk z) row rows h))
@@ -95,11 +96,13 @@ module _ (z : Sizes) (H : Heap) (h : HeapOk z H) where
       from : (o : Option Table) → slice_get H.tables m ≡ o → HeapStays z H (elim o [ None ↦ H | Some t ↦ record H { tables = slice_set H.tables m (record t { rows = set table_values t.rows key v }) } ])
       from None e = stays_self z H h
       from (Some t) e = record {
-          ok = record {
-            tables = each_set (TableOk z) H.tables m (record t { rows = set table_values t.rows key v }) h.tables (record { rows = set_ok z t.rows key v k p (h.tables m t e).rows; metatable = (h.tables m t e).metatable });
-            count = length_set H.tables m (record t { rows = set table_values t.rows key v }) ∙ h.count;
-            metatable = h.metatable };
-          same_metatable = refl }
+        ok = record {
+          tables = each_set (TableOk z) H.tables m (record t { rows = set table_values t.rows key v }) h.tables (record { rows = set_ok z t.rows key v k p (h.tables m t e).rows; metatable = (h.tables m t e).metatable });
+          count = length_set H.tables m (record t { rows = set table_values t.rows key v }) ∙ h.count;
+          metatable = h.metatable;
+        };
+        same_metatable = refl;
+      }
 
   -- what became of an operation is right
   abbrev pub SettledOk : Settled → Type 0

@@ -1,10 +1,10 @@
 -- A Lua frame on top that waits, as all frames do.
-use Rattle.std.proofs.Common.{ℕ, zero, suc, ◌+◌, ◌<◌, ◌≤◌, ◌≡◌, List, [], ◌∷◌, ◌++◌, Option, Some, None, refl, subst, sym, ap, ◌∙◌, length, arith, Bool, true, false}
+use Rattle.std.proofs.Common.{ℕ, ◌<◌, ◌≡◌, [], ◌∷◌, ◌++◌, Option, Some, None, refl, subst, ap, ◌∙◌, length, false}
 use Rattle.std.specs.Prelude.{slice_get, IsSome}
 use Rattle.int_core.specs.Value.{last, without_last}
-use Rattle.machine_core.specs.World.{Function, Cell, open_at, LuaFrame, Frame, lua, pcall, xpcall, handler, closing, in_progress, World, find_open}
-use Rattle.machine_core.specs.Moves.{TopShape, lua_top, pcall_top, xpcall_top, handler_top, closing_top, no_top, top_shape, runs_main}
-use Rattle.machine_sound.specs.Sound.{Each, sizes, LuaOk, FrameOk, LuaWaits, FrameWaits, registers_of, Solid, Top, TopIs, Settled, StackWaits}
+use Rattle.machine_core.specs.World.{Function, LuaFrame, Frame, lua, pcall, xpcall, handler, closing, in_progress, World, find_open}
+use Rattle.machine_core.specs.Moves.{lua_top, top_shape}
+use Rattle.machine_sound.specs.Sound.{Each, sizes, LuaOk, FrameOk, LuaWaits, FrameWaits, Solid, Top, TopIs, Settled, StackWaits}
 use Rattle.machine_sound.specs.Safe.{HasPlace, WaitsUnder}
 use Rattle.machine_sound.proofs.Lists.{each_none, each_front, each_last, last_splits, some_is}
 use Rattle.machine_sound.proofs.Frames.{registers_top}
@@ -35,13 +35,23 @@ module _ (n : ℕ) (W : World) (s : Solid n W) (h : StackWaits n W) (f : LuaFram
       let w = held_waits in
       let q : ok.function ≡ w.function = some_is ok.there w.there in
       record {
-        coroutine = h.coroutine; base = without_last h.frames; top = f; function = w.function; last = h.last; frames = there; there = w.there;
+        coroutine = h.coroutine;
+        base = without_last h.frames;
+        top = f;
+        function = w.function;
+        last = h.last;
+        frames = there;
+        there = w.there;
         below = each_front (FrameWaits (sizes n W)) (without_last h.frames) (lua f ∷ []) frames_wait;
-        code = refl; pc = refl; size = refl; opened = refl;
+        code = refl;
+        pc = refl;
+        size = refl;
+        opened = refl;
         pending = subst (λ (g : Function). Each (λ r. r < g.code.own.stack) f.own.pending) q ok.pending;
         cells = λ i r x. subst (λ m. r < m) (registers_here W h.coroutine (without_last h.frames ++ lua f ∷ []) (length (without_last h.frames)) there ∙ registers_top (without_last h.frames) f) (s.cells i _ x);
         captured = each_none (λ r. IsSome (find_open h.coroutine (length (without_last h.frames)) r W.cells));
-        wait = w }
+        wait = w;
+      }
 
   pub held_place : HasPlace (held_top held_waits.function f)
   held_place = let w = held_waits in record { instruction = w.instruction; at_pc = w.at_pc; opcode = w.opcode; is_opcode = w.is_opcode }

@@ -1,23 +1,23 @@
 -- A step of a Lua frame on top does not trap: it runs its instruction, or what is left of one for which the answer came.
-use Rattle.std.proofs.Common.{ℕ, zero, suc, ◌≡◌, ◌<◌, ◌≤◌, ◌+◌, List, [], ◌∷◌, ◌++◌, Option, Some, None, refl, subst, sym, ap, ◌∙◌, length, Bool, true, false, arith}
+use Rattle.std.proofs.Common.{ℕ, ◌≡◌, ◌<◌, ◌≤◌, [], ◌∷◌, ◌++◌, Option, Some, None, refl, subst, sym, ap, ◌∙◌, length, Bool, true, false, arith}
 use Rattle.std.specs.Prelude.{slice_get, IsTrue}
-use Rattle.int_core.specs.Value.{Value, bind, last}
+use Rattle.int_core.specs.Value.{Value, last}
 use Rattle.code_core.specs.declared.opcode.Opcode.{Opcode}
 use Rattle.code_core.specs.declared.instruction.Instruction.{Instruction}
 use Rattle.code_core.specs.Prototype.{Prototype}
 use Rattle.code_core.specs.Check.{CodeIsChecked, at}
 use Rattle.machine_core.specs.World.{Function, Cell, Wait, running, for_call, for_iterator, for_value, for_truth, dropped, for_concat, for_close, returning, leaving, LuaFrame, Frame, lua, in_progress, World, Stack, stack_of}
-use Rattle.machine_core.specs.InstructionRows.{text_at, rest_at, after, told_values}
+use Rattle.machine_core.specs.InstructionRows.{text_at, rest_at, told_values}
 use Rattle.int_core.specs.Ask.{values}
-use Rattle.machine_core.specs.Moves.{Ending, go, returned, calls_primitive, raised, unwinding, spent, main_yielded, main_returned, main_failed, Row, Outcome, trapped, ends, run}
+use Rattle.machine_core.specs.Moves.{go, returned, calls_primitive, raised, unwinding, spent, main_yielded, main_returned, main_failed, Row, Outcome, trapped, ends, run}
 use Rattle.machine_core.specs.FrameRows.{expand}
-use Rattle.machine_core.specs.MachineStep.{woken, lua_step, frame_step, top_step, from_world, step_by, step}
-use Rattle.machine_sound.specs.Sound.{Each, Sizes, sizes, Valid, WaitOk, waits_at, waiting_size, LuaWaits, Solid, Top, RunsOrWaits, TopIs, Fits, FitsIfRuns, Settled}
-use Rattle.machine_sound.specs.Safe.{on_lua, Is, Safe, EndIs, Good}
+use Rattle.machine_core.specs.MachineStep.{woken, lua_step, top_step, from_world, step_by, step}
+use Rattle.machine_sound.specs.Sound.{Each, sizes, Valid, WaitOk, waits_at, waiting_size, LuaWaits, Solid, Top, RunsOrWaits, TopIs, Fits, FitsIfRuns, Settled}
+use Rattle.machine_sound.specs.Safe.{on_lua, Is, Good}
 use Rattle.machine_sound.proofs.Lists.{each_none, each_one, each_on, bind_at, last_push}
 use Rattle.machine_sound.proofs.Grow.{Grows, grows_then, values_on}
 use Rattle.machine_sound.proofs.Own.{OwnIs}
-use Rattle.machine_sound.proofs.Frames.{set_stack, stack_is, the_place, top_put, top_ok, function_ok, own_known, frame_so, new_grows, new_solid, new_top, new_world}
+use Rattle.machine_sound.proofs.Frames.{stack_is, top_put, top_ok, function_ok, own_known, new_grows, new_solid, new_top, new_world}
 use Rattle.machine_sound.proofs.Waits.{with_moving, moving_grows, moving_solid}
 use Rattle.machine_sound.proofs.Calls.{fuel_top}
 use Rattle.machine_sound.proofs.RowsOfCode.{text_safe}
@@ -57,9 +57,23 @@ module _ (n : ℕ) (t : Top) (W : World) (h : TopIs n t W) (s : Solid n W) where
       let k = own_known n t W h s in
       let q = ap (λ (p : Prototype). p.own.stack) h.code in
       record {
-        coroutine = h.coroutine; base = h.base; top = h.top; function = h.function; last = h.last; frames = h.frames; there = h.there; below = h.below;
-        code = h.code; pc = h.pc; size = h.size; opened = h.opened; pending = subst (λ m. Each (λ r. r < m) h.top.own.pending) q k.pending;
-        cells = λ i r e. (let a = h.cells i r e in omega arith); captured = h.captured; wait = h.wait }
+        coroutine = h.coroutine;
+        base = h.base;
+        top = h.top;
+        function = h.function;
+        last = h.last;
+        frames = h.frames;
+        there = h.there;
+        below = h.below;
+        code = h.code;
+        pc = h.pc;
+        size = h.size;
+        opened = h.opened;
+        pending = subst (λ m. Each (λ r. r < m) h.top.own.pending) q k.pending;
+        cells = λ i r e. (let a = h.cells i r e in omega arith);
+        captured = h.captured;
+        wait = h.wait;
+      }
 
   -- a frame that runs
   pub runs_good : t.runs ≡ true → Fits t → Good n (run (expand (text_at h.function.code h.top.own.pc)) [] W)
@@ -80,9 +94,22 @@ module _ (n : ℕ) (t : Top) (W : World) (h : TopIs n t W) (s : Solid n W) where
         let k = own_known n t W h s in
         let q = ap (λ (p : Prototype). p.own.stack) h.code in
         record {
-          code = k.code; pc = k.pc; size = k.size; opened = k.opened; bound = subst (λ m. Each (λ r. r < m) h.top.own.pending) q k.pending; stack = k.stack;
-          registers = k.registers; varargs = k.varargs; pending = k.pending; cells_below = k.cells_there; cells_there = k.cells_there;
-          still_open = k.still_open; closed_ok = k.closed_ok; count = k.count; captured = each_none (λ r. Rattle.std.specs.Prelude.IsSome (Rattle.machine_core.specs.World.find_open h.coroutine (length h.base) r W.cells)) }
+          code = k.code;
+          pc = k.pc;
+          size = k.size;
+          opened = k.opened;
+          bound = subst (λ m. Each (λ r. r < m) h.top.own.pending) q k.pending;
+          stack = k.stack;
+          registers = k.registers;
+          varargs = k.varargs;
+          pending = k.pending;
+          cells_below = k.cells_there;
+          cells_there = k.cells_there;
+          still_open = k.still_open;
+          closed_ok = k.closed_ok;
+          count = k.count;
+          captured = each_none (λ r. Rattle.std.specs.Prelude.IsSome (Rattle.machine_core.specs.World.find_open h.coroutine (length h.base) r W.cells));
+        }
 
     abbrev P : World
     P = new_world n t W h s woken_top running h.top.own W.cells known_woken tt

@@ -1,25 +1,24 @@
 -- The moves of a Lua frame on top on its own activation, and what the other moves share.
-use Rattle.std.proofs.Common.{ℕ, zero, suc, ◌+◌, ◌-◌, ◌<◌, ◌≤◌, ◌≡◌, List, [], ◌∷◌, ◌++◌, Option, Some, None, refl, subst, sym, ap, ◌∙◌, length, arith, Bool, true, false, cond}
+use Rattle.std.proofs.Common.{ℕ, ◌≡◌, List, [], ◌∷◌, ◌++◌, Option, Some, None, refl, subst, sym, ap, ◌∙◌, length, Bool, true, false, cond}
 use Rattle.std.specs.Prelude.{pos, slice_get, slice_set, IsTrue, IsSome, ◌&&◌}
 use Rattle.std.specs.List.{list_all}
-use Rattle.int_core.specs.Value.{Value, known, Shape, greatest_string, bind, last}
-use Rattle.int_core.specs.Heap.{Table, Heap}
+use Rattle.int_core.specs.Value.{Value, known, greatest_string}
 use Rattle.code_core.specs.declared.proto.Const.{Const}
 use Rattle.code_core.specs.declared.proto.Const.TheVariants.{Nil, False, True, Int, Str}
 use Rattle.code_core.specs.Prototype.{Parts, Prototype}
-use Rattle.code_core.specs.Check.{IsChecked, at, is_described, none_or_one_per, is_line, lines_from}
-use Rattle.code_core.specs.Writable.{is_writable, all_fit, parts_fit, entries_fit, lists_fit, constant_fits, string_fits, word_fits, name_fits, number_fits, byte_fits}
-use Rattle.machine_core.specs.World.{Function, Cell, closed, open_at, Wait, running, Activation, LuaFrame, Frame, lua, Coroutine, in_progress, World, Stack, stack_of, Place, place_of, put_top, put_frames}
-use Rattle.machine_core.specs.Text.{Arg, arg, constant, Own, read_register, read_registers, read_list, read_constant, read_varargs, see, write_register, write_registers, write_list, write_nils, end_list, cut_from, close_cells, mark_pending, see_pending, take_pending, drop_pending, keep_results, keep_pending, reads, tells, effect, fits, done}
-use Rattle.machine_core.specs.Moves.{cells_after, with_own, do_own, place_from, moved_pc, Move, on_own, move_pc, Told, Made, made, move}
-use Rattle.machine_sound.specs.Sound.{Each, Sizes, sizes, Valid, OptionOk, TableOk, FunctionOk, LuaWaits, FrameWaits, CoroutineOk, CellOk, standing, ChainOk, OneEach, Solid, Top, RunsOrWaits, TopIs}
-use Rattle.machine_sound.specs.Safe.{Phase, on_lua, IsPhase, Is, Ready, TopReady, OwnReady, IfChanged, after_own, own_values, own_told, Lands, Event, leads, MoveGood}
+use Rattle.code_core.specs.Check.{IsChecked, at, none_or_one_per, is_line, lines_from}
+use Rattle.code_core.specs.Writable.{is_writable, parts_fit, entries_fit, lists_fit, constant_fits, word_fits, name_fits, number_fits, byte_fits}
+use Rattle.machine_core.specs.World.{Activation, LuaFrame, lua, World, place_of, put_top}
+use Rattle.machine_core.specs.Text.{constant, Own, read_register, read_registers, read_list, read_constant, read_varargs, see, write_register, write_registers, write_list, write_nils, end_list, cut_from, close_cells, mark_pending, see_pending, take_pending, drop_pending, keep_results, keep_pending, reads, tells, effect}
+use Rattle.machine_core.specs.Moves.{cells_after, with_own, do_own, place_from, moved_pc, on_own, move_pc, made}
+use Rattle.machine_sound.specs.Sound.{Each, Sizes, sizes, Valid, Solid, Top, RunsOrWaits, TopIs}
+use Rattle.machine_sound.specs.Safe.{Phase, on_lua, IsPhase, Is, TopReady, IfChanged, after_own, own_values, MoveGood}
 use Rattle.machine_sound.proofs.Lists.{each_none, each_append, each_on, bind_at}
 use Rattle.machine_sound.proofs.Values.{all_get, both_of, le_of}
-use Rattle.machine_sound.proofs.Grow.{Grows, grows_self, valid_on, values_on, table_on, function_on, coroutine_on, cell_on, roots_on, lua_waits_on, each_waits_on}
+use Rattle.machine_sound.proofs.Grow.{Grows, values_on, lua_waits_on}
 use Rattle.machine_sound.proofs.Own.{OwnIs, own_good}
-use Rattle.machine_sound.proofs.OwnReads.{IsRead, own_read}
-use Rattle.machine_sound.proofs.Frames.{the_place, place_is, own_known, function_ok, top_ok, with_own_is, frame_so, new_grows, new_solid, new_top, new_world, set_stack, top_put}
+use Rattle.machine_sound.proofs.OwnReads.{own_read}
+use Rattle.machine_sound.proofs.Frames.{the_place, place_is, own_known, function_ok, top_ok, with_own_is, frame_so, new_grows, new_solid, new_top, new_world, top_put}
 
 -- what was read and what is known, in the world behind a move
 pub made_so : (n : ℕ) (x q : Phase) (env vs : List Value) (W V : World) → Is n x env W → Grows (sizes n W) (sizes n V) → Solid n V → IsPhase n q V → Each (Valid (sizes n V)) vs → Is n q (env ++ vs) V
@@ -110,11 +109,12 @@ own_move n m t env W i r =
       event = read.event;
       world = V;
       is = bind_at (do_own m env W) (place_of W) (the_place n t W h) (place_is n t W h)
-        ∙ ap (λ b. cond b (made (with_own W (the_place n t W h) h.top.wait (m ∷ []) env) (reads m p env h.top.own) (tells m p env h.top.own)) None) read.fits_so
-        ∙ ap (λ V. made V (reads m p env h.top.own) (tells m p env h.top.own)) (with_own_is n t W h h.top.wait (m ∷ []) env)
-        ∙ ap (λ vs. made V vs (tells m p env h.top.own)) (sym read.values)
-        ∙ ap (λ s. made V (own_values t m read.event) s) (sym read.told);
-      holds = made_so n (on_lua t) (on_lua u) env (own_values t m read.event) W V i g (new_solid n t W h s u h.top.wait own' cells know' (top_ok n t W h s).error) top (values_on z (sizes n V) g (own_values t m read.event) read.valid) }
+          ∙ ap (λ b. cond b (made (with_own W (the_place n t W h) h.top.wait (m ∷ []) env) (reads m p env h.top.own) (tells m p env h.top.own)) None) read.fits_so
+          ∙ ap (λ V. made V (reads m p env h.top.own) (tells m p env h.top.own)) (with_own_is n t W h h.top.wait (m ∷ []) env)
+          ∙ ap (λ vs. made V vs (tells m p env h.top.own)) (sym read.values)
+          ∙ ap (λ s. made V (own_values t m read.event) s) (sym read.told);
+      holds = made_so n (on_lua t) (on_lua u) env (own_values t m read.event) W V i g (new_solid n t W h s u h.top.wait own' cells know' (top_ok n t W h s).error) top (values_on z (sizes n V) g (own_values t m read.event) read.valid);
+    }
 
 -- the place in the code
 
@@ -122,8 +122,22 @@ other_place : (n : ℕ) (t : Top) (W : World) (h : TopIs n t W) (s : Solid n W) 
 other_place n t W h s pc =
     let k = own_known n t W h s in
     record {
-      code = k.code; pc = refl; size = k.size; opened = k.opened; bound = k.bound; stack = k.stack; registers = k.registers; varargs = k.varargs; pending = k.pending;
-      cells_below = k.cells_below; cells_there = k.cells_there; still_open = k.still_open; closed_ok = k.closed_ok; count = k.count; captured = k.captured }
+      code = k.code;
+      pc = refl;
+      size = k.size;
+      opened = k.opened;
+      bound = k.bound;
+      stack = k.stack;
+      registers = k.registers;
+      varargs = k.varargs;
+      pending = k.pending;
+      cells_below = k.cells_below;
+      cells_there = k.cells_there;
+      still_open = k.still_open;
+      closed_ok = k.closed_ok;
+      count = k.count;
+      captured = k.captured;
+    }
 
 some_of : {A : Type 0} (o : Option A) → IsSome o → (a : A) × (o ≡ Some a)
 some_of None h = absurd (cc)
@@ -153,7 +167,8 @@ pc_move n d t env W i r =
       event = l;
       world = V;
       is = bind_at (λ p. moved_pc W p d) (place_of W) (the_place n t W h) (place_is n t W h)
-        ∙ bind_at _ (place_from h.top.own.pc d) pc (ap (λ c. place_from c d) h.pc ∙ l.is)
-        ∙ bind_at _ (at p pc) w.0 there
-        ∙ ap (λ V. made V [] tt) put;
-      holds = made_so n (on_lua t) (on_lua u) env [] W V i g (new_solid n t W h s u h.top.wait own' W.cells k e) (new_top n t W h s u h.top.wait own' W.cells k e (runs_so t.runs r.0 (sizes n W) (sizes n V) h.top (frame_so n t W h h.top.wait own') refl h.wait)) (each_none (Valid (sizes n V))) }
+          ∙ bind_at _ (place_from h.top.own.pc d) pc (ap (λ c. place_from c d) h.pc ∙ l.is)
+          ∙ bind_at _ (at p pc) w.0 there
+          ∙ ap (λ V. made V [] tt) put;
+      holds = made_so n (on_lua t) (on_lua u) env [] W V i g (new_solid n t W h s u h.top.wait own' W.cells k e) (new_top n t W h s u h.top.wait own' W.cells k e (runs_so t.runs r.0 (sizes n W) (sizes n V) h.top (frame_so n t W h h.top.wait own') refl h.wait)) (each_none (Valid (sizes n V)));
+    }

@@ -1,29 +1,24 @@
 -- The rows of calls, returns, lists and functions are safe in checked code.
-use Rattle.std.proofs.Common.{ℕ, zero, suc, ◌≡◌, ◌<◌, ◌≤◌, ◌+◌, ◌-◌, ◌*◌, List, [], ◌∷◌, ◌++◌, Option, Some, None, refl, subst, sym, ap, ◌∙◌, length, Bool, true, false, arith}
-use Rattle.std.specs.Prelude.{ℤ, pos, slice_get, cond, max, IsTrue, IsSome, ◌==◌, if◌then◌else◌}
-use Rattle.std.specs.List.{list_all}
+use Rattle.std.proofs.Common.{ℕ, zero, suc, ◌≡◌, ◌<◌, ◌≤◌, ◌+◌, ◌-◌, List, [], ◌∷◌, ◌++◌, Option, Some, None, refl, subst, sym, ap, ◌∙◌, length, Bool, true, false, arith}
+use Rattle.std.specs.Prelude.{pos, slice_get, cond, max, IsTrue, IsSome, ◌==◌}
 use Rattle.std.proofs.lemmas.Bool.Decides.{nat_tests}
-use Rattle.int_core.specs.Value.{Value, known, object, nil, integer, a_table, a_function, a_coroutine, Shape, is_known, is_object, shape}
+use Rattle.int_core.specs.Value.{Value, known, nil, integer, Shape, is_known}
 use Rattle.code_core.specs.declared.opcode.Opcode.{Opcode}
-use Rattle.code_core.specs.declared.opcode.Opcode.TheVariants.{Call, TailCall, Return, Return0, Return1, TForCall, SetList, Closure, VarArg, VarArgPrep, ExtraArg}
+use Rattle.code_core.specs.declared.opcode.Opcode.TheVariants.{Call, TailCall, Return, Return0, Return1, TForCall}
 use Rattle.code_core.specs.declared.instruction.Instruction.{Instruction}
-use Rattle.code_core.specs.declared.proto.UpDesc.{UpDesc}
-use Rattle.code_core.specs.Instruction.{a_of, b_of, c_of, k_of, bx_of, ax_of}
-use Rattle.code_core.specs.Fields.{registers, last_of, takes_list, second_half, opens as opens_list}
-use Rattle.code_core.specs.Prototype.{Prototype, list_of}
-use Rattle.code_core.specs.Check.{Mark, fixed, open_from, opened, mark, extra_at, there, upvalue_there}
-use Rattle.machine_core.specs.World.{Wait, for_call, for_iterator, returning}
+use Rattle.code_core.specs.Instruction.{a_of, b_of, c_of}
+use Rattle.code_core.specs.Fields.{registers, last_of, takes_list}
+use Rattle.code_core.specs.Check.{opened}
+use Rattle.machine_core.specs.World.{for_call, for_iterator, returning}
 use Rattle.machine_core.specs.Text.{Arg, read, written, behind, Own, drop_pending, cut_from, close_cells, take_pending, keep_results, read_register, read_registers, read_list, end_list, results, Text, own, quick, call, tail_call, close, leave, trap, make_function, fill_table, go_by}
-use Rattle.machine_core.specs.InstructionRows.{row_of, to_register, next, skip, then, read_values, write_values, returns, returned_so, counted, return_count, fills, fills_by, opens, upvalues_of_inner}
+use Rattle.machine_core.specs.InstructionRows.{row_of, read_values, returns, returned_so, counted, return_count}
 use Rattle.machine_core.specs.Moves.{TopShape, lua_top, pcall_top, xpcall_top, handler_top, closing_top, no_top, CallShape, is_entered, is_primitive, not_paid, not_entered}
-use Rattle.machine_core.specs.FrameRows.{expand, raises, after_call, after_leaving, handed}
-use Rattle.machine_sound.specs.Sound.{Each, Top, waits_at, waiting_size, kept_below}
+use Rattle.machine_core.specs.FrameRows.{expand, after_call, after_leaving}
+use Rattle.machine_sound.specs.Sound.{Top, waits_at}
 use Rattle.machine_sound.specs.Safe.{on_lua, waiting, HasPlace, WaitsAs, MayEnter, CapturesOk, list_of_option, end_of, end_by, list_length, Safe}
-use Rattle.machine_sound.proofs.Lists.{each_tail}
-use Rattle.machine_sound.proofs.Values.{lt_of, both_of, all_get}
 use Rattle.machine_sound.proofs.Places.{Here, place, Listed}
-use Rattle.machine_sound.proofs.RowEnds.{IsPlain, reg, sized, con, up, on_next, on_skip, ends_next, ends_write, second_there, moved_place, raise_safe, call_safe}
-use Rattle.machine_sound.proofs.OpcodesTables.{RowSafe, extra_there, extra_second}
+use Rattle.machine_sound.proofs.RowEnds.{reg, sized, moved_place, raise_safe, call_safe}
+use Rattle.machine_sound.proofs.OpcodesTables.{RowSafe}
 
 -- the row of an opcode that may take an open list
 abbrev pub ListRowSafe : Opcode → Type 0
@@ -70,18 +65,22 @@ function_there {t = t} {w = w} {op = op} h l r b = from (takes_list op w) refl
 
 call_ready : {t : Top} {w : Instruction} (env : List Value) (f : Arg) (slot : ℕ) → Here t w Call → MayEnter t env (read 0) for_call (drop_pending (a_of w) ∷ cut_from (a_of w) ∷ [])
 call_ready {t = t} {w = w} env f slot h = record {
-    callee = tt; prepares = (tt, ((let e = h.cells in omega arith), tt));
-    waits = record { place = moved_place (record t { pending = a_of w; size = t.code.own.stack; opened = 0 }) (place h) refl refl; fits = refl; size = refl; kept = omega arith; error = tt } }
+  callee = tt;
+  prepares = (tt, ((let e = h.cells in omega arith), tt));
+  waits = record { place = moved_place (record t { pending = a_of w; size = t.code.own.stack; opened = 0 }) (place h) refl refl; fits = refl; size = refl; kept = omega arith; error = tt };
+}
 
 pub call_row_safe : ListRowSafe Call
-call_row_safe t w h l =
-    ((function_there h l (a_of w) (reg h 0 (a_of w) refl), tt), λ f.
+call_row_safe t w h l = (
+  (function_there h l (a_of w) (reg h 0 (a_of w) refl), tt),
+  λ f.
       values_safe t (f ∷ []) (a_of w + 1) (b_of w) (λ v _. call (read 0) v for_call (drop_pending (a_of w) ∷ cut_from (a_of w) ∷ []))
-        (λ e. some_end t w (l (zero_is (b_of w) e)))
-        (λ n e.
-          let q : slice_get (registers Call w) 1 ≡ Some (a_of w + n) = ap (λ b. slice_get (a_of w ∷ last_of (a_of w) b ++ last_of (a_of w) (c_of w - 1)) 1) e ∙ ap (λ x. slice_get (a_of w ∷ x ++ last_of (a_of w) (c_of w - 1)) 1) (last_is (a_of w) n) in
-          behind_all (a_of w) n t.size (sized h (not_zero (b_of w) n e) 1 (a_of w + n) q))
-        (λ vs s _. call_safe t (f ∷ vs) (read 0) 1 for_call (drop_pending (a_of w) ∷ cut_from (a_of w) ∷ []) (call_ready (f ∷ vs) (read 0) 1 h)))
+      (λ e. some_end t w (l (zero_is (b_of w) e)))
+      (λ n e.
+      let q : slice_get (registers Call w) 1 ≡ Some (a_of w + n) = ap (λ b. slice_get (a_of w ∷ last_of (a_of w) b ++ last_of (a_of w) (c_of w - 1)) 1) e ∙ ap (λ x. slice_get (a_of w ∷ x ++ last_of (a_of w) (c_of w - 1)) 1) (last_is (a_of w) n) in
+      behind_all (a_of w) n t.size (sized h (not_zero (b_of w) n e) 1 (a_of w + n) q))
+      (λ vs s _. call_safe t (f ∷ vs) (read 0) 1 for_call (drop_pending (a_of w) ∷ cut_from (a_of w) ∷ []) (call_ready (f ∷ vs) (read 0) 1 h)),
+)
 
 tail_ends : (t : Top) (env : List Value) → HasPlace t → (s : CallShape) → Safe (Rattle.machine_sound.specs.Safe.after_tail s t) env (after_call s)
 tail_ends t env h is_entered = tt
@@ -90,24 +89,34 @@ tail_ends t env h not_paid = tt
 tail_ends t env h (not_entered text) = raise_safe t env text h
 
 pub tail_call_safe : ListRowSafe TailCall
-tail_call_safe t w h l =
-    ((function_there h l (a_of w) (reg h 0 (a_of w) refl), tt), λ f.
+tail_call_safe t w h l = (
+  (function_there h l (a_of w) (reg h 0 (a_of w) refl), tt),
+  λ f.
       values_safe t (f ∷ []) (a_of w + 1) (b_of w) (λ v _. tail_call (read 0) v)
-        (λ e. some_end t w (l (zero_is (b_of w) e)))
-        (λ n e.
-          let q : slice_get (registers TailCall w) 1 ≡ Some (a_of w + n) = ap (λ b. slice_get (a_of w ∷ last_of (a_of w) b) 1) e ∙ ap (λ x. slice_get (a_of w ∷ x) 1) (last_is (a_of w) n) in
-          behind_all (a_of w) n t.size (sized h (not_zero (b_of w) n e) 1 (a_of w + n) q))
-        (λ vs s _. (tt, λ s. tail_ends t ((f ∷ vs) ++ []) (place h) s)))
+      (λ e. some_end t w (l (zero_is (b_of w) e)))
+      (λ n e.
+      let q : slice_get (registers TailCall w) 1 ≡ Some (a_of w + n) = ap (λ b. slice_get (a_of w ∷ last_of (a_of w) b) 1) e ∙ ap (λ x. slice_get (a_of w ∷ x) 1) (last_is (a_of w) n) in
+      behind_all (a_of w) n t.size (sized h (not_zero (b_of w) n e) 1 (a_of w + n) q))
+      (λ vs s _. (tt, λ s. tail_ends t ((f ∷ vs) ++ []) (place h) s)),
+)
 
 pub t_for_call_safe : RowSafe TForCall
-t_for_call_safe t w h =
-    ((lower (a_of w) 0 t.size (sized h refl 0 (a_of w + 6) refl) (omega arith), tt), λ f. ((two (a_of w) t.size (sized h refl 0 (a_of w + 6) refl), tt), λ vs.
-      call_safe t (f ∷ vs) (read 0) 1 for_iterator (drop_pending (a_of w + 4) ∷ cut_from (a_of w + 4) ∷ []) (record {
-        callee = tt; prepares = (tt, ((let e = h.cells in omega arith), tt));
-        waits = record { place = moved_place (record t { pending = a_of w + 4; size = t.code.own.stack; opened = 0 }) (place h) refl refl; fits = refl; size = refl; kept = omega arith; error = tt } })))
+t_for_call_safe t w h = (
+  (lower (a_of w) 0 t.size (sized h refl 0 (a_of w + 6) refl) (omega arith), tt),
+  λ f. (
+    (two (a_of w) t.size (sized h refl 0 (a_of w + 6) refl), tt),
+    λ vs.
+        call_safe t (f ∷ vs) (read 0) 1 for_iterator (drop_pending (a_of w + 4) ∷ cut_from (a_of w + 4) ∷ []) (record {
+          callee = tt;
+          prepares = (tt, ((let e = h.cells in omega arith), tt));
+          waits = record { place = moved_place (record t { pending = a_of w + 4; size = t.code.own.stack; opened = 0 }) (place h) refl refl; fits = refl; size = refl; kept = omega arith; error = tt };
+        }),
+  ),
+)
   where
     lower : (a i n : ℕ) → a + 6 < n → i ≤ 6 → a < n
     lower a i n l k = omega arith
+
     two : (a n : ℕ) → a + 6 < n → behind (a + 1) 2 ≤ n
     two a n l = omega arith
 
@@ -127,9 +136,14 @@ returns_safe t env count p r l q f = ((tt, tt), λ o. from o)
   where
     from : (o : Option Value) → Safe (on_lua t) (env ++ list_of_option o) (expand (cond (Rattle.machine_core.specs.Text.is_there o) (close (read (length env)) (written nil) (returning count) (returned_so (a_of p.instruction) count)) (own (read_registers (a_of p.instruction) count) (λ w _. leave (results w)))))
     from None = ((l, tt), λ vs. (tt, λ s. left_ends (length (env ++ [])) (((env ++ []) ++ vs) ++ []) s))
-    from (Some v) = ((tt, tt), λ g. call_safe t ((env ++ v ∷ []) ++ g ∷ Rattle.machine_core.specs.Text.arg (env ++ v ∷ []) (read (length env)) ∷ known nil ∷ []) (read (length (env ++ v ∷ []))) (suc (length (env ++ v ∷ []))) (returning count) (returned_so (a_of p.instruction) count) (record {
-        callee = tt; prepares = (tt, (tt, (omega arith, tt)));
-        waits = record { place = moved_place (record t { cells = 0; captured = []; size = max t.code.own.stack (behind (a_of p.instruction) count); opened = 0 }) p refl refl; fits = f; size = refl; kept = q; error = tt } }))
+    from (Some v) = (
+      (tt, tt),
+      λ g. call_safe t ((env ++ v ∷ []) ++ g ∷ Rattle.machine_core.specs.Text.arg (env ++ v ∷ []) (read (length env)) ∷ known nil ∷ []) (read (length (env ++ v ∷ []))) (suc (length (env ++ v ∷ []))) (returning count) (returned_so (a_of p.instruction) count) (record {
+        callee = tt;
+        prepares = (tt, (tt, (omega arith, tt)));
+        waits = record { place = moved_place (record t { cells = 0; captured = []; size = max t.code.own.stack (behind (a_of p.instruction) count); opened = 0 }) p refl refl; fits = f; size = refl; kept = q; error = tt };
+      }),
+    )
 
 pending_low : {t : Top} {w : Instruction} {op : Opcode} → Here t w op → t.pending ≤ t.code.own.stack
 pending_low h = let e = h.pending in omega arith
@@ -155,21 +169,22 @@ given_behind a b (suc m) size stack e s r = let l = r m refl in omega arith
 pub return_safe : ListRowSafe Return
 return_safe t w h l =
     values_safe t [] (a_of w) (b_of w) (λ _ s. returns (a_of w) (cond (b_of w == 0) (counted s) (return_count Return w)))
-      (λ e. some_end t w (l (zero_is (b_of w) e)))
-      (λ n e. given_behind (a_of w) (b_of w) n t.size t.code.own.stack e (h.plain (not_zero (b_of w) n e)) (λ m q. top_there n e m q))
-      (λ vs s c. from (b_of w) refl vs s c)
+    (λ e. some_end t w (l (zero_is (b_of w) e)))
+    (λ n e. given_behind (a_of w) (b_of w) n t.size t.code.own.stack e (h.plain (not_zero (b_of w) n e)) (λ m q. top_there n e m q))
+    (λ vs s c. from (b_of w) refl vs s c)
   where
     top_there : (n : ℕ) → b_of w ≡ suc n → (m : ℕ) → n ≡ suc m → a_of w + m < t.code.own.stack
     top_there n e m q =
         let k : b_of w - 1 ≡ suc m = omega arith in
         reg h 0 (a_of w + m) (ap (λ b. slice_get (last_of (a_of w) b) 0) k ∙ ap (λ x. slice_get x 0) (last_is (a_of w) m))
+
     from : (b : ℕ) → b_of w ≡ b → (vs : List Value) (s : Shape) → (b_of w ≡ 0 → counted s ≡ list_length (a_of w) (end_of t)) → Safe (on_lua t) vs (expand (returns (a_of w) (cond (b_of w == 0) (counted s) (return_count Return w))))
     from zero e vs s c =
         let k = l (zero_is (b_of w) e) in
         let q : counted s ≡ k.from + t.opened - a_of w = c e ∙ ap (list_length (a_of w)) (listed_end t w k) in
         subst (λ b. Safe (on_lua t) vs (expand (returns (a_of w) (cond b (counted s) (return_count Return w))))) (sym (zero_is (b_of w) e))
-          (returns_safe t vs (counted s) (place h) h.runs (list_behind (a_of w) k.from t.opened t.code.own.stack t.size (counted s) k.below k.size q) (pending_low h) refl)
+        (returns_safe t vs (counted s) (place h) h.runs (list_behind (a_of w) k.from t.opened t.code.own.stack t.size (counted s) k.below k.size q) (pending_low h) refl)
     from (suc n) e vs s c =
         let k : b_of w - 1 ≡ n = omega arith in
         subst (λ b. Safe (on_lua t) vs (expand (returns (a_of w) (cond b (counted s) (return_count Return w))))) (sym (not_zero (b_of w) n e))
-          (returns_safe t vs (return_count Return w) (place h) h.runs (subst (λ c. behind (a_of w) c ≤ t.size) (sym k) (given_behind (a_of w) (b_of w) n t.size t.code.own.stack e (h.plain (not_zero (b_of w) n e)) (λ m q. top_there n e m q))) (pending_low h) refl)
+        (returns_safe t vs (return_count Return w) (place h) h.runs (subst (λ c. behind (a_of w) c ≤ t.size) (sym k) (given_behind (a_of w) (b_of w) n t.size t.code.own.stack e (h.plain (not_zero (b_of w) n e)) (λ m q. top_there n e m q))) (pending_low h) refl)

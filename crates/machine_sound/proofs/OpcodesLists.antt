@@ -2,7 +2,7 @@
 use Rattle.std.proofs.Common.{ℕ, zero, suc, ◌≡◌, ◌<◌, ◌≤◌, ◌+◌, ◌-◌, ◌*◌, List, [], ◌∷◌, ◌++◌, Option, Some, None, refl, subst, sym, ap, ◌∙◌, length, Bool, true, false, arith}
 use Rattle.std.specs.Prelude.{ℤ, pos, slice_get, cond, max, nat_lt, IsTrue, IsSome, ◌==◌, if◌then◌else◌}
 use Rattle.std.specs.List.{list_all}
-use Rattle.int_core.specs.Value.{Value, known, object, nil, integer, a_table, a_function, a_coroutine, Shape, is_known, is_object, shape}
+use Rattle.int_core.specs.Value.{Value, known, object, a_table, a_function, a_coroutine, shape}
 use Rattle.code_core.specs.declared.opcode.Opcode.{Opcode}
 use Rattle.code_core.specs.declared.opcode.Opcode.TheVariants.{SetList, Closure, VarArg, VarArgPrep, ExtraArg}
 use Rattle.code_core.specs.declared.instruction.Instruction.{Instruction}
@@ -10,15 +10,15 @@ use Rattle.code_core.specs.declared.proto.UpDesc.{UpDesc}
 use Rattle.code_core.specs.Instruction.{a_of, b_of, c_of, k_of, bx_of, ax_of}
 use Rattle.code_core.specs.Fields.{registers, last_of, takes_list, second_half, opens as opens_list}
 use Rattle.code_core.specs.Prototype.{Prototype, list_of}
-use Rattle.code_core.specs.Check.{Mark, fixed, open_from, opened, there, upvalue_there, function_there}
-use Rattle.machine_core.specs.Text.{Arg, read, written, behind, end_list, write_list, write_registers, Text, quick, open_cell, trap, make_function, fill_table, go_by}
+use Rattle.code_core.specs.Check.{fixed, open_from, opened, there, upvalue_there}
+use Rattle.machine_core.specs.Text.{read, behind, end_list, Text, quick, open_cell, trap, make_function, fill_table, go_by}
 use Rattle.machine_core.specs.InstructionRows.{row_of, to_register, next, skip, then, read_values, write_values, fills, fills_by, opens, upvalues_of_inner}
 use Rattle.machine_core.specs.FrameRows.{expand}
 use Rattle.machine_sound.specs.Sound.{Top}
-use Rattle.machine_sound.specs.Safe.{on_lua, CapturesOk, InnerOk, Safe}
-use Rattle.machine_sound.proofs.Values.{lt_of, both_of, all_get}
+use Rattle.machine_sound.specs.Safe.{on_lua, CapturesOk, Safe}
+use Rattle.machine_sound.proofs.Values.{lt_of, both_of}
 use Rattle.machine_sound.proofs.Places.{Here, place, Listed, next_safe}
-use Rattle.machine_sound.proofs.RowEnds.{IsPlain, reg, sized, on_next, on_skip, ends_next, ends_write, second_there, raise_safe}
+use Rattle.machine_sound.proofs.RowEnds.{reg, sized, on_next, on_skip, ends_next, second_there, raise_safe}
 use Rattle.machine_sound.proofs.OpcodesTables.{RowSafe, extra_there, extra_second}
 use Rattle.machine_sound.proofs.OpcodesCalls.{ListRowSafe, values_safe, zero_is, not_zero, some_end, last_is, function_there as register_there}
 
@@ -31,21 +31,25 @@ fills_safe {t = t} {w = w} h l last d s = ((register_there h l (a_of w) (low (a_
   where
     low : (a b n : ℕ) → a + b < n → a < n
     low a b n l = omega arith
+
     all : (a n size : ℕ) → a + n < size → behind (a + 1) n ≤ size
     all a zero size l = omega arith
     all a (suc n) size l = omega arith
+
     behind_list : (vs : List Value) (v : Value) → Safe (on_lua t) (v ∷ vs) (expand ((then) end_list (go_by d)))
     behind_list vs v = (((let e = h.cells in omega arith), h.runs), λ _. s ((v ∷ vs) ++ []))
+
     table : (m : ℕ) (b : ℕ) → b_of w ≡ b → Safe (on_lua t) (object a_table m ∷ []) (expand (read_values (a_of w + 1) (cond (b == 0) 0 (b + 1)) (λ v _. quick (fill_table (read 0) last v) (λ _. (then) end_list (go_by d)))))
     table m zero e = values_safe t (object a_table m ∷ []) (a_of w + 1) 0 (λ v _. quick (fill_table (read 0) last v) (λ _. (then) end_list (go_by d)))
         (λ _. some_end t w (l (zero_is (b_of w) e))) (λ n q. absurd (cc)) (λ vs _ _. (refl, λ _. behind_list (vs ++ []) (object a_table m)))
     table m (suc n) e =
         let q : (suc n == 0) ≡ false = not_zero (suc n) n refl in
         subst (λ b. Safe (on_lua t) (object a_table m ∷ []) (expand (read_values (a_of w + 1) (cond b 0 (suc n + 1)) (λ v _. quick (fill_table (read 0) last v) (λ _. (then) end_list (go_by d)))))) (sym q)
-          (values_safe t (object a_table m ∷ []) (a_of w + 1) (suc n + 1) (λ v _. quick (fill_table (read 0) last v) (λ _. (then) end_list (go_by d)))
-            (λ e. absurd (omega arith))
-            (λ k g. let r : k ≡ b_of w = omega arith in subst (λ k. behind (a_of w + 1) k ≤ t.size) (sym r) (all (a_of w) (b_of w) t.size (sized h (not_zero (b_of w) n e) 0 (a_of w + b_of w) refl)))
-            (λ vs _ _. (refl, λ _. behind_list (vs ++ []) (object a_table m))))
+        (values_safe t (object a_table m ∷ []) (a_of w + 1) (suc n + 1) (λ v _. quick (fill_table (read 0) last v) (λ _. (then) end_list (go_by d)))
+        (λ e. absurd (omega arith))
+        (λ k g. let r : k ≡ b_of w = omega arith in subst (λ k. behind (a_of w + 1) k ≤ t.size) (sym r) (all (a_of w) (b_of w) t.size (sized h (not_zero (b_of w) n e) 0 (a_of w + b_of w) refl)))
+        (λ vs _ _. (refl, λ _. behind_list (vs ++ []) (object a_table m))))
+
     from : (v : Value) → Safe (on_lua t) (v ∷ []) (expand (fills_by (shape v) 0 w last d))
     from (object a_table m) = table m (b_of w) refl
     from (object a_function m) = raise_safe t (object a_function m ∷ []) [] (place h)
@@ -61,7 +65,7 @@ set_list_safe t w h l = from (k_of w) refl
         let q : second_half SetList w ≡ Some ExtraArg = ap (λ (b : Bool). (if b then Some ExtraArg else None)) e in
         let s = second_there h ExtraArg q in
         subst (λ (o : Option ℕ). Safe (on_lua t) [] (expand (elim o as (λ _. Text) [ None ↦ trap | Some ax ↦ fills w (c_of w + 256 * ax) (pos 2) ]))) (sym (extra_there s))
-          (fills_safe h l (c_of w + 256 * ax_of s.instruction) (pos 2) (λ env. on_skip (record t { size = t.code.own.stack; opened = 0 }) env h ExtraArg q extra_second refl refl h.runs refl (let c = h.cells in omega arith)))
+        (fills_safe h l (c_of w + 256 * ax_of s.instruction) (pos 2) (λ env. on_skip (record t { size = t.code.own.stack; opened = 0 }) env h ExtraArg q extra_second refl refl h.runs refl (let c = h.cells in omega arith)))
 
 -- functions
 
@@ -114,9 +118,11 @@ closure_safe t w h = from (slice_get (list_of t.code.inner) (bx_of w)) refl h.ru
     from None e g = absurd (cc)
     from (Some q) e g =
         let u : Top = record t { captured = with_cells t.captured q.own.upvalues } in
-        opens_safe t q.own.upvalues (quick (make_function (bx_of w)) (λ f. to_register (a_of w) (read f))) (h.plain refl) h.cells g
-          (record { inner = q; there = e; captures = captures_there t.code q.own.upvalues t.captured g }, λ n.
-            (((let e = h.plain refl in within (a_of w) t.size t.code.own.stack e (reg h 0 (a_of w) refl), tt), h.runs), λ _. on_next u (object a_function n ∷ []) h (refl, refl, refl, refl) refl refl h.runs (h.plain refl) (let e = h.cells in omega arith)))
+        opens_safe t q.own.upvalues (quick (make_function (bx_of w)) (λ f. to_register (a_of w) (read f))) (h.plain refl) h.cells g (
+          record { inner = q; there = e; captures = captures_there t.code q.own.upvalues t.captured g },
+          λ n.
+              (((let e = h.plain refl in within (a_of w) t.size t.code.own.stack e (reg h 0 (a_of w) refl), tt), h.runs), λ _. on_next u (object a_function n ∷ []) h (refl, refl, refl, refl) refl refl h.runs (h.plain refl) (let e = h.cells in omega arith)),
+        )
       where
         within : (a size stack : ℕ) → size ≡ stack → a < stack → a < size
         within a size stack e l = omega arith
@@ -129,19 +135,24 @@ pub puts_safe : {t : Top} {w : Instruction} {op : Opcode} (u : Top) (env : List 
     → (c ≡ 0 → opened (opens_list op w) ≡ open_from r) → ((n : ℕ) → c ≡ suc n → opened (opens_list op w) ≡ fixed)
     → (c ≡ 0 → r < u.size) → ((n : ℕ) → c ≡ suc n → behind r n ≤ u.size)
     → Safe (on_lua u) env (expand (write_values r c slot))
-puts_safe {t = t} {w = w} {op = op} u env r zero slot h ret ex q p run s k o f l b =
-    ((l refl, run), λ _. next_safe (record u { size = max u.size (r + length (Rattle.std.specs.Prelude.drop slot env)); opened = length (Rattle.std.specs.Prelude.drop slot env) }) (env ++ []) h ret ex q p run
-      (subst (λ m. Rattle.machine_sound.specs.Sound.MarkFits m t.code.own.stack (max u.size (r + length (Rattle.std.specs.Prelude.drop slot env))) (length (Rattle.std.specs.Prelude.drop slot env))) (sym (o refl)) (ap (λ n. max n (r + length (Rattle.std.specs.Prelude.drop slot env))) s)) k)
+puts_safe {t = t} {w = w} {op = op} u env r zero slot h ret ex q p run s k o f l b = (
+  (l refl, run),
+  λ _. next_safe (record u { size = max u.size (r + length (Rattle.std.specs.Prelude.drop slot env)); opened = length (Rattle.std.specs.Prelude.drop slot env) }) (env ++ []) h ret ex q p run
+      (subst (λ m. Rattle.machine_sound.specs.Sound.MarkFits m t.code.own.stack (max u.size (r + length (Rattle.std.specs.Prelude.drop slot env))) (length (Rattle.std.specs.Prelude.drop slot env))) (sym (o refl)) (ap (λ n. max n (r + length (Rattle.std.specs.Prelude.drop slot env))) s)) k,
+)
 puts_safe {t = t} {w = w} {op = op} u env r (suc n) slot h ret ex q p run s k o f l b =
     ((b n refl, run), λ _. next_safe u (env ++ []) h ret ex q p run (subst (λ m. Rattle.machine_sound.specs.Sound.MarkFits m t.code.own.stack u.size u.opened) (sym (f n refl)) s) k)
 
 pub var_arg_safe : RowSafe VarArg
-var_arg_safe t w h = (( tt, tt), λ vs.
-    puts_safe t vs (a_of w) (c_of w) 0 h refl refl refl refl h.runs (h.plain refl) (let e = h.cells in omega arith)
+var_arg_safe t w h = (
+  (tt, tt),
+  λ vs.
+      puts_safe t vs (a_of w) (c_of w) 0 h refl refl refl refl h.runs (h.plain refl) (let e = h.cells in omega arith)
       (λ e. ap (λ (b : Bool). opened (if b then Some (a_of w) else None)) (zero_is (c_of w) e))
       (λ n e. ap (λ (b : Bool). opened (if b then Some (a_of w) else None)) (not_zero (c_of w) n e))
       (λ e. sized h refl 0 (a_of w) (ap (λ (b : Bool). slice_get (if b then a_of w ∷ [] else last_of (a_of w) (c_of w - 1)) 0) (zero_is (c_of w) e)))
-      (λ n e. there_all n e n refl))
+      (λ n e. there_all n e n refl),
+)
   where
     there_all : (n : ℕ) → c_of w ≡ suc n → (m : ℕ) → m ≡ n → behind (a_of w) m ≤ t.size
     there_all n e zero q = omega arith

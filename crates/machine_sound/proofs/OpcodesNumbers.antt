@@ -8,10 +8,9 @@ use Rattle.int_core.specs.Operations.{Event, of_add, of_sub, of_mul, of_mod, of_
 use Rattle.code_core.specs.declared.opcode.Opcode.{Opcode}
 use Rattle.code_core.specs.declared.opcode.Opcode.TheVariants.{SetList, AddI, AddK, SubK, MulK, ModK, IDivK, BAndK, BOrK, BXorK, ShrI, ShlI, Add, Sub, Mul, Mod, IDiv, BAnd, BOr, BXor, Shl, Shr, MmBin, MmBinI, MmBinK, Unm, BNot, Not, Len, Concat, ExtraArg}
 use Rattle.code_core.specs.declared.instruction.Instruction.{Instruction}
-use Rattle.code_core.specs.Instruction.{opcode_of, a_of, b_of, c_of, k_of, sb_of, sc_of}
-use Rattle.code_core.specs.Fields.{registers, constants, integer as an_integer, second_half, stands_second, events, last_of, takes_list}
-use Rattle.code_core.specs.Prototype.{Prototype}
-use Rattle.code_core.specs.Check.{CodeIsChecked, at, in_front, there, is_same, goes_on, agrees, begins_with}
+use Rattle.code_core.specs.Instruction.{opcode_of, a_of, b_of, c_of, k_of, sc_of}
+use Rattle.code_core.specs.Fields.{registers, constants, integer as an_integer, second_half, stands_second, events, last_of}
+use Rattle.code_core.specs.Check.{at, in_front, there, is_same, goes_on, agrees, begins_with}
 use Rattle.machine_core.specs.World.{for_value, for_concat}
 use Rattle.machine_core.specs.Text.{Arg, read, written, constant, Text, trap}
 use Rattle.machine_core.specs.InstructionRows.{row_of, to_register, next, fast, event_numbered, handled, to_register_before, swapped, with_number, integer_of_shape, joins}
@@ -20,7 +19,7 @@ use Rattle.machine_sound.specs.Sound.{Top}
 use Rattle.machine_sound.specs.Safe.{on_lua, ArgOk, ArgsOk, Safe}
 use Rattle.machine_sound.proofs.Lists.{some_is}
 use Rattle.machine_sound.proofs.Values.{lt_of, le_true, all_get, both_of}
-use Rattle.machine_sound.proofs.Rules.{RulesAt, rules_at, same_opcode, extra_behind, or_of}
+use Rattle.machine_sound.proofs.Rules.{RulesAt, rules_at, same_opcode, or_of}
 use Rattle.machine_sound.proofs.Places.{Here, place}
 use Rattle.machine_sound.proofs.RowEnds.{IsPlain, reg, sized, con, ends_next, ends_write, IsSecond, ends_skip, raise_safe, operate_safe, may_wait, second_at}
 use Rattle.machine_sound.proofs.OpcodesTables.{RowSafe}
@@ -37,21 +36,33 @@ fast_safe env h second e i p event r (Some m) None l = ends_next env h p
 
 -- two registers
 registers_safe : {t : Top} {w : Instruction} {op : Opcode} → Here t w op → (event : Event) → second_half op w ≡ Some MmBin → IsPlain op w → registers op w ≡ a_of w ∷ b_of w ∷ c_of w ∷ [] → Safe (on_lua t) [] (expand (Rattle.machine_core.specs.InstructionRows.with_register event w))
-registers_safe {t = t} {w = w} h event e p r =
-    ((sized h p.3 1 (b_of w) (ap (λ l. slice_get l 1) r), tt), λ v. ((sized h p.3 2 (c_of w) (ap (λ l. slice_get l 2) r), tt), λ u.
-      fast_safe (v ∷ u ∷ []) h MmBin e (λ v. (refl, refl, refl)) p event (a_of w) (integer_of_shape (shape v)) (integer_of_shape (shape u)) (reg h 0 (a_of w) (ap (λ l. slice_get l 0) r))))
+registers_safe {t = t} {w = w} h event e p r = (
+  (sized h p.3 1 (b_of w) (ap (λ l. slice_get l 1) r), tt),
+  λ v. (
+    (sized h p.3 2 (c_of w) (ap (λ l. slice_get l 2) r), tt),
+    λ u.
+        fast_safe (v ∷ u ∷ []) h MmBin e (λ v. (refl, refl, refl)) p event (a_of w) (integer_of_shape (shape v)) (integer_of_shape (shape u)) (reg h 0 (a_of w) (ap (λ l. slice_get l 0) r)),
+  ),
+)
 
 -- a register and a constant
 constant_safe : {t : Top} {w : Instruction} {op : Opcode} → Here t w op → (event : Event) → second_half op w ≡ Some MmBinK → IsPlain op w → registers op w ≡ a_of w ∷ b_of w ∷ [] → ((extra : Option ℕ) → constants op w extra ≡ (an_integer, c_of w) ∷ []) → Safe (on_lua t) [] (expand (Rattle.machine_core.specs.InstructionRows.with_constant event w))
-constant_safe {t = t} {w = w} h event e p r c =
-    ((sized h p.3 1 (b_of w) (ap (λ l. slice_get l 1) r), tt), λ v. ((con h 0 (c_of w) an_integer (ap (λ l. slice_get l 0) (c _)), tt), λ u.
-      fast_safe (v ∷ known (constant u.constant') ∷ []) h MmBinK e (λ v. (refl, refl, refl)) p event (a_of w) (integer_of_shape (shape v)) (integer_of_shape (shape (known (constant u.constant')))) (reg h 0 (a_of w) (ap (λ l. slice_get l 0) r))))
+constant_safe {t = t} {w = w} h event e p r c = (
+  (sized h p.3 1 (b_of w) (ap (λ l. slice_get l 1) r), tt),
+  λ v. (
+    (con h 0 (c_of w) an_integer (ap (λ l. slice_get l 0) (c _)), tt),
+    λ u.
+        fast_safe (v ∷ known (constant u.constant') ∷ []) h MmBinK e (λ v. (refl, refl, refl)) p event (a_of w) (integer_of_shape (shape v)) (integer_of_shape (shape (known (constant u.constant')))) (reg h 0 (a_of w) (ap (λ l. slice_get l 0) r)),
+  ),
+)
 
 -- a register and a number
 number_safe : {t : Top} {w : Instruction} {op : Opcode} → Here t w op → (f : Shape → Text) → second_half op w ≡ Some MmBinI → IsPlain op w → registers op w ≡ a_of w ∷ b_of w ∷ [] → (event : Event) (m k : Shape → Option ℤ) → ((s : Shape) → f s ≡ fast event (a_of w) (m s) (k s)) → Safe (on_lua t) [] (expand (Rattle.machine_core.specs.Text.own (Rattle.machine_core.specs.Text.read_register (b_of w)) (λ _ s. f s)))
-number_safe {t = t} {w = w} h f e p r event m k q =
-    ((sized h p.3 1 (b_of w) (ap (λ l. slice_get l 1) r), tt), λ v.
-      subst (λ (x : Text). Safe (on_lua t) (v ∷ []) (expand x)) (sym (q (shape v))) (fast_safe (v ∷ []) h MmBinI e (λ v. (refl, refl, refl)) p event (a_of w) (m (shape v)) (k (shape v)) (reg h 0 (a_of w) (ap (λ l. slice_get l 0) r))))
+number_safe {t = t} {w = w} h f e p r event m k q = (
+  (sized h p.3 1 (b_of w) (ap (λ l. slice_get l 1) r), tt),
+  λ v.
+      subst (λ (x : Text). Safe (on_lua t) (v ∷ []) (expand x)) (sym (q (shape v))) (fast_safe (v ∷ []) h MmBinI e (λ v. (refl, refl, refl)) p event (a_of w) (m (shape v)) (k (shape v)) (reg h 0 (a_of w) (ap (λ l. slice_get l 0) r))),
+)
 
 pub add_i_safe : RowSafe AddI
 add_i_safe t w h = number_safe h (λ s. fast of_add (a_of w) (integer_of_shape s) (Some (sc_of w))) refl (refl, refl, refl, refl) refl of_add (λ s. integer_of_shape s) (λ s. Some (sc_of w)) (λ s. refl)
@@ -157,8 +168,14 @@ front_there {t = t} {w = w} {op = op} h s = from t.pc h.at_pc refl (or_of (not (
             let same : x.0 ≡ w = some_is x.1 (ap (at t.code) m ∙ a) in
             let n : k ≡ t.pc - 1 = omega arith in
             record {
-              instruction = v; is_front = ap (in_front t.code) q ∙ e; opcode = g.0; is_opcode = g.1; begins = g.2;
-              agrees_so = subst (λ i. IsTrue (agrees v i op)) same x.3; rule = subst (λ pc. RulesAt t.code pc v g.0) n r }
+              instruction = v;
+              is_front = ap (in_front t.code) q ∙ e;
+              opcode = g.0;
+              is_opcode = g.1;
+              begins = g.2;
+              agrees_so = subst (λ i. IsTrue (agrees v i op)) same x.3;
+              rule = subst (λ pc. RulesAt t.code pc v g.0) n r;
+            }
 
 -- the register and the event of arithmetic
 
@@ -229,18 +246,23 @@ event_there n h = let g = any_get (λ event. n == event) events h in go g.0 g.1 
 pub before_safe : {t : Top} {w : Instruction} {op : Opcode} (vs : List Value) → Here t w op → (f : Front t w op) → is_handler op ≡ true → IsPlain op w → Safe (on_lua t) vs (expand (to_register_before t.code t.pc))
 before_safe {t = t} vs h f k p =
     subst (λ (o : Option Instruction). Safe (on_lua t) vs (expand (elim o as (λ _. Text) [ None ↦ trap | Some w ↦ to_register (a_of w) (read 0) ]))) (sym f.is_front)
-      (ends_write vs (a_of f.instruction) (read 0) h p (front_register h k f) tt)
+    (ends_write vs (a_of f.instruction) (read 0) h p (front_register h k f) tt)
 
 handled_safe : {t : Top} {w : Instruction} {op : Opcode} (env : List Value) (xs : List Arg) → Here t w op → (f : Front t w op) → is_handler op ≡ true → IsPlain op w → IsTrue (Rattle.machine_sound.specs.Sound.waits_at {V = Arg} for_value op w) → (event : Event) × (event_numbered (c_of w) ≡ Some event) → ArgsOk xs → Safe (on_lua t) env (expand (handled t.code t.pc w (event_numbered (c_of w)) xs))
 handled_safe {t = t} {w = w} env xs h f k p wait event a =
     subst (λ (o : Option Event). Safe (on_lua t) env (expand (handled t.code t.pc w o xs))) (sym event.1)
-      (operate_safe t env (arithmetic event.0) xs for_value (to_register_before t.code t.pc) a (may_wait for_value h p.3 wait refl refl tt) (λ vs. before_safe vs h f k p))
+    (operate_safe t env (arithmetic event.0) xs for_value (to_register_before t.code t.pc) a (may_wait for_value h p.3 wait refl refl tt) (λ vs. before_safe vs h f k p))
 
 pub mm_bin_safe : RowSafe MmBin
 mm_bin_safe t w h =
-    let f = front_there h refl in
-    ((sized h refl 0 (a_of w) refl, tt), λ x. ((sized h refl 1 (b_of w) refl, tt), λ y.
-      handled_safe (x ∷ y ∷ []) (read 0 ∷ read 1 ∷ []) h f refl (refl, refl, refl, refl) refl (event_there (c_of w) f.agrees_so) (tt, (tt, tt))))
+    let f = front_there h refl in (
+      (sized h refl 0 (a_of w) refl, tt),
+      λ x. (
+        (sized h refl 1 (b_of w) refl, tt),
+        λ y.
+            handled_safe (x ∷ y ∷ []) (read 0 ∷ read 1 ∷ []) h f refl (refl, refl, refl, refl) refl (event_there (c_of w) f.agrees_so) (tt, (tt, tt)),
+      ),
+    )
 
 swapped_ok : (b : Bool) (x y : Arg) → ArgOk x → ArgOk y → ArgsOk (swapped b x y)
 swapped_ok true x y a b = (b, (a, tt))
@@ -248,15 +270,22 @@ swapped_ok false x y a b = (a, (b, tt))
 
 pub mm_bin_i_safe : RowSafe MmBinI
 mm_bin_i_safe t w h =
-    let f = front_there h refl in
-    ((sized h refl 0 (a_of w) refl, tt), λ x.
-      handled_safe (x ∷ []) (swapped (k_of w) (read 0) (with_number w)) h f refl (refl, refl, refl, refl) refl (event_there (c_of w) f.agrees_so) (swapped_ok (k_of w) (read 0) (with_number w) tt tt))
+    let f = front_there h refl in (
+      (sized h refl 0 (a_of w) refl, tt),
+      λ x.
+          handled_safe (x ∷ []) (swapped (k_of w) (read 0) (with_number w)) h f refl (refl, refl, refl, refl) refl (event_there (c_of w) f.agrees_so) (swapped_ok (k_of w) (read 0) (with_number w) tt tt),
+    )
 
 pub mm_bin_k_safe : RowSafe MmBinK
 mm_bin_k_safe t w h =
-    let f = front_there h refl in
-    ((sized h refl 0 (a_of w) refl, tt), λ x. ((con h 0 (b_of w) an_integer refl, tt), λ y.
-      handled_safe (x ∷ known (constant y.constant') ∷ []) (swapped (k_of w) (read 0) (read 1)) h f refl (refl, refl, refl, refl) refl (event_there (c_of w) f.agrees_so) (swapped_ok (k_of w) (read 0) (read 1) tt tt)))
+    let f = front_there h refl in (
+      (sized h refl 0 (a_of w) refl, tt),
+      λ x. (
+        (con h 0 (b_of w) an_integer refl, tt),
+        λ y.
+            handled_safe (x ∷ known (constant y.constant') ∷ []) (swapped (k_of w) (read 0) (read 1)) h f refl (refl, refl, refl, refl) refl (event_there (c_of w) f.agrees_so) (swapped_ok (k_of w) (read 0) (read 1) tt tt),
+      ),
+    )
 
 -- one operand
 
@@ -276,17 +305,22 @@ len_safe t w h = ((sized h refl 1 (b_of w) refl, tt), λ v. operate_safe t (v �
 
 pub joins_safe : {t : Top} {w : Instruction} → Here t w Concat → (i : ℕ) (env : List Value) (x : Arg) → i < b_of w → a_of w + i < t.code.own.stack → ArgOk x → Safe (on_lua t) env (expand (joins (a_of w) i x))
 joins_safe {t = t} {w = w} h zero env x b l a = ends_write env (a_of w) x h (refl, refl, refl, refl) (reg h 0 (a_of w) refl) a
-joins_safe {t = t} {w = w} h (suc i) env x b l a =
-    ((within (a_of w) i t.code.own.stack t.size l (h.plain refl), tt), λ u.
+joins_safe {t = t} {w = w} h (suc i) env x b l a = (
+  (within (a_of w) i t.code.own.stack t.size l (h.plain refl), tt),
+  λ u.
       operate_safe t (env ++ u ∷ []) concat (read (length env) ∷ x ∷ []) (for_concat i) (joins (a_of w) i (read 0)) (tt, (a, tt)) (may_wait (for_concat i) h refl (le_true (i + 2) (b_of w) (less i (b_of w) b)) refl refl tt)
-        (λ vs. joins_safe h i vs (read 0) (before i (b_of w) b) (below (a_of w) i t.code.own.stack l) tt))
+      (λ vs. joins_safe h i vs (read 0) (before i (b_of w) b) (below (a_of w) i t.code.own.stack l) tt),
+)
   where
     within : (a i stack size : ℕ) → a + suc i < stack → size ≡ stack → a + i < size
     within a i stack size l e = omega arith
+
     less : (i b : ℕ) → suc i < b → i + 2 ≤ b
     less i b l = omega arith
+
     before : (i b : ℕ) → suc i < b → i < b
     before i b l = omega arith
+
     below : (a i stack : ℕ) → a + suc i < stack → a + i < stack
     below a i stack l = omega arith
 
@@ -295,6 +329,7 @@ concat_safe t w h = from (b_of w) refl
   where
     last_there : (a n : ℕ) → slice_get (a ∷ last_of a (suc n)) 1 ≡ Some (a + n)
     last_there a n = let e : (suc n == 0) ≡ false = grind (arith, nat_tests) in let k : suc n - 1 ≡ n = omega arith in rw (e, k) refl
+
     from : (b : ℕ) → b_of w ≡ b → Safe (on_lua t) [] (expand (elim b as (λ _. Text) [ zero ↦ next | suc n ↦ Rattle.machine_core.specs.Text.own (Rattle.machine_core.specs.Text.read_register (a_of w + n)) (λ v _. joins (a_of w) n (read v)) ]))
     from zero e = ends_next [] h (refl, refl, refl, refl)
     from (suc n) e =

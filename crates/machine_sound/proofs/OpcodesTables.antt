@@ -1,5 +1,5 @@
 -- The rows from MOVE to SELF are safe in checked code.
-use Rattle.std.proofs.Common.{ℕ, zero, suc, ◌≡◌, ◌<◌, ◌≤◌, ◌+◌, List, [], ◌∷◌, ◌++◌, Option, Some, None, refl, subst, sym, ap, ◌∙◌, length, Bool, true, false, arith}
+use Rattle.std.proofs.Common.{ℕ, ◌≡◌, ◌<◌, ◌≤◌, ◌+◌, List, [], ◌∷◌, ◌++◌, Option, Some, None, refl, subst, sym, ap, ◌∙◌, length, Bool, true, false, arith}
 use Rattle.std.specs.Prelude.{pos, slice_get, cond, nat_eq, ◌==◌, if◌then◌else◌}
 use Rattle.std.proofs.lemmas.Bool.Decides.{nat_tests}
 use Rattle.int_core.specs.Value.{Value, known, boolean, integer, object, a_table, Shape, shape}
@@ -9,8 +9,8 @@ use Rattle.code_core.specs.declared.opcode.Opcode.TheVariants.{Move, LoadI, Load
 use Rattle.code_core.specs.declared.instruction.Instruction.{Instruction}
 use Rattle.code_core.specs.Opcode.{number_of}
 use Rattle.code_core.specs.Instruction.{opcode_of, a_of, b_of, c_of, k_of, bx_of, sbx_of, ax_of}
-use Rattle.code_core.specs.Fields.{registers, constants, anything, name}
-use Rattle.code_core.specs.Check.{at, there, is_same, extra_at}
+use Rattle.code_core.specs.Fields.{constants, anything, name}
+use Rattle.code_core.specs.Check.{there, is_same, extra_at}
 use Rattle.machine_core.specs.World.{for_value, dropped}
 use Rattle.machine_core.specs.Text.{Arg, read, written, constant, write_register, Text, trap}
 use Rattle.machine_core.specs.InstructionRows.{row_of, to_register, register_or_constant, next, skip}
@@ -19,7 +19,7 @@ use Rattle.machine_core.specs.Moves.{only, is_found, is_asked, is_fault}
 use Rattle.machine_sound.specs.Sound.{Top}
 use Rattle.machine_sound.specs.Safe.{on_lua, SettledEvent, has_found, asks_for, fails_with, settled_values, settled_told, Safe}
 use Rattle.machine_sound.proofs.Places.{Here, place}
-use Rattle.machine_sound.proofs.RowEnds.{IsPlain, reg, sized, con, up, plain_size, on_next, ends_next, ends_write, Second, second_there, IsSecond, ends_skip, on_land, raise_safe, call_safe, operate_safe, may_wait}
+use Rattle.machine_sound.proofs.RowEnds.{reg, sized, con, up, plain_size, on_next, ends_next, ends_write, Second, second_there, IsSecond, ends_skip, on_land, raise_safe, call_safe, operate_safe, may_wait}
 
 -- the row of an opcode is safe wherever it stands in checked code
 abbrev pub RowSafe : Opcode → Type 0
@@ -75,7 +75,7 @@ load_kx_safe t w h =
     let ax = ax_of s.instruction in
     let l = con h 0 ax anything (ap (λ o. slice_get (constants LoadKx w o) 0) e) in
     subst (λ (o : Option ℕ). Safe (on_lua t) [] (expand (elim o as (λ _. Text) [ None ↦ trap | Some ax ↦ Rattle.machine_core.specs.Text.own (Rattle.machine_core.specs.Text.read_constant ax) (λ v _. Rattle.machine_core.specs.InstructionRows.then (Rattle.machine_core.specs.Text.write_register (a_of w) (read v)) skip) ]))) (sym e)
-      ((l, tt), λ k. (((sized h refl 0 (a_of w) refl, tt), h.runs), λ _. ends_skip (known (constant k.constant') ∷ []) h ExtraArg refl extra_second refl))
+    ((l, tt), λ k. (((sized h refl 0 (a_of w) refl, tt), h.runs), λ _. ends_skip (known (constant k.constant') ∷ []) h ExtraArg refl extra_second refl))
 
 -- upvalues
 
@@ -88,24 +88,45 @@ set_upval_safe t w h = ((sized h refl 0 (a_of w) refl, tt), λ v. ((up h 0 (b_of
 -- fields
 
 pub get_tab_up_safe : RowSafe GetTabUp
-get_tab_up_safe t w h = (up h 0 (b_of w) refl, λ o. ((con h 0 (c_of w) name refl, tt), λ k.
-    operate_safe t (o ∷ known (constant k.constant') ∷ []) index (read 0 ∷ read 1 ∷ []) for_value (to_register (a_of w) (read 0)) (tt, (tt, tt)) (may_wait for_value h refl refl refl refl tt)
-      (λ vs. ends_write vs (a_of w) (read 0) h (refl, refl, refl, refl) (reg h 0 (a_of w) refl) tt)))
+get_tab_up_safe t w h = (
+  up h 0 (b_of w) refl,
+  λ o. (
+    (con h 0 (c_of w) name refl, tt),
+    λ k.
+        operate_safe t (o ∷ known (constant k.constant') ∷ []) index (read 0 ∷ read 1 ∷ []) for_value (to_register (a_of w) (read 0)) (tt, (tt, tt)) (may_wait for_value h refl refl refl refl tt)
+        (λ vs. ends_write vs (a_of w) (read 0) h (refl, refl, refl, refl) (reg h 0 (a_of w) refl) tt),
+  ),
+)
 
 pub get_table_safe : RowSafe GetTable
-get_table_safe t w h = ((sized h refl 1 (b_of w) refl, tt), λ o. ((sized h refl 2 (c_of w) refl, tt), λ k.
-    operate_safe t (o ∷ k ∷ []) index (read 0 ∷ read 1 ∷ []) for_value (to_register (a_of w) (read 0)) (tt, (tt, tt)) (may_wait for_value h refl refl refl refl tt)
-      (λ vs. ends_write vs (a_of w) (read 0) h (refl, refl, refl, refl) (reg h 0 (a_of w) refl) tt)))
+get_table_safe t w h = (
+  (sized h refl 1 (b_of w) refl, tt),
+  λ o. (
+    (sized h refl 2 (c_of w) refl, tt),
+    λ k.
+        operate_safe t (o ∷ k ∷ []) index (read 0 ∷ read 1 ∷ []) for_value (to_register (a_of w) (read 0)) (tt, (tt, tt)) (may_wait for_value h refl refl refl refl tt)
+        (λ vs. ends_write vs (a_of w) (read 0) h (refl, refl, refl, refl) (reg h 0 (a_of w) refl) tt),
+  ),
+)
 
 pub get_i_safe : RowSafe GetI
-get_i_safe t w h = ((sized h refl 1 (b_of w) refl, tt), λ o.
-    operate_safe t (o ∷ []) index (read 0 ∷ written (integer (pos (c_of w))) ∷ []) for_value (to_register (a_of w) (read 0)) (tt, (tt, tt)) (may_wait for_value h refl refl refl refl tt)
-      (λ vs. ends_write vs (a_of w) (read 0) h (refl, refl, refl, refl) (reg h 0 (a_of w) refl) tt))
+get_i_safe t w h = (
+  (sized h refl 1 (b_of w) refl, tt),
+  λ o.
+      operate_safe t (o ∷ []) index (read 0 ∷ written (integer (pos (c_of w))) ∷ []) for_value (to_register (a_of w) (read 0)) (tt, (tt, tt)) (may_wait for_value h refl refl refl refl tt)
+      (λ vs. ends_write vs (a_of w) (read 0) h (refl, refl, refl, refl) (reg h 0 (a_of w) refl) tt),
+)
 
 pub get_field_safe : RowSafe GetField
-get_field_safe t w h = ((sized h refl 1 (b_of w) refl, tt), λ o. ((con h 0 (c_of w) name refl, tt), λ k.
-    operate_safe t (o ∷ known (constant k.constant') ∷ []) index (read 0 ∷ read 1 ∷ []) for_value (to_register (a_of w) (read 0)) (tt, (tt, tt)) (may_wait for_value h refl refl refl refl tt)
-      (λ vs. ends_write vs (a_of w) (read 0) h (refl, refl, refl, refl) (reg h 0 (a_of w) refl) tt)))
+get_field_safe t w h = (
+  (sized h refl 1 (b_of w) refl, tt),
+  λ o. (
+    (con h 0 (c_of w) name refl, tt),
+    λ k.
+        operate_safe t (o ∷ known (constant k.constant') ∷ []) index (read 0 ∷ read 1 ∷ []) for_value (to_register (a_of w) (read 0)) (tt, (tt, tt)) (may_wait for_value h refl refl refl refl tt)
+        (λ vs. ends_write vs (a_of w) (read 0) h (refl, refl, refl, refl) (reg h 0 (a_of w) refl) tt),
+  ),
+)
 
 -- C is a register, or a constant with k
 pub rk_safe : (t : Top) (env : List Value) (w : Instruction) (k : ℕ → Shape → Text) → (k_of w ≡ true → c_of w < length t.code.own.constants) → (k_of w ≡ false → c_of w < t.size) → ((v : Value) → Safe (on_lua t) (env ++ v ∷ []) (expand (k (length env) (shape v)))) → Safe (on_lua t) env (expand (register_or_constant w k))
@@ -116,40 +137,61 @@ rk_safe t env w k c r s = from (k_of w) refl
     from false e = ((r e, tt), λ v. s v)
 
 pub set_tab_up_safe : RowSafe SetTabUp
-set_tab_up_safe t w h = (up h 0 (a_of w) refl, λ o. ((con h 0 (b_of w) name refl, tt), λ k.
-    rk_safe t (o ∷ known (constant k.constant') ∷ []) w _ (λ e. con h 1 (c_of w) anything (ap (λ (b : Bool). slice_get ((name, b_of w) ∷ (if b then (anything, c_of w) ∷ [] else [])) 1) e))
-      (λ e. sized h refl 0 (c_of w) (ap (λ (b : Bool). slice_get (if b then [] else c_of w ∷ []) 0) e))
-      (λ v. operate_safe t (o ∷ known (constant k.constant') ∷ v ∷ []) store (read 0 ∷ read 1 ∷ read 2 ∷ []) dropped next (tt, (tt, (tt, tt))) (may_wait dropped h refl refl refl refl tt) (λ vs. ends_next vs h (refl, refl, refl, refl)))))
+set_tab_up_safe t w h = (
+  up h 0 (a_of w) refl,
+  λ o. (
+    (con h 0 (b_of w) name refl, tt),
+    λ k.
+        rk_safe t (o ∷ known (constant k.constant') ∷ []) w _ (λ e. con h 1 (c_of w) anything (ap (λ (b : Bool). slice_get ((name, b_of w) ∷ (if b then (anything, c_of w) ∷ [] else [])) 1) e))
+        (λ e. sized h refl 0 (c_of w) (ap (λ (b : Bool). slice_get (if b then [] else c_of w ∷ []) 0) e))
+        (λ v. operate_safe t (o ∷ known (constant k.constant') ∷ v ∷ []) store (read 0 ∷ read 1 ∷ read 2 ∷ []) dropped next (tt, (tt, (tt, tt))) (may_wait dropped h refl refl refl refl tt) (λ vs. ends_next vs h (refl, refl, refl, refl))),
+  ),
+)
 
 pub set_table_safe : RowSafe SetTable
-set_table_safe t w h = ((sized h refl 0 (a_of w) refl, tt), λ o. ((sized h refl 1 (b_of w) refl, tt), λ k.
-    rk_safe t (o ∷ k ∷ []) w _ (λ e. con h 0 (c_of w) anything (ap (λ (b : Bool). slice_get (if b then (anything, c_of w) ∷ [] else []) 0) e))
-      (λ e. sized h refl 2 (c_of w) (ap (λ (b : Bool). slice_get (a_of w ∷ b_of w ∷ (if b then [] else c_of w ∷ [])) 2) e))
-      (λ v. operate_safe t (o ∷ k ∷ v ∷ []) store (read 0 ∷ read 1 ∷ read 2 ∷ []) dropped next (tt, (tt, (tt, tt))) (may_wait dropped h refl refl refl refl tt) (λ vs. ends_next vs h (refl, refl, refl, refl)))))
+set_table_safe t w h = (
+  (sized h refl 0 (a_of w) refl, tt),
+  λ o. (
+    (sized h refl 1 (b_of w) refl, tt),
+    λ k.
+        rk_safe t (o ∷ k ∷ []) w _ (λ e. con h 0 (c_of w) anything (ap (λ (b : Bool). slice_get (if b then (anything, c_of w) ∷ [] else []) 0) e))
+        (λ e. sized h refl 2 (c_of w) (ap (λ (b : Bool). slice_get (a_of w ∷ b_of w ∷ (if b then [] else c_of w ∷ [])) 2) e))
+        (λ v. operate_safe t (o ∷ k ∷ v ∷ []) store (read 0 ∷ read 1 ∷ read 2 ∷ []) dropped next (tt, (tt, (tt, tt))) (may_wait dropped h refl refl refl refl tt) (λ vs. ends_next vs h (refl, refl, refl, refl))),
+  ),
+)
 
 pub set_i_safe : RowSafe SetI
-set_i_safe t w h = ((sized h refl 0 (a_of w) refl, tt), λ o.
-    rk_safe t (o ∷ []) w _ (λ e. con h 0 (c_of w) anything (ap (λ (b : Bool). slice_get (if b then (anything, c_of w) ∷ [] else []) 0) e))
+set_i_safe t w h = (
+  (sized h refl 0 (a_of w) refl, tt),
+  λ o.
+      rk_safe t (o ∷ []) w _ (λ e. con h 0 (c_of w) anything (ap (λ (b : Bool). slice_get (if b then (anything, c_of w) ∷ [] else []) 0) e))
       (λ e. sized h refl 1 (c_of w) (ap (λ (b : Bool). slice_get (a_of w ∷ (if b then [] else c_of w ∷ [])) 1) e))
-      (λ v. operate_safe t (o ∷ v ∷ []) store (read 0 ∷ written (integer (pos (b_of w))) ∷ read 1 ∷ []) dropped next (tt, (tt, (tt, tt))) (may_wait dropped h refl refl refl refl tt) (λ vs. ends_next vs h (refl, refl, refl, refl))))
+      (λ v. operate_safe t (o ∷ v ∷ []) store (read 0 ∷ written (integer (pos (b_of w))) ∷ read 1 ∷ []) dropped next (tt, (tt, (tt, tt))) (may_wait dropped h refl refl refl refl tt) (λ vs. ends_next vs h (refl, refl, refl, refl))),
+)
 
 pub set_field_safe : RowSafe SetField
-set_field_safe t w h = ((sized h refl 0 (a_of w) refl, tt), λ o. ((con h 0 (b_of w) name refl, tt), λ k.
-    rk_safe t (o ∷ known (constant k.constant') ∷ []) w _ (λ e. con h 1 (c_of w) anything (ap (λ (b : Bool). slice_get ((name, b_of w) ∷ (if b then (anything, c_of w) ∷ [] else [])) 1) e))
-      (λ e. sized h refl 1 (c_of w) (ap (λ (b : Bool). slice_get (a_of w ∷ (if b then [] else c_of w ∷ [])) 1) e))
-      (λ v. operate_safe t (o ∷ known (constant k.constant') ∷ v ∷ []) store (read 0 ∷ read 1 ∷ read 2 ∷ []) dropped next (tt, (tt, (tt, tt))) (may_wait dropped h refl refl refl refl tt) (λ vs. ends_next vs h (refl, refl, refl, refl)))))
+set_field_safe t w h = (
+  (sized h refl 0 (a_of w) refl, tt),
+  λ o. (
+    (con h 0 (b_of w) name refl, tt),
+    λ k.
+        rk_safe t (o ∷ known (constant k.constant') ∷ []) w _ (λ e. con h 1 (c_of w) anything (ap (λ (b : Bool). slice_get ((name, b_of w) ∷ (if b then (anything, c_of w) ∷ [] else [])) 1) e))
+        (λ e. sized h refl 1 (c_of w) (ap (λ (b : Bool). slice_get (a_of w ∷ (if b then [] else c_of w ∷ [])) 1) e))
+        (λ v. operate_safe t (o ∷ known (constant k.constant') ∷ v ∷ []) store (read 0 ∷ read 1 ∷ read 2 ∷ []) dropped next (tt, (tt, (tt, tt))) (may_wait dropped h refl refl refl refl tt) (λ vs. ends_next vs h (refl, refl, refl, refl))),
+  ),
+)
 
 pub new_table_safe : RowSafe NewTable
 new_table_safe t w h =
     let s = second_there h ExtraArg refl in
     subst (λ (o : Option ℕ). Safe (on_lua t) [] (expand (elim o as (λ _. Text) [ None ↦ trap | Some ax ↦ Rattle.machine_core.specs.Text.quick Rattle.machine_core.specs.Text.make_table (λ v. Rattle.machine_core.specs.InstructionRows.then (Rattle.machine_core.specs.Text.write_register (a_of w) (read v)) skip) ]))) (sym (extra_there s))
-      (tt, λ n. (((sized h refl 0 (a_of w) refl, tt), h.runs), λ _. ends_skip (object a_table n ∷ []) h ExtraArg refl extra_second refl))
+    (tt, λ n. (((sized h refl 0 (a_of w) refl, tt), h.runs), λ _. ends_skip (object a_table n ∷ []) h ExtraArg refl extra_second refl))
 
 self_ends : (t : Top) (w : Instruction) (o k : Value) → Here t w OpSelf → (e : SettledEvent) → Safe (on_lua t) (o ∷ k ∷ settled_values e) (elim (settled_told e) [
-      | is_found ↦ prepares (write_register (a_of w + 1) (read 0) ∷ []) (only 2 (expand (to_register (a_of w) (read 0))))
-      | is_asked ↦ call_row (read 2) 3 for_value (write_register (a_of w + 1) (read 0) ∷ [])
-      | is_fault text ↦ prepares (write_register (a_of w + 1) (read 0) ∷ []) (raises text)
-    ])
+  | is_found ↦ prepares (write_register (a_of w + 1) (read 0) ∷ []) (only 2 (expand (to_register (a_of w) (read 0))))
+  | is_asked ↦ call_row (read 2) 3 for_value (write_register (a_of w + 1) (read 0) ∷ [])
+  | is_fault text ↦ prepares (write_register (a_of w + 1) (read 0) ∷ []) (raises text)
+])
 self_ends t w o k h (has_found vs) = (((sized h refl 0 (a_of w + 1) refl, tt), h.runs), λ _. ends_write (vs ++ []) (a_of w) (read 0) h (refl, refl, refl, refl) (below (a_of w) t.code.own.stack (reg h 0 (a_of w + 1) refl)) tt)
   where
     below : (a n : ℕ) → a + 1 < n → a < n
@@ -159,7 +201,10 @@ self_ends t w o k h (asks_for f vs) = call_safe t (o ∷ k ∷ f ∷ vs) (read 2
 self_ends t w o k h (fails_with text) = (((sized h refl 0 (a_of w + 1) refl, tt), h.runs), λ _. raise_safe t (o ∷ k ∷ []) text (place h))
 
 pub self_safe : RowSafe OpSelf
-self_safe t w h = ((sized h refl 1 (b_of w) refl, tt), λ o.
-    rk_safe t (o ∷ []) w _ (λ e. con h 0 (c_of w) name (ap (λ (b : Bool). slice_get (if b then (name, c_of w) ∷ [] else []) 0) e))
+self_safe t w h = (
+  (sized h refl 1 (b_of w) refl, tt),
+  λ o.
+      rk_safe t (o ∷ []) w _ (λ e. con h 0 (c_of w) name (ap (λ (b : Bool). slice_get (if b then (name, c_of w) ∷ [] else []) 0) e))
       (λ e. sized h refl 2 (c_of w) (ap (λ (b : Bool). slice_get ((a_of w + 1) ∷ b_of w ∷ (if b then [] else c_of w ∷ [])) 2) e))
-      (λ k. ((tt, (tt, tt)), λ e. self_ends t w o k h e)))
+      (λ k. ((tt, (tt, tt)), λ e. self_ends t w o k h e)),
+)

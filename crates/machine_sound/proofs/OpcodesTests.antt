@@ -1,13 +1,13 @@
 -- The rows of comparisons, tests, jumps and loops are safe in checked code.
-use Rattle.std.proofs.Common.{ℕ, zero, suc, ◌≡◌, ◌<◌, ◌≤◌, ◌+◌, ◌-◌, List, [], ◌∷◌, ◌++◌, Option, Some, None, refl, subst, sym, ap, ◌∙◌, length, Bool, true, false, arith}
+use Rattle.std.proofs.Common.{ℕ, suc, ◌≡◌, ◌<◌, ◌≤◌, ◌+◌, List, [], ◌∷◌, ◌++◌, Option, Some, None, refl, sym, ap, ◌∙◌, length, Bool, true, false, arith}
 use Rattle.std.specs.Prelude.{ℤ, pos, negsuc, ◌+ℤ◌, ◌-ℤ◌, slice_get, cond, not, IsTrue, codes}
-use Rattle.int_core.specs.Value.{Value, known, object, nil, boolean, integer, string, primitive, Shape, is_known, is_object, shape, holds, same_truth, same_integer, same_plain}
+use Rattle.int_core.specs.Value.{Value, known, object, nil, is_known, is_object, shape, holds, same_truth, same_integer, same_plain}
 use Rattle.int_core.specs.Arithmetic.{add, sub}
 use Rattle.int_core.specs.Operations.{Operation, equal, less, less_equal}
 use Rattle.code_core.specs.declared.opcode.Opcode.{Opcode}
 use Rattle.code_core.specs.declared.opcode.Opcode.TheVariants.{Jmp, Eq, Lt, Le, EqK, EqI, LtI, LeI, GtI, GeI, Test, TestSet, ForLoop, ForPrep, TForPrep, TForLoop, Tbc, Close}
 use Rattle.code_core.specs.declared.instruction.Instruction.{Instruction}
-use Rattle.code_core.specs.Instruction.{a_of, b_of, c_of, k_of, bx_of, sb_of, sj_of}
+use Rattle.code_core.specs.Instruction.{a_of, b_of, k_of, bx_of, sb_of, sj_of}
 use Rattle.code_core.specs.Fields.{registers, anything, second_half, target, takes_list}
 use Rattle.machine_core.specs.World.{for_truth, for_close}
 use Rattle.machine_core.specs.Text.{Arg, read, written, constant, close_cells, take_pending, Text, go_by}
@@ -16,7 +16,7 @@ use Rattle.machine_core.specs.FrameRows.{expand}
 use Rattle.machine_sound.specs.Sound.{Top}
 use Rattle.machine_sound.specs.Safe.{on_lua, ArgOk, ArgsOk, WaitsAs, Safe}
 use Rattle.machine_sound.proofs.Places.{Here, place}
-use Rattle.machine_sound.proofs.RowEnds.{IsPlain, reg, sized, con, plain_size, on_next, ends_next, ends_write, IsSecond, ends_skip, on_land, moved_place, raise_safe, call_safe, operate_safe, may_wait}
+use Rattle.machine_sound.proofs.RowEnds.{IsPlain, reg, sized, con, on_next, ends_next, ends_write, IsSecond, ends_skip, on_land, moved_place, raise_safe, call_safe, operate_safe, may_wait}
 use Rattle.machine_sound.proofs.OpcodesTables.{RowSafe}
 
 jump_second : IsSecond Jmp
@@ -118,8 +118,18 @@ round_safe : {t : Top} {w : Instruction} (env : List Value) → Here t w ForLoop
 round_safe {t = t} {w = w} env h (Some i) (Some c) (Some s) = from (same_integer c (pos 0))
   where
     on : Safe (on_lua t) (env ++ []) (expand (Rattle.machine_core.specs.InstructionRows.writes_integer (a_of w + 1) (sub c (pos 1)) (Rattle.machine_core.specs.InstructionRows.writes_integer (a_of w) (add i s) (Rattle.machine_core.specs.InstructionRows.writes_integer (a_of w + 3) (add i s) (back (bx_of w))))))
-    on = (((loop_register h refl refl 1 (omega arith), tt), h.runs), λ _. (((first_of (a_of w) t.size (loop_register h refl refl 0 (omega arith)), tt), h.runs), λ _. (((loop_register h refl refl 3 (omega arith), tt), h.runs), λ _.
-      lands_safe env (pos 1 -ℤ pos (bx_of w)) (pos (t.pc + 1) -ℤ pos (bx_of w)) h refl refl (round_back t.pc (bx_of w)))))
+    on = (
+      ((loop_register h refl refl 1 (omega arith), tt), h.runs),
+      λ _. (
+        ((first_of (a_of w) t.size (loop_register h refl refl 0 (omega arith)), tt), h.runs),
+        λ _. (
+          ((loop_register h refl refl 3 (omega arith), tt), h.runs),
+          λ _.
+              lands_safe env (pos 1 -ℤ pos (bx_of w)) (pos (t.pc + 1) -ℤ pos (bx_of w)) h refl refl (round_back t.pc (bx_of w)),
+        ),
+      ),
+    )
+
     from : (b : Bool) → Safe (on_lua t) env (expand (cond b next (Rattle.machine_core.specs.Text.quick Rattle.machine_core.specs.Text.pay (λ _. Rattle.machine_core.specs.InstructionRows.writes_integer (a_of w + 1) (sub c (pos 1)) (Rattle.machine_core.specs.InstructionRows.writes_integer (a_of w) (add i s) (Rattle.machine_core.specs.InstructionRows.writes_integer (a_of w + 3) (add i s) (back (bx_of w))))))))
     from true = ends_next env h (refl, refl, refl, refl)
     from false = (tt, λ b. paid_safe t (env ++ []) (Rattle.machine_core.specs.InstructionRows.writes_integer (a_of w + 1) (sub c (pos 1)) (Rattle.machine_core.specs.InstructionRows.writes_integer (a_of w) (add i s) (Rattle.machine_core.specs.InstructionRows.writes_integer (a_of w + 3) (add i s) (back (bx_of w))))) on b)
@@ -128,9 +138,17 @@ round_safe {t = t} env h (Some i) None s = raise_safe t env [] (place h)
 round_safe {t = t} env h (Some i) (Some c) None = raise_safe t env [] (place h)
 
 pub for_loop_safe : RowSafe ForLoop
-for_loop_safe t w h =
-    ((first_of (a_of w) t.size (loop_register h refl refl 0 (omega arith)), tt), λ x. ((loop_register h refl refl 1 (omega arith), tt), λ y. ((loop_register h refl refl 2 (omega arith), tt), λ z.
-      round_safe (x ∷ y ∷ z ∷ []) h (integer_of_shape (shape x)) (integer_of_shape (shape y)) (integer_of_shape (shape z)))))
+for_loop_safe t w h = (
+  (first_of (a_of w) t.size (loop_register h refl refl 0 (omega arith)), tt),
+  λ x. (
+    (loop_register h refl refl 1 (omega arith), tt),
+    λ y. (
+      (loop_register h refl refl 2 (omega arith), tt),
+      λ z.
+          round_safe (x ∷ y ∷ z ∷ []) h (integer_of_shape (shape x)) (integer_of_shape (shape y)) (integer_of_shape (shape z)),
+    ),
+  ),
+)
 
 ahead : (pc n : ℕ) → pos pc +ℤ pos (n + 2) ≡ pos (pc + 2 + n)
 ahead pc n = grind arith
@@ -139,7 +157,7 @@ starts_safe : {t : Top} {w : Instruction} (env : List Value) → Here t w ForPre
 starts_safe {t = t} {w = w} env h i l s = from (same_integer s (pos 0)) (runs i l s)
   where
     from : (a b : Bool) → Safe (on_lua t) env (expand (cond a (Rattle.machine_core.specs.Text.raise (Rattle.std.specs.Prelude.codes "'for' step is zero"))
-      (cond b (Rattle.machine_core.specs.InstructionRows.writes_integer (a_of w + 1) (rounds i l s) (Rattle.machine_core.specs.InstructionRows.writes_integer (a_of w + 3) i next)) (go_by (pos (bx_of w + 2))))))
+        (cond b (Rattle.machine_core.specs.InstructionRows.writes_integer (a_of w + 1) (rounds i l s) (Rattle.machine_core.specs.InstructionRows.writes_integer (a_of w + 3) i next)) (go_by (pos (bx_of w + 2))))))
     from true b = raise_safe t env [] (place h)
     from false true = (((loop_register h refl refl 1 (omega arith), tt), h.runs), λ _. (((loop_register h refl refl 3 (omega arith), tt), h.runs), λ _. ends_next env h (refl, refl, refl, refl)))
     from false false = lands_safe env (pos (bx_of w + 2)) (pos (t.pc + 2 + bx_of w)) h refl refl (ahead t.pc (bx_of w))
@@ -151,9 +169,17 @@ prepares_safe {t = t} env h None (Some l) (Some s) = raise_safe t env [] (place 
 prepares_safe env h (Some i) (Some l) (Some s) = starts_safe env h i l s
 
 pub for_prep_safe : RowSafe ForPrep
-for_prep_safe t w h =
-    ((first_of (a_of w) t.size (loop_register h refl refl 0 (omega arith)), tt), λ x. ((loop_register h refl refl 1 (omega arith), tt), λ y. ((loop_register h refl refl 2 (omega arith), tt), λ z.
-      prepares_safe (x ∷ y ∷ z ∷ []) h (integer_of_shape (shape x)) (integer_of_shape (shape y)) (integer_of_shape (shape z)))))
+for_prep_safe t w h = (
+  (first_of (a_of w) t.size (loop_register h refl refl 0 (omega arith)), tt),
+  λ x. (
+    (loop_register h refl refl 1 (omega arith), tt),
+    λ y. (
+      (loop_register h refl refl 2 (omega arith), tt),
+      λ z.
+          prepares_safe (x ∷ y ∷ z ∷ []) h (integer_of_shape (shape x)) (integer_of_shape (shape y)) (integer_of_shape (shape z)),
+    ),
+  ),
+)
 
 -- variables to be closed
 
@@ -184,13 +210,17 @@ t_for_loop_safe t w h = ((sized h refl 0 (a_of w + 4) refl, tt), λ v. from v)
   where
     lower : (a n : ℕ) → a + 4 < n → a + 2 < n
     lower a n l = omega arith
+
     on : (v : Value) → Safe (on_lua t) (v ∷ []) (expand (Rattle.machine_core.specs.InstructionRows.then (Rattle.machine_core.specs.Text.write_register (a_of w + 2) (read 0)) (back (bx_of w))))
     on v = (((lower (a_of w) t.size (sized h refl 0 (a_of w + 4) refl), tt), h.runs), λ _. lands_safe (v ∷ []) (pos 1 -ℤ pos (bx_of w)) (pos (t.pc + 1) -ℤ pos (bx_of w)) h refl refl (round_back t.pc (bx_of w)))
+
     goes : (v : Value) → Safe (on_lua t) (v ∷ []) (expand (Rattle.machine_core.specs.Text.quick Rattle.machine_core.specs.Text.pay (λ _. Rattle.machine_core.specs.InstructionRows.then (Rattle.machine_core.specs.Text.write_register (a_of w + 2) (read 0)) (back (bx_of w)))))
     goes v = (tt, λ b. paid_safe t (v ∷ []) (Rattle.machine_core.specs.InstructionRows.then (Rattle.machine_core.specs.Text.write_register (a_of w + 2) (read 0)) (back (bx_of w))) (on v) b)
+
     pick : (v : Value) (b : Bool) → Safe (on_lua t) (v ∷ []) (expand (cond b next (Rattle.machine_core.specs.Text.quick Rattle.machine_core.specs.Text.pay (λ _. Rattle.machine_core.specs.InstructionRows.then (Rattle.machine_core.specs.Text.write_register (a_of w + 2) (read 0)) (back (bx_of w))))))
     pick v true = ends_next (v ∷ []) h (refl, refl, refl, refl)
     pick v false = goes v
+
     from : (v : Value) → Safe (on_lua t) (v ∷ []) (expand (elim (shape v) as (λ _. Text) [
       | is_known k ↦ cond (same_plain k nil) next (Rattle.machine_core.specs.Text.quick Rattle.machine_core.specs.Text.pay (λ _. Rattle.machine_core.specs.InstructionRows.then (Rattle.machine_core.specs.Text.write_register (a_of w + 2) (read 0)) (back (bx_of w))))
       | is_object kind ↦ Rattle.machine_core.specs.Text.quick Rattle.machine_core.specs.Text.pay (λ _. Rattle.machine_core.specs.InstructionRows.then (Rattle.machine_core.specs.Text.write_register (a_of w + 2) (read 0)) (back (bx_of w)))
@@ -205,6 +235,7 @@ closes_safe {t = t} {w = w} env h = ((tt, tt), λ o. from o)
   where
     wait : WaitsAs for_close (record t { cells = a_of w; captured = [] })
     wait = record { place = moved_place (record t { cells = a_of w; captured = [] }) (place h) refl refl; fits = refl; size = h.plain refl; kept = (let e = h.pending in omega arith); error = tt }
+
     from : (o : Option Value) → Safe (on_lua t) (env ++ Rattle.machine_sound.specs.Safe.list_of_option o) (expand (cond (Rattle.machine_core.specs.Text.is_there o) (Rattle.machine_core.specs.Text.close (read (length env)) (written nil) for_close (close_cells (a_of w) ∷ take_pending (a_of w) ∷ [])) (Rattle.machine_core.specs.InstructionRows.then (close_cells (a_of w)) next)))
     from None = ((tt, h.runs), λ _. on_next (record t { cells = a_of w; captured = [] }) env h (refl, refl, refl, refl) refl refl h.runs (h.plain refl) (let l = reg h 0 (a_of w) refl in least (a_of w) t.code.own.stack l))
       where

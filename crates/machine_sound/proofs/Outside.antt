@@ -1,17 +1,17 @@
 -- Moves of a Lua frame on top that leave the coroutines and their cells: operations, new tables, lists put into tables, costs, and what moves.
-use Rattle.std.proofs.Common.{ℕ, zero, suc, ◌+◌, ◌-◌, ◌<◌, ◌≤◌, ◌≡◌, List, [], ◌∷◌, ◌++◌, Option, Some, None, refl, subst, sym, ap, ◌∙◌, length, drop, arith, Bool, true, false, cond, length-append}
-use Rattle.std.specs.Prelude.{slice_get, slice_set, IsTrue, IsSome, not}
-use Rattle.int_core.specs.Value.{Value, known, nil, object, a_table, a_function, a_coroutine, Kind, Shape, is_known, is_object, shape, bind, last, is_nil}
+use Rattle.std.proofs.Common.{ℕ, zero, suc, ◌<◌, ◌≡◌, List, [], ◌∷◌, ◌++◌, Option, Some, None, refl, subst, ap, ◌∙◌, length, drop, arith, Bool, true, false, length-append}
+use Rattle.std.specs.Prelude.{slice_get, slice_set, not}
+use Rattle.int_core.specs.Value.{Value, known, object, a_table, a_function, a_coroutine, is_object, shape, last, is_nil}
 use Rattle.int_core.specs.Heap.{Table, Heap, filled, filled_table, add_table}
 use Rattle.int_core.specs.Operations.{Operation, Settled, found, ask, fault, does, handler_in, of_close}
-use Rattle.machine_core.specs.World.{Function, Cell, closed, open_at, LuaFrame, Frame, lua, Coroutine, in_progress, World, Place, place_of}
-use Rattle.machine_core.specs.Text.{Arg, read, written, arg, args_of, Quick, read_upvalue, write_upvalue, make_table, make_function, fill_table, pay}
-use Rattle.machine_core.specs.Moves.{Move, outside, settle, find_close, is_closable, take_moving, Told, Made, made, move, do_outside, settled, SettledShape}
-use Rattle.machine_sound.specs.Sound.{Each, Sizes, sizes, Valid, OptionOk, TableOk, FunctionOk, CoroutineOk, CellOk, FrameWaits, Solid, Top, RunsOrWaits, TopIs}
-use Rattle.machine_sound.specs.Safe.{Phase, on_lua, Is, TopReady, QuickReady, ArgsOk, SettledEvent, has_found, asks_for, fails_with, settled_values, settled_told, MoveGood}
-use Rattle.machine_sound.proofs.Lists.{each_none, each_cons, each_one, each_push, each_set, each_drop, each_on, bind_at, get_there, get_set_same, length_set, get_push_new}
+use Rattle.machine_core.specs.World.{Function, World, place_of}
+use Rattle.machine_core.specs.Text.{Arg, read, written, arg, args_of, Quick, make_table, fill_table, pay}
+use Rattle.machine_core.specs.Moves.{outside, settle, find_close, is_closable, take_moving, Made, made, move, do_outside, settled}
+use Rattle.machine_sound.specs.Sound.{Each, sizes, Valid, TableOk, FunctionOk, CoroutineOk, CellOk, Solid, Top, RunsOrWaits, TopIs}
+use Rattle.machine_sound.specs.Safe.{on_lua, Is, TopReady, QuickReady, has_found, asks_for, fails_with, MoveGood}
+use Rattle.machine_sound.proofs.Lists.{each_none, each_cons, each_one, each_push, each_set, each_drop, each_on, bind_at, get_there, length_set}
 use Rattle.machine_sound.proofs.Values.{args_valid, arg_valid, nth_ok}
-use Rattle.machine_sound.proofs.Grow.{Grows, grows_self, valid_on, values_on, table_on, function_on, coroutine_on, cell_on, roots_on, lua_waits_on, each_waits_on}
+use Rattle.machine_sound.proofs.Grow.{Grows, grows_self, values_on, table_on, function_on, coroutine_on, cell_on, roots_on, lua_waits_on, each_waits_on}
 use Rattle.machine_sound.proofs.Heaps.{HeapOk, HeapStays, does_ok, handler_ok, filled_ok}
 use Rattle.machine_sound.proofs.Frames.{the_place, place_is}
 use Rattle.machine_sound.proofs.Moves.{made_so}
@@ -36,20 +36,35 @@ module _ (n : ℕ) (W : World) (H : Heap) (functions : List Function) (moving : 
 
   pub outside_solid : Solid n W → Solid n (with_outside W H functions moving fuel)
   outside_solid s = record {
-      tables = o.tables; functions = o.functions;
-      cells = each_on (CellOk (sizes n W) W.coroutines) (CellOk (sizes n V) W.coroutines) (cell_on (sizes n W) (sizes n V) o.grows W.coroutines) W.cells s.cells;
-      one_each = s.one_each;
-      coroutines = each_on (CoroutineOk (sizes n W)) (CoroutineOk (sizes n V)) (coroutine_on (sizes n W) (sizes n V) o.grows) W.coroutines s.coroutines;
-      chain = s.chain; moving = o.moving;
-      roots = roots_on (sizes n W) (sizes n V) o.grows W V s.roots refl refl refl refl refl o.metatable }
+    tables = o.tables;
+    functions = o.functions;
+    cells = each_on (CellOk (sizes n W) W.coroutines) (CellOk (sizes n V) W.coroutines) (cell_on (sizes n W) (sizes n V) o.grows W.coroutines) W.cells s.cells;
+    one_each = s.one_each;
+    coroutines = each_on (CoroutineOk (sizes n W)) (CoroutineOk (sizes n V)) (coroutine_on (sizes n W) (sizes n V) o.grows) W.coroutines s.coroutines;
+    chain = s.chain;
+    moving = o.moving;
+    roots = roots_on (sizes n W) (sizes n V) o.grows W V s.roots refl refl refl refl refl o.metatable;
+  }
 
   pub outside_top : (t : Top) → TopIs n t W → TopIs n t (with_outside W H functions moving fuel)
   outside_top t h = record {
-      coroutine = h.coroutine; base = h.base; top = h.top; function = h.function; last = h.last; frames = h.frames;
-      there = o.grows.functions h.top.function h.function h.there;
-      below = each_waits_on (sizes n W) (sizes n V) o.grows h.base h.below;
-      code = h.code; pc = h.pc; size = h.size; opened = h.opened; pending = h.pending; cells = h.cells; captured = h.captured;
-      wait = waits t.runs h.wait }
+    coroutine = h.coroutine;
+    base = h.base;
+    top = h.top;
+    function = h.function;
+    last = h.last;
+    frames = h.frames;
+    there = o.grows.functions h.top.function h.function h.there;
+    below = each_waits_on (sizes n W) (sizes n V) o.grows h.base h.below;
+    code = h.code;
+    pc = h.pc;
+    size = h.size;
+    opened = h.opened;
+    pending = h.pending;
+    cells = h.cells;
+    captured = h.captured;
+    wait = waits t.runs h.wait;
+  }
     where
       waits : (b : Bool) → RunsOrWaits b (sizes n W) h.top → RunsOrWaits b (sizes n V) h.top
       waits true k = k
@@ -65,7 +80,8 @@ stays_ok n W K moving fuel s h m =
       tables = each_on (TableOk (sizes n W)) (TableOk (sizes n V)) (table_on (sizes n W) (sizes n V) g) K.tables h.ok.tables;
       metatable = h.same_metatable;
       functions = each_on (FunctionOk (sizes n W)) (FunctionOk (sizes n V)) (function_on (sizes n W) (sizes n V) g) W.functions s.functions;
-      moving = values_on (sizes n W) (sizes n V) g moving m }
+      moving = values_on (sizes n W) (sizes n V) g moving m;
+    }
 
 -- a move that leaves such a world
 pub goes_outside : (n : ℕ) (t : Top) (env vs : List Value) (W : World) (H : Heap) (functions : List Function) (moving : List Value) (fuel : ℕ) → OutsideOk n W (with_outside W H functions moving fuel)
@@ -87,12 +103,16 @@ settle_move n op xs t env W i r = from (does op (args_of env xs) W.heap) refl (d
   where
     is : (s : Settled) → does op (args_of env xs) W.heap ≡ s → move (settle op xs) env W ≡ settled W (the_place n t W i.phase) s
     is s e = bind_at (λ p. settled W p (does op (args_of env xs) W.heap)) (place_of W) (the_place n t W i.phase) (place_is n t W i.phase) ∙ ap (settled W (the_place n t W i.phase)) e
+
     from : (s : Settled) → does op (args_of env xs) W.heap ≡ s → Rattle.machine_sound.proofs.Heaps.SettledOk (sizes n W) W.heap (heap_of n W i.solid) s → MoveGood n (on_lua t) env (settle op xs) W
     from (found K vs) e k =
         let o = stays_ok n W K W.moving W.fuel i.solid k.0 i.solid.moving in
         record {
-          event = has_found vs; world = record W { heap = K }; is = is (found K vs) e;
-          holds = goes_outside n t env vs W K W.functions W.moving W.fuel o i (values_on (sizes n W) (sizes n (record W { heap = K })) o.grows vs k.1) }
+          event = has_found vs;
+          world = record W { heap = K };
+          is = is (found K vs) e;
+          holds = goes_outside n t env vs W K W.functions W.moving W.fuel o i (values_on (sizes n W) (sizes n (record W { heap = K })) o.grows vs k.1);
+        }
     from (ask f vs) e k = record { event = asks_for f vs; world = W; is = is (ask f vs) e; holds = goes_still n t env (f ∷ vs) W i (each_cons (Valid (sizes n W)) f vs k.0 k.1) }
     from (fault text) e k = record { event = fails_with text; world = W; is = is (fault text) e; holds = goes_still n t env [] W i (each_none (Valid (sizes n W))) }
 
@@ -100,13 +120,20 @@ pub find_close_move : (n : ℕ) (v e : Arg) (t : Top) (env : List Value) (W : Wo
 find_close_move n v e t env W i r =
     let z = sizes n W in
     record {
-      event = handler_in W.heap of_close (arg env v); world = W; is = refl;
+      event = handler_in W.heap of_close (arg env v);
+      world = W;
+      is = refl;
       holds = goes_still n t env (handler_in W.heap of_close (arg env v) ∷ arg env v ∷ arg env e ∷ []) W i
-        (each_cons (Valid z) (handler_in W.heap of_close (arg env v)) (arg env v ∷ arg env e ∷ []) (handler_ok z W.heap (heap_of n W i.solid) of_close (arg env v)) (each_cons (Valid z) (arg env v) (arg env e ∷ []) (arg_valid z env v i.valid r.0) (each_one (Valid z) (arg env e) (arg_valid z env e i.valid r.1)))) }
+          (each_cons (Valid z) (handler_in W.heap of_close (arg env v)) (arg env v ∷ arg env e ∷ []) (handler_ok z W.heap (heap_of n W i.solid) of_close (arg env v)) (each_cons (Valid z) (arg env v) (arg env e ∷ []) (arg_valid z env v i.valid r.0) (each_one (Valid z) (arg env e) (arg_valid z env e i.valid r.1))));
+    }
 
 pub is_closable_move : (n : ℕ) (v : Arg) (t : Top) (env : List Value) (W : World) → Is n (on_lua t) env W → MoveGood n (on_lua t) env (is_closable v) W
 is_closable_move n v t env W i = record {
-    event = not (is_nil (handler_in W.heap of_close (arg env v))); world = W; is = refl; holds = goes_still n t env [] W i (each_none (Valid (sizes n W))) }
+  event = not (is_nil (handler_in W.heap of_close (arg env v)));
+  world = W;
+  is = refl;
+  holds = goes_still n t env [] W i (each_none (Valid (sizes n W)));
+}
 
 pub take_moving_move : (n : ℕ) (t : Top) (env : List Value) (W : World) → Is n (on_lua t) env W → MoveGood n (on_lua t) env take_moving W
 take_moving_move n t env W i =
@@ -126,15 +153,19 @@ pay_move n t env W i r = from W.fuel refl
   where
     from : (f : ℕ) → W.fuel ≡ f → MoveGood n (on_lua t) env (outside pay) W
     from zero e = record {
-        event = false; world = W;
-        is = quick_is n pay t env W i ∙ ap (λ (f : ℕ). elim f as (λ _. Option (Made Bool)) [ zero ↦ made W [] false | suc fuel ↦ made (record W { fuel = fuel }) [] true ]) e;
-        holds = goes_still n t env [] W i (each_none (Valid (sizes n W))) }
+      event = false;
+      world = W;
+      is = quick_is n pay t env W i ∙ ap (λ (f : ℕ). elim f as (λ _. Option (Made Bool)) [ zero ↦ made W [] false | suc fuel ↦ made (record W { fuel = fuel }) [] true ]) e;
+      holds = goes_still n t env [] W i (each_none (Valid (sizes n W)));
+    }
     from (suc f) e =
         let o = stays_self_ok n W W.moving f i.solid i.solid.moving in
         record {
-          event = true; world = record W { fuel = f };
+          event = true;
+          world = record W { fuel = f };
           is = quick_is n pay t env W i ∙ ap (λ (f : ℕ). elim f as (λ _. Option (Made Bool)) [ zero ↦ made W [] false | suc fuel ↦ made (record W { fuel = fuel }) [] true ]) e;
-          holds = goes_outside n t env [] W W.heap W.functions W.moving f o i (each_none (Valid (sizes n (record W { fuel = f })))) }
+          holds = goes_outside n t env [] W W.heap W.functions W.moving f o i (each_none (Valid (sizes n (record W { fuel = f }))));
+        }
 
 pub make_table_move : (n : ℕ) → QuickGood n make_table
 make_table_move n t env W i r =
@@ -145,14 +176,18 @@ make_table_move n t env W i r =
     let z = sizes n W in
     let y = sizes n V in
     let o : OutsideOk n W V = record {
-        grows = g;
-        tables = each_push (TableOk y) W.heap.tables (record { rows = []; metatable = None }) (each_on (TableOk z) (TableOk y) (table_on z y g) W.heap.tables i.solid.tables) (record { rows = each_none (λ (row : Value × Value). Valid y row.0 × Valid y row.1); metatable = tt });
-        metatable = refl;
-        functions = each_on (FunctionOk z) (FunctionOk y) (function_on z y g) W.functions i.solid.functions;
-        moving = values_on z y g W.moving i.solid.moving } in
+      grows = g;
+      tables = each_push (TableOk y) W.heap.tables (record { rows = []; metatable = None }) (each_on (TableOk z) (TableOk y) (table_on z y g) W.heap.tables i.solid.tables) (record { rows = each_none (λ (row : Value × Value). Valid y row.0 × Valid y row.1); metatable = tt });
+      metatable = refl;
+      functions = each_on (FunctionOk z) (FunctionOk y) (function_on z y g) W.functions i.solid.functions;
+      moving = values_on z y g W.moving i.solid.moving;
+    } in
     record {
-      event = length W.heap.tables; world = V; is = quick_is n make_table t env W i;
-      holds = goes_outside n t env (object a_table (length W.heap.tables) ∷ []) W H W.functions W.moving W.fuel o i (each_one (Valid y) (object a_table (length W.heap.tables)) (omega arith)) }
+      event = length W.heap.tables;
+      world = V;
+      is = quick_is n make_table t env W i;
+      holds = goes_outside n t env (object a_table (length W.heap.tables) ∷ []) W H W.functions W.moving W.fuel o i (each_one (Valid y) (object a_table (length W.heap.tables)) (omega arith));
+    }
 
 table_is : (v : Value) → shape v ≡ is_object a_table → (m : ℕ) × (v ≡ object a_table m)
 table_is (known p) h = absurd (cc)
@@ -170,16 +205,21 @@ fill_table_move n x last slot t env W i r =
     let new : Table = record old.0 { rows = filled last vs old.0.rows } in
     let H : Heap = record W.heap { tables = slice_set W.heap.tables v.0 new } in
     let k : HeapStays z W.heap H = record {
-        ok = record {
-          tables = each_set (TableOk z) W.heap.tables v.0 new i.solid.tables (record { rows = filled_ok z last vs old.0.rows (each_drop (Valid z) slot env i.valid) (i.solid.tables v.0 old.0 old.1).rows; metatable = (i.solid.tables v.0 old.0 old.1).metatable });
-          count = length_set W.heap.tables v.0 new; metatable = i.solid.roots.string_metatable };
-        same_metatable = refl } in
+      ok = record {
+        tables = each_set (TableOk z) W.heap.tables v.0 new i.solid.tables (record { rows = filled_ok z last vs old.0.rows (each_drop (Valid z) slot env i.valid) (i.solid.tables v.0 old.0 old.1).rows; metatable = (i.solid.tables v.0 old.0 old.1).metatable });
+        count = length_set W.heap.tables v.0 new;
+        metatable = i.solid.roots.string_metatable;
+      };
+      same_metatable = refl;
+    } in
     let o = stays_ok n W H W.moving W.fuel i.solid k i.solid.moving in
     let e : filled_table W.heap (arg env x) last vs ≡ Some H = ap (λ v. filled_table W.heap v last vs) v.1 ∙ bind_at _ (slice_get W.heap.tables v.0) old.0 old.1 in
     record {
-      event = tt; world = record W { heap = H };
+      event = tt;
+      world = record W { heap = H };
       is = quick_is n (fill_table x last slot) t env W i ∙ bind_at _ (filled_table W.heap (arg env x) last vs) H e;
-      holds = goes_outside n t env [] W H W.functions W.moving W.fuel o i (each_none (Valid (sizes n (record W { heap = H })))) }
+      holds = goes_outside n t env [] W H W.functions W.moving W.fuel o i (each_none (Valid (sizes n (record W { heap = H }))));
+    }
   where
     is_valid : (x : Arg) → shape (arg env x) ≡ is_object a_table → Valid (sizes n W) (arg env x)
     is_valid (read k) h = nth_ok (Valid (sizes n W)) tt env k i.valid

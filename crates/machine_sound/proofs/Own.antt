@@ -1,15 +1,15 @@
 -- Moves on the own activation keep what is known of it.
-use Rattle.std.proofs.Common.{ℕ, zero, suc, ◌+◌, ◌-◌, ◌<◌, ◌≤◌, ◌≡◌, ◌⊎◌, inl, inr, ⊎_elim, List, [], ◌∷◌, ◌++◌, Option, Some, None, refl, subst, sym, ap, ◌∙◌, length, take, drop, arith, Bool, true, false}
-use Rattle.std.specs.Prelude.{slice_get, cond, max, nat_eq, nat_lt, nat_le, not, ◌&&◌, IsTrue, IsSome, filter}
+use Rattle.std.proofs.Common.{ℕ, zero, suc, ◌+◌, ◌-◌, ◌<◌, ◌≤◌, ◌≡◌, List, [], ◌∷◌, ◌++◌, Some, refl, subst, sym, ap, ◌∙◌, length, take, drop, arith, Bool, true, false}
+use Rattle.std.specs.Prelude.{slice_get, cond, max, nat_eq, nat_lt, not, ◌&&◌, IsSome, filter}
 use Rattle.std.proofs.lemmas.Bool.Decides.{nat_tests}
 use Rattle.int_core.specs.Value.{Value, known, nil, nth, range, write, write_all}
 use Rattle.code_core.specs.Prototype.{Prototype}
 use Rattle.machine_core.specs.World.{Cell, closed, open_at, Activation, close_from, find_open}
-use Rattle.machine_core.specs.Text.{Arg, arg, behind, Own, read_register, read_registers, read_list, read_constant, read_varargs, see, write_register, write_registers, write_list, write_nils, end_list, cut_from, close_cells, mark_pending, see_pending, take_pending, drop_pending, keep_results, keep_pending, effect, done, nils, blanked, last_pending, is_there, is_pending}
+use Rattle.machine_core.specs.Text.{arg, behind, Own, read_register, read_registers, read_list, read_constant, read_varargs, see, write_register, write_registers, write_list, write_nils, end_list, cut_from, close_cells, mark_pending, see_pending, take_pending, drop_pending, keep_results, keep_pending, effect, done, nils, blanked, last_pending, is_there, is_pending}
 use Rattle.machine_core.specs.Moves.{cells_after, cells_done}
 use Rattle.machine_sound.specs.Sound.{Each, Sizes, Valid, Top}
-use Rattle.machine_sound.specs.Safe.{ArgOk, stack_of, OwnReady, after_own, AllReady, after_all}
-use Rattle.machine_sound.proofs.Lists.{each_none, each_cons, each_tail, each_push, each_take, each_drop, each_filter, each_on}
+use Rattle.machine_sound.specs.Safe.{stack_of, OwnReady, after_own, AllReady, after_all}
+use Rattle.machine_sound.proofs.Lists.{each_none, each_cons, each_push, each_take, each_drop, each_filter}
 use Rattle.machine_sound.proofs.Values.{nth_ok, each_range, each_write, each_write_all, each_nils, each_blanked, length_range, length_write, length_write_all, length_nils, length_blanked, length_front, arg_valid}
 
 -- what is known of an activation while moves are made, and of the cells
@@ -87,30 +87,81 @@ module _ (z : Sizes) (old : List Cell) (p : Prototype) (co k : ℕ) (env : List 
       → length vs ≡ size → p.own.stack ≤ size → Each (Valid z) vs → ((i r : ℕ) → slice_get cells i ≡ Some (open_at co k r) → r < size)
       → Known (record t { size = size; opened = opened }) (record own { registers = vs; opened = opened }) cells
   other t own cells h size opened vs l s v c = record {
-      code = h.code; pc = h.pc; size = l; opened = refl; bound = h.bound; stack = s; registers = v; varargs = h.varargs; pending = h.pending;
-      cells_below = h.cells_below; cells_there = c; still_open = h.still_open; closed_ok = h.closed_ok; count = h.count; captured = h.captured }
+    code = h.code;
+    pc = h.pc;
+    size = l;
+    opened = refl;
+    bound = h.bound;
+    stack = s;
+    registers = v;
+    varargs = h.varargs;
+    pending = h.pending;
+    cells_below = h.cells_below;
+    cells_there = c;
+    still_open = h.still_open;
+    closed_ok = h.closed_ok;
+    count = h.count;
+    captured = h.captured;
+  }
 
   -- other registers, as many
   same_many : (t : Top) (own : Activation) (cells : List Cell) (h : Known t own cells) (vs : List Value) → length vs ≡ t.size → Each (Valid z) vs → Known t (record own { registers = vs }) cells
   same_many t own cells h vs l v = record {
-      code = h.code; pc = h.pc; size = l; opened = h.opened; bound = h.bound; stack = h.stack; registers = v; varargs = h.varargs; pending = h.pending;
-      cells_below = h.cells_below; cells_there = h.cells_there; still_open = h.still_open; closed_ok = h.closed_ok; count = h.count; captured = h.captured }
+    code = h.code;
+    pc = h.pc;
+    size = l;
+    opened = h.opened;
+    bound = h.bound;
+    stack = h.stack;
+    registers = v;
+    varargs = h.varargs;
+    pending = h.pending;
+    cells_below = h.cells_below;
+    cells_there = h.cells_there;
+    still_open = h.still_open;
+    closed_ok = h.closed_ok;
+    count = h.count;
+    captured = h.captured;
+  }
 
   -- other pending registers
   other_pending : (t : Top) (own : Activation) (cells : List Cell) (h : Known t own cells) (n : ℕ) (qs : List ℕ) → Each (λ r. r < n) qs → Each (λ r. r < p.own.stack) qs → Known (record t { pending = n }) (record own { pending = qs }) cells
   other_pending t own cells h n qs b q = record {
-      code = h.code; pc = h.pc; size = h.size; opened = h.opened; bound = b; stack = h.stack; registers = h.registers; varargs = h.varargs; pending = q;
-      cells_below = h.cells_below; cells_there = h.cells_there; still_open = h.still_open; closed_ok = h.closed_ok; count = h.count; captured = h.captured }
+    code = h.code;
+    pc = h.pc;
+    size = h.size;
+    opened = h.opened;
+    bound = b;
+    stack = h.stack;
+    registers = h.registers;
+    varargs = h.varargs;
+    pending = q;
+    cells_below = h.cells_below;
+    cells_there = h.cells_there;
+    still_open = h.still_open;
+    closed_ok = h.closed_ok;
+    count = h.count;
+    captured = h.captured;
+  }
 
   closing : (t : Top) (own : Activation) (cells : List Cell) (h : Known t own cells) (r : ℕ) → Known (record t { cells = r; captured = [] }) own (close_from co k r own.registers cells)
   closing t own cells h r = record {
-      code = h.code; pc = h.pc; size = h.size; opened = h.opened; bound = h.bound; stack = h.stack; registers = h.registers; varargs = h.varargs; pending = h.pending;
-      cells_below = λ i q e. (close_open co k r own.registers cells i co k q e).1 refl refl;
-      cells_there = λ i q e. h.cells_there i q (close_open co k r own.registers cells i co k q e).0;
-      still_open = λ i d g q e. h.still_open i d g q (close_open co k r own.registers cells i d g q e).0;
-      closed_ok = close_closed (Valid z) tt co k r own.registers cells h.registers h.closed_ok;
-      count = close_length co k r own.registers cells ∙ h.count;
-      captured = each_none (λ r. IsSome (find_open co k r (close_from co k _ own.registers cells))) }
+    code = h.code;
+    pc = h.pc;
+    size = h.size;
+    opened = h.opened;
+    bound = h.bound;
+    stack = h.stack;
+    registers = h.registers;
+    varargs = h.varargs;
+    pending = h.pending;
+    cells_below = λ i q e. (close_open co k r own.registers cells i co k q e).1 refl refl;
+    cells_there = λ i q e. h.cells_there i q (close_open co k r own.registers cells i co k q e).0;
+    still_open = λ i d g q e. h.still_open i d g q (close_open co k r own.registers cells i d g q e).0;
+    closed_ok = close_closed (Valid z) tt co k r own.registers cells h.registers h.closed_ok;
+    count = close_length co k r own.registers cells ∙ h.count;
+    captured = each_none (λ r. IsSome (find_open co k r (close_from co k _ own.registers cells)));
+  }
 
   -- registers that are the stack's alone, where no open cell is in the way
   low : (t : Top) (own : Activation) (cells : List Cell) (h : Known t own cells) (size : ℕ) → t.cells ≤ stack_of t → stack_of t ≤ size → (i r : ℕ) → slice_get cells i ≡ Some (open_at co k r) → r < size
@@ -145,18 +196,18 @@ module _ (z : Sizes) (old : List Cell) (p : Prototype) (co k : ℕ) (env : List 
       let l = length_write_all at (drop slot env) own.registers (omega arith) in
       let st = h.stack in
       other t own cells h (max t.size (at + length (drop slot env))) (length (drop slot env)) (write_all at (drop slot env) own.registers) (omega arith) (omega arith)
-        (each_write_all (Valid z) tt at (drop slot env) own.registers (each_drop (Valid z) slot env valid) h.registers)
-        (λ i r e. let q = h.cells_there i r e in omega arith)
+      (each_write_all (Valid z) tt at (drop slot env) own.registers (each_drop (Valid z) slot env valid) h.registers)
+      (λ i r e. let q = h.cells_there i r e in omega arith)
   own_good end_list t own cells c h =
       let s = h.size in
       let st = h.stack in
       let q = ap (λ (p : Prototype). p.own.stack) h.code in
       other t own cells h (stack_of t) 0 (take p.own.stack own.registers) (length_front p.own.stack own.registers (omega arith) ∙ sym q) (omega arith)
-        (each_take (Valid z) p.own.stack own.registers h.registers) (low t own cells h (stack_of t) c (omega arith))
+      (each_take (Valid z) p.own.stack own.registers h.registers) (low t own cells h (stack_of t) c (omega arith))
   own_good (cut_from r) t own cells c h =
       let q = ap (λ (p : Prototype). p.own.stack) h.code in
       other t own cells h (stack_of t) 0 (blanked (λ i. nat_lt i r) 0 p.own.stack own.registers) (length_blanked (λ i. nat_lt i r) 0 p.own.stack own.registers ∙ sym q) (omega arith)
-        (each_blanked (Valid z) tt (λ i. nat_lt i r) 0 p.own.stack own.registers h.registers) (low t own cells h (stack_of t) c (omega arith))
+      (each_blanked (Valid z) tt (λ i. nat_lt i r) 0 p.own.stack own.registers h.registers) (low t own cells h (stack_of t) c (omega arith))
   own_good (close_cells r) t own cells c h = closing t own cells h r
   own_good (mark_pending r) t own cells c h =
       let q = ap (λ (p : Prototype). p.own.stack) h.code in
@@ -164,18 +215,18 @@ module _ (z : Sizes) (old : List Cell) (p : Prototype) (co k : ℕ) (env : List 
       other_pending t own cells h (stack_of t) (own.pending ++ r ∷ []) (subst (λ n. Each (λ r. r < n) (own.pending ++ r ∷ [])) (sym q) all) all
   own_good (take_pending r) t own cells c h =
       other_pending t own cells h t.pending (cond (is_there (last_pending r own.pending)) (take (length own.pending - 1) own.pending) own.pending)
-        (each_taken (λ r. r < t.pending) (is_there (last_pending r own.pending)) (length own.pending - 1) own.pending h.bound)
-        (each_taken (λ r. r < p.own.stack) (is_there (last_pending r own.pending)) (length own.pending - 1) own.pending h.pending)
+      (each_taken (λ r. r < t.pending) (is_there (last_pending r own.pending)) (length own.pending - 1) own.pending h.bound)
+      (each_taken (λ r. r < p.own.stack) (is_there (last_pending r own.pending)) (length own.pending - 1) own.pending h.pending)
   own_good (drop_pending r) t own cells c h =
       other_pending t own cells h r (filter (λ q. nat_lt q r) own.pending) (filtered r own.pending) (each_filter (λ q. q < p.own.stack) (λ q. nat_lt q r) own.pending h.pending)
   own_good (keep_results from count) t own cells c h =
       let q = ap (λ (p : Prototype). p.own.stack) h.code in
       other t own cells h (max (stack_of t) (behind from count)) 0 (blanked _ 0 (max p.own.stack (behind from count)) own.registers) (length_blanked _ 0 (max p.own.stack (behind from count)) own.registers ∙ ap (λ n. max n (behind from count)) (sym q)) (omega arith)
-        (each_blanked (Valid z) tt _ 0 (max p.own.stack (behind from count)) own.registers h.registers) (low t own cells h (max (stack_of t) (behind from count)) c (omega arith))
+      (each_blanked (Valid z) tt _ 0 (max p.own.stack (behind from count)) own.registers h.registers) (low t own cells h (max (stack_of t) (behind from count)) c (omega arith))
   own_good keep_pending t own cells c h =
       let q = ap (λ (p : Prototype). p.own.stack) h.code in
       other t own cells h (stack_of t) 0 (blanked (is_pending own.pending) 0 p.own.stack own.registers) (length_blanked (is_pending own.pending) 0 p.own.stack own.registers ∙ sym q) (omega arith)
-        (each_blanked (Valid z) tt (is_pending own.pending) 0 p.own.stack own.registers h.registers) (low t own cells h (stack_of t) c (omega arith))
+      (each_blanked (Valid z) tt (is_pending own.pending) 0 p.own.stack own.registers h.registers) (low t own cells h (stack_of t) c (omega arith))
 
   pub all_good : (ms : List Own) (t : Top) (own : Activation) (cells : List Cell) → AllReady ms env t → Known t own cells → Known (after_all ms env t) (done ms p env own) (cells_done ms p co k env own cells)
   all_good [] t own cells c h = h

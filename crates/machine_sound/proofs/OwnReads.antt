@@ -1,14 +1,13 @@
 -- What a move on the own activation reads and tells, and that it does not trap.
-use Rattle.std.proofs.Common.{ℕ, zero, suc, ◌+◌, ◌-◌, ◌<◌, ◌≤◌, ◌≡◌, List, [], ◌∷◌, ◌++◌, Option, Some, None, refl, subst, sym, ap, ◌∙◌, length, arith, Bool, true, false}
-use Rattle.std.specs.Prelude.{pos, slice_get, nat_lt, nat_le, IsTrue, IsSome}
-use Rattle.int_core.specs.Value.{Value, known, nil, boolean, integer, Shape, is_known, shape, nth, range}
-use Rattle.code_core.specs.declared.proto.Const.{Const}
+use Rattle.std.proofs.Common.{ℕ, ◌+◌, ◌-◌, ◌<◌, ◌≡◌, List, [], Option, Some, None, refl, subst, sym, ap, ◌∙◌, length, arith, true}
+use Rattle.std.specs.Prelude.{slice_get, IsSome}
+use Rattle.int_core.specs.Value.{Value, known, nth, range}
 use Rattle.code_core.specs.Prototype.{Prototype}
 use Rattle.code_core.specs.Check.{Mark, fixed, open_from, mark}
 use Rattle.machine_core.specs.World.{Cell, Activation}
-use Rattle.machine_core.specs.Text.{Arg, arg, behind, constant, is_there, list_end, list_values, last_pending, value_if, Own, read_register, read_registers, read_list, read_constant, read_varargs, see, write_register, write_registers, write_list, write_nils, end_list, cut_from, close_cells, mark_pending, see_pending, take_pending, drop_pending, keep_results, keep_pending, reads, tells, fits}
+use Rattle.machine_core.specs.Text.{behind, constant, is_there, list_end, list_values, last_pending, Own, read_register, read_registers, read_list, read_constant, read_varargs, see, write_register, write_registers, write_list, write_nils, end_list, cut_from, close_cells, mark_pending, see_pending, take_pending, drop_pending, keep_results, keep_pending, reads, tells, fits}
 use Rattle.machine_sound.specs.Sound.{Each, Sizes, Valid, Top}
-use Rattle.machine_sound.specs.Safe.{ArgOk, end_by, end_of, list_length, OwnReady, OwnEvent, ListRead, ConstantRead, own_values, own_told, list_of_option}
+use Rattle.machine_sound.specs.Safe.{end_by, end_of, list_length, OwnReady, OwnEvent, own_values, own_told}
 use Rattle.machine_sound.proofs.Lists.{get_there, each_none, each_one}
 use Rattle.machine_sound.proofs.Values.{lt_true, le_true, nth_ok, each_range, each_list, length_range}
 use Rattle.machine_sound.proofs.Own.{OwnIs}
@@ -48,14 +47,22 @@ module _ (z : Sizes) (old : List Cell) (p : Prototype) (co k : ℕ) (env : List 
       let e = end_is t own cells h in
       record {
         event = record { values = list_values from own.registers (list_end p own); count = list_count from own.registers (list_end p own) ∙ ap (list_length from) e };
-        values = refl; told = refl; valid = each_list (Valid z) tt from own.registers (list_end p own) h.registers; fits_so = there_of (list_end p own) (subst (λ o. IsSome o) (sym e) c) }
+        values = refl;
+        told = refl;
+        valid = each_list (Valid z) tt from own.registers (list_end p own) h.registers;
+        fits_so = there_of (list_end p own) (subst (λ o. IsSome o) (sym e) c);
+      }
   own_read (read_constant n) t own cells c h =
       let b : n < length p.own.constants = (let q = ap (λ (p : Prototype). length p.own.constants) h.code in omega arith) in
       let v = get_there p.own.constants n b in
       let there : slice_get t.code.own.constants n ≡ Some v.0 = ap (λ (p : Prototype). slice_get p.own.constants n) h.code ∙ v.1 in
       record {
         event = record { constant' = v.0; there = there };
-        values = rw (v.1, reads) refl; told = rw (v.1, tells) refl; valid = each_one (Valid z) (known (constant v.0)) (constants n v.0 v.1); fits_so = lt_true n (length p.own.constants) b }
+        values = rw (v.1, reads) refl;
+        told = rw (v.1, tells) refl;
+        valid = each_one (Valid z) (known (constant v.0)) (constants n v.0 v.1);
+        fits_so = lt_true n (length p.own.constants) b;
+      }
   own_read read_varargs t own cells c h = record { event = own.varargs; values = refl; told = refl; valid = h.varargs; fits_so = refl }
   own_read (see x) t own cells c h = record { event = tt; values = refl; told = refl; valid = each_none (Valid z); fits_so = refl }
   own_read (see_pending r) t own cells c h = from (last_pending r own.pending) refl

@@ -1,24 +1,21 @@
 -- What the rules on code give at each place.
-use Rattle.std.proofs.Common.{ℕ, zero, suc, ◌≡◌, ◌<◌, ◌≤◌, ◌+◌, ◌-◌, List, [], ◌∷◌, ◌++◌, Option, Some, None, refl, subst, sym, ap, ◌∙◌, length, Bool, true, false, arith, ◌⊎◌, inl, inr}
+use Rattle.std.proofs.Common.{ℕ, zero, suc, ◌≡◌, ◌<◌, ◌≤◌, ◌+◌, List, Option, Some, None, refl, subst, sym, ap, ◌∙◌, length, Bool, true, false, arith}
 use Rattle.std.specs.Prelude.{ℤ, pos, negsuc, ◌+ℤ◌, slice_get, IsTrue, IsSome, not, ◌&&◌, ◌||◌, nat_lt, nat_le, cond, max, ◌==◌, nat_eq}
 use Rattle.std.specs.List.{list_all}
-use Rattle.std.proofs.lemmas.Bool.Decides.{nat_tests}
 use Rattle.int_core.specs.Value.{Value}
 use Rattle.code_core.specs.declared.opcode.Opcode.{Opcode}
 use Rattle.code_core.specs.declared.instruction.Instruction.{Instruction}
-use Rattle.code_core.specs.Opcode.{opcodes, number_of}
 use Rattle.code_core.specs.Instruction.{opcode_of, a_of}
-use Rattle.code_core.specs.Fields.{is_whole, registers, constants, upvalues, target, second_half, stands_second, opens, takes_list, is_return}
+use Rattle.code_core.specs.Fields.{second_half, opens, takes_list, is_return}
 use Rattle.code_core.specs.Prototype.{Prototype}
 use Rattle.code_core.specs.Check.{CodeIsChecked, AllHold, Rule, rules, rules_by, opcode_rules, at, in_front, there, is_same, Mark, fixed, open_from, opened, leaves, mark, is_fixed, extra_at, constant_is, function_there, is_landing, lands, lands_fixed, is_paired, goes_on, agrees, begins_with, takes_from, is_taken, lists_fit_marks, varargs_fit}
-use Rattle.code_core.proofs.Opcodes.{opcodes-number}
 use Rattle.machine_core.specs.Moves.{place_from}
-use Rattle.machine_core.specs.InstructionRows.{next, skip}
+use Rattle.machine_core.specs.InstructionRows.{next}
 use Rattle.machine_core.specs.Text.{go_by}
 use Rattle.machine_core.specs.FrameRows.{expand}
 use Rattle.machine_sound.specs.Sound.{Top, MarkFits, Fits, FitsIfRuns}
-use Rattle.machine_sound.specs.Safe.{on_lua, Lands, HasPlace, Safe, stack_of}
-use Rattle.machine_sound.proofs.Rules.{RulesAt, rules_at, opcode_there, or_of, same_opcode, extra_behind, next_no_extra}
+use Rattle.machine_sound.specs.Safe.{on_lua, HasPlace, Safe}
+use Rattle.machine_sound.proofs.Rules.{RulesAt, rules_at, opcode_there, or_of, extra_behind, next_no_extra}
 use Rattle.machine_sound.proofs.Lists.{get_there, some_is}
 use Rattle.machine_sound.proofs.Values.{lt_of, le_of, both_of}
 
@@ -102,9 +99,10 @@ some_at o a e = rw e refl
 
 -- a jump to a place that the frame fits
 pub go_safe : (u : Top) (env : List Value) (z : ℤ) (pc : ℕ) → IsTrue u.runs → place_from u.pc z ≡ Some pc → Fits (record u { pc = pc }) → Safe (on_lua u) env (expand (go_by z))
-go_safe u env z pc r e f =
-    ((r, record { place = pc; is = e; there = some_at (at u.code pc) f.instruction f.at_pc }),
-     λ l. fits_if u.runs (record u { pc = l.place }) (subst (λ k. Fits (record u { pc = k })) (some_is e l.is) f))
+go_safe u env z pc r e f = (
+  (r, record { place = pc; is = e; there = some_at (at u.code pc) f.instruction f.at_pc }),
+  λ l. fits_if u.runs (record u { pc = l.place }) (subst (λ k. Fits (record u { pc = k })) (some_is e l.is) f),
+)
 
 -- the frame fits the place behind an instruction
 pub fits_behind : (u : Top) (p : Prototype) (pc : ℕ) (w : Instruction) (op : Opcode) → at p pc ≡ Some w → opcode_of w ≡ Some op → pc + 1 < length p.own.code → CodeIsChecked p → extra_behind (second_half op w) ≡ false → u.code ≡ p → MarkFits (opened (opens op w)) p.own.stack u.size u.opened → u.cells ≤ p.own.stack → Fits (record u { pc = pc + 1 })
@@ -113,10 +111,14 @@ fits_behind u p pc w op a o l ch ex c m k =
     let q = opcode_there p (pc + 1) j.0 ch j.1 in
     let e : suc pc ≡ pc + 1 = omega arith in
     record {
-      instruction = j.0; at_pc = ap (λ p. at p (pc + 1)) c ∙ j.1; opcode = q.0; is_opcode = q.1;
+      instruction = j.0;
+      at_pc = ap (λ p. at p (pc + 1)) c ∙ j.1;
+      opcode = q.0;
+      is_opcode = q.1;
       no_extra = next_no_extra p pc w j.0 op q.0 ch a o ex (ap (at p) e ∙ j.1) q.1;
       fits_mark = subst (λ p. MarkFits (mark p (pc + 1)) p.own.stack u.size u.opened) (sym c) (subst (λ m. MarkFits m p.own.stack u.size u.opened) (sym (mark_behind p pc w op a o)) m);
-      cells = subst (λ (p : Prototype). u.cells ≤ p.own.stack) (sym c) k }
+      cells = subst (λ (p : Prototype). u.cells ≤ p.own.stack) (sym c) k;
+    }
 
 -- one place on, behind the instruction at hand
 pub next_safe : {t : Top} {w : Instruction} {op : Opcode} (u : Top) (env : List Value) → Here t w op → is_return op ≡ false → extra_behind (second_half op w) ≡ false → u.code ≡ t.code → u.pc ≡ t.pc → IsTrue u.runs → MarkFits (opened (opens op w)) t.code.own.stack u.size u.opened → u.cells ≤ t.code.own.stack → Safe (on_lua u) env (expand next)

@@ -1,23 +1,23 @@
 -- What is left of an instruction, when the answer comes for which its frame waited, is safe in checked code.
-use Rattle.std.proofs.Common.{ℕ, zero, suc, ◌≡◌, ◌<◌, ◌≤◌, ◌+◌, ◌-◌, List, [], ◌∷◌, ◌++◌, Option, Some, None, refl, subst, sym, ap, ◌∙◌, length, Bool, true, false, arith}
-use Rattle.std.specs.Prelude.{slice_get, cond, max, IsTrue, if◌then◌else◌, ◌==◌}
-use Rattle.int_core.specs.Value.{Value, known, nil}
+use Rattle.std.proofs.Common.{ℕ, zero, suc, ◌≡◌, ◌<◌, ◌≤◌, ◌+◌, ◌-◌, List, [], ◌∷◌, ◌++◌, Option, Some, None, refl, subst, sym, ap, ◌∙◌, length, Bool, arith}
+use Rattle.std.specs.Prelude.{slice_get, cond, IsTrue, if◌then◌else◌}
+use Rattle.int_core.specs.Value.{Value}
 use Rattle.code_core.specs.declared.opcode.Opcode.{Opcode}
 use Rattle.code_core.specs.declared.opcode.Opcode.TheVariants.{GetTabUp, GetTable, GetI, GetField, SetTabUp, SetTable, SetI, SetField, OpSelf, MmBin, MmBinI, MmBinK, Unm, BNot, Len, Concat, Close, Eq, Lt, Le, LtI, LeI, GtI, GeI, Call, Return, Return0, Return1, TForCall}
 use Rattle.code_core.specs.declared.instruction.Instruction.{Instruction}
 use Rattle.code_core.specs.Instruction.{opcode_of, a_of, b_of, c_of}
-use Rattle.code_core.specs.Fields.{registers, last_of, takes_list}
+use Rattle.code_core.specs.Fields.{registers, last_of}
 use Rattle.code_core.specs.Check.{CodeIsChecked, at, opened}
-use Rattle.machine_core.specs.World.{Wait, running, for_call, for_iterator, for_value, for_truth, dropped, for_concat, for_close, returning, leaving}
+use Rattle.machine_core.specs.World.{Wait, for_call, for_iterator, for_value, for_truth, dropped, for_concat, for_close, returning, leaving}
 use Rattle.machine_core.specs.Text.{Arg, read, written, arg, behind, close_cells, take_pending, keep_pending, thrown, Text, close, leave, own, trap}
 use Rattle.machine_core.specs.InstructionRows.{rest, rest_at, rest_by, fails, left_so, to_register}
 use Rattle.machine_core.specs.Moves.{TopShape, lua_top, pcall_top, xpcall_top, handler_top, closing_top, no_top}
 use Rattle.machine_core.specs.FrameRows.{expand, after_leaving}
-use Rattle.machine_sound.specs.Sound.{Top, waits_at, waiting_size, kept_below}
+use Rattle.machine_sound.specs.Sound.{Top, waits_at, waiting_size}
 use Rattle.machine_sound.specs.Safe.{on_lua, waiting, HasPlace, list_of_option, Safe}
 use Rattle.machine_sound.proofs.Values.{le_of}
-use Rattle.machine_sound.proofs.Rules.{RulesAt, rules_at}
-use Rattle.machine_sound.proofs.Places.{Here, place}
+use Rattle.machine_sound.proofs.Rules.{rules_at}
+use Rattle.machine_sound.proofs.Places.{Here}
 use Rattle.machine_sound.proofs.RowEnds.{IsPlain, reg, ends_next, ends_write, moved_place, call_safe}
 use Rattle.machine_sound.proofs.OpcodesNumbers.{front_there, before_safe, joins_safe}
 use Rattle.machine_sound.proofs.OpcodesTests.{decides_safe, closes_safe}
@@ -39,9 +39,14 @@ fails_safe t env p q = ((tt, tt), λ o. from o)
   where
     from : (o : Option Value) → Safe (on_lua t) (env ++ list_of_option o) (expand (cond (Rattle.machine_core.specs.Text.is_there o) (close (read (length env)) (read 0) (leaving (read 0)) left_so) (leave (thrown (read 0)))))
     from None = (tt, λ s. left_by_error ((env ++ []) ++ []) (read 0) s)
-    from (Some v) = ((tt, tt), λ g. call_safe t ((env ++ v ∷ []) ++ g ∷ arg (env ++ v ∷ []) (read (length env)) ∷ arg (env ++ v ∷ []) (read 0) ∷ []) (read (length (env ++ v ∷ []))) (suc (length (env ++ v ∷ []))) (leaving (read 0)) left_so (record {
-        callee = tt; prepares = (tt, (tt, (omega arith, tt)));
-        waits = record { place = moved_place (record t { cells = 0; captured = []; size = t.code.own.stack; opened = 0 }) p refl refl; fits = refl; size = refl; kept = q; error = tt } }))
+    from (Some v) = (
+      (tt, tt),
+      λ g. call_safe t ((env ++ v ∷ []) ++ g ∷ arg (env ++ v ∷ []) (read (length env)) ∷ arg (env ++ v ∷ []) (read 0) ∷ []) (read (length (env ++ v ∷ []))) (suc (length (env ++ v ∷ []))) (leaving (read 0)) left_so (record {
+        callee = tt;
+        prepares = (tt, (tt, (omega arith, tt)));
+        waits = record { place = moved_place (record t { cells = 0; captured = []; size = t.code.own.stack; opened = 0 }) p refl refl; fits = refl; size = refl; kept = q; error = tt };
+      }),
+    )
 
 -- a frame that waited, and gets what it waited for
 pub record Back (t : Top) (w : Instruction) (op : Opcode) : Type 0 where
@@ -54,8 +59,15 @@ pub record Back (t : Top) (w : Instruction) (op : Opcode) : Type 0 where
 
 here : {t : Top} {w : Instruction} {op : Opcode} → Back t w op → t.size ≡ t.code.own.stack → Here t w op
 here {t = t} {w = w} {op = op} b s = record {
-    checked = b.checked; at_pc = b.at_pc; is_opcode = b.is_opcode; rule = rules_at t.code t.pc w op b.checked b.at_pc b.is_opcode;
-    plain = λ _. s; pending = b.pending; cells = b.cells ∙ s; runs = b.runs }
+  checked = b.checked;
+  at_pc = b.at_pc;
+  is_opcode = b.is_opcode;
+  rule = rules_at t.code t.pc w op b.checked b.at_pc b.is_opcode;
+  plain = λ _. s;
+  pending = b.pending;
+  cells = b.cells ∙ s;
+  runs = b.runs;
+}
 
 abbrev back_place : {t : Top} {w : Instruction} {op : Opcode} → Back t w op → HasPlace t
 back_place {w = w} {op = op} b = record { instruction = w; at_pc = b.at_pc; opcode = op; is_opcode = b.is_opcode }
@@ -63,18 +75,20 @@ back_place {w = w} {op = op} b = record { instruction = w; at_pc = b.at_pc; opco
 call_back : {t : Top} {w : Instruction} (vs : List Value) → Here t w Call → t.size ≡ t.code.own.stack → Safe (on_lua t) vs (expand (Rattle.machine_core.specs.InstructionRows.write_values (a_of w) (c_of w) 0))
 call_back {t = t} {w = w} vs h s =
     puts_safe t vs (a_of w) (c_of w) 0 h refl refl refl refl h.runs s (let e = h.cells in omega arith)
-      (λ e. ap (λ (b : Bool). opened (if b then Some (a_of w) else None)) (zero_is (c_of w) e))
-      (λ n e. ap (λ (b : Bool). opened (if b then Some (a_of w) else None)) (not_zero (c_of w) n e))
-      (λ e. (let l = reg h 0 (a_of w) refl in less (a_of w) t.size t.code.own.stack s l))
-      (λ n e. there_all n e n refl)
+    (λ e. ap (λ (b : Bool). opened (if b then Some (a_of w) else None)) (zero_is (c_of w) e))
+    (λ n e. ap (λ (b : Bool). opened (if b then Some (a_of w) else None)) (not_zero (c_of w) n e))
+    (λ e. (let l = reg h 0 (a_of w) refl in less (a_of w) t.size t.code.own.stack s l))
+    (λ n e. there_all n e n refl)
   where
     less : (a size stack : ℕ) → size ≡ stack → a < stack → a < size
     less a size stack s l = omega arith
+
     -- the last of the results
     results_last : (m : ℕ) → (b : ℕ) → c_of w - 1 ≡ suc m → (i : ℕ) × (slice_get (a_of w ∷ last_of (a_of w) b ++ last_of (a_of w) (c_of w - 1)) i ≡ Some (a_of w + m))
     results_last m zero q = (1, ap (λ c. slice_get (a_of w ∷ last_of (a_of w) c) 1) q ∙ ap (λ x. slice_get (a_of w ∷ x) 1) (last_is (a_of w) m))
     results_last m (suc b) q =
         (2, ap (λ x. slice_get (a_of w ∷ x ++ last_of (a_of w) (c_of w - 1)) 2) (last_is (a_of w) b) ∙ ap (λ c. slice_get (a_of w ∷ (a_of w + b) ∷ last_of (a_of w) c) 2) q ∙ ap (λ x. slice_get (a_of w ∷ (a_of w + b) ∷ x) 2) (last_is (a_of w) m))
+
     there_all : (n : ℕ) → c_of w ≡ suc n → (m : ℕ) → m ≡ n → behind (a_of w) m ≤ t.size
     there_all n e zero q = omega arith
     there_all n e (suc m) q =
@@ -88,8 +102,8 @@ call_back {t = t} {w = w} vs h s =
 iterator_back : {t : Top} {w : Instruction} (vs : List Value) → Here t w TForCall → t.size ≡ t.code.own.stack → Safe (on_lua t) vs (expand (Rattle.machine_core.specs.InstructionRows.write_values (a_of w + 4) (c_of w + 1) 0))
 iterator_back {t = t} {w = w} vs h s =
     puts_safe t vs (a_of w + 4) (c_of w + 1) 0 h refl refl refl refl h.runs s (let e = h.cells in omega arith)
-      (λ e. absurd (omega arith)) (λ n e. refl) (λ e. absurd (omega arith))
-      (λ n e. there_all n (let k : n ≡ c_of w = omega arith in k))
+    (λ e. absurd (omega arith)) (λ n e. refl) (λ e. absurd (omega arith))
+    (λ n e. there_all n (let k : n ≡ c_of w = omega arith in k))
   where
     there_all : (n : ℕ) → n ≡ c_of w → behind (a_of w + 4) n ≤ t.size
     there_all zero e = omega arith
@@ -112,6 +126,7 @@ concat_back {t = t} {w = w} vs left h l = from (b_of w) refl
       where
         under : (b left : ℕ) → left + 2 ≤ b → left < b
         under b left l = omega arith
+
         below : (a n b left stack : ℕ) → b ≡ suc n → left + 2 ≤ b → a + n < stack → a + left < stack
         below a n b left stack e l r = omega arith
 
@@ -162,4 +177,4 @@ rest_safe _ _ t w vs b f s = absurd (cc)
 pub rest_text_safe : (wait : Wait Value) (op : Opcode) (t : Top) (w : Instruction) (vs : List Value) → Back t w op → IsTrue (waits_at wait op w) → t.size ≡ waiting_size wait w t.code.own.stack → Safe (on_lua t) vs (expand (rest_at wait t.code t.pc))
 rest_text_safe wait op t w vs b f s =
     subst (λ (x : Text). Safe (on_lua t) vs (expand x))
-      (sym (ap (λ (o : Option Instruction). elim o as (λ _. Text) [ None ↦ trap | Some w ↦ rest_by wait t.code t.pc w (opcode_of w) ]) b.at_pc ∙ ap (rest_by wait t.code t.pc w) b.is_opcode)) (rest_safe wait op t w vs b f s)
+    (sym (ap (λ (o : Option Instruction). elim o as (λ _. Text) [ None ↦ trap | Some w ↦ rest_by wait t.code t.pc w (opcode_of w) ]) b.at_pc ∙ ap (rest_by wait t.code t.pc w) b.is_opcode)) (rest_safe wait op t w vs b f s)

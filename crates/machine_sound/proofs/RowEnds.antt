@@ -1,26 +1,25 @@
 -- How rows of checked code end: on the next place, behind a pair, at a jump's target, with an error, or in a call.
-use Rattle.std.proofs.Common.{ℕ, zero, suc, ◌≡◌, ◌<◌, ◌≤◌, ◌+◌, ◌-◌, List, [], ◌∷◌, ◌++◌, Option, Some, None, refl, subst, sym, ap, ◌∙◌, length, drop, Bool, true, false, arith}
-use Rattle.std.specs.Prelude.{ℤ, pos, negsuc, ◌+ℤ◌, slice_get, IsTrue, IsSome, not, ◌&&◌, ◌||◌, nat_lt, cond, max, is_some}
-use Rattle.std.specs.List.{list_all}
-use Rattle.int_core.specs.Value.{Value, Shape, shape}
+use Rattle.std.proofs.Common.{ℕ, suc, ◌≡◌, ◌<◌, ◌≤◌, ◌+◌, List, [], ◌∷◌, ◌++◌, Option, Some, None, refl, subst, sym, ap, ◌∙◌, length, drop, Bool, true, false, arith}
+use Rattle.std.specs.Prelude.{ℤ, pos, negsuc, ◌+ℤ◌, slice_get, IsTrue, not, ◌&&◌, ◌||◌, nat_lt}
+use Rattle.int_core.specs.Value.{Value}
 use Rattle.int_core.specs.Operations.{Operation}
 use Rattle.code_core.specs.declared.opcode.Opcode.{Opcode}
 use Rattle.code_core.specs.declared.instruction.Instruction.{Instruction}
-use Rattle.code_core.specs.Instruction.{opcode_of, a_of}
-use Rattle.code_core.specs.Fields.{registers, constants, upvalues, target, second_half, stands_second, opens, takes_list, is_return, Wanted}
+use Rattle.code_core.specs.Instruction.{opcode_of}
+use Rattle.code_core.specs.Fields.{registers, constants, upvalues, target, second_half, opens, takes_list, is_return, Wanted}
 use Rattle.code_core.specs.Prototype.{Prototype}
 use Rattle.code_core.specs.Check.{CodeIsChecked, at, in_front, there, is_same, Mark, fixed, opened, left_by, leaves, mark, is_fixed, extra_at, constant_is, is_landing, lands, lands_fixed, is_taken, goes_on, agrees, begins_with, is_second}
-use Rattle.machine_core.specs.World.{Wait, running, leaving}
-use Rattle.machine_core.specs.Text.{Arg, read, Own, write_register, Text, go_by, own, operate, call, raise}
+use Rattle.machine_core.specs.World.{Wait}
+use Rattle.machine_core.specs.Text.{Arg, read, Own, Text, go_by, operate}
 use Rattle.machine_core.specs.InstructionRows.{next, skip, to_register}
 use Rattle.machine_core.specs.Moves.{CallShape, is_entered, is_primitive, not_paid, not_entered, place_from}
 use Rattle.machine_core.specs.FrameRows.{expand, raises, call_row}
-use Rattle.machine_sound.specs.Sound.{Each, Top, waits_at, waiting_size, kept_below, is_extra, MarkFits, Fits}
+use Rattle.machine_sound.specs.Sound.{Top, waits_at, waiting_size, kept_below, is_extra, MarkFits, Fits}
 use Rattle.machine_sound.specs.Safe.{on_lua, ArgOk, ArgsOk, WaitArgOk, HasPlace, WaitsAs, MayEnter, SettledEvent, has_found, asks_for, fails_with, Safe, stack_of}
-use Rattle.machine_sound.proofs.Lists.{get_there, get_within, some_is}
+use Rattle.machine_sound.proofs.Lists.{get_within}
 use Rattle.machine_sound.proofs.Values.{lt_of, both_of, all_get}
 use Rattle.machine_sound.proofs.Rules.{RulesAt, rules_at, opcode_there, or_of, same_opcode, extra_behind}
-use Rattle.machine_sound.proofs.Places.{Here, place, more, go_safe, fits_behind, next_safe}
+use Rattle.machine_sound.proofs.Places.{Here, place, go_safe, fits_behind, next_safe}
 
 -- an instruction that goes on to the next one, which is no EXTRAARG, and has nothing to do with open lists
 abbrev pub IsPlain : Opcode → Instruction → Type 0
@@ -146,9 +145,14 @@ on_land {t = t} {w = w} {op = op} u env d z h e q c p r s k =
     let f' : IsTrue (is_fixed (mark t.code l.0)) = subst (λ o. IsTrue (lands_fixed t.code o)) (e ∙ ap Some l.1) f in
     let m = fixed_of (mark t.code l.0) f' in
     go_safe u env d l.0 r (ap (λ pc. place_from pc d) p ∙ ap (λ z. elim z as (λ _. Option ℕ) [ pos n ↦ Some n | negsuc _ ↦ None ]) (q ∙ l.1)) (record {
-      instruction = l.2; at_pc = ap (λ p. at p l.0) c ∙ l.3; opcode = l.4; is_opcode = l.5; no_extra = l.6;
+      instruction = l.2;
+      at_pc = ap (λ p. at p l.0) c ∙ l.3;
+      opcode = l.4;
+      is_opcode = l.5;
+      no_extra = l.6;
       fits_mark = subst (λ p. MarkFits (mark p l.0) p.own.stack u.size u.opened) (sym c) (subst (λ m. MarkFits m t.code.own.stack u.size u.opened) (sym m) s);
-      cells = subst (λ (p : Prototype). u.cells ≤ p.own.stack) (sym c) k })
+      cells = subst (λ (p : Prototype). u.cells ≤ p.own.stack) (sym c) k;
+    })
 
 -- errors and calls
 

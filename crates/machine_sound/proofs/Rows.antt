@@ -1,11 +1,9 @@
 -- A safe row does not trap: once for all rows.
-use Rattle.std.proofs.Common.{ℕ, zero, suc, ◌≡◌, List, [], ◌∷◌, ◌++◌, Option, Some, None, refl, subst, sym, ap, ◌∙◌, length}
-use Rattle.std.specs.Prelude.{drop, slice_get, Bool, true, false}
-use Rattle.int_core.specs.Value.{Value}
-use Rattle.machine_core.specs.World.{World}
-use Rattle.machine_core.specs.Moves.{Move, TopShape, lua_top, Told, Ending, go, returned, calls_primitive, raised, unwinding, spent, main_yielded, main_returned, main_failed, Row, traps, stop, only, act, Outcome, trapped, ends, Made, move, run}
-use Rattle.machine_sound.specs.Sound.{Each, sizes, Valid, Settled, StackWaits, Top, FitsIfRuns}
-use Rattle.machine_sound.specs.Safe.{Phase, on_lua, waiting, calling, ended, between, Is, IsPhase, Ready, Event, leads, EndsWell, Safe, EndIs, Good, MovesGood, RowsGood}
+use Rattle.std.proofs.Common.{◌++◌, Option, Some, None, subst, sym, length}
+use Rattle.std.specs.Prelude.{drop}
+use Rattle.machine_core.specs.Moves.{Told, traps, stop, only, act, trapped, Made, run}
+use Rattle.machine_sound.specs.Sound.{sizes, Valid}
+use Rattle.machine_sound.specs.Safe.{leads, Good, MovesGood, RowsGood}
 use Rattle.machine_sound.proofs.Lists.{each_drop}
 use Rattle.machine_sound.proofs.Ends.{end_is}
 

@@ -1,12 +1,11 @@
 -- The row of every instruction that runs is safe in checked code.
-use Rattle.std.proofs.Common.{ℕ, ◌≡◌, List, [], Option, Some, None, refl, subst, sym, ap, ◌∙◌, Bool, true, false}
+use Rattle.std.proofs.Common.{◌≡◌, [], Option, Some, None, subst, sym, ap, ◌∙◌, true, false}
 use Rattle.code_core.specs.declared.opcode.Opcode.{Opcode}
 use Rattle.code_core.specs.declared.opcode.Opcode.TheVariants.{Move, LoadI, LoadF, LoadK, LoadKx, LoadFalse, LFalseSkip, LoadTrue, LoadNil, GetUpval, SetUpval, GetTabUp, GetTable, GetI, GetField, SetTabUp, SetTable, SetI, SetField, NewTable, OpSelf, AddI, AddK, SubK, MulK, ModK, PowK, DivK, IDivK, BAndK, BOrK, BXorK, ShrI, ShlI, Add, Sub, Mul, Mod, Pow, Div, IDiv, BAnd, BOr, BXor, Shl, Shr, MmBin, MmBinI, MmBinK, Unm, BNot, Not, Len, Concat, Close, Tbc, Jmp, Eq, Lt, Le, EqK, EqI, LtI, LeI, GtI, GeI, Test, TestSet, Call, TailCall, Return, Return0, Return1, ForLoop, ForPrep, TForPrep, TForCall, TForLoop, SetList, Closure, VarArg, VarArgPrep, ExtraArg}
 use Rattle.code_core.specs.declared.instruction.Instruction.{Instruction}
 use Rattle.code_core.specs.Instruction.{opcode_of}
 use Rattle.code_core.specs.Fields.{takes_list}
-use Rattle.code_core.specs.Prototype.{Prototype}
-use Rattle.code_core.specs.Check.{CodeIsChecked, at}
+use Rattle.code_core.specs.Check.{CodeIsChecked}
 use Rattle.machine_core.specs.Text.{Text, trap}
 use Rattle.machine_core.specs.InstructionRows.{row_of, text_at, text_by}
 use Rattle.machine_core.specs.FrameRows.{expand}
@@ -109,8 +108,15 @@ row_safe ExtraArg t w h x l = absurd (cc)
 pub text_safe : (t : Top) → CodeIsChecked t.code → Fits t → t.pending ≡ t.code.own.stack → t.cells ≡ t.code.own.stack → Rattle.std.specs.Prelude.IsTrue t.runs → Safe (on_lua t) [] (expand (text_at t.code t.pc))
 text_safe t c f p k r =
     let h : Here t f.instruction f.opcode = record {
-        checked = c; at_pc = f.at_pc; is_opcode = f.is_opcode; rule = rules_at t.code t.pc f.instruction f.opcode c f.at_pc f.is_opcode;
-        plain = plain_there t f.instruction f.opcode c f.at_pc f.is_opcode f.fits_mark; pending = p; cells = k; runs = r } in
+      checked = c;
+      at_pc = f.at_pc;
+      is_opcode = f.is_opcode;
+      rule = rules_at t.code t.pc f.instruction f.opcode c f.at_pc f.is_opcode;
+      plain = plain_there t f.instruction f.opcode c f.at_pc f.is_opcode f.fits_mark;
+      pending = p;
+      cells = k;
+      runs = r;
+    } in
     let s = row_safe f.opcode t f.instruction h f.no_extra (listed_there t f.instruction f.opcode c f.at_pc f.is_opcode f.fits_mark) in
     subst (λ (x : Text). Safe (on_lua t) [] (expand x))
-      (sym (ap (λ (o : Option Instruction). elim o as (λ _. Text) [ None ↦ trap | Some w ↦ text_by t.code t.pc w (opcode_of w) ]) f.at_pc ∙ ap (text_by t.code t.pc f.instruction) f.is_opcode)) s
+    (sym (ap (λ (o : Option Instruction). elim o as (λ _. Text) [ None ↦ trap | Some w ↦ text_by t.code t.pc w (opcode_of w) ]) f.at_pc ∙ ap (text_by t.code t.pc f.instruction) f.is_opcode)) s

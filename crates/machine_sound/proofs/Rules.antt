@@ -1,6 +1,6 @@
 -- The rules on code at one place, by name.
-use Rattle.std.proofs.Common.{ℕ, zero, suc, ◌≡◌, ◌<◌, ◌≤◌, ◌+◌, ◌-◌, List, [], ◌∷◌, Option, Some, None, refl, subst, sym, ap, ◌∙◌, length, Bool, true, false, arith}
-use Rattle.std.specs.Prelude.{slice_get, IsTrue, not, ◌&&◌, ◌||◌, nat_lt, cond, ◌==◌}
+use Rattle.std.proofs.Common.{ℕ, suc, ◌≡◌, ◌+◌, [], ◌∷◌, Option, Some, None, refl, subst, sym, ap, ◌∙◌, length, Bool, true, false, arith}
+use Rattle.std.specs.Prelude.{slice_get, IsTrue, ◌||◌, nat_lt, cond}
 use Rattle.std.specs.List.{list_all}
 use Rattle.std.proofs.lemmas.Bool.Decides.{nat_tests}
 use Rattle.code_core.specs.declared.opcode.Opcode.{Opcode}
@@ -8,9 +8,9 @@ use Rattle.code_core.specs.declared.opcode.Opcode.TheVariants.{ExtraArg}
 use Rattle.code_core.specs.declared.instruction.Instruction.{Instruction}
 use Rattle.code_core.specs.Opcode.{opcodes, number_of}
 use Rattle.code_core.specs.Instruction.{opcode_of}
-use Rattle.code_core.specs.Fields.{is_whole, registers, constants, upvalues, target, second_half, stands_second, is_return}
+use Rattle.code_core.specs.Fields.{is_whole, registers, constants, upvalues, target, second_half, is_return}
 use Rattle.code_core.specs.Prototype.{Prototype}
-use Rattle.code_core.specs.Check.{CodeIsChecked, AllHold, rules_by, opcode_rules, at, in_front, there, is_same, extra_at, constant_is, function_there, is_landing, is_paired, goes_on, agrees, begins_with, lists_fit_marks, varargs_fit}
+use Rattle.code_core.specs.Check.{CodeIsChecked, AllHold, rules_by, opcode_rules, at, in_front, there, is_same, extra_at, constant_is, function_there, is_landing, is_paired, goes_on, begins_with, lists_fit_marks, varargs_fit}
 use Rattle.code_core.proofs.Opcodes.{opcodes-number}
 use Rattle.machine_sound.specs.Sound.{is_extra}
 use Rattle.machine_sound.proofs.Lists.{some_is}
@@ -34,8 +34,17 @@ rules_at p pc w op c a o = from (is_whole op) refl (subst (λ o. AllHold (rules_
   where
     from : (b : Bool) → is_whole op ≡ b → AllHold (cond b ((2, true) ∷ opcode_rules p pc w op) ((2, false) ∷ [])) → RulesAt p pc w op
     from true e h = record {
-        whole = e; registers_there = h.1.0; constants_there = h.1.1.0; upvalues_there = h.1.1.1.0; function = h.1.1.1.1.0; landing = h.1.1.1.1.1.0;
-        paired = h.1.1.1.1.1.1.0; goes_on = h.1.1.1.1.1.1.1.0; lists = h.1.1.1.1.1.1.1.1.0; varargs = h.1.1.1.1.1.1.1.1.1.0 }
+      whole = e;
+      registers_there = h.1.0;
+      constants_there = h.1.1.0;
+      upvalues_there = h.1.1.1.0;
+      function = h.1.1.1.1.0;
+      landing = h.1.1.1.1.1.0;
+      paired = h.1.1.1.1.1.1.0;
+      goes_on = h.1.1.1.1.1.1.1.0;
+      lists = h.1.1.1.1.1.1.1.1.0;
+      varargs = h.1.1.1.1.1.1.1.1.1.0;
+    }
     from false e h = absurd (let k = h.0 in cc)
 
 -- every place of checked code has an opcode
@@ -82,6 +91,7 @@ next_no_extra p pc w v op next c a o n b q = from (is_extra next) refl
     second : (s : Option Opcode) → extra_behind s ≡ false → IsTrue (there (is_same ExtraArg) s) → ⊥
     second None n h = cc
     second (Some s) n h = let e = same_opcode ExtraArg s h in let k : is_extra ExtraArg ≡ false = subst (λ s. is_extra s ≡ false) (sym e) n in cc
+
     from : (b : Bool) → is_extra next ≡ b → is_extra next ≡ false
     from true e =
         let k = front_begins p (suc pc) v next c b q (extra_is next e) in

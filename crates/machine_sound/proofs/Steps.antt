@@ -1,12 +1,12 @@
 -- No step of a sound world traps.
-use Rattle.std.proofs.Common.{ℕ, zero, suc, ◌<◌, List, [], Option, None}
+use Rattle.std.proofs.Common.{ℕ, zero, suc, [], None}
 use Rattle.machine_core.specs.World.{World}
 use Rattle.machine_core.specs.Moves.{Ending, go, returned, calls_primitive, raised, unwinding, spent, main_yielded, main_returned, main_failed, Row, Outcome, trapped, ends, act, see_top}
 use Rattle.machine_core.specs.FrameRows.{raised_row, unwound, handed_to}
 use Rattle.machine_core.specs.MachineStep.{step_by, step, steps, and_then}
 use Rattle.machine_sound.specs.Sound.{sizes, Valid, Solid, StackWaits}
-use Rattle.machine_sound.specs.Safe.{waiting, Is, Safe, Good}
-use Rattle.machine_sound.specs.Laws.{Sound, PrimitivesSafe, StepsGood, RunsGood}
+use Rattle.machine_sound.specs.Safe.{waiting, Safe, Good}
+use Rattle.machine_sound.specs.Laws.{Sound, StepsGood, RunsGood}
 use Rattle.machine_sound.proofs.Lists.{each_none}
 use Rattle.machine_sound.proofs.All.{all_rows_good}
 use Rattle.machine_sound.proofs.LuaSteps.{from_world_good, go_good}

@@ -1,10 +1,10 @@
 -- Lists of values as registers: what holds of each value, and how many there are.
-use Rattle.std.proofs.Common.{ℕ, zero, suc, ◌+◌, ◌-◌, ◌<◌, ◌≤◌, ◌≡◌, List, [], ◌∷◌, ◌++◌, Option, Some, None, refl, subst, sym, ap, ◌∙◌, length, take, drop, arith, Bool, true, false}
-use Rattle.std.specs.Prelude.{slice_get, cond, max, nat_lt, nat_le, IsTrue, ◌&&◌}
+use Rattle.std.proofs.Common.{ℕ, zero, suc, ◌+◌, ◌-◌, ◌<◌, ◌≤◌, ◌≡◌, List, [], ◌∷◌, Option, Some, None, refl, ap, length, take, arith, Bool, true, false}
+use Rattle.std.specs.Prelude.{cond, max, nat_lt, nat_le, IsTrue, ◌&&◌}
 use Rattle.std.specs.List.{list_all}
 use Rattle.std.proofs.lemmas.Bool.Decides.{nat_tests}
 use Rattle.int_core.specs.Value.{Value, known, nil, nth, range, write, write_all, bind}
-use Rattle.machine_core.specs.Text.{Arg, read, written, arg, args_of, blanked, nils, list_values, last_pending, value_if}
+use Rattle.machine_core.specs.Text.{Arg, read, written, arg, args_of, blanked, nils, list_values, value_if}
 use Rattle.machine_core.specs.Moves.{fitted}
 use Rattle.machine_sound.specs.Sound.{Each, Sizes, Valid}
 use Rattle.machine_sound.specs.Safe.{WrittenOk, ArgOk, ArgsOk}

@@ -1,22 +1,21 @@
 -- Moves where all frames of the running coroutine wait: looking at them, values on their way, frames that are no Lua function's.
-use Rattle.std.proofs.Common.{ℕ, zero, suc, ◌+◌, ◌-◌, ◌<◌, ◌≤◌, ◌≡◌, ◌⊎◌, inl, inr, ⊎_elim, List, [], ◌∷◌, ◌++◌, Option, Some, None, refl, subst, sym, ap, ◌∙◌, length, drop, reverse, arith, Bool, true, false, cond, length-append}
-use Rattle.std.specs.Prelude.{slice_get, nat_le, IsTrue}
-use Rattle.std.proofs.lemmas.Bool.Decides.{nat_tests}
-use Rattle.int_core.specs.Value.{Value, known, nil, Shape, shape, bind, last, without_last}
+use Rattle.std.proofs.Common.{ℕ, zero, suc, ◌+◌, ◌-◌, ◌<◌, ◌≤◌, ◌≡◌, List, [], ◌∷◌, ◌++◌, Option, Some, None, refl, subst, sym, ap, ◌∙◌, length, drop, reverse, arith, Bool, true, false, cond, length-append}
+use Rattle.std.specs.Prelude.{slice_get, nat_le}
+use Rattle.int_core.specs.Value.{Value, last, without_last}
 use Rattle.int_core.specs.Operations.{Callee, callee, not_callable, callee_of, greatest_chain, handler_in, of_close}
-use Rattle.machine_core.specs.World.{Function, Cell, closed, open_at, LuaFrame, Frame, lua, pcall, xpcall, handler, closing, Coroutine, in_progress, World, lua_frame, Stack, stack_of, put_frames, put_top, push, pop}
+use Rattle.machine_core.specs.World.{closed, open_at, Frame, lua, pcall, xpcall, handler, closing, in_progress, World, lua_frame, Stack, stack_of, put_frames, put_top, push, pop}
 use Rattle.machine_core.specs.Text.{Arg, arg, args_of}
 use Rattle.machine_core.specs.Moves.{Over, over_nothing, over_pcall, over_xpcall, over_handler, frames_over, Move, take_moving, look, give, give_with, blame, find_close, enter_over, see_top, see_catcher, pop_frame, take_closing, set_error, greatest_depth, CallShape, is_entered, is_primitive, not_paid, not_entered, TopShape, lua_top, pcall_top, xpcall_top, handler_top, closing_top, no_top, top_shape, top_now, runs_main, catcher, handler_value, next_closing, with_error, error_or_nil, push_all, has_room, called, enters_paid, enters, stack_overflow, blamed, Told, Made, made, move, ClosingShape}
-use Rattle.machine_sound.specs.Sound.{Each, Sizes, sizes, Valid, OptionOk, FrameOk, FrameWaits, FramesOk, registers_in, registers_of, CellOk, Solid, Top, TopIs, Settled, StackWaits}
-use Rattle.machine_sound.specs.Safe.{Phase, on_lua, waiting, in_resumed, calling, between, Is, IsPhase, ArgOk, ArgsOk, Knows, WaitsUnder, Calls, HasPlace, HeldLua, TopEvent', seen_lua, seen_other, ClosingEvent, takes_one, takes_none, takes_error, closing_values, closing_told, IsNoLua, IsOther, IsOtherTop, IsClosingTop, OverOk, WaitingReady, after_catcher, after_over, MoveGood}
-use Rattle.machine_sound.proofs.Lists.{each_none, each_cons, each_one, each_push, each_front, each_last, each_drop, each_take, each_tail, each_append, each_on, bind_at, last_push, last_splits, without_push, get_push_new}
+use Rattle.machine_sound.specs.Sound.{Each, Sizes, sizes, Valid, OptionOk, FrameOk, FrameWaits, FramesOk, registers_in, Solid, StackWaits}
+use Rattle.machine_sound.specs.Safe.{on_lua, waiting, Is, IsPhase, WaitsUnder, seen_lua, seen_other, takes_one, takes_none, takes_error, IsNoLua, IsOther, OverOk, WaitingReady, after_catcher, after_over, MoveGood}
+use Rattle.machine_sound.proofs.Lists.{each_none, each_cons, each_one, each_push, each_last, each_drop, each_take, each_tail, each_append, bind_at, last_push, last_splits}
 use Rattle.machine_sound.proofs.Values.{arg_valid, args_valid, le_of}
-use Rattle.machine_sound.proofs.Grow.{Grows, grows_self, grows_then, values_on, valid_on, frames_on, each_waits_on}
+use Rattle.machine_sound.proofs.Grow.{Grows, grows_self, grows_then, values_on, valid_on, each_waits_on}
 use Rattle.machine_sound.proofs.Frames.{set_stack, CellsFit, stack_grows, stack_solid, stack_there}
 use Rattle.machine_sound.proofs.Heaps.{handler_ok, callee_ok, CalleeOk}
 use Rattle.machine_sound.proofs.Outside.{heap_of}
-use Rattle.machine_sound.proofs.Waits.{with_moving, moving_grows, moving_solid, moving_waits, waits_stack, registers_here, pushed, pushed_grows, pushed_solid, pushed_there, push_is, Entered, EnteredAs, enters_good}
-use Rattle.machine_sound.proofs.Held.{held_top, held_waits, held_is, held_place, lua_is_top}
+use Rattle.machine_sound.proofs.Waits.{with_moving, moving_grows, moving_solid, moving_waits, waits_stack, registers_here, pushed, pushed_grows, pushed_solid, pushed_there, push_is, EnteredAs, enters_good}
+use Rattle.machine_sound.proofs.Held.{held_top, held_waits, held_is, held_place}
 use Rattle.machine_sound.proofs.Calls.{blamed_valid}
 use Rattle.machine_sound.proofs.Moves.{made_so}
 
@@ -38,7 +37,7 @@ moving_under n (Some k) W vs fuel h = record { all = moving_waits n W vs fuel h.
 moves_on : (n : ℕ) (s : Option TopShape) (env vs ws : List Value) (W : World) → Is n (waiting s) env W → Each (Valid (sizes n W)) ws → Each (Valid (sizes n W)) vs → Is n (waiting s) (env ++ vs) (with_moving W ws W.fuel)
 moves_on n s env vs ws W i h k =
     made_so n (waiting s) (waiting s) env vs W (with_moving W ws W.fuel) i (moving_grows n W ws W.fuel) (moving_solid n W ws W.fuel i.solid h) (moving_under n s W ws W.fuel i.phase)
-      (values_on (sizes n W) (sizes n (with_moving W ws W.fuel)) (moving_grows n W ws W.fuel) vs k)
+    (values_on (sizes n W) (sizes n (with_moving W ws W.fuel)) (moving_grows n W ws W.fuel) vs k)
 
 stays : (n : ℕ) (s : Option TopShape) (env vs : List Value) (W : World) → Is n (waiting s) env W → Each (Valid (sizes n W)) vs → Is n (waiting s) (env ++ vs) W
 stays n s env vs W i k = made_so n (waiting s) (waiting s) env vs W W i (grows_self (sizes n W)) i.solid i.phase k
@@ -69,9 +68,12 @@ pub find_close_waits : (n : ℕ) (v e : Arg) → WaitingGood n (find_close v e)
 find_close_waits n v e s env W i r =
     let z = sizes n W in
     record {
-      event = handler_in W.heap of_close (arg env v); world = W; is = refl;
+      event = handler_in W.heap of_close (arg env v);
+      world = W;
+      is = refl;
       holds = stays n s env (handler_in W.heap of_close (arg env v) ∷ arg env v ∷ arg env e ∷ []) W i
-        (each_cons (Valid z) (handler_in W.heap of_close (arg env v)) (arg env v ∷ arg env e ∷ []) (handler_ok z W.heap (heap_of n W i.solid) of_close (arg env v)) (each_cons (Valid z) (arg env v) (arg env e ∷ []) (arg_valid z env v i.valid r.0) (each_one (Valid z) (arg env e) (arg_valid z env e i.valid r.1)))) }
+          (each_cons (Valid z) (handler_in W.heap of_close (arg env v)) (arg env v ∷ arg env e ∷ []) (handler_ok z W.heap (heap_of n W i.solid) of_close (arg env v)) (each_cons (Valid z) (arg env v) (arg env e ∷ []) (arg_valid z env v i.valid r.0) (each_one (Valid z) (arg env e) (arg_valid z env e i.valid r.1))));
+    }
 
 -- what is on top
 
@@ -83,15 +85,20 @@ see_top_waits n s env W i r = from (last i.phase.all.frames) refl
   where
     h : StackWaits n W
     h = i.phase.all
+
     is : (o : Option Frame) → last i.phase.all.frames ≡ o → move see_top env W ≡ Some (record { world = W; values = []; told = top_shape W o })
     is o e = bind_at (λ top. made W [] top) (top_now W) (top_shape W (last i.phase.all.frames)) (top_is n W i.phase.all) ∙ ap (λ o. made W [] (top_shape W o)) e
+
     other : (o : Option Frame) → IsNoLua (top_shape W o) → last i.phase.all.frames ≡ o → MoveGood n (waiting s) env see_top W
     other o k e = record { event = seen_other (top_shape W o) k; world = W; is = is o e; holds = made_so n (waiting s) (waiting (Some (top_shape W o))) env [] W W i (grows_self (sizes n W)) i.solid (record { all = i.phase.all; top = ap (top_shape W) e }) (each_none (Valid (sizes n W))) }
+
     from : (o : Option Frame) → last i.phase.all.frames ≡ o → MoveGood n (waiting s) env see_top W
     from (Some (lua f)) e = record {
-        event = seen_lua (record { top = held_top (held_waits n W i.solid i.phase.all f e).function f; waits = refl; place = held_place n W i.solid i.phase.all f e; pending = omega arith });
-        world = W; is = is (Some (lua f)) e;
-        holds = made_so n (waiting s) (on_lua (held_top (held_waits n W i.solid i.phase.all f e).function f)) env [] W W i (grows_self (sizes n W)) i.solid (held_is n W i.solid i.phase.all f e) (each_none (Valid (sizes n W))) }
+      event = seen_lua (record { top = held_top (held_waits n W i.solid i.phase.all f e).function f; waits = refl; place = held_place n W i.solid i.phase.all f e; pending = omega arith });
+      world = W;
+      is = is (Some (lua f)) e;
+      holds = made_so n (waiting s) (on_lua (held_top (held_waits n W i.solid i.phase.all f e).function f)) env [] W W i (grows_self (sizes n W)) i.solid (held_is n W i.solid i.phase.all f e) (each_none (Valid (sizes n W)));
+    }
     from None e = other None tt e
     from (Some pcall) e = other (Some pcall) tt e
     from (Some (xpcall v)) e = other (Some (xpcall v)) tt e
@@ -139,9 +146,11 @@ see_catcher_waits n s env W i r =
     let c = catcher (reverse h.frames) in
     let ok : OptionOk (FrameOk z) c = catcher_ok (FrameOk z) (reverse h.frames) (each_reverse (FrameOk z) h.frames (i.solid.coroutines h.coroutine (in_progress h.frames) h.running).each) in
     record {
-      event = (top_shape W c, handler_value c); world = W;
+      event = (top_shape W c, handler_value c);
+      world = W;
       is = bind_at _ (stack_of W) (record { coroutine = h.coroutine; frames = h.frames }) (waits_stack n W h);
-      holds = made_so n (waiting s) (after_catcher (top_shape W c)) env (handler_value c) W W i (grows_self z) i.solid (caught_by n W h c) (handler_valid z c ok) }
+      holds = made_so n (waiting s) (after_catcher (top_shape W c)) env (handler_value c) W W i (grows_self z) i.solid (caught_by n W h c) (handler_valid z c ok);
+    }
 
 -- other frames with the same Lua frames
 module _ (n : ℕ) (W : World) (s : Solid n W) (h : StackWaits n W) (gs : List Frame) (same : (g : ℕ) → registers_in gs g ≡ registers_in h.frames g) (ok : FramesOk (sizes n W) gs) (w : Each (FrameWaits (sizes n W)) gs) where
@@ -150,8 +159,11 @@ module _ (n : ℕ) (W : World) (s : Solid n W) (h : StackWaits n W) (gs : List F
 
   pub other_fit : CellsFit n W h.coroutine gs W.cells
   other_fit = record {
-      count = refl; still_open = λ i d g r e. e; closed_ok = λ i v e. s.cells i (closed v) e;
-      there = λ i g r e. subst (λ m. r < m) (registers_here W h.coroutine h.frames g h.running ∙ sym (same g)) (s.cells i (open_at h.coroutine g r) e) }
+    count = refl;
+    still_open = λ i d g r e. e;
+    closed_ok = λ i v e. s.cells i (closed v) e;
+    there = λ i g r e. subst (λ m. r < m) (registers_here W h.coroutine h.frames g h.running ∙ sym (same g)) (s.cells i (open_at h.coroutine g r) e);
+  }
 
   pub other_grows : Grows (sizes n W) (sizes n other_world)
   other_grows = stack_grows n W h.coroutine h.frames gs W.cells h.running other_fit
@@ -210,9 +222,11 @@ pop_frame_waits n (Some k) env W i r =
     let same : (g : ℕ) → registers_in base g ≡ registers_in h.frames g = (λ g. other_pop base x.0 x.2 g ∙ ap (λ fs. registers_in fs g) (sym sp)) in
     let V = other_world n W s h base same ok w in
     record {
-      event = tt; world = V;
+      event = tt;
+      world = V;
       is = bind_at _ (stack_of W) (record { coroutine = h.coroutine; frames = h.frames }) (waits_stack n W h) ∙ ap (λ V. made V [] tt) (pop_is W (record { coroutine = h.coroutine; frames = h.frames }));
-      holds = made_so n (waiting (Some k)) (waiting None) env [] W V i (other_grows n W s h base same ok w) (other_solid n W s h base same ok w) (record { all = other_waits n W s h base same ok w; top = tt }) (each_none (Valid (sizes n V))) }
+      holds = made_so n (waiting (Some k)) (waiting None) env [] W V i (other_grows n W s h base same ok w) (other_solid n W s h base same ok w) (record { all = other_waits n W s h base same ok w; top = tt }) (each_none (Valid (sizes n V)));
+    }
 
 -- the closing of a coroutine's variables
 
@@ -246,7 +260,8 @@ module _ (n : ℕ) (env : List Value) (W : World) (i : Is n (waiting (Some closi
         let fr = (i.solid.coroutines h.coroutine (in_progress h.frames) h.running) in
         record {
           each = each_push (FrameOk (sizes n W)) (without_last h.frames) (closing e' left') (each_take (FrameOk (sizes n W)) (length h.frames - 1) h.frames fr.each) k;
-          depth = (let a = fr.depth in let b = ap length sp in let c = length-append (without_last h.frames) (closing e left ∷ []) in let d = length-append (without_last h.frames) (closing e' left' ∷ []) in omega arith) }
+          depth = (let a = fr.depth in let b = ap length sp in let c = length-append (without_last h.frames) (closing e left ∷ []) in let d = length-append (without_last h.frames) (closing e' left' ∷ []) in omega arith);
+        }
 
     pub frames_wait : Each (FrameWaits (sizes n W)) gs
     frames_wait = each_push (FrameWaits (sizes n W)) (without_last h.frames) (closing e' left') (each_take (FrameWaits (sizes n W)) (length h.frames - 1) h.frames h.waits) tt
@@ -258,7 +273,7 @@ module _ (n : ℕ) (env : List Value) (W : World) (i : Is n (waiting (Some closi
     closing_holds vs v =
         let g = other_grows n W i.solid h gs same_registers frames_ok frames_wait in
         made_so n (waiting (Some closing_top)) (waiting (Some closing_top)) env vs W closing_world i g (other_solid n W i.solid h gs same_registers frames_ok frames_wait)
-          (record { all = other_waits n W i.solid h gs same_registers frames_ok frames_wait; top = ap (top_shape closing_world) (last_push (without_last h.frames) (closing e' left')) }) (values_on (sizes n W) (sizes n closing_world) g vs v)
+        (record { all = other_waits n W i.solid h gs same_registers frames_ok frames_wait; top = ap (top_shape closing_world) (last_push (without_last h.frames) (closing e' left')) }) (values_on (sizes n W) (sizes n closing_world) g vs v)
 
 last_there : (v : Value) (vs : List Value) → (x : Value) × (last (v ∷ vs) ≡ Some x)
 last_there v vs = go v vs
@@ -278,6 +293,7 @@ take_closing_waits n (Some closing_top) env W i r =
   where
     is : (e : Option Value) (left : List Value) → last i.phase.all.frames ≡ Some (closing e left) → move take_closing env W ≡ next_closing W (record { coroutine = i.phase.all.coroutine; frames = i.phase.all.frames }) (closing e left)
     is e left x = bind_at _ (stack_of W) (record { coroutine = i.phase.all.coroutine; frames = i.phase.all.frames }) (waits_stack n W i.phase.all) ∙ bind_at (next_closing W (record { coroutine = i.phase.all.coroutine; frames = i.phase.all.frames })) (last i.phase.all.frames) (closing e left) x
+
     from : (e : Option Value) (left : List Value) → last i.phase.all.frames ≡ Some (closing e left) → MoveGood n (waiting (Some closing_top)) env take_closing W
     from None [] x = record { event = takes_none; world = W; is = is None [] x; holds = stays n (Some closing_top) env [] W i (each_none (Valid (sizes n W))) }
     from (Some v) [] x = record { event = takes_error v; world = W; is = is (Some v) [] x; holds = stays n (Some closing_top) env (v ∷ []) W i (each_one (Valid (sizes n W)) v (closing_ok n env W i (Some v) [] x).0) }
@@ -291,9 +307,10 @@ take_closing_waits n (Some closing_top) env W i r =
           event = takes_one l.0 (error_or_nil e);
           world = closing_world n env W i e (v ∷ left) x e (without_last (v ∷ left)) k;
           is = is e (v ∷ left) x
-            ∙ ap (λ (o : Option Value). elim o as (λ _. Option (Made ClosingShape)) [ None ↦ None | Some y ↦ made (put_top W (record { coroutine = i.phase.all.coroutine; frames = i.phase.all.frames }) (closing e (without_last (v ∷ left)))) (y ∷ error_or_nil e ∷ []) Rattle.machine_core.specs.Moves.one_left ]) l.1
-            ∙ ap (λ V. made V (l.0 ∷ error_or_nil e ∷ []) Rattle.machine_core.specs.Moves.one_left) (put_is W (record { coroutine = i.phase.all.coroutine; frames = i.phase.all.frames }) (closing e (without_last (v ∷ left))));
-          holds = closing_holds n env W i e (v ∷ left) x e (without_last (v ∷ left)) k (l.0 ∷ error_or_nil e ∷ []) (each_cons (Valid z) l.0 (error_or_nil e ∷ []) lv (each_one (Valid z) (error_or_nil e) (nil_or z e ok.0))) }
+              ∙ ap (λ (o : Option Value). elim o as (λ _. Option (Made ClosingShape)) [ None ↦ None | Some y ↦ made (put_top W (record { coroutine = i.phase.all.coroutine; frames = i.phase.all.frames }) (closing e (without_last (v ∷ left)))) (y ∷ error_or_nil e ∷ []) Rattle.machine_core.specs.Moves.one_left ]) l.1
+              ∙ ap (λ V. made V (l.0 ∷ error_or_nil e ∷ []) Rattle.machine_core.specs.Moves.one_left) (put_is W (record { coroutine = i.phase.all.coroutine; frames = i.phase.all.frames }) (closing e (without_last (v ∷ left))));
+          holds = closing_holds n env W i e (v ∷ left) x e (without_last (v ∷ left)) k (l.0 ∷ error_or_nil e ∷ []) (each_cons (Valid z) l.0 (error_or_nil e ∷ []) lv (each_one (Valid z) (error_or_nil e) (nil_or z e ok.0)));
+        }
 take_closing_waits n _ env W i r = absurd r
 
 pub set_error_waits : (n : ℕ) (a : Arg) → WaitingGood n (set_error a)
@@ -309,9 +326,10 @@ set_error_waits n a (Some closing_top) env W i r =
           event = tt;
           world = closing_world n env W i e left x (Some (arg env a)) left k;
           is = bind_at _ (stack_of W) (record { coroutine = i.phase.all.coroutine; frames = i.phase.all.frames }) (waits_stack n W i.phase.all)
-            ∙ bind_at (λ f. with_error W (record { coroutine = i.phase.all.coroutine; frames = i.phase.all.frames }) f (arg env a)) (last i.phase.all.frames) (closing e left) x
-            ∙ ap (λ V. made V [] tt) (put_is W (record { coroutine = i.phase.all.coroutine; frames = i.phase.all.frames }) (closing (Some (arg env a)) left));
-          holds = closing_holds n env W i e left x (Some (arg env a)) left k [] (each_none (Valid z)) }
+              ∙ bind_at (λ f. with_error W (record { coroutine = i.phase.all.coroutine; frames = i.phase.all.frames }) f (arg env a)) (last i.phase.all.frames) (closing e left) x
+              ∙ ap (λ V. made V [] tt) (put_is W (record { coroutine = i.phase.all.coroutine; frames = i.phase.all.frames }) (closing (Some (arg env a)) left));
+          holds = closing_holds n env W i e left x (Some (arg env a)) left k [] (each_none (Valid z));
+        }
 set_error_waits n a _ env W i r = absurd r.0
 
 -- calls that push frames below them
@@ -332,9 +350,11 @@ pushed_one n W s h x ok w room =
     record {
       world = V;
       is = ap (λ (o : Option Stack). elim o as (λ _. World) [ None ↦ W | Some s ↦ push W s x ]) (waits_stack n W h) ∙ push_is W (record { coroutine = h.coroutine; frames = h.frames }) x;
-      grows = g; solid = pushed_solid n W s h x ok room;
+      grows = g;
+      solid = pushed_solid n W s h x ok room;
       waits = record { coroutine = h.coroutine; frames = h.frames ++ x ∷ []; last = h.last; running = pushed_there n W s h x ok room; waits = each_push (FrameWaits (sizes n V)) h.frames x (each_waits_on (sizes n W) (sizes n V) g h.frames h.waits) (w (sizes n V)) };
-      fuel = refl }
+      fuel = refl;
+    }
 
 over_pushed : (n : ℕ) (W : World) (s : Solid n W) (h : StackWaits n W) (over : Over) (env : List Value) → Each (Valid (sizes n W)) env → OverOk over → length h.frames + length (frames_over over env) ≤ greatest_depth → Pushed n W (frames_over over env)
 over_pushed n W s h over_nothing env v o l = record { world = W; is = refl; grows = grows_self (sizes n W); solid = s; waits = h; fuel = refl }
@@ -353,21 +373,27 @@ enter_over_waits n over f slot s env W i r = room (nat_le (length i.phase.all.fr
   where
     room_is : has_room W (length (frames_over over env)) ≡ nat_le (length i.phase.all.frames + length (frames_over over env)) greatest_depth
     room_is = ap (λ (o : Option Stack). elim o as (λ _. Bool) [ None ↦ false | Some s ↦ nat_le (length s.frames + length (frames_over over env)) greatest_depth ]) (waits_stack n W i.phase.all)
+
     is : (b : Bool) → nat_le (length i.phase.all.frames + length (frames_over over env)) greatest_depth ≡ b → move (enter_over over f slot) env W ≡ cond b (called W (push_all W (frames_over over env)) (arg env f) (drop slot env)) (made W [] (not_entered stack_overflow))
     is b e = ap (λ b. cond b (called W (push_all W (frames_over over env)) (arg env f) (drop slot env)) (made W [] (not_entered stack_overflow))) (room_is ∙ e)
+
     callee_right : CalleeOk (sizes n W) W.heap (heap_of n W i.solid) (callee_of greatest_chain W.heap (arg env f) (drop slot env))
     callee_right = callee_ok (sizes n W) W.heap (heap_of n W i.solid) greatest_chain (arg env f) (drop slot env) (arg_valid (sizes n W) env f i.valid r.1) (each_drop (Valid (sizes n W)) slot env i.valid)
+
     enters' : (p : Pushed n W (frames_over over env)) → nat_le (length i.phase.all.frames + length (frames_over over env)) greatest_depth ≡ true → (c : Callee) → callee_of greatest_chain W.heap (arg env f) (drop slot env) ≡ c → CalleeOk (sizes n W) W.heap (heap_of n W i.solid) c → (fuel : ℕ) → W.fuel ≡ fuel → MoveGood n (waiting s) env (enter_over over f slot) W
     enters' p e c q k fuel u = from c q k fuel u
       where
         at_callee : (c : Callee) → callee_of greatest_chain W.heap (arg env f) (drop slot env) ≡ c → move (enter_over over f slot) env W ≡ enters_paid W p.world c
         at_callee c q = is true e ∙ ap (λ P. called W P (arg env f) (drop slot env)) p.is ∙ ap (enters_paid W p.world) q
+
         from : (c : Callee) → callee_of greatest_chain W.heap (arg env f) (drop slot env) ≡ c → CalleeOk (sizes n W) W.heap (heap_of n W i.solid) c → (fuel : ℕ) → W.fuel ≡ fuel → MoveGood n (waiting s) env (enter_over over f slot) W
         from (not_callable text) q k fuel u = record { event = not_entered text; world = p.world; is = at_callee (not_callable text) q; holds = made_so n (waiting s) (waiting None) env [] W p.world i p.grows p.solid (record { all = p.waits; top = tt }) (each_none (Valid (sizes n p.world))) }
         from (callee g vs) q k zero u = record {
-            event = not_paid; world = W;
-            is = at_callee (callee g vs) q ∙ ap (λ (x : ℕ). elim x as (λ _. Option (Made CallShape)) [ zero ↦ made W [] not_paid | suc fuel ↦ enters (record p.world { fuel = fuel }) g vs ]) u;
-            holds = made_so n (waiting s) (waiting None) env [] W W i (grows_self (sizes n W)) i.solid (record { all = i.phase.all; top = tt }) (each_none (Valid (sizes n W))) }
+          event = not_paid;
+          world = W;
+          is = at_callee (callee g vs) q ∙ ap (λ (x : ℕ). elim x as (λ _. Option (Made CallShape)) [ zero ↦ made W [] not_paid | suc fuel ↦ enters (record p.world { fuel = fuel }) g vs ]) u;
+          holds = made_so n (waiting s) (waiting None) env [] W W i (grows_self (sizes n W)) i.solid (record { all = i.phase.all; top = tt }) (each_none (Valid (sizes n W)));
+        }
         from (callee g vs) q k (suc fuel) u =
             let Q = with_moving p.world p.world.moving fuel in
             let gr = grows_then (sizes n W) (sizes n p.world) (sizes n Q) p.grows (moving_grows n p.world p.world.moving fuel) in
@@ -375,9 +401,12 @@ enter_over_waits n over f slot s env W i r = room (nat_le (length i.phase.all.fr
             let qw = moving_waits n p.world p.world.moving fuel p.waits in
             let x = enters_good n Q qs qw vs (values_on (sizes n W) (sizes n Q) gr vs k.2) g (valid_on (sizes n W) (sizes n Q) gr g k.0) k.1 in
             record {
-              event = x.shape; world = x.world;
+              event = x.shape;
+              world = x.world;
               is = at_callee (callee g vs) q ∙ ap (λ (x : ℕ). elim x as (λ _. Option (Made CallShape)) [ zero ↦ made W [] not_paid | suc fuel ↦ enters (record p.world { fuel = fuel }) g vs ]) u ∙ x.is;
-              holds = made_so n (waiting s) (after_over x.shape) env [] W x.world i (grows_then (sizes n W) (sizes n Q) (sizes n x.world) gr x.grows) x.solid (over_phase n Q x.world qw x.shape x.as') (each_none (Valid (sizes n x.world))) }
+              holds = made_so n (waiting s) (after_over x.shape) env [] W x.world i (grows_then (sizes n W) (sizes n Q) (sizes n x.world) gr x.grows) x.solid (over_phase n Q x.world qw x.shape x.as') (each_none (Valid (sizes n x.world)));
+            }
+
     room : (b : Bool) → nat_le (length i.phase.all.frames + length (frames_over over env)) greatest_depth ≡ b → MoveGood n (waiting s) env (enter_over over f slot) W
     room false e = record { event = not_entered stack_overflow; world = W; is = is false e; holds = made_so n (waiting s) (waiting None) env [] W W i (grows_self (sizes n W)) i.solid (record { all = i.phase.all; top = tt }) (each_none (Valid (sizes n W))) }
     room true e = enters' (over_pushed n W i.solid i.phase.all over env i.valid r.0 (le_of _ greatest_depth e)) e (callee_of greatest_chain W.heap (arg env f) (drop slot env)) refl callee_right W.fuel refl

@@ -1,24 +1,22 @@
 -- Worlds in which every frame of the running coroutine waits, and a callee that is entered in one.
-use Rattle.std.proofs.Common.{ℕ, zero, suc, ◌+◌, ◌-◌, ◌<◌, ◌≤◌, ◌≡◌, ◌⊎◌, inl, inr, ⊎_elim, List, [], ◌∷◌, ◌++◌, Option, Some, None, refl, subst, sym, ap, ◌∙◌, length, take, drop, map, arith, Bool, true, false, cond, length-append}
-use Rattle.std.specs.Prelude.{slice_get, slice_set, nat_le, nat_lt, IsTrue, IsSome, ◌&&◌, not}
+use Rattle.std.proofs.Common.{ℕ, zero, suc, ◌+◌, ◌<◌, ◌≤◌, ◌≡◌, List, [], ◌∷◌, ◌++◌, Option, Some, None, refl, subst, sym, ap, ◌∙◌, length, take, drop, arith, Bool, true, false, cond, length-append}
+use Rattle.std.specs.Prelude.{slice_get, nat_le, nat_lt, IsTrue, IsSome}
 use Rattle.std.proofs.lemmas.Bool.Decides.{nat_tests}
-use Rattle.std.proofs.lemmas.Bool.{cases_eq}
-use Rattle.int_core.specs.Value.{Value, known, nil, boolean, integer, string, primitive, object, a_table, a_function, a_coroutine, bind, last}
-use Rattle.int_core.specs.Heap.{Heap}
+use Rattle.int_core.specs.Value.{Value, known, nil, boolean, integer, string, primitive, object, a_table, a_function, a_coroutine}
 use Rattle.int_core.specs.Operations.{is_function}
 use Rattle.code_core.specs.declared.instruction.Instruction.{Instruction}
 use Rattle.code_core.specs.Prototype.{Prototype}
-use Rattle.code_core.specs.Check.{IsChecked, at, is_sized}
+use Rattle.code_core.specs.Check.{IsChecked, at}
 use Rattle.machine_core.specs.World.{Function, Cell, closed, open_at, Wait, running, Activation, LuaFrame, Frame, lua, pcall, xpcall, handler, closing, Coroutine, in_progress, World, Stack, stack_of, put_frames, push, pop}
-use Rattle.machine_core.specs.Moves.{greatest_depth, CallShape, is_entered, is_primitive, not_paid, not_entered, Made, made, fitted, new_frame, push_all, has_room, enters, stack_overflow, top_shape, TopShape, runs_main}
-use Rattle.machine_sound.specs.Sound.{Each, Sizes, sizes, Valid, FunctionOk, LuaOk, FrameOk, LuaWaits, FrameWaits, FramesOk, CoroutineOk, registers_in, registers_of, CellOk, Solid, Top, RunsOrWaits, TopIs, Fits, Settled, StackWaits}
+use Rattle.machine_core.specs.Moves.{greatest_depth, CallShape, is_entered, is_primitive, not_paid, not_entered, Made, made, fitted, new_frame, push_all, has_room, enters, stack_overflow}
+use Rattle.machine_sound.specs.Sound.{Each, sizes, Valid, LuaOk, FrameOk, registers_in, registers_of, Solid, Settled, StackWaits}
 use Rattle.machine_sound.specs.Safe.{Calls}
-use Rattle.machine_sound.proofs.Lists.{each_none, each_cons, each_one, each_push, each_front, each_drop, each_take, each_on, bind_at, get_there, get_front, get_push_old, get_push_new, last_push}
-use Rattle.machine_sound.proofs.Values.{lt_of, le_true, le_of, both_of, each_fitted, length_fitted}
-use Rattle.machine_sound.proofs.Grow.{Grows, grows_self, grows_then, values_on, valid_on, frames_on, each_waits_on}
-use Rattle.machine_sound.proofs.Frames.{set_stack, CellsFit, stack_grows, stack_solid, stack_there, stack_is, registers_top}
+use Rattle.machine_sound.proofs.Lists.{each_none, each_push, each_drop, each_take, bind_at, get_there, get_front}
+use Rattle.machine_sound.proofs.Values.{lt_of, le_of, both_of, each_fitted, length_fitted}
+use Rattle.machine_sound.proofs.Grow.{Grows, grows_self, each_waits_on}
+use Rattle.machine_sound.proofs.Frames.{set_stack, CellsFit, stack_grows, stack_solid, stack_there, stack_is}
 use Rattle.machine_sound.proofs.Rules.{opcode_there, first_no_extra}
-use Rattle.machine_sound.proofs.Outside.{with_outside, OutsideOk, outside_solid, stays_self_ok}
+use Rattle.machine_sound.proofs.Outside.{outside_solid, stays_self_ok}
 
 -- other values on their way, and other fuel
 abbrev pub with_moving : World → List Value → ℕ → World
@@ -56,11 +54,14 @@ module _ (n : ℕ) (W : World) (s : Solid n W) (h : StackWaits n W) (x : Frame) 
 
   pub pushed_fit : CellsFit n W h.coroutine (h.frames ++ x ∷ []) W.cells
   pushed_fit = record {
-      count = refl; still_open = λ i d g r e. e; closed_ok = λ i v e. s.cells i (closed v) e;
-      there = λ i g r e.
+    count = refl;
+    still_open = λ i d g r e. e;
+    closed_ok = λ i v e. s.cells i (closed v) e;
+    there = λ i g r e.
         let a : r < registers_of W.coroutines h.coroutine g = s.cells i (open_at h.coroutine g r) e in
         let b : r < registers_in h.frames g = subst (λ m. r < m) (registers_here W h.coroutine h.frames g h.running) a in
-        subst (λ m. r < m) (sym (registers_pushed h.frames x g (within_frames h.frames g r b))) b }
+        subst (λ m. r < m) (sym (registers_pushed h.frames x g (within_frames h.frames g r b))) b;
+  }
 
   pub pushed_grows : Grows (sizes n W) (sizes n pushed)
   pushed_grows = stack_grows n W h.coroutine h.frames (h.frames ++ x ∷ []) W.cells h.running pushed_fit
@@ -118,10 +119,14 @@ module _ (n : ℕ) (P : World) (s : Solid n P) (h : StackWaits n P) (vs : List V
     new_ok =
         let z = sizes n P in
         record {
-          function = g; there = there; stack = (let a = length_fitted g.code.own.stack (take g.code.own.params vs) in omega arith);
+          function = g;
+          there = there;
+          stack = (let a = length_fitted g.code.own.stack (take g.code.own.params vs) in omega arith);
           registers = each_fitted (Valid z) tt g.code.own.stack (take g.code.own.params vs) (each_take (Valid z) g.code.own.params vs valid);
           varargs = each_cond (Valid z) g.code.own.vararg (drop g.code.own.params vs) (each_drop (Valid z) g.code.own.params vs valid);
-          pending = each_none (λ r. r < g.code.own.stack); error = tt }
+          pending = each_none (λ r. r < g.code.own.stack);
+          error = tt;
+        }
 
     abbrev V : World
     V = pushed n P s h (lua new) new_ok room
@@ -133,21 +138,36 @@ module _ (n : ℕ) (P : World) (s : Solid n P) (h : StackWaits n P) (vs : List V
         record {
           top = record { code = g.code; pc = 0; size = g.code.own.stack; opened = 0; pending = 0; cells = 0; captured = []; runs = true };
           is_top = record {
-            coroutine = h.coroutine; base = h.frames; top = new; function = g; last = h.last;
-            frames = pushed_there n P s h (lua new) new_ok room; there = there;
+            coroutine = h.coroutine;
+            base = h.frames;
+            top = new;
+            function = g;
+            last = h.last;
+            frames = pushed_there n P s h (lua new) new_ok room;
+            there = there;
             below = each_waits_on (sizes n P) (sizes n V) (pushed_grows n P s h (lua new) new_ok room) h.frames h.waits;
-            code = refl; pc = refl; size = length_fitted g.code.own.stack (take g.code.own.params vs); opened = refl;
+            code = refl;
+            pc = refl;
+            size = length_fitted g.code.own.stack (take g.code.own.params vs);
+            opened = refl;
             pending = each_none (λ r. r < 0);
             cells = λ i r e. absurd (pushed_cells n P s h (lua new) new_ok room i r e);
-            captured = each_none (λ r. IsSome (Rattle.machine_core.specs.World.find_open h.coroutine (length h.frames) r V.cells)); wait = refl };
-          fits = record { instruction = w.0; at_pc = w.1; opcode = op.0; is_opcode = op.1; no_extra = first_no_extra g.code w.0 op.0 (s.functions m g there).code.code w.1 op.1; fits_mark = refl; cells = omega arith } }
+            captured = each_none (λ r. IsSome (Rattle.machine_core.specs.World.find_open h.coroutine (length h.frames) r V.cells));
+            wait = refl;
+          };
+          fits = record { instruction = w.0; at_pc = w.1; opcode = op.0; is_opcode = op.1; no_extra = first_no_extra g.code w.0 op.0 (s.functions m g there).code.code w.1 op.1; fits_mark = refl; cells = omega arith };
+        }
 
     entered : Entered n P (length h.frames) (made (push_all P (new_frame m g.code vs ∷ [])) [] is_entered)
     entered = record {
-        shape = is_entered; world = V;
-        is = ap (λ (o : Option Stack). made (elim o as (λ _. World) [ None ↦ P | Some s ↦ push P s (lua new) ]) [] is_entered) (waits_stack n P h) ∙ ap (λ V. made V [] is_entered) (push_is P (record { coroutine = h.coroutine; frames = h.frames }) (lua new));
-        grows = pushed_grows n P s h (lua new) new_ok room; solid = pushed_solid n P s h (lua new) new_ok room; as' = settled;
-        room = λ text e. absurd (cc) }
+      shape = is_entered;
+      world = V;
+      is = ap (λ (o : Option Stack). made (elim o as (λ _. World) [ None ↦ P | Some s ↦ push P s (lua new) ]) [] is_entered) (waits_stack n P h) ∙ ap (λ V. made V [] is_entered) (push_is P (record { coroutine = h.coroutine; frames = h.frames }) (lua new));
+      grows = pushed_grows n P s h (lua new) new_ok room;
+      solid = pushed_solid n P s h (lua new) new_ok room;
+      as' = settled;
+      room = λ text e. absurd (cc);
+    }
 
   room_is : has_room P 1 ≡ nat_le (length h.frames + 1) greatest_depth
   room_is = ap (λ (o : Option Stack). elim o as (λ _. Bool) [ None ↦ false | Some s ↦ nat_le (length s.frames + 1) greatest_depth ]) (waits_stack n P h)
@@ -157,10 +177,12 @@ module _ (n : ℕ) (P : World) (s : Solid n P) (h : StackWaits n P) (vs : List V
     where
       g : (f : Function) × (slice_get P.functions m ≡ Some f)
       g = get_there P.functions m l
+
       is : (b : Bool) → nat_le (length h.frames + 1) greatest_depth ≡ b → enters P (object a_function m) vs ≡ cond b (made (push_all P (new_frame m (get_there P.functions m l).0.code vs ∷ [])) [] is_entered) (made P [] (not_entered stack_overflow))
       is b e =
           bind_at _ (slice_get P.functions m) (get_there P.functions m l).0 (get_there P.functions m l).1
           ∙ ap (λ b. cond b (made (push_all P (new_frame m (get_there P.functions m l).0.code vs ∷ [])) [] is_entered) (made P [] (not_entered stack_overflow))) (room_is ∙ e)
+
       from : (b : Bool) → nat_le (length h.frames + 1) greatest_depth ≡ b → Entered n P (length h.frames) (enters P (object a_function m) vs)
       from true e =
           let x = entered m (get_there P.functions m l).0 (get_there P.functions m l).1 (let k = le_of (length h.frames + 1) greatest_depth e in omega arith) in
@@ -170,8 +192,14 @@ module _ (n : ℕ) (P : World) (s : Solid n P) (h : StackWaits n P) (vs : List V
   -- a function that can be entered
   pub enters_good : (f : Value) → Valid (sizes n P) f → IsTrue (is_function f) → Entered n P (length h.frames) (enters P f vs)
   enters_good (known (primitive m)) v t = record {
-      shape = is_primitive m; world = with_moving P vs P.fuel; is = refl; grows = moving_grows n P vs P.fuel; solid = moving_solid n P vs P.fuel s valid;
-      as' = record { all = moving_waits n P vs P.fuel h; there = v }; room = λ text e. absurd (cc) }
+    shape = is_primitive m;
+    world = with_moving P vs P.fuel;
+    is = refl;
+    grows = moving_grows n P vs P.fuel;
+    solid = moving_solid n P vs P.fuel s valid;
+    as' = record { all = moving_waits n P vs P.fuel h; there = v };
+    room = λ text e. absurd (cc);
+  }
   enters_good (object a_function m) v t = enters_function m v
   enters_good (known nil) v t = absurd (cc)
   enters_good (known (boolean b)) v t = absurd (cc)

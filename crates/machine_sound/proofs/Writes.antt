@@ -1,20 +1,20 @@
 -- Writing an upvalue: its cell may be open in any frame of any coroutine.
-use Rattle.std.proofs.Common.{ℕ, zero, suc, ◌+◌, ◌-◌, ◌<◌, ◌≤◌, ◌≡◌, ◌⊎◌, inl, inr, ⊎_elim, List, [], ◌∷◌, ◌++◌, Option, Some, None, refl, subst, sym, ap, ◌∙◌, length, map, arith, Bool, true, false, cond, length-append}
+use Rattle.std.proofs.Common.{ℕ, zero, suc, ◌<◌, ◌≡◌, ⊎_elim, List, [], ◌∷◌, ◌++◌, Option, Some, None, refl, subst, sym, ap, ◌∙◌, length, arith, Bool, true, false, length-append}
 use Rattle.std.specs.Prelude.{slice_get, slice_set, max}
 use Rattle.std.proofs.lemmas.Bool.{cases_eq}
-use Rattle.int_core.specs.Value.{Value, bind, last, write}
-use Rattle.machine_core.specs.World.{Function, Cell, closed, open_at, Activation, LuaFrame, Frame, lua, pcall, xpcall, handler, closing, Coroutine, fresh, suspended, in_progress, normal, dead, failed, World, frames_of, lua_frame, with_frames, Place, place_of, read_cell, write_in_frame, write_in_coroutine, write_cell, find_open}
-use Rattle.machine_core.specs.Text.{Arg, arg, Quick, write_upvalue}
+use Rattle.int_core.specs.Value.{Value, bind, write}
+use Rattle.machine_core.specs.World.{Cell, closed, open_at, LuaFrame, Frame, lua, pcall, xpcall, handler, closing, Coroutine, fresh, suspended, in_progress, normal, dead, failed, World, frames_of, lua_frame, with_frames, read_cell, write_in_frame, write_in_coroutine, write_cell, find_open}
+use Rattle.machine_core.specs.Text.{Arg, arg, write_upvalue}
 use Rattle.machine_core.specs.Moves.{Move, outside, Told, Made, made, own_cell, do_outside}
-use Rattle.machine_sound.specs.Sound.{Each, Sizes, sizes, Valid, TableOk, FunctionOk, LuaOk, FrameOk, LuaWaits, FrameWaits, FramesOk, AllWait, CoroutineOk, standing, ChainOk, registers_in, registers_of, CellOk, OneEach, Solid, Top, RunsOrWaits, TopIs}
-use Rattle.machine_sound.specs.Safe.{on_lua, Is, MoveGood}
-use Rattle.machine_sound.proofs.Lists.{each_none, each_set, each_last, each_on, bind_at, get_set_same, get_set_other, length_set, get_within, get_push_old, get_push_new, get_front, map_set, some_is}
+use Rattle.machine_sound.specs.Sound.{Each, Sizes, sizes, Valid, TableOk, FunctionOk, LuaOk, FrameOk, LuaWaits, FrameWaits, FramesOk, CoroutineOk, standing, ChainOk, registers_in, registers_of, CellOk, Solid, Top, RunsOrWaits, TopIs}
+use Rattle.machine_sound.specs.Safe.{on_lua, MoveGood}
+use Rattle.machine_sound.proofs.Lists.{each_none, each_set, each_on, bind_at, get_set_same, get_set_other, length_set, get_within, get_push_new, get_front, map_set, some_is}
 use Rattle.machine_sound.proofs.Values.{each_write, length_write, arg_valid}
-use Rattle.machine_sound.proofs.Grow.{Grows, grows_self, values_on, valid_on, table_on, function_on, coroutine_on, cell_on, roots_on, lua_waits_on, each_waits_on}
-use Rattle.machine_sound.proofs.Frames.{the_place, place_is}
+use Rattle.machine_sound.proofs.Grow.{Grows, values_on, valid_on, table_on, function_on, coroutine_on, cell_on, roots_on, lua_waits_on, each_waits_on}
+use Rattle.machine_sound.proofs.Frames.{the_place}
 use Rattle.machine_sound.proofs.Moves.{made_so}
 use Rattle.machine_sound.proofs.Outside.{quick_is, QuickGood}
-use Rattle.machine_sound.proofs.Cells.{frames_right, lua_right, Stands, stands, cell_read, OwnCell, own_cell_there}
+use Rattle.machine_sound.proofs.Cells.{Stands, stands, cell_read, own_cell_there}
 
 -- a closed cell
 
@@ -44,7 +44,10 @@ closed_solid n W m v s p =
       cells = each_set (CellOk y W.coroutines) W.cells m (closed v) (each_on (CellOk z W.coroutines) (CellOk y W.coroutines) (cell_on z y g W.coroutines) W.cells s.cells) (valid_on z y g v p);
       one_each = λ i j d h r a b. s.one_each i j d h r (closed_open W.cells m v i d h r a) (closed_open W.cells m v j d h r b);
       coroutines = each_on (CoroutineOk z) (CoroutineOk y) (coroutine_on z y g) W.coroutines s.coroutines;
-      chain = s.chain; moving = values_on z y g W.moving s.moving; roots = roots_on z y g W V s.roots refl refl refl refl refl refl }
+      chain = s.chain;
+      moving = values_on z y g W.moving s.moving;
+      roots = roots_on z y g W V s.roots refl refl refl refl refl refl;
+    }
 
 waits_on' : (z y : Sizes) (g : Grows z y) (b : Bool) (f : LuaFrame) → RunsOrWaits b z f → RunsOrWaits b y f
 waits_on' z y g true f k = k
@@ -54,12 +57,23 @@ closed_top : (n : ℕ) (W : World) (m : ℕ) (v : Value) (t : Top) → TopIs n t
 closed_top n W m v t h =
     let g = closed_grows n W m v in
     record {
-      coroutine = h.coroutine; base = h.base; top = h.top; function = h.function; last = h.last; frames = h.frames; there = h.there;
+      coroutine = h.coroutine;
+      base = h.base;
+      top = h.top;
+      function = h.function;
+      last = h.last;
+      frames = h.frames;
+      there = h.there;
       below = each_waits_on (sizes n W) (sizes n (closed_world W m v)) g h.base h.below;
-      code = h.code; pc = h.pc; size = h.size; opened = h.opened; pending = h.pending;
+      code = h.code;
+      pc = h.pc;
+      size = h.size;
+      opened = h.opened;
+      pending = h.pending;
       cells = λ i r e. h.cells i r (closed_open W.cells m v i h.coroutine (length h.base) r e);
       captured = each_none (λ r. Rattle.std.specs.Prelude.IsSome (find_open h.coroutine (length h.base) r (slice_set W.cells m (closed v))));
-      wait = waits_on' (sizes n W) (sizes n (closed_world W m v)) g t.runs h.top h.wait }
+      wait = waits_on' (sizes n W) (sizes n (closed_world W m v)) g t.runs h.top h.wait;
+    }
 
 -- an open cell
 
@@ -78,13 +92,27 @@ written_size l r v h = let a = length_write r v l.own.registers in omega arith
 
 written_ok : (z : Sizes) (l : LuaFrame) (r : ℕ) (v : Value) → r < length l.own.registers → Valid z v → LuaOk z l → LuaOk z (written_frame l r v)
 written_ok z l r v b p h = record {
-    function = h.function; there = h.there; stack = (let a = written_size l r v b in let c = h.stack in omega arith);
-    registers = each_write (Valid z) tt r v l.own.registers p h.registers; varargs = h.varargs; pending = h.pending; error = h.error }
+  function = h.function;
+  there = h.there;
+  stack = (let a = written_size l r v b in let c = h.stack in omega arith);
+  registers = each_write (Valid z) tt r v l.own.registers p h.registers;
+  varargs = h.varargs;
+  pending = h.pending;
+  error = h.error;
+}
 
 written_waits : (z : Sizes) (l : LuaFrame) (r : ℕ) (v : Value) → r < length l.own.registers → LuaWaits z l → LuaWaits z (written_frame l r v)
 written_waits z l r v b h = record {
-    function = h.function; there = h.there; instruction = h.instruction; at_pc = h.at_pc; opcode = h.opcode; is_opcode = h.is_opcode; fits = h.fits;
-    size = written_size l r v b ∙ h.size; kept = h.kept }
+  function = h.function;
+  there = h.there;
+  instruction = h.instruction;
+  at_pc = h.at_pc;
+  opcode = h.opcode;
+  is_opcode = h.is_opcode;
+  fits = h.fits;
+  size = written_size l r v b ∙ h.size;
+  kept = h.kept;
+}
 
 standing_same : (c : Coroutine) (fs gs : List Frame) → frames_of c ≡ Some fs → standing (with_frames c gs) ≡ standing c
 standing_same (suspended hs) fs gs e = refl
@@ -135,7 +163,7 @@ module _ (n : ℕ) (W : World) (co f r : ℕ) (v : Value) (p : Stands W co f r) 
   write_is m =
       let e = lua_is p.frame p.top p.is_lua in
       let a : bind (frames_of p.of) (λ fs. bind (slice_get fs f) (λ g. Some (slice_set fs f (write_in_frame r v g)))) ≡ Some new =
-        bind_at _ (frames_of p.of) p.frames p.are ∙ bind_at _ (slice_get p.frames f) (lua p.top) at_frame in
+      bind_at _ (frames_of p.of) p.frames p.are ∙ bind_at _ (slice_get p.frames f) (lua p.top) at_frame in
       ap (λ (o : Option Coroutine). elim o as (λ _. World) [ None ↦ W | Some c ↦ record W { coroutines = slice_set W.coroutines co (write_in_coroutine f r v c) } ]) p.is
       ∙ ap (λ (o : Option (List Frame)). record W { coroutines = slice_set W.coroutines co (elim o as (λ _. Coroutine) [ None ↦ p.of | Some fs ↦ with_frames p.of fs ]) }) a
 
@@ -144,8 +172,9 @@ module _ (n : ℕ) (W : World) (co f r : ℕ) (v : Value) (p : Stands W co f r) 
 
   frames_ok : (z : Sizes) → Valid z v → FramesOk z p.frames → FramesOk z new
   frames_ok z q h = record {
-      each = each_set (FrameOk z) p.frames f (lua (written_frame p.top r v)) h.each (written_ok z p.top r v p.within q (h.each f (lua p.top) at_frame));
-      depth = (let a = length_set p.frames f (lua (written_frame p.top r v)) in let b = h.depth in omega arith) }
+    each = each_set (FrameOk z) p.frames f (lua (written_frame p.top r v)) h.each (written_ok z p.top r v p.within q (h.each f (lua p.top) at_frame));
+    depth = (let a = length_set p.frames f (lua (written_frame p.top r v)) in let b = h.depth in omega arith);
+  }
 
   frames_wait : (z : Sizes) → Each (FrameWaits z) p.frames → Each (FrameWaits z) new
   frames_wait z h = each_set (FrameWaits z) p.frames f (lua (written_frame p.top r v)) h (written_waits z p.top r v p.within (h f (lua p.top) at_frame))
@@ -153,14 +182,14 @@ module _ (n : ℕ) (W : World) (co f r : ℕ) (v : Value) (p : Stands W co f r) 
   in_same : (g : ℕ) → registers_in new g ≡ registers_in p.frames g
   in_same g = ⊎_elim
       (λ (q : g ≡ f). subst (λ g. registers_in new g ≡ registers_in p.frames g) (sym q)
-        (rw (get_set_same p.frames f (lua p.top) (lua (written_frame p.top r v)) at_frame, at_frame, registers_in) (written_size p.top r v p.within)))
+      (rw (get_set_same p.frames f (lua p.top) (lua (written_frame p.top r v)) at_frame, at_frame, registers_in) (written_size p.top r v p.within)))
       (λ q. rw (get_set_other p.frames f g (lua (written_frame p.top r v)) (λ e. q (sym e)), registers_in) refl)
       (cases_eq g f)
 
   registers_same : (d g : ℕ) → registers_of written_world.coroutines d g ≡ registers_of W.coroutines d g
   registers_same d g = ⊎_elim
       (λ (q : d ≡ co). subst (λ d. registers_of written_world.coroutines d g ≡ registers_of W.coroutines d g) (sym q)
-        (here (get_set_same W.coroutines co p.of (with_frames p.of new) p.is)))
+      (here (get_set_same W.coroutines co p.of (with_frames p.of new) p.is)))
       (λ q. rw (get_set_other W.coroutines co d (with_frames p.of new) (λ e. q (sym e)), registers_of) refl)
       (cases_eq d co)
     where
@@ -181,9 +210,11 @@ module _ (n : ℕ) (W : World) (co f r : ℕ) (v : Value) (p : Stands W co f r) 
         cells = cells;
         one_each = s.one_each;
         coroutines = each_set (CoroutineOk y) W.coroutines co (with_frames p.of new) (each_on (CoroutineOk z) (CoroutineOk y) (coroutine_on z y g) W.coroutines s.coroutines)
-          (with_ok y p.of p.frames new p.are (frames_ok y (valid_on z y g v ok)) (frames_wait y) (coroutine_on z y g p.of (s.coroutines co p.of p.is)));
+            (with_ok y p.of p.frames new p.are (frames_ok y (valid_on z y g v ok)) (frames_wait y) (coroutine_on z y g p.of (s.coroutines co p.of p.is)));
         chain = subst (λ st. ChainOk W.main st W.chain) (sym (map_set standing W.coroutines co p.of (with_frames p.of new) p.is (standing_same p.of p.frames new p.are))) s.chain;
-        moving = values_on z y g W.moving s.moving; roots = roots_on z y g W written_world s.roots refl refl refl refl refl refl }
+        moving = values_on z y g W.moving s.moving;
+        roots = roots_on z y g W written_world s.roots refl refl refl refl refl refl;
+      }
     where
       cells : Each (CellOk (sizes n written_world) written_world.coroutines) W.cells
       cells i (closed w) e = valid_on (sizes n W) (sizes n written_world) written_grows w (s.cells i (closed w) e)
@@ -198,10 +229,23 @@ module _ (n : ℕ) (W : World) (co f r : ℕ) (v : Value) (p : Stands W co f r) 
         → top.function ≡ h.top.function → top.own.pc ≡ h.top.own.pc → length top.own.registers ≡ length h.top.own.registers → top.own.opened ≡ h.top.own.opened → top.own.pending ≡ h.top.own.pending → RunsOrWaits t.runs y top
         → TopIs n (record t { captured = [] }) written_world
     top_with base top e l b f c z o q w = record {
-        coroutine = h.coroutine; base = base; top = top; function = h.function; last = h.last; frames = e; there = ap (slice_get W.functions) f ∙ h.there; below = b;
-        code = h.code; pc = c ∙ h.pc; size = z ∙ h.size; opened = o ∙ h.opened; pending = subst (λ ps. Each (λ r. r < t.pending) ps) (sym q) h.pending;
-        cells = λ i r e. h.cells i r (subst (λ m. slice_get W.cells i ≡ Some (open_at h.coroutine m r)) l e);
-        captured = each_none (λ r. Rattle.std.specs.Prelude.IsSome (find_open h.coroutine (length base) r W.cells)); wait = w }
+      coroutine = h.coroutine;
+      base = base;
+      top = top;
+      function = h.function;
+      last = h.last;
+      frames = e;
+      there = ap (slice_get W.functions) f ∙ h.there;
+      below = b;
+      code = h.code;
+      pc = c ∙ h.pc;
+      size = z ∙ h.size;
+      opened = o ∙ h.opened;
+      pending = subst (λ ps. Each (λ r. r < t.pending) ps) (sym q) h.pending;
+      cells = λ i r e. h.cells i r (subst (λ m. slice_get W.cells i ≡ Some (open_at h.coroutine m r)) l e);
+      captured = each_none (λ r. Rattle.std.specs.Prelude.IsSome (find_open h.coroutine (length base) r W.cells));
+      wait = w;
+    }
 
     below : Each (FrameWaits y) h.base
     below = each_waits_on (sizes n W) y written_grows h.base h.below
@@ -218,27 +262,28 @@ module _ (n : ℕ) (W : World) (co f r : ℕ) (v : Value) (p : Stands W co f r) 
       where
         apart : (h.coroutine ≡ co → ⊥) → TopIs n (record t { captured = [] }) written_world
         apart q = top_with h.base h.top (get_set_other W.coroutines co h.coroutine (with_frames p.of new) (λ e. q (sym e)) ∙ h.frames) refl below refl refl refl refl refl wait
+
         same : h.coroutine ≡ co → TopIs n (record t { captured = [] }) written_world
         same q =
             let c : p.of ≡ in_progress (h.base ++ lua h.top ∷ []) = some_is p.is (ap (slice_get W.coroutines) (sym q) ∙ h.frames) in
             let fs : p.frames ≡ h.base ++ lua h.top ∷ [] = some_is p.are (ap frames_of c) in
             let e : slice_get written_world.coroutines h.coroutine ≡ Some (in_progress (slice_set (h.base ++ lua h.top ∷ []) f (lua (written_frame p.top r v)))) =
-              ap (slice_get written_world.coroutines) q ∙ get_set_same W.coroutines co p.of (with_frames p.of new) p.is ∙ ap (λ c. Some (with_frames c new)) c ∙ ap (λ l. Some (in_progress (slice_set l f (lua (written_frame p.top r v))))) fs in
+            ap (slice_get written_world.coroutines) q ∙ get_set_same W.coroutines co p.of (with_frames p.of new) p.is ∙ ap (λ c. Some (with_frames c new)) c ∙ ap (λ l. Some (in_progress (slice_set l f (lua (written_frame p.top r v))))) fs in
             ⊎_elim
-              (λ (k : f ≡ length h.base).
-                let a : Some (lua h.top) ≡ Some (lua p.top) = sym (get_push_new h.base (lua h.top)) ∙ ap (slice_get (h.base ++ lua h.top ∷ [])) (sym k) ∙ ap (λ l. slice_get l f) (sym fs) ∙ at_frame in
-                let b : h.top ≡ p.top = cc in
-                let x = written_size p.top r v p.within in
-                let l : r < length h.top.own.registers = subst (λ (top : LuaFrame). r < length top.own.registers) (sym b) p.within in
-                let e' : slice_get written_world.coroutines h.coroutine ≡ Some (in_progress (h.base ++ lua (written_frame h.top r v) ∷ [])) =
-                  e ∙ ap (λ m. Some (in_progress (slice_set (h.base ++ lua h.top ∷ []) m (lua (written_frame p.top r v))))) k ∙ ap (λ l. Some (in_progress l)) (set_top h.base (lua h.top) (lua (written_frame p.top r v))) ∙ ap (λ top. Some (in_progress (h.base ++ lua (written_frame top r v) ∷ []))) (sym b) in
-                top_with h.base (written_frame h.top r v) e' refl below refl refl (written_size h.top r v l) refl refl (written_wait t.runs wait l))
-              (λ k.
-                let m : f < length h.base = (let a = get_within p.frames f (lua p.top) at_frame in let b = ap length fs in let c = length-append h.base (lua h.top ∷ []) in omega arith) in
-                let g : slice_get h.base f ≡ Some (lua p.top) = sym (get_front h.base (lua h.top ∷ []) f m) ∙ ap (λ l. slice_get l f) (sym fs) ∙ at_frame in
-                top_with (slice_set h.base f (lua (written_frame p.top r v))) h.top (e ∙ ap (λ l. Some (in_progress l)) (set_below h.base (lua h.top) (lua (written_frame p.top r v)) f m)) (length_set h.base f (lua (written_frame p.top r v)))
-                  (each_set (FrameWaits y) h.base f (lua (written_frame p.top r v)) below (written_waits y p.top r v p.within (below f (lua p.top) g))) refl refl refl refl refl wait)
-              (cases_eq f (length h.base))
+            (λ (k : f ≡ length h.base).
+            let a : Some (lua h.top) ≡ Some (lua p.top) = sym (get_push_new h.base (lua h.top)) ∙ ap (slice_get (h.base ++ lua h.top ∷ [])) (sym k) ∙ ap (λ l. slice_get l f) (sym fs) ∙ at_frame in
+            let b : h.top ≡ p.top = cc in
+            let x = written_size p.top r v p.within in
+            let l : r < length h.top.own.registers = subst (λ (top : LuaFrame). r < length top.own.registers) (sym b) p.within in
+            let e' : slice_get written_world.coroutines h.coroutine ≡ Some (in_progress (h.base ++ lua (written_frame h.top r v) ∷ [])) =
+            e ∙ ap (λ m. Some (in_progress (slice_set (h.base ++ lua h.top ∷ []) m (lua (written_frame p.top r v))))) k ∙ ap (λ l. Some (in_progress l)) (set_top h.base (lua h.top) (lua (written_frame p.top r v))) ∙ ap (λ top. Some (in_progress (h.base ++ lua (written_frame top r v) ∷ []))) (sym b) in
+            top_with h.base (written_frame h.top r v) e' refl below refl refl (written_size h.top r v l) refl refl (written_wait t.runs wait l))
+            (λ k.
+            let m : f < length h.base = (let a = get_within p.frames f (lua p.top) at_frame in let b = ap length fs in let c = length-append h.base (lua h.top ∷ []) in omega arith) in
+            let g : slice_get h.base f ≡ Some (lua p.top) = sym (get_front h.base (lua h.top ∷ []) f m) ∙ ap (λ l. slice_get l f) (sym fs) ∙ at_frame in
+            top_with (slice_set h.base f (lua (written_frame p.top r v))) h.top (e ∙ ap (λ l. Some (in_progress l)) (set_below h.base (lua h.top) (lua (written_frame p.top r v)) f m)) (length_set h.base f (lua (written_frame p.top r v)))
+            (each_set (FrameWaits y) h.base f (lua (written_frame p.top r v)) below (written_waits y p.top r v p.within (below f (lua p.top) g))) refl refl refl refl refl wait)
+            (cases_eq f (length h.base))
 
 closed_is : (W : World) (m : ℕ) (w v : Value) → write_cell W m (closed w) v ≡ closed_world W m v
 unfolding write_cell
@@ -253,15 +298,20 @@ write_upvalue_move n u x t env W i r =
   where
     ok : Valid (sizes n W) (arg env x)
     ok = arg_valid (sizes n W) env x i.valid r.1
+
     from : (cell : Cell) (m : ℕ) → CellOk (sizes n W) W.coroutines cell → Rattle.machine_core.specs.Moves.move (outside (write_upvalue u x)) env W ≡ made (write_cell W m cell (arg env x)) [] true → MoveGood n (on_lua t) env (outside (write_upvalue u x)) W
     from (closed w) m k e = record {
-        event = tt; world = closed_world W m (arg env x);
-        is = e ∙ ap (λ V. made V [] true) (closed_is W m w (arg env x));
-        holds = made_so n (on_lua t) (on_lua (record t { captured = [] })) env [] W (closed_world W m (arg env x)) i (closed_grows n W m (arg env x)) (closed_solid n W m (arg env x) i.solid ok) (closed_top n W m (arg env x) t i.phase) (each_none (Valid (sizes n (closed_world W m (arg env x))))) }
+      event = tt;
+      world = closed_world W m (arg env x);
+      is = e ∙ ap (λ V. made V [] true) (closed_is W m w (arg env x));
+      holds = made_so n (on_lua t) (on_lua (record t { captured = [] })) env [] W (closed_world W m (arg env x)) i (closed_grows n W m (arg env x)) (closed_solid n W m (arg env x) i.solid ok) (closed_top n W m (arg env x) t i.phase) (each_none (Valid (sizes n (closed_world W m (arg env x)))));
+    }
     from (open_at co f q) m k e =
         let p = stands W co f q k in
         let V = written_world n W co f q (arg env x) p i.solid ok in
         record {
-          event = tt; world = V;
+          event = tt;
+          world = V;
           is = e ∙ ap (λ V. made V [] true) (write_is n W co f q (arg env x) p i.solid ok m);
-          holds = made_so n (on_lua t) (on_lua (record t { captured = [] })) env [] W V i (written_grows n W co f q (arg env x) p i.solid ok) (written_solid n W co f q (arg env x) p i.solid ok) (written_top n W co f q (arg env x) p i.solid ok t i.phase) (each_none (Valid (sizes n V))) }
+          holds = made_so n (on_lua t) (on_lua (record t { captured = [] })) env [] W V i (written_grows n W co f q (arg env x) p i.solid ok) (written_solid n W co f q (arg env x) p i.solid ok) (written_top n W co f q (arg env x) p i.solid ok t i.phase) (each_none (Valid (sizes n V)));
+        }

@@ -1,9 +1,9 @@
 -- What is proved of sound worlds.
-use Rattle.std.specs.Prelude.{ℕ, ◌<◌, List, [], Option, None}
+use Rattle.std.specs.Prelude.{ℕ, ◌<◌, [], None}
 use Rattle.machine_core.specs.World.{World}
-use Rattle.machine_core.specs.Moves.{Ending, go, Row, Outcome}
-use Rattle.machine_core.specs.MachineStep.{step, steps, pcall_row, xpcall_row, error_row, resume_row, yield_row, close_row}
-use Rattle.machine_sound.specs.Sound.{Solid, Settled}
+use Rattle.machine_core.specs.Moves.{Ending, go, Row}
+use Rattle.machine_core.specs.MachineStep.{step, steps}
+use Rattle.machine_sound.specs.Sound.{Solid}
 use Rattle.machine_sound.specs.Safe.{waiting, Safe, EndIs, Good}
 
 -- a world that is sound, behind a row that ended so

@@ -1,18 +1,17 @@
 -- Rows that never trap, by recursion over the row: what each move needs (`Ready`), what may come of it (`Event`), and what is known behind it.
-use Rattle.std.specs.Prelude.{ℕ, zero, suc, ◌+◌, ◌-◌, ◌<◌, ◌≤◌, ◌≡◌, ◌⊎◌, ℤ, pos, Bool, true, false, cond, max, List, [], ◌∷◌, ◌++◌, length, drop, Option, Some, None, slice_get, IsTrue, IsSome}
-use Rattle.int_core.specs.Value.{Plain, nil, boolean, integer, string, primitive, Value, known, object, a_table, a_function, a_coroutine, Shape, is_known, is_object, shape, greatest_string, bind, last}
-use Rattle.int_core.specs.Operations.{Operation}
+use Rattle.std.specs.Prelude.{ℕ, ◌+◌, ◌-◌, ◌<◌, ◌≤◌, ◌≡◌, ◌⊎◌, ℤ, pos, Bool, true, false, cond, max, List, [], ◌∷◌, ◌++◌, length, drop, Option, Some, None, slice_get, IsTrue, IsSome}
+use Rattle.int_core.specs.Value.{Plain, nil, boolean, integer, string, primitive, Value, known, object, a_table, a_function, a_coroutine, Shape, is_known, is_object, shape, greatest_string, last}
 use Rattle.code_core.specs.declared.opcode.Opcode.{Opcode}
 use Rattle.code_core.specs.declared.instruction.Instruction.{Instruction}
 use Rattle.code_core.specs.declared.proto.Const.{Const}
 use Rattle.code_core.specs.declared.proto.UpDesc.{UpDesc}
 use Rattle.code_core.specs.Instruction.{opcode_of}
 use Rattle.code_core.specs.Prototype.{Prototype, list_of}
-use Rattle.code_core.specs.Check.{IsChecked, at, Mark, fixed, open_from, mark}
-use Rattle.machine_core.specs.World.{Wait, running, for_call, for_iterator, for_value, for_truth, dropped, for_concat, for_close, returning, leaving, World}
-use Rattle.machine_core.specs.Text.{Arg, read, written, arg, constant, behind, is_there, Own, read_register, read_registers, read_list, read_constant, read_varargs, see, write_register, write_registers, write_list, write_nils, end_list, cut_from, close_cells, mark_pending, see_pending, take_pending, drop_pending, keep_results, keep_pending, Quick, read_upvalue, write_upvalue, make_table, make_function, fill_table, pay, Given, results, thrown}
-use Rattle.machine_core.specs.Moves.{Over, over_xpcall, Move, on_own, move_pc, open_register, outside, settle, enter, enter_tail, find_close, is_closable, begin_leaving, leave_frame, take_moving, look, give, give_with, blame, enter_over, see_top, see_catcher, pop_frame, take_closing, set_error, end_coroutine, fail_coroutine, suspend, resume, begin_closing, ClosingShape, one_left, all_closed, closed_with_error, ResumeShape, resumed, refused, SettledShape, is_found, is_asked, is_fault, CallShape, is_entered, is_primitive, not_paid, not_entered, TopShape, lua_top, closing_top, no_top, Told, place_from, top_shape, runs_main, Ending, go, returned, calls_primitive, raised, unwinding, spent, main_yielded, main_returned, main_failed, Row, traps, stop, only, act, Outcome, trapped, ends, Made, made, move, run}
-use Rattle.machine_sound.specs.Sound.{Each, Sizes, sizes, Valid, waits_at, waiting_size, kept_below, Solid, Top, TopIs, Fits, FitsIfRuns, Settled, StackWaits, FrameWaits}
+use Rattle.code_core.specs.Check.{at, Mark, fixed, open_from, mark}
+use Rattle.machine_core.specs.World.{Wait, leaving, World}
+use Rattle.machine_core.specs.Text.{Arg, read, written, arg, constant, behind, is_there, Own, read_register, read_registers, read_list, read_constant, read_varargs, see, write_register, write_registers, write_list, write_nils, end_list, cut_from, close_cells, mark_pending, see_pending, drop_pending, keep_results, keep_pending, Quick, read_upvalue, write_upvalue, make_table, make_function, fill_table, pay, Given, results, thrown}
+use Rattle.machine_core.specs.Moves.{Over, over_xpcall, Move, on_own, move_pc, open_register, outside, settle, enter, enter_tail, find_close, is_closable, begin_leaving, leave_frame, take_moving, look, give, give_with, blame, enter_over, see_top, see_catcher, pop_frame, take_closing, set_error, end_coroutine, fail_coroutine, suspend, resume, begin_closing, ClosingShape, one_left, all_closed, closed_with_error, ResumeShape, resumed, refused, SettledShape, is_found, is_asked, is_fault, CallShape, is_entered, is_primitive, not_paid, not_entered, TopShape, lua_top, closing_top, no_top, Told, place_from, top_shape, runs_main, Ending, go, returned, calls_primitive, raised, unwinding, spent, main_yielded, main_returned, main_failed, Row, traps, stop, only, act, Outcome, trapped, ends, move, run}
+use Rattle.machine_sound.specs.Sound.{Each, sizes, Valid, waits_at, waiting_size, kept_below, Solid, Top, TopIs, FitsIfRuns, Settled, StackWaits}
 
 -- where a row stands: a Lua frame is on top, of which this is known, and all others wait; all frames wait, and what stands on top may be known;
 -- they do, in a coroutine that another one resumed; they do, and a primitive is called; no coroutine runs; the world is as between two steps;

@@ -1,6 +1,6 @@
 -- Sound worlds: what holds of everything in a world at every moment of a step (`Solid`), and how the frame on top stands between two steps.
 -- An id is the number of an object. The machine's primitives are those below some number, `primitives`.
-use Rattle.std.specs.Prelude.{ℕ, zero, suc, ◌+◌, ◌<◌, ◌≤◌, ◌≡◌, Bool, true, false, max, List, [], ◌∷◌, ◌++◌, length, map, Option, Some, None, nat_le, slice_get, IsTrue, IsSome}
+use Rattle.std.specs.Prelude.{ℕ, suc, ◌+◌, ◌<◌, ◌≤◌, ◌≡◌, Bool, true, false, max, List, [], ◌∷◌, ◌++◌, length, map, Option, Some, None, nat_le, slice_get, IsTrue, IsSome}
 use Rattle.int_core.specs.Value.{Plain, string, primitive, Value, known, object, a_table, a_function, a_coroutine, greatest_string, bind, last}
 use Rattle.int_core.specs.Heap.{Table}
 use Rattle.int_core.specs.Operations.{is_function}
@@ -28,11 +28,11 @@ pub record Sizes : Type 0 where
 
 abbrev pub sizes : ℕ → World → Sizes
 sizes primitives W = record {
-    primitives = primitives;
-    tables = length W.heap.tables;
-    functions = W.functions;
-    cells = length W.cells;
-    coroutines = length W.coroutines;
+  primitives = primitives;
+  tables = length W.heap.tables;
+  functions = W.functions;
+  cells = length W.cells;
+  coroutines = length W.coroutines;
 }
 
 -- values

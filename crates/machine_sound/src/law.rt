@@ -7,16 +7,14 @@ ghost use Rattle.machine_sound.specs.Safe.{MovesGood, RowsGood};
 pub fn rows_do_not_trap()
     ensures moves { MovesGood }
     ensures rows { RowsGood }
-{
-}
+{}
 
 /// From a sound world, whose code is checked, no step traps, and the world is sound behind it, as its ending says: whatever the
 /// instruction, the wait and the frame on top, where the rows of the primitives are safe. So does no number of steps.
 pub fn steps_do_not_trap()
     ensures step { StepsGood }
     ensures runs { RunsGood }
-{
-}
+{}
 
 /// The rows of the primitives that move frames and coroutines are safe.
 pub fn primitives_do_not_trap()
@@ -26,11 +24,9 @@ pub fn primitives_do_not_trap()
     ensures resume { PrimitiveSafe resume_row }
     ensures yields { PrimitiveSafe yield_row }
     ensures close { PrimitiveSafe close_row }
-{
-}
+{}
 
 /// There is a sound world in which a function runs, so the laws above speak of something.
 pub fn some_world_is_sound()
     ensures { SomeWorldSound }
-{
-}
+{}
