@@ -6,7 +6,7 @@ use Rattle.code_core.specs.declared.opcode.Opcode.{Opcode}
 use Rattle.code_core.specs.declared.instruction.Instruction.{Instruction}
 use Rattle.code_core.specs.Prototype.{Prototype}
 use Rattle.code_core.specs.Check.{CodeIsChecked, at}
-use Rattle.machine_core.specs.World.{Function, Cell, Wait, running, for_call, for_iterator, for_value, for_truth, dropped, for_concat, for_close, returning, leaving, LuaFrame, Frame, lua, in_progress, World, Stack, stack_of}
+use Rattle.machine_core.specs.World.{Function, Cell, Wait, running, for_call, for_iterator, for_value, for_truth, dropped, for_concat, for_close, returning, leaving, LuaFrame, Frame, lua, in_progress, World, Stack, stack_of, Place, place_of}
 use Rattle.machine_core.specs.InstructionRows.{text_at, rest_at, told_values}
 use Rattle.int_core.specs.Ask.{values}
 use Rattle.machine_core.specs.Moves.{go, returned, calls_primitive, raised, unwinding, spent, main_yielded, main_returned, main_failed, Row, Outcome, trapped, ends, run}
@@ -17,7 +17,7 @@ use Rattle.machine_sound.specs.Safe.{on_lua, Is, Good}
 use Rattle.machine_sound.proofs.Lists.{each_none, each_one, each_on, bind_at, last_push}
 use Rattle.machine_sound.proofs.Grow.{Grows, grows_then, values_on}
 use Rattle.machine_sound.proofs.Own.{OwnIs}
-use Rattle.machine_sound.proofs.Frames.{stack_is, top_put, top_ok, function_ok, own_known, new_grows, new_solid, new_top, new_world}
+use Rattle.machine_sound.proofs.Frames.{the_place, place_is, stack_is, top_put, top_ok, function_ok, own_known, new_grows, new_solid, new_top, new_world}
 use Rattle.machine_sound.proofs.Waits.{with_moving, moving_grows, moving_solid}
 use Rattle.machine_sound.proofs.Calls.{fuel_top}
 use Rattle.machine_sound.proofs.RowsOfCode.{text_safe}
@@ -178,3 +178,37 @@ go_good n primitives W s k =
     let h = k.is_top in
     let g = lua_step_good n k.top W h s k.top.runs refl h.wait k.fits in
     from_world_good n W (step_by primitives go W) s (subst (λ (o : Option Outcome). Good n (elim o [ None ↦ trapped | Some o ↦ o ])) (sym (top_step_is n k.top W h)) g)
+
+-- the same for the place of the machine
+
+the_same : (n : ℕ) (W : World) (p : Place) (k : Settled n W) → place_of W ≡ Some p → the_place n k.top W k.is_top ≡ p
+the_same n W p k e = Rattle.machine_sound.proofs.Lists.some_is (place_is n k.top W k.is_top) e
+
+pub running_text_good : (n : ℕ) (W : World) (p : Place) → Solid n W → Settled n W → place_of W ≡ Some p → p.top.wait ≡ running → Good n (run (expand (text_at p.function.code p.top.own.pc)) [] W)
+running_text_good n W p s k e w =
+    let h = k.is_top in
+    let q = the_same n W p k e in
+    let w' : h.top.wait ≡ running = ap (λ (p : Place). p.top.wait) q ∙ w in
+    let g = subst (λ wait. Good n (lua_step W (record { coroutine = h.coroutine; frames = h.base ++ lua h.top ∷ [] }) h.top h.function.code wait)) w' (lua_step_good n k.top W h s k.top.runs refl h.wait k.fits) in
+    subst (λ (p : Place). Good n (run (expand (text_at p.function.code p.top.own.pc)) [] W)) q g
+
+pub waiting_text_good : (n : ℕ) (W : World) (p : Place) → Solid n W → Settled n W → place_of W ≡ Some p → (p.top.wait ≡ running → ⊥) → Good n (run (expand (rest_at p.top.wait p.function.code p.top.own.pc)) (told_values p.top.wait (values W.moving)) (woken W p.stack p.top))
+waiting_text_good n W p s k e w =
+    let h = k.is_top in
+    let q = the_same n W p k e in
+    let g = lua_step_good n k.top W h s k.top.runs refl h.wait k.fits in
+    subst (λ (p : Place). Good n (run (expand (rest_at p.top.wait p.function.code p.top.own.pc)) (told_values p.top.wait (values W.moving)) (woken W p.stack p.top))) q
+      (from h.top.wait g (λ r. w (ap (λ (p : Place). p.top.wait) (sym q) ∙ r)))
+  where
+    from : (wait : Wait Value) → Good n (lua_step W (record { coroutine = k.is_top.coroutine; frames = k.is_top.base ++ lua k.is_top.top ∷ [] }) k.is_top.top k.is_top.function.code wait) → (wait ≡ running → ⊥)
+        → Good n (run (expand (rest_at wait k.is_top.function.code k.is_top.top.own.pc)) (told_values wait (values W.moving)) (woken W (record { coroutine = k.is_top.coroutine; frames = k.is_top.base ++ lua k.is_top.top ∷ [] }) k.is_top.top))
+    from running g r = absurd (r refl)
+    from (leaving e) g r = g
+    from for_call g r = g
+    from for_iterator g r = g
+    from for_value g r = g
+    from for_truth g r = g
+    from dropped g r = g
+    from (for_concat c) g r = g
+    from for_close g r = g
+    from (returning c) g r = g

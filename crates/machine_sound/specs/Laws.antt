@@ -1,8 +1,11 @@
 -- What is proved of sound worlds.
-use Rattle.std.specs.Prelude.{ℕ, ◌<◌, [], None}
-use Rattle.machine_core.specs.World.{World}
-use Rattle.machine_core.specs.Moves.{Ending, go, Row}
-use Rattle.machine_core.specs.MachineStep.{step, steps}
+use Rattle.std.specs.Prelude.{ℕ, ◌<◌, ◌≡◌, [], Some, None}
+use Rattle.int_core.specs.Ask.{values}
+use Rattle.machine_core.specs.World.{running, World, Place, place_of}
+use Rattle.machine_core.specs.InstructionRows.{text_at, rest_at, told_values}
+use Rattle.machine_core.specs.FrameRows.{expand}
+use Rattle.machine_core.specs.Moves.{Ending, go, Row, run}
+use Rattle.machine_core.specs.MachineStep.{woken, step, steps}
 use Rattle.machine_sound.specs.Sound.{Solid}
 use Rattle.machine_sound.specs.Safe.{waiting, Safe, EndIs, Good}
 
@@ -26,6 +29,15 @@ StepsGood = (primitives : ℕ) (rows : ℕ → Row) → PrimitivesSafe primitive
 -- and so any number of steps
 abbrev pub RunsGood : Type 0
 RunsGood = (primitives : ℕ) (rows : ℕ → Row) → PrimitivesSafe primitives rows → (n : ℕ) (ending : Ending) (W : World) → Sound primitives ending W → Good primitives (steps rows n ending W)
+
+-- the text of the instruction at which the frame on top runs does not trap
+abbrev pub RunningTextsGood : Type 0
+RunningTextsGood = (primitives : ℕ) (W : World) (p : Place) → Sound primitives go W → place_of W ≡ Some p → p.top.wait ≡ running → Good primitives (run (expand (text_at p.function.code p.top.own.pc)) [] W)
+
+-- what is left of an instruction does not trap where the answer of its callee moves
+abbrev pub WaitingTextsGood : Type 0
+WaitingTextsGood = (primitives : ℕ) (W : World) (p : Place) → Sound primitives go W → place_of W ≡ Some p → (p.top.wait ≡ running → ⊥)
+    → Good primitives (run (expand (rest_at p.top.wait p.function.code p.top.own.pc)) (told_values p.top.wait (values W.moving)) (woken W p.stack p.top))
 
 -- there is a sound world with a running function
 abbrev pub SomeWorldSound : Type 0

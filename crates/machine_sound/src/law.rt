@@ -1,6 +1,6 @@
 // The laws, each with what it speaks of in `specs/`.
 ghost use Rattle.machine_core.specs.MachineStep.{close_row, error_row, pcall_row, resume_row, xpcall_row, yield_row};
-ghost use Rattle.machine_sound.specs.Laws.{PrimitiveSafe, RunsGood, SomeWorldSound, StepsGood};
+ghost use Rattle.machine_sound.specs.Laws.{PrimitiveSafe, RunningTextsGood, RunsGood, SomeWorldSound, StepsGood, WaitingTextsGood};
 ghost use Rattle.machine_sound.specs.Safe.{MovesGood, RowsGood};
 
 /// A move that is ready in a sound world does not trap, and neither does a row that is safe; both leave a sound world.
@@ -14,6 +14,13 @@ pub fn rows_do_not_trap()
 pub fn steps_do_not_trap()
     ensures step { StepsGood }
     ensures runs { RunsGood }
+{}
+
+/// In a sound world the text of the instruction at which the top frame runs does not trap, and neither does what is left of the one
+/// at which it waits: what a function that does one instruction may rest on.
+pub fn texts_do_not_trap()
+    ensures running { RunningTextsGood }
+    ensures waiting { WaitingTextsGood }
 {}
 
 /// The rows of the primitives that move frames and coroutines are safe.
