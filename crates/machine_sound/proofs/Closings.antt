@@ -56,10 +56,10 @@ module _ (n : ℕ) (W : World) (s : Solid n W) (h : StackWaits n W) (co : ℕ) (
 pub record Begun (n : ℕ) (V : World) (o : Option (Made ResumeShape)) : Type 0 where
   pub event : ResumeEvent
   pub world : World
-  pub is : o ≡ Some (record { world = world; values = []; told = event.shape' })
+  pub is : o ≡ Some (record { world = world; values = []; told = event.outcome })
   pub grows : Grows (sizes n V) (sizes n world)
   pub solid : Solid n world
-  pub phase : Rattle.machine_sound.specs.Safe.IsPhase n (after_beginning event.shape') world
+  pub phase : Rattle.machine_sound.specs.Safe.IsPhase n (after_beginning event.outcome) world
 
 begins : (n : ℕ) (V : World) (s : Solid n V) (h : StackWaits n V) (e : Option Value) (vs : List Value) → OptionOk (Valid (sizes n V)) e → Each (Valid (sizes n V)) vs → Begun n V (closes_in V (record { coroutine = h.coroutine; frames = h.frames }) e vs)
 begins n V s h e vs a b = from (nat_le (length h.frames + 1) greatest_depth) refl
@@ -75,7 +75,7 @@ begins n V s h e vs a b = from (nat_le (length h.frames + 1) greatest_depth) ref
         let U = pushed n V s h x (a, b) room in
         let g = pushed_grows n V s h x (a, b) room in
         record {
-          event = record { shape' = resumed is_entered; right = tt };
+          event = record { outcome = resumed is_entered; right = tt };
           world = U;
           is = is true k ∙ ap (λ U. made U [] (resumed is_entered)) (push_is V (record { coroutine = h.coroutine; frames = h.frames }) x);
           grows = g;
@@ -85,7 +85,7 @@ begins n V s h e vs a b = from (nat_le (length h.frames + 1) greatest_depth) ref
             top = ap (top_shape U) (last_push h.frames x);
           };
         }
-    from false k = record { event = record { shape' = resumed (not_entered stack_overflow); right = tt }; world = V; is = is false k; grows = grows_self (sizes n V); solid = s; phase = record { all = h; top = tt } }
+    from false k = record { event = record { outcome = resumed (not_entered stack_overflow); right = tt }; world = V; is = is false k; grows = grows_self (sizes n V); solid = s; phase = record { all = h; top = tt } }
 
 fresh_closes : (W : World) (s : Stack) (co : ℕ) (v : Value) → closes_coroutine W s co (fresh v) ≡ closes_in (record W { coroutines = slice_set W.coroutines co dead }) s None []
 unfolding put_coroutine
@@ -115,10 +115,10 @@ begin_closing_waits n x s env W i r = from (named_there n env W x i.valid r).cor
     is c e = bind_at _ (stack_of W) (record { coroutine = i.phase.all.coroutine; frames = i.phase.all.frames }) (waits_stack n W i.phase.all) ∙ bind_at _ (coroutine_number (arg env x)) (named_there n env W x i.valid r).number (named_there n env W x i.valid r).is_number ∙ bind_at _ (slice_get W.coroutines (named_there n env W x i.valid r).number) c e
 
     refuses : (text : List ℕ) → length text ≤ greatest_string → move (begin_closing x) env W ≡ made W [] (refused text) → MoveGood n (waiting s) env (begin_closing x) W
-    refuses text l e = record { event = record { shape' = refused text; right = l }; world = W; is = e; holds = made_so n (waiting s) (waiting None) env [] W W i (grows_self (sizes n W)) i.solid (record { all = i.phase.all; top = tt }) (each_none (Valid (sizes n W))) }
+    refuses text l e = record { event = record { outcome = refused text; right = l }; world = W; is = e; holds = made_so n (waiting s) (waiting None) env [] W W i (grows_self (sizes n W)) i.solid (record { all = i.phase.all; top = tt }) (each_none (Valid (sizes n W))) }
 
     begun : (V : World) → Grows (sizes n W) (sizes n V) → (o : Option (Made ResumeShape)) → move (begin_closing x) env W ≡ o → Begun n V o → MoveGood n (waiting s) env (begin_closing x) W
-    begun V g o e b = record { event = b.event; world = b.world; is = e ∙ b.is; holds = made_so n (waiting s) (after_beginning b.event.shape') env [] W b.world i (grows_then (sizes n W) (sizes n V) (sizes n b.world) g b.grows) b.solid b.phase (each_none (Valid (sizes n b.world))) }
+    begun V g o e b = record { event = b.event; world = b.world; is = e ∙ b.is; holds = made_so n (waiting s) (after_beginning b.event.outcome) env [] W b.world i (grows_then (sizes n W) (sizes n V) (sizes n b.world) g b.grows) b.solid b.phase (each_none (Valid (sizes n b.world))) }
 
     buried : (c : Coroutine) (e : slice_get W.coroutines (named_there n env W x i.valid r).number ≡ Some c) (a : standing c ≡ apart) (cells : List Cell) (left : CellsLeft n W (named_there n env W x i.valid r).number dead cells) (er : Option Value) (vs : List Value) → OptionOk (Valid (sizes n W)) er → Each (Valid (sizes n W)) vs
         → move (begin_closing x) env W ≡ closes_in (record W { cells = cells; coroutines = slice_set W.coroutines (named_there n env W x i.valid r).number dead }) (record { coroutine = i.phase.all.coroutine; frames = i.phase.all.frames }) er vs → MoveGood n (waiting s) env (begin_closing x) W

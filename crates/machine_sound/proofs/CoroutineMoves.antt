@@ -224,7 +224,7 @@ resume_waits n x slot s env W i r = from (named_there n env W x i.valid r).corou
     is c e = bind_at _ (stack_of W) (record { coroutine = i.phase.all.coroutine; frames = i.phase.all.frames }) (waits_stack n W i.phase.all) ∙ bind_at _ (coroutine_number (arg env x)) (named_there n env W x i.valid r).number (named_there n env W x i.valid r).is_number ∙ bind_at _ (slice_get W.coroutines (named_there n env W x i.valid r).number) c e
 
     refuses : (text : List ℕ) → length text ≤ greatest_string → move (resume x slot) env W ≡ made W [] (refused text) → MoveGood n (waiting s) env (resume x slot) W
-    refuses text l e = record { event = record { shape' = refused text; right = l }; world = W; is = e; holds = made_so n (waiting s) (waiting None) env [] W W i (grows_self (sizes n W)) i.solid (record { all = i.phase.all; top = tt }) (each_none (Valid (sizes n W))) }
+    refuses text l e = record { event = record { outcome = refused text; right = l }; world = W; is = e; holds = made_so n (waiting s) (waiting None) env [] W W i (grows_self (sizes n W)) i.solid (record { all = i.phase.all; top = tt }) (each_none (Valid (sizes n W))) }
 
     limit : (c : Coroutine) → can_start c ≡ true → (b : Bool) → nat_lt greatest_resumes (length W.chain) ≡ b → resumes W (record { coroutine = i.phase.all.coroutine; frames = i.phase.all.frames }) (named_there n env W x i.valid r).number c (drop slot env) ≡ cond b (made W [] (refused (codes "too many nested resumes"))) (starts_in (put_coroutine W i.phase.all.coroutine (normal i.phase.all.frames)) (named_there n env W x i.valid r).number c (drop slot env))
     limit c t b e = ap (λ t. cond (t && nat_lt greatest_resumes (length W.chain)) (made W [] (refused (codes "too many nested resumes"))) (starts_in (cond t (put_coroutine W i.phase.all.coroutine (normal i.phase.all.frames)) W) (named_there n env W x i.valid r).number c (drop slot env))) t
@@ -246,7 +246,7 @@ resume_waits n x slot s env W i r = from (named_there n env W x i.valid r).corou
         let V = with_moving P (drop slot env) P.fuel in
         let valid = values_on (sizes n W) (sizes n P) g (drop slot env) (Rattle.machine_sound.proofs.Lists.each_drop (Valid (sizes n W)) slot env i.valid) in
         record {
-          event = record { shape' = resumed is_entered; right = tt };
+          event = record { outcome = resumed is_entered; right = tt };
           world = V;
           is = is (suspended gs) e ∙ limit (suspended gs) refl false l ∙ suspended_is W (record { coroutine = h.coroutine; frames = h.frames }) co gs (drop slot env);
           holds = made_so n (waiting s) handing env [] W V i (grows_then (sizes n W) (sizes n P) (sizes n V) g (moving_grows n P (drop slot env) P.fuel)) (moving_solid n P (drop slot env) P.fuel ps valid) (inl (moving_waits n P (drop slot env) P.fuel pw)) (each_none (Valid (sizes n V)));
@@ -264,7 +264,7 @@ resume_waits n x slot s env W i r = from (named_there n env W x i.valid r).corou
         let vs = drop slot env in
         let y = enters_good n P ps pw vs (values_on z (sizes n P) g vs (Rattle.machine_sound.proofs.Lists.each_drop (Valid z) slot env i.valid)) body (valid_on z (sizes n P) g body ok.0) ok.1 in
         record {
-          event = record { shape' = resumed y.shape; right = tt };
+          event = record { outcome = resumed y.shape; right = tt };
           world = y.world;
           is = is (fresh body) e ∙ limit (fresh body) refl false l ∙ fresh_is W (record { coroutine = h.coroutine; frames = h.frames }) co body vs ∙ bind_at (λ d. made d.world [] (resumed d.told)) (enters P body vs) _ y.is;
           holds = made_so n (waiting s) (after_resuming (resumed y.shape)) env [] W y.world i (grows_then z (sizes n P) (sizes n y.world) g y.grows) y.solid (resumed_phase n P y.world pw y.shape y.as') (each_none (Valid (sizes n y.world)));

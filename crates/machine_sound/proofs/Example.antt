@@ -2,15 +2,18 @@
 use Rattle.std.proofs.Common.{ℕ, zero, suc, ◌≡◌, ◌<◌, List, [], ◌∷◌, Option, Some, None, refl, subst, true, false, arith}
 use Rattle.std.specs.Prelude.{pos, slice_get, IsTrue}
 use Rattle.std.specs.List.{list_all}
-use Rattle.int_core.specs.Value.{Value, known, nil, integer}
-use Rattle.code_core.specs.declared.opcode.Opcode.TheVariants.{LoadI, Return1}
+use Rattle.int_core.specs.Value.{Value, known, nil, integer, nth}
+use Rattle.code_core.specs.declared.opcode.Opcode.TheVariants.{ExtraArg, LoadI, Return1}
 use Rattle.code_core.specs.declared.instruction.Instruction.{Instruction}
 use Rattle.code_core.specs.Opcode.{opcodes, number_of}
 use Rattle.code_core.specs.Instruction.{opcode_of, abc, abx}
 use Rattle.code_core.specs.Prototype.{Prototype, none}
 use Rattle.code_core.specs.Check.{IsChecked, AllHold, Rule, rules, at}
 use Rattle.machine_core.specs.World.{Function, Cell, open_at, running, Activation, LuaFrame, Frame, lua, Coroutine, in_progress, World}
-use Rattle.machine_core.specs.Moves.{Ending, go, returned, main_returned, Row, Outcome, trapped, ends}
+use Rattle.machine_core.specs.Text.{keep_pending, effect}
+use Rattle.machine_core.specs.InstructionRows.{row_of}
+use Rattle.machine_core.specs.FrameRows.{expand}
+use Rattle.machine_core.specs.Moves.{Ending, go, returned, main_returned, Row, Outcome, trapped, ends, run}
 use Rattle.machine_core.specs.MachineStep.{steps, error_row}
 use Rattle.machine_sound.specs.Sound.{sizes, Valid, TableOk, FunctionOk, LuaOk, FrameOk, FrameWaits, CoroutineOk, CellOk, runs, resumed_another}
 use Rattle.machine_sound.specs.Laws.{Sound}
@@ -165,3 +168,11 @@ world_sound = record {
     once zero zero co a b = refl
     once zero (suc j) co a b = absurd (cc)
     once (suc i) j co a b = absurd (cc)
+
+-- why a frame that runs stands at no EXTRAARG: it has no row
+extra_traps : (p : Prototype) (w : Instruction) (W : World) → run (expand (row_of p 0 ExtraArg w)) [] W ≡ trapped
+extra_traps p w W = refl
+
+-- why a frame that is left has no pending register past its code's: such a one would not be kept
+not_kept : nth (effect keep_pending code [] (record { pc = 0; registers = known nil ∷ known nil ∷ known nil ∷ known (integer (pos 7)) ∷ []; varargs = []; pending = 3 ∷ []; opened = 0 })).registers 3 ≡ known nil
+not_kept = refl

@@ -7,7 +7,7 @@ use Rattle.machine_core.specs.Moves.{over_pcall, over_xpcall, over_handler, over
 use Rattle.machine_core.specs.FrameRows.{handed, hand_over, error_in_handler, gives_up, after_handler, raised_to, raised_row, caught, blames, after_entry, closing_by, closing_row, unwound, handed_to}
 use Rattle.machine_core.specs.MachineStep.{pcall_row, xpcall_row, error_row, after_resume, resumes, resume_row, yield_row, after_closing, closes_coroutine, close_row}
 use Rattle.machine_sound.specs.Sound.{Top, FitsIfRuns}
-use Rattle.machine_sound.specs.Safe.{Phase, on_lua, waiting, in_resumed, handing, calling, ended, between, TopEvent', seen_lua, seen_other, HeldLua, ClosingEvent, takes_one, takes_none, takes_error, IsNoLua, IsOtherTop, ResumeEvent, RefusalOk, after_catcher, after_end, after_over, after_resuming, after_beginning, after_handing, see_leads, EndsWell, Safe}
+use Rattle.machine_sound.specs.Safe.{Phase, on_lua, waiting, in_resumed, handing, calling, ended, between, SeenTop, seen_lua, seen_other, HeldLua, ClosingEvent, takes_one, takes_none, takes_error, IsNoLua, IsOtherTop, ResumeEvent, RefusalOk, after_catcher, after_end, after_over, after_resuming, after_beginning, after_handing, see_leads, EndsWell, Safe}
 use Rattle.machine_sound.proofs.Values.{le_of}
 use Rattle.machine_sound.proofs.Rests.{fails_safe}
 
@@ -28,7 +28,7 @@ other_handed (no_top b) env = tt
 pub hand_over_safe : (s : Option TopShape) (env : List Value) → Safe (waiting s) env hand_over
 hand_over_safe s env = (tt, λ e. from e)
   where
-    from : (e : TopEvent') → Safe (see_leads e).phase (env ++ (see_leads e).values) (handed (see_leads e).told)
+    from : (e : SeenTop) → Safe (see_leads e).phase (env ++ (see_leads e).values) (handed (see_leads e).told)
     from (seen_lua held) = held_ends held.top.runs held.top held.waits
     from (seen_other k l) = other_handed k (env ++ [])
 
@@ -96,7 +96,7 @@ unwinding_safe = (tt, λ e. from e)
     other closing_top k = (tt, λ es. ((tt, tt), λ _. closing_row_safe (es ++ [])))
     other (no_top b) k = tt
 
-    from : (e : TopEvent') → Safe (see_leads e).phase ([] ++ (see_leads e).values) (unwound (see_leads e).told)
+    from : (e : SeenTop) → Safe (see_leads e).phase ([] ++ (see_leads e).values) (unwound (see_leads e).told)
     from (seen_lua held) = (tt, λ vs. fails_safe held.top vs held.place held.pending)
     from (seen_other k l) = other k l
 
@@ -122,7 +122,7 @@ returned_safe = (tt, λ e. from e)
     other (no_top true) k = (tt, λ e. ended_main e.in_main e.is)
     other (no_top false) k = (tt, λ vs. (tt, λ e. ended_other e.in_main (vs ++ []) (Rattle.machine_core.specs.FrameRows.then (Rattle.machine_core.specs.Moves.give_with (written (boolean true) ∷ []) 0) hand_over) e.is ((tt, tt), λ _. hand_over_safe None ((vs ++ []) ++ []))))
 
-    from : (e : TopEvent') → Safe (see_leads e).phase ([] ++ (see_leads e).values) (handed_to (see_leads e).told)
+    from : (e : SeenTop) → Safe (see_leads e).phase ([] ++ (see_leads e).values) (handed_to (see_leads e).told)
     from (seen_lua held) = held_ends held.top.runs held.top held.waits
     from (seen_other k l) = other k l
 
@@ -152,7 +152,7 @@ pub resume_safe : Safe (waiting None) [] resume_row
 resume_safe = (tt, λ vs. (tt, λ _. nothing_more (waiting None) vs (resumes (shape (arg vs (read 0))) 0) (from vs (shape (arg vs (read 0))) refl)))
   where
     from : (vs : List Value) (s : Shape) → shape (arg vs (read 0)) ≡ s → Safe (waiting None) vs (resumes s 0)
-    from vs (is_object a_coroutine) e = (e, λ r. resumed_safe (vs ++ []) r.shape' r.right)
+    from vs (is_object a_coroutine) e = (e, λ r. resumed_safe (vs ++ []) r.outcome r.right)
     from vs (is_object a_table) e = (tt, λ _. tt)
     from vs (is_object a_function) e = (tt, λ _. tt)
     from vs (is_known p) e = (tt, λ _. tt)
@@ -175,7 +175,7 @@ pub close_safe : Safe (waiting None) [] close_row
 close_safe = (tt, λ vs. (tt, λ _. nothing_more (waiting None) vs (closes_coroutine (shape (arg vs (read 0))) 0) (from vs (shape (arg vs (read 0))) refl)))
   where
     from : (vs : List Value) (s : Shape) → shape (arg vs (read 0)) ≡ s → Safe (waiting None) vs (closes_coroutine s 0)
-    from vs (is_object a_coroutine) e = (e, λ r. begun_safe (vs ++ []) r.shape')
+    from vs (is_object a_coroutine) e = (e, λ r. begun_safe (vs ++ []) r.outcome)
     from vs (is_object a_table) e = (tt, λ _. tt)
     from vs (is_object a_function) e = (tt, λ _. tt)
     from vs (is_known p) e = (tt, λ _. tt)

@@ -198,7 +198,7 @@ waiting_text_good n W p s k e w =
     let q = the_same n W p k e in
     let g = lua_step_good n k.top W h s k.top.runs refl h.wait k.fits in
     subst (λ (p : Place). Good n (run (expand (rest_at p.top.wait p.function.code p.top.own.pc)) (told_values p.top.wait (values W.moving)) (woken W p.stack p.top))) q
-      (from h.top.wait g (λ r. w (ap (λ (p : Place). p.top.wait) (sym q) ∙ r)))
+    (from h.top.wait g (λ r. w (ap (λ (p : Place). p.top.wait) (sym q) ∙ r)))
   where
     from : (wait : Wait Value) → Good n (lua_step W (record { coroutine = k.is_top.coroutine; frames = k.is_top.base ++ lua k.is_top.top ∷ [] }) k.is_top.top k.is_top.function.code wait) → (wait ≡ running → ⊥)
         → Good n (run (expand (rest_at wait k.is_top.function.code k.is_top.top.own.pc)) (told_values wait (values W.moving)) (woken W (record { coroutine = k.is_top.coroutine; frames = k.is_top.base ++ lua k.is_top.top ∷ [] }) k.is_top.top))

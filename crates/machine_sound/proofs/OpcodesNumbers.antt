@@ -52,7 +52,7 @@ constant_safe {t = t} {w = w} h event e p r c = (
   λ v. (
     (con h 0 (c_of w) an_integer (ap (λ l. slice_get l 0) (c _)), tt),
     λ u.
-        fast_safe (v ∷ known (constant u.constant') ∷ []) h MmBinK e (λ v. (refl, refl, refl)) p event (a_of w) (integer_of_shape (shape v)) (integer_of_shape (shape (known (constant u.constant')))) (reg h 0 (a_of w) (ap (λ l. slice_get l 0) r)),
+        fast_safe (v ∷ known (constant u.found) ∷ []) h MmBinK e (λ v. (refl, refl, refl)) p event (a_of w) (integer_of_shape (shape v)) (integer_of_shape (shape (known (constant u.found)))) (reg h 0 (a_of w) (ap (λ l. slice_get l 0) r)),
   ),
 )
 
@@ -283,7 +283,7 @@ mm_bin_k_safe t w h =
       λ x. (
         (con h 0 (b_of w) an_integer refl, tt),
         λ y.
-            handled_safe (x ∷ known (constant y.constant') ∷ []) (swapped (k_of w) (read 0) (read 1)) h f refl (refl, refl, refl, refl) refl (event_there (c_of w) f.agrees_so) (swapped_ok (k_of w) (read 0) (read 1) tt tt),
+            handled_safe (x ∷ known (constant y.found) ∷ []) (swapped (k_of w) (read 0) (read 1)) h f refl (refl, refl, refl, refl) refl (event_there (c_of w) f.agrees_so) (swapped_ok (k_of w) (read 0) (read 1) tt tt),
       ),
     )
 

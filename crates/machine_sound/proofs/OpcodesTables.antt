@@ -34,7 +34,7 @@ pub load_i_safe : RowSafe LoadI
 load_i_safe t w h = ends_write [] (a_of w) (written (integer (sbx_of w))) h (refl, refl, refl, refl) (reg h 0 (a_of w) refl) tt
 
 pub load_k_safe : RowSafe LoadK
-load_k_safe t w h = ((con h 0 (bx_of w) anything refl, tt), λ e. ends_write (known (constant e.constant') ∷ []) (a_of w) (read 0) h (refl, refl, refl, refl) (reg h 0 (a_of w) refl) tt)
+load_k_safe t w h = ((con h 0 (bx_of w) anything refl, tt), λ e. ends_write (known (constant e.found) ∷ []) (a_of w) (read 0) h (refl, refl, refl, refl) (reg h 0 (a_of w) refl) tt)
 
 pub load_false_safe : RowSafe LoadFalse
 load_false_safe t w h = ends_write [] (a_of w) (written (boolean false)) h (refl, refl, refl, refl) (reg h 0 (a_of w) refl) tt
@@ -75,7 +75,7 @@ load_kx_safe t w h =
     let ax = ax_of s.instruction in
     let l = con h 0 ax anything (ap (λ o. slice_get (constants LoadKx w o) 0) e) in
     subst (λ (o : Option ℕ). Safe (on_lua t) [] (expand (elim o as (λ _. Text) [ None ↦ trap | Some ax ↦ Rattle.machine_core.specs.Text.own (Rattle.machine_core.specs.Text.read_constant ax) (λ v _. Rattle.machine_core.specs.InstructionRows.then (Rattle.machine_core.specs.Text.write_register (a_of w) (read v)) skip) ]))) (sym e)
-    ((l, tt), λ k. (((sized h refl 0 (a_of w) refl, tt), h.runs), λ _. ends_skip (known (constant k.constant') ∷ []) h ExtraArg refl extra_second refl))
+    ((l, tt), λ k. (((sized h refl 0 (a_of w) refl, tt), h.runs), λ _. ends_skip (known (constant k.found) ∷ []) h ExtraArg refl extra_second refl))
 
 -- upvalues
 
@@ -93,7 +93,7 @@ get_tab_up_safe t w h = (
   λ o. (
     (con h 0 (c_of w) name refl, tt),
     λ k.
-        operate_safe t (o ∷ known (constant k.constant') ∷ []) index (read 0 ∷ read 1 ∷ []) for_value (to_register (a_of w) (read 0)) (tt, (tt, tt)) (may_wait for_value h refl refl refl refl tt)
+        operate_safe t (o ∷ known (constant k.found) ∷ []) index (read 0 ∷ read 1 ∷ []) for_value (to_register (a_of w) (read 0)) (tt, (tt, tt)) (may_wait for_value h refl refl refl refl tt)
         (λ vs. ends_write vs (a_of w) (read 0) h (refl, refl, refl, refl) (reg h 0 (a_of w) refl) tt),
   ),
 )
@@ -123,7 +123,7 @@ get_field_safe t w h = (
   λ o. (
     (con h 0 (c_of w) name refl, tt),
     λ k.
-        operate_safe t (o ∷ known (constant k.constant') ∷ []) index (read 0 ∷ read 1 ∷ []) for_value (to_register (a_of w) (read 0)) (tt, (tt, tt)) (may_wait for_value h refl refl refl refl tt)
+        operate_safe t (o ∷ known (constant k.found) ∷ []) index (read 0 ∷ read 1 ∷ []) for_value (to_register (a_of w) (read 0)) (tt, (tt, tt)) (may_wait for_value h refl refl refl refl tt)
         (λ vs. ends_write vs (a_of w) (read 0) h (refl, refl, refl, refl) (reg h 0 (a_of w) refl) tt),
   ),
 )
@@ -133,7 +133,7 @@ pub rk_safe : (t : Top) (env : List Value) (w : Instruction) (k : ℕ → Shape 
 rk_safe t env w k c r s = from (k_of w) refl
   where
     from : (b : Bool) → k_of w ≡ b → Safe (on_lua t) env (expand (cond b (Rattle.machine_core.specs.Text.own (Rattle.machine_core.specs.Text.read_constant (c_of w)) k) (Rattle.machine_core.specs.Text.own (Rattle.machine_core.specs.Text.read_register (c_of w)) k)))
-    from true e = ((c e, tt), λ v. s (known (constant v.constant')))
+    from true e = ((c e, tt), λ v. s (known (constant v.found)))
     from false e = ((r e, tt), λ v. s v)
 
 pub set_tab_up_safe : RowSafe SetTabUp
@@ -142,9 +142,9 @@ set_tab_up_safe t w h = (
   λ o. (
     (con h 0 (b_of w) name refl, tt),
     λ k.
-        rk_safe t (o ∷ known (constant k.constant') ∷ []) w _ (λ e. con h 1 (c_of w) anything (ap (λ (b : Bool). slice_get ((name, b_of w) ∷ (if b then (anything, c_of w) ∷ [] else [])) 1) e))
+        rk_safe t (o ∷ known (constant k.found) ∷ []) w _ (λ e. con h 1 (c_of w) anything (ap (λ (b : Bool). slice_get ((name, b_of w) ∷ (if b then (anything, c_of w) ∷ [] else [])) 1) e))
         (λ e. sized h refl 0 (c_of w) (ap (λ (b : Bool). slice_get (if b then [] else c_of w ∷ []) 0) e))
-        (λ v. operate_safe t (o ∷ known (constant k.constant') ∷ v ∷ []) store (read 0 ∷ read 1 ∷ read 2 ∷ []) dropped next (tt, (tt, (tt, tt))) (may_wait dropped h refl refl refl refl tt) (λ vs. ends_next vs h (refl, refl, refl, refl))),
+        (λ v. operate_safe t (o ∷ known (constant k.found) ∷ v ∷ []) store (read 0 ∷ read 1 ∷ read 2 ∷ []) dropped next (tt, (tt, (tt, tt))) (may_wait dropped h refl refl refl refl tt) (λ vs. ends_next vs h (refl, refl, refl, refl))),
   ),
 )
 
@@ -175,9 +175,9 @@ set_field_safe t w h = (
   λ o. (
     (con h 0 (b_of w) name refl, tt),
     λ k.
-        rk_safe t (o ∷ known (constant k.constant') ∷ []) w _ (λ e. con h 1 (c_of w) anything (ap (λ (b : Bool). slice_get ((name, b_of w) ∷ (if b then (anything, c_of w) ∷ [] else [])) 1) e))
+        rk_safe t (o ∷ known (constant k.found) ∷ []) w _ (λ e. con h 1 (c_of w) anything (ap (λ (b : Bool). slice_get ((name, b_of w) ∷ (if b then (anything, c_of w) ∷ [] else [])) 1) e))
         (λ e. sized h refl 1 (c_of w) (ap (λ (b : Bool). slice_get (a_of w ∷ (if b then [] else c_of w ∷ [])) 1) e))
-        (λ v. operate_safe t (o ∷ known (constant k.constant') ∷ v ∷ []) store (read 0 ∷ read 1 ∷ read 2 ∷ []) dropped next (tt, (tt, (tt, tt))) (may_wait dropped h refl refl refl refl tt) (λ vs. ends_next vs h (refl, refl, refl, refl))),
+        (λ v. operate_safe t (o ∷ known (constant k.found) ∷ v ∷ []) store (read 0 ∷ read 1 ∷ read 2 ∷ []) dropped next (tt, (tt, (tt, tt))) (may_wait dropped h refl refl refl refl tt) (λ vs. ends_next vs h (refl, refl, refl, refl))),
   ),
 )
 

@@ -46,7 +46,7 @@ pub le_safe : RowSafe Le
 le_safe t w h = ((sized h refl 0 (a_of w) refl, tt), λ x. ((sized h refl 1 (b_of w) refl, tt), λ y. compares_safe (x ∷ y ∷ []) less_equal (read 0) (read 1) h refl (refl, refl, refl, refl) refl (tt, (tt, tt))))
 
 pub eq_k_safe : RowSafe EqK
-eq_k_safe t w h = ((sized h refl 0 (a_of w) refl, tt), λ x. ((con h 0 (b_of w) anything refl, tt), λ c. tested_safe (x ∷ known (constant c.constant') ∷ []) h refl (refl, refl, refl, refl) (is_constant (is_known (constant c.constant')) (shape x)) (k_of w)))
+eq_k_safe t w h = ((sized h refl 0 (a_of w) refl, tt), λ x. ((con h 0 (b_of w) anything refl, tt), λ c. tested_safe (x ∷ known (constant c.found) ∷ []) h refl (refl, refl, refl, refl) (is_constant (is_known (constant c.found)) (shape x)) (k_of w)))
 
 pub eq_i_safe : RowSafe EqI
 eq_i_safe t w h = ((sized h refl 0 (a_of w) refl, tt), λ x. tested_safe (x ∷ []) h refl (refl, refl, refl, refl) (is_integer (sb_of w) (shape x)) (k_of w))

@@ -57,7 +57,7 @@ module _ (z : Sizes) (old : List Cell) (p : Prototype) (co k : ℕ) (env : List 
       let v = get_there p.own.constants n b in
       let there : slice_get t.code.own.constants n ≡ Some v.0 = ap (λ (p : Prototype). slice_get p.own.constants n) h.code ∙ v.1 in
       record {
-        event = record { constant' = v.0; there = there };
+        event = record { found = v.0; there = there };
         values = rw (v.1, reads) refl;
         told = rw (v.1, tells) refl;
         valid = each_one (Valid z) (known (constant v.0)) (constants n v.0 v.1);

@@ -148,8 +148,8 @@ pub record ListRead (t : Top) (from : ℕ) : Type 0 where
   pub count : length values ≡ list_length from (end_of t)
 
 pub record ConstantRead (t : Top) (n : ℕ) : Type 0 where
-  pub constant' : Const
-  pub there : slice_get t.code.own.constants n ≡ Some constant'
+  pub found : Const
+  pub there : slice_get t.code.own.constants n ≡ Some found
 
 -- what is read
 abbrev pub OwnEvent : Top → Own → Type 0
@@ -169,7 +169,7 @@ abbrev pub own_values : (t : Top) (m : Own) → OwnEvent t m → List Value
 own_values t (read_register r) v = v ∷ []
 own_values t (read_registers from count) vs = vs
 own_values t (read_list from) e = e.values
-own_values t (read_constant n) e = known (constant e.constant') ∷ []
+own_values t (read_constant n) e = known (constant e.found) ∷ []
 own_values t read_varargs vs = vs
 own_values t (see_pending r) o = list_of_option o
 own_values t _ e = []
@@ -177,7 +177,7 @@ own_values t _ e = []
 abbrev pub own_told : (t : Top) (env : List Value) (m : Own) → OwnEvent t m → Shape
 own_told t env (read_register r) v = shape v
 own_told t env (read_list from) e = is_known (integer (pos (length e.values)))
-own_told t env (read_constant n) e = is_known (constant e.constant')
+own_told t env (read_constant n) e = is_known (constant e.found)
 own_told t env (see x) e = shape (arg env x)
 own_told t env (see_pending r) o = is_known (boolean (is_there o))
 own_told t env _ e = is_known nil
@@ -390,9 +390,9 @@ abbrev pub IsNoLua : TopShape → Type 0
 IsNoLua lua_top = ⊥
 IsNoLua _ = Unit {0}
 
-pub data TopEvent' : Type 0 where
-  seen_lua : HeldLua → TopEvent'
-  seen_other : (s : TopShape) → IsNoLua s → TopEvent'
+pub data SeenTop : Type 0 where
+  seen_lua : HeldLua → SeenTop
+  seen_other : (s : TopShape) → IsNoLua s → SeenTop
 
 pub data ClosingEvent : Type 0 where
   takes_one : (v e : Value) → ClosingEvent
@@ -405,15 +405,15 @@ RefusalOk (refused text) = length text ≤ greatest_string
 RefusalOk (resumed s) = Unit {0}
 
 pub record ResumeEvent : Type 0 where
-  pub shape' : ResumeShape
-  pub right : RefusalOk shape'
+  pub outcome : ResumeShape
+  pub right : RefusalOk outcome
 
 pub record EndEvent (s : Option TopShape) : Type 0 where
   pub in_main : Bool
   pub is : s ≡ Some (no_top in_main)
 
 abbrev pub WaitingEvent : Option TopShape → Move → Type 0
-WaitingEvent s see_top = TopEvent'
+WaitingEvent s see_top = SeenTop
 WaitingEvent s see_catcher = TopShape × List Value
 WaitingEvent s take_moving = List Value
 WaitingEvent s (look x) = Unit {0}
@@ -431,7 +431,7 @@ WaitingEvent s (resume x slot) = ResumeEvent
 WaitingEvent s (begin_closing x) = ResumeEvent
 WaitingEvent s _ = ⊥
 
-abbrev pub see_leads : TopEvent' → Led see_top
+abbrev pub see_leads : SeenTop → Led see_top
 see_leads (seen_lua held) = record { values = []; told = lua_top; phase = on_lua held.top }
 see_leads (seen_other s no_lua) = record { values = []; told = s; phase = waiting (Some s) }
 
@@ -486,8 +486,8 @@ waiting_leads s env take_closing e = record { values = closing_values e; told = 
 waiting_leads s env (set_error x) e = record { values = []; told = tt; phase = waiting s }
 waiting_leads s env end_coroutine e = record { values = []; told = e.in_main; phase = after_end e.in_main }
 waiting_leads s env suspend in_main = record { values = []; told = in_main; phase = after_end in_main }
-waiting_leads s env (resume x slot) e = record { values = []; told = e.shape'; phase = after_resuming e.shape' }
-waiting_leads s env (begin_closing x) e = record { values = []; told = e.shape'; phase = after_beginning e.shape' }
+waiting_leads s env (resume x slot) e = record { values = []; told = e.outcome; phase = after_resuming e.outcome }
+waiting_leads s env (begin_closing x) e = record { values = []; told = e.outcome; phase = after_beginning e.outcome }
 waiting_leads s env _ e = absurd e
 
 -- any phase

@@ -1,5 +1,7 @@
--- Sound worlds: what holds of everything in a world at every moment of a step (`Solid`), and how the frame on top stands between two steps.
--- An id is the number of an object. The machine's primitives are those below some number, `primitives`.
+-- Sound worlds. All code is checked. Every id, which is the number of an object, names an object of its kind, every primitive is one of the machine's (those
+-- below a number, `primitives`), and a function has as many cells as its code has upvalues. No string and no stack of frames is too long. The chain of coroutines is as
+-- resuming leaves it. Every Lua frame fits the instruction at which it waits, but the one that runs, which fits its place. An open cell names a register that is there, and no
+-- register has two. `Solid` is what holds of this at every moment of a step, `Settled` how the frame on top stands between two steps.
 use Rattle.std.specs.Prelude.{ℕ, suc, ◌+◌, ◌<◌, ◌≤◌, ◌≡◌, Bool, true, false, max, List, [], ◌∷◌, ◌++◌, length, map, Option, Some, None, nat_le, slice_get, IsTrue, IsSome}
 use Rattle.int_core.specs.Value.{Plain, string, primitive, Value, known, object, a_table, a_function, a_coroutine, greatest_string, bind, last}
 use Rattle.int_core.specs.Heap.{Table}

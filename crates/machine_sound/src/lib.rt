@@ -3,4 +3,7 @@
 
 mod law;
 
-pub use law::{primitives_do_not_trap, rows_do_not_trap, some_world_is_sound, steps_do_not_trap, texts_do_not_trap};
+pub use law::{
+    primitives_do_not_trap, rows_do_not_trap, some_world_is_sound, steps_do_not_trap,
+    texts_do_not_trap,
+};
