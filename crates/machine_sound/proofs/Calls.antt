@@ -12,15 +12,15 @@ use Rattle.machine_core.specs.World.{Cell, closed, open_at, Wait, running, for_c
 use Rattle.machine_core.specs.Text.{Arg, arg, Own, close_cells, keep_pending, done, Given, results, thrown, given_values}
 use Rattle.machine_core.specs.Moves.{enter, enter_tail, begin_leaving, leave_frame, greatest_depth, CallShape, is_entered, is_primitive, not_paid, not_entered, top_shape, top_now, Made, made, move, named, cells_done, with_own, enters, enters_paid, called, popped, called_tail, blamed, where_text}
 use Rattle.machine_sound.specs.Sound.{Each, Sizes, sizes, Valid, WaitOk, waits_at, waiting_size, kept_below, FrameOk, LuaWaits, FrameWaits, registers_in, registers_of, Solid, Top, RunsOrWaits, TopIs, StackWaits}
-use Rattle.machine_sound.specs.Safe.{Phase, on_lua, waiting, calling, between, Is, IsPhase, TopReady, ArgOk, WaitArgOk, GivenOk, HasPlace, WaitsAs, MayEnter, after_all, after_entering, after_tail, WaitsUnder, Knows, MoveGood}
+use Rattle.machine_sound.specs.Safe.{on_lua, waiting, Is, IsPhase, TopReady, WaitArgOk, GivenOk, WaitsAs, after_all, after_entering, after_tail, MoveGood, AllReady}
 use Rattle.machine_sound.proofs.Lists.{each_none, each_one, each_push, each_front, each_drop, each_on, bind_at, without_push}
 use Rattle.machine_sound.proofs.Values.{arg_valid, le_of}
 use Rattle.machine_sound.proofs.Grow.{Grows, grows_then, values_on, valid_on, each_waits_on}
 use Rattle.machine_sound.proofs.Own.{OwnIs, all_good, close_length, close_open, close_closed}
 use Rattle.machine_sound.proofs.Frames.{set_stack, CellsFit, stack_grows, stack_solid, stack_there, the_place, place_is, frames_ok, top_ok, own_known, with_own_is, frame_so, new_grows, new_solid, new_top, new_world}
 use Rattle.machine_sound.proofs.Moves.{made_so}
-use Rattle.machine_sound.proofs.Heaps.{callee_ok}
-use Rattle.machine_sound.proofs.Outside.{heap_of, goes_still}
+use Rattle.machine_sound.proofs.Heaps.{callee_ok, CalleeOk}
+use Rattle.machine_sound.proofs.Outside.{heap_of, goes_still, outside_top, stays_self_ok}
 use Rattle.machine_sound.proofs.Waits.{with_moving, moving_grows, moving_solid, moving_waits, waits_stack, registers_here, EnteredAs, enters_good}
 
 -- a frame that waits as an argument says
@@ -100,7 +100,7 @@ top_waits n t W e h =
     record { coroutine = h.coroutine; frames = h.base ++ lua h.top ∷ []; last = h.last; running = h.frames; waits = each_push (FrameWaits (sizes n W)) h.base (lua h.top) h.below w }
 
 -- the frame on top, ready for a call
-module _ (n : ℕ) (t : Top) (env : List Value) (W : World) (i : Is n (on_lua t) env W) (wait : Wait Arg) (prepared : List Own) (ready : Rattle.machine_sound.specs.Safe.AllReady prepared env t) (fit : WaitsAs wait (after_all prepared env t)) where
+module _ (n : ℕ) (t : Top) (env : List Value) (W : World) (i : Is n (on_lua t) env W) (wait : Wait Arg) (prepared : List Own) (ready : AllReady prepared env t) (fit : WaitsAs wait (after_all prepared env t)) where
   abbrev h : TopIs n t W
   h = i.phase
 
@@ -157,7 +157,7 @@ entered_phase n P V t u not_paid h k = absurd k
 entered_phase n P V t u (not_entered text) h k = rw k h
 
 pub fuel_top : (n : ℕ) (t : Top) (W : World) (vs : List Value) (fuel : ℕ) → Solid n W → TopIs n t W → Each (Valid (sizes n W)) vs → TopIs n t (with_moving W vs fuel)
-fuel_top n t W vs fuel s h v = Rattle.machine_sound.proofs.Outside.outside_top n W W.heap W.functions vs fuel (Rattle.machine_sound.proofs.Outside.stays_self_ok n W vs fuel s v) t h
+fuel_top n t W vs fuel s h v = outside_top n W W.heap W.functions vs fuel (stays_self_ok n W vs fuel s v) t h
 
 pub enter_move : (n : ℕ) (f : Arg) (slot : ℕ) (wait : Wait Arg) (prepared : List Own) (t : Top) (env : List Value) (W : World) → Is n (on_lua t) env W → TopReady t env (enter f slot wait prepared) → MoveGood n (on_lua t) env (enter f slot wait prepared) W
 enter_move n f slot wait prepared t env W i r =
@@ -182,7 +182,7 @@ enter_move n f slot wait prepared t env W i r =
         ∙ ap (λ P. called W P (arg env f) (drop slot env)) (ready_is n t env W i wait prepared r.prepares r.waits)
         ∙ ap (enters_paid W (ready_world n t env W i wait prepared r.prepares r.waits)) e
 
-    from : (c : Callee) → callee_of greatest_chain W.heap (arg env f) (drop slot env) ≡ c → Rattle.machine_sound.proofs.Heaps.CalleeOk (sizes n W) W.heap (heap_of n W i.solid) c → (fuel : ℕ) → W.fuel ≡ fuel → MoveGood n (on_lua t) env (enter f slot wait prepared) W
+    from : (c : Callee) → callee_of greatest_chain W.heap (arg env f) (drop slot env) ≡ c → CalleeOk (sizes n W) W.heap (heap_of n W i.solid) c → (fuel : ℕ) → W.fuel ≡ fuel → MoveGood n (on_lua t) env (enter f slot wait prepared) W
     from (not_callable text) e k fuel q = record {
       event = not_entered text;
       world = ready_world n t env W i wait prepared r.prepares r.waits;
@@ -302,7 +302,7 @@ enter_tail_move n f slot t env W i r =
         bind_at (λ p. called_tail W p (callee_of greatest_chain W.heap (arg env f) (drop slot env))) (place_of W) (the_place n t W i.phase) (place_is n t W i.phase)
         ∙ ap (called_tail W (the_place n t W i.phase)) e
 
-    from : (c : Callee) → callee_of greatest_chain W.heap (arg env f) (drop slot env) ≡ c → Rattle.machine_sound.proofs.Heaps.CalleeOk (sizes n W) W.heap (heap_of n W i.solid) c → (fuel : ℕ) → W.fuel ≡ fuel → MoveGood n (on_lua t) env (enter_tail f slot) W
+    from : (c : Callee) → callee_of greatest_chain W.heap (arg env f) (drop slot env) ≡ c → CalleeOk (sizes n W) W.heap (heap_of n W i.solid) c → (fuel : ℕ) → W.fuel ≡ fuel → MoveGood n (on_lua t) env (enter_tail f slot) W
     from (not_callable text) e k fuel q = record {
       event = not_entered text;
       world = W;

@@ -6,8 +6,8 @@ use Rattle.int_core.specs.Value.{Value, greatest_string}
 use Rattle.machine_core.specs.World.{Cell, closed, open_at, Frame, closing, Coroutine, fresh, suspended, in_progress, normal, dead, failed, World, frames_of, Stack, stack_of, push}
 use Rattle.machine_core.specs.Text.{Arg, arg}
 use Rattle.machine_core.specs.Moves.{begin_closing, greatest_depth, is_entered, not_entered, stack_overflow, top_shape, ResumeShape, resumed, refused, pending_values, all_closed_from, put_coroutine, closes_in, closes_coroutine, coroutine_number, Made, made, move}
-use Rattle.machine_sound.specs.Sound.{Each, Sizes, sizes, Valid, OptionOk, FrameOk, FrameWaits, FramesOk, AllWait, CoroutineOk, Standing, runs, apart, standing, ChainOk, registers_of, CellOk, Solid, StackWaits}
-use Rattle.machine_sound.specs.Safe.{waiting, Is, WaitsUnder, ResumeEvent, after_beginning, MoveGood}
+use Rattle.machine_sound.specs.Sound.{Each, sizes, Valid, OptionOk, FrameWaits, AllWait, CoroutineOk, runs, apart, standing, ChainOk, registers_of, CellOk, Solid, StackWaits, registers_in}
+use Rattle.machine_sound.specs.Safe.{waiting, ResumeEvent, after_beginning, MoveGood, IsPhase}
 use Rattle.machine_sound.proofs.Lists.{each_none, each_set, each_push, bind_at, get_set_other, length_set, last_push, map_set, some_is}
 use Rattle.machine_sound.proofs.Values.{le_of}
 use Rattle.machine_sound.proofs.Grow.{Grows, grows_self, grows_then, values_on, valid_on, option_on, each_waits_on}
@@ -59,7 +59,7 @@ pub record Begun (n : ℕ) (V : World) (o : Option (Made ResumeShape)) : Type 0 
   pub is : o ≡ Some (record { world = world; values = []; told = event.outcome })
   pub grows : Grows (sizes n V) (sizes n world)
   pub solid : Solid n world
-  pub phase : Rattle.machine_sound.specs.Safe.IsPhase n (after_beginning event.outcome) world
+  pub phase : IsPhase n (after_beginning event.outcome) world
 
 begins : (n : ℕ) (V : World) (s : Solid n V) (h : StackWaits n V) (e : Option Value) (vs : List Value) → OptionOk (Valid (sizes n V)) e → Each (Valid (sizes n V)) vs → Begun n V (closes_in V (record { coroutine = h.coroutine; frames = h.frames }) e vs)
 begins n V s h e vs a b = from (nat_le (length h.frames + 1) greatest_depth) refl
@@ -105,7 +105,7 @@ no_cells n W s co c e k = record {
   count = refl;
   still_open = λ i d g r x. x;
   closed_ok = λ i v x. s.cells i (closed v) x;
-  there = λ i g r x. subst (λ m. r < m) (registers_are W.coroutines co g c e ∙ ap (λ o. elim o as (λ _. ℕ) [ None ↦ 0 | Some frames ↦ Rattle.machine_sound.specs.Sound.registers_in frames g ]) k) (s.cells i (open_at co g r) x);
+  there = λ i g r x. subst (λ m. r < m) (registers_are W.coroutines co g c e ∙ ap (λ o. elim o as (λ _. ℕ) [ None ↦ 0 | Some frames ↦ registers_in frames g ]) k) (s.cells i (open_at co g r) x);
 }
 
 pub begin_closing_waits : (n : ℕ) (x : Arg) → WaitingGood n (begin_closing x)

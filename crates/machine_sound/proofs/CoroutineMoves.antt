@@ -7,10 +7,10 @@ use Rattle.std.proofs.lemmas.List.{map-set}
 use Rattle.int_core.specs.Value.{Value, known, object, a_table, a_function, a_coroutine, is_object, shape, bind, last, greatest_string}
 use Rattle.machine_core.specs.World.{closed, open_at, Frame, lua, pcall, xpcall, handler, closing, Coroutine, fresh, suspended, in_progress, normal, dead, failed, World, Stack, stack_of}
 use Rattle.machine_core.specs.Text.{Arg, read, written, arg}
-use Rattle.machine_core.specs.Moves.{Move, take_moving, see_top, end_coroutine, fail_coroutine, suspend, resume, begin_closing, greatest_depth, greatest_resumes, CallShape, is_entered, is_primitive, not_paid, not_entered, stack_overflow, TopShape, lua_top, no_top, closing_top, top_shape, top_now, runs_main, ResumeShape, resumed, refused, pending_values, all_closed_from, put_coroutine, back_to_resumer, ends_as, starts_in, can_start, resumes, closes_in, closes_coroutine, coroutine_number, has_room, enters, Told, Made, made, move}
+use Rattle.machine_core.specs.Moves.{take_moving, see_top, end_coroutine, fail_coroutine, suspend, resume, greatest_resumes, CallShape, is_entered, is_primitive, not_paid, not_entered, TopShape, lua_top, no_top, closing_top, top_shape, top_now, runs_main, resumed, refused, pending_values, all_closed_from, put_coroutine, back_to_resumer, ends_as, starts_in, can_start, resumes, coroutine_number, enters, made, move, pcall_top, xpcall_top, handler_top}
 use Rattle.machine_sound.specs.Sound.{Each, sizes, Valid, FrameOk, FrameWaits, AllWait, CoroutineOk, runs, resumed_another, apart, standing, ChainOk, registers_in, registers_of, CellOk, Solid, Settled, StackWaits}
 use Rattle.machine_sound.specs.Safe.{waiting, in_resumed, between, handing, Is, IsPhase, after_end, after_resuming, after_handing, Ready, MoveGood}
-use Rattle.machine_sound.proofs.Lists.{each_none, each_set, each_push, each_on, bind_at, get_set_same, get_set_other, length_set, get_map, get_there, last_push, some_is}
+use Rattle.machine_sound.proofs.Lists.{each_none, each_set, bind_at, get_set_same, get_set_other, length_set, get_map, get_there, last_push, some_is, each_drop}
 use Rattle.machine_sound.proofs.Values.{arg_valid, nth_ok, le_of}
 use Rattle.machine_sound.proofs.Grow.{Grows, grows_self, grows_then, values_on, valid_on, each_waits_on}
 use Rattle.machine_sound.proofs.Waits.{with_moving, moving_grows, moving_solid, moving_waits, waits_stack, EnteredAs, enters_good}
@@ -19,6 +19,7 @@ use Rattle.machine_sound.proofs.Moves.{made_so}
 use Rattle.machine_sound.proofs.WaitingMoves.{WaitingGood, top_is}
 use Rattle.machine_sound.proofs.Chains.{chain_forward}
 use Rattle.machine_sound.proofs.Coroutines.{with_coroutines, coroutines_grow, coroutines_solid, registers_by, registers_are, CellsLeft, buried_cells, pendings_valid, goes_back}
+use Rattle.machine_sound.proofs.Frames.{stack_is}
 
 -- endings
 
@@ -96,9 +97,9 @@ take_moving_resumed n env W i =
 
 handed_phase : (n : ℕ) (W : World) → Solid n W → (h : StackWaits n W) (k : TopShape) → top_shape W (last h.frames) ≡ k → IsPhase n (after_handing k) W
 handed_phase n W s h lua_top e = lua_settles n W s (record { all = h; top = e })
-handed_phase n W s h Rattle.machine_core.specs.Moves.pcall_top e = record { all = h; top = e }
-handed_phase n W s h Rattle.machine_core.specs.Moves.xpcall_top e = record { all = h; top = e }
-handed_phase n W s h Rattle.machine_core.specs.Moves.handler_top e = record { all = h; top = e }
+handed_phase n W s h pcall_top e = record { all = h; top = e }
+handed_phase n W s h xpcall_top e = record { all = h; top = e }
+handed_phase n W s h handler_top e = record { all = h; top = e }
 handed_phase n W s h closing_top e = record { all = h; top = e }
 handed_phase n W s h (no_top b) e = record { all = h; top = e }
 
@@ -112,7 +113,7 @@ see_top_handing n env W i = ⊎_elim
     })
     (λ (k : Settled n W).
     let t = k.is_top in
-    let e : top_now W ≡ Some lua_top = bind_at (λ (s : Stack). Some (top_shape W (last s.frames))) (stack_of W) _ (Rattle.machine_sound.proofs.Frames.stack_is W t.coroutine (t.base ++ lua t.top ∷ []) t.last t.frames) ∙ ap (λ o. Some (top_shape W o)) (last_push t.base (lua t.top)) in
+    let e : top_now W ≡ Some lua_top = bind_at (λ (s : Stack). Some (top_shape W (last s.frames))) (stack_of W) _ (stack_is W t.coroutine (t.base ++ lua t.top ∷ []) t.last t.frames) ∙ ap (λ o. Some (top_shape W o)) (last_push t.base (lua t.top)) in
     record {
       event = lua_top;
       world = W;
@@ -244,7 +245,7 @@ resume_waits n x slot s env W i r = from (named_there n env W x i.valid r).corou
         let ps = resumed_solid n W i.solid h co (suspended gs) gs e refl (λ g. refl) k (low l) in
         let pw = resumed_waits n W i.solid h co (suspended gs) gs e refl (λ g. refl) k (low l) in
         let V = with_moving P (drop slot env) P.fuel in
-        let valid = values_on (sizes n W) (sizes n P) g (drop slot env) (Rattle.machine_sound.proofs.Lists.each_drop (Valid (sizes n W)) slot env i.valid) in
+        let valid = values_on (sizes n W) (sizes n P) g (drop slot env) (each_drop (Valid (sizes n W)) slot env i.valid) in
         record {
           event = record { outcome = resumed is_entered; right = tt };
           world = V;
@@ -262,7 +263,7 @@ resume_waits n x slot s env W i r = from (named_there n env W x i.valid r).corou
         let ps = resumed_solid n W i.solid h co (fresh body) [] e refl (λ g. refl) k (low l) in
         let pw = resumed_waits n W i.solid h co (fresh body) [] e refl (λ g. refl) k (low l) in
         let vs = drop slot env in
-        let y = enters_good n P ps pw vs (values_on z (sizes n P) g vs (Rattle.machine_sound.proofs.Lists.each_drop (Valid z) slot env i.valid)) body (valid_on z (sizes n P) g body ok.0) ok.1 in
+        let y = enters_good n P ps pw vs (values_on z (sizes n P) g vs (each_drop (Valid z) slot env i.valid)) body (valid_on z (sizes n P) g body ok.0) ok.1 in
         record {
           event = record { outcome = resumed y.shape; right = tt };
           world = y.world;

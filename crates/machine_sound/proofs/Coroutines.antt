@@ -9,7 +9,7 @@ use Rattle.machine_core.specs.World.{Cell, closed, open_at, Frame, lua, pcall, x
 use Rattle.machine_core.specs.Moves.{pending_values, all_closed_from, put_coroutine, awake, back_to_resumer, runs_main}
 use Rattle.machine_sound.specs.Sound.{Each, Sizes, sizes, Valid, TableOk, FunctionOk, FrameOk, FramesOk, AllWait, CoroutineOk, runs, resumed_another, apart, standing, ChainOk, registers_in, registers_of, CellOk, OneEach, Solid, StackWaits}
 use Rattle.machine_sound.specs.Safe.{IsPhase, after_end}
-use Rattle.machine_sound.proofs.Lists.{each_none, each_set, each_append, each_tail, each_on, get_set_same, get_set_other, length_set, get_map, map_get, last_push, last_splits, some_is}
+use Rattle.machine_sound.proofs.Lists.{each_none, each_set, each_append, each_tail, each_on, get_set_same, get_set_other, length_set, map_get, last_splits, each_cons}
 use Rattle.machine_sound.proofs.Values.{nth_ok}
 use Rattle.machine_sound.proofs.Grow.{Grows, values_on, table_on, function_on, coroutine_on, each_waits_on, cell_on, roots_on}
 use Rattle.machine_sound.proofs.Own.{close_length, close_open, close_closed}
@@ -123,7 +123,7 @@ pending_valid z (lua f) h = go f.own.pending
   where
     go : (ps : List ℕ) → Each (Valid z) (map (nth f.own.registers) ps)
     go [] = each_none (Valid z)
-    go (p ∷ ps) = Rattle.machine_sound.proofs.Lists.each_cons (Valid z) (nth f.own.registers p) (map (nth f.own.registers) ps) (nth_ok (Valid z) tt f.own.registers p h.registers) (go ps)
+    go (p ∷ ps) = each_cons (Valid z) (nth f.own.registers p) (map (nth f.own.registers) ps) (nth_ok (Valid z) tt f.own.registers p h.registers) (go ps)
 pending_valid z pcall h = each_none (Valid z)
 pending_valid z (xpcall v) h = each_none (Valid z)
 pending_valid z handler h = each_none (Valid z)

@@ -1,6 +1,6 @@
 -- A sound world: the main coroutine runs a function that returns an integer.
 use Rattle.std.proofs.Common.{ℕ, zero, suc, ◌≡◌, ◌<◌, List, [], ◌∷◌, Option, Some, None, refl, subst, true, false, arith}
-use Rattle.std.specs.Prelude.{pos, slice_get, IsTrue}
+use Rattle.std.specs.Prelude.{pos, slice_get, IsTrue, IsSome}
 use Rattle.std.specs.List.{list_all}
 use Rattle.int_core.specs.Value.{Value, known, nil, integer, nth}
 use Rattle.code_core.specs.declared.opcode.Opcode.TheVariants.{ExtraArg, LoadI, Return1}
@@ -9,11 +9,11 @@ use Rattle.code_core.specs.Opcode.{opcodes, number_of}
 use Rattle.code_core.specs.Instruction.{opcode_of, abc, abx}
 use Rattle.code_core.specs.Prototype.{Prototype, none}
 use Rattle.code_core.specs.Check.{IsChecked, AllHold, Rule, rules, at}
-use Rattle.machine_core.specs.World.{Function, Cell, open_at, running, Activation, LuaFrame, Frame, lua, Coroutine, in_progress, World}
+use Rattle.machine_core.specs.World.{Function, running, LuaFrame, lua, in_progress, World, put_top, put_frames, pop, find_open}
 use Rattle.machine_core.specs.Text.{keep_pending, effect}
 use Rattle.machine_core.specs.InstructionRows.{row_of}
 use Rattle.machine_core.specs.FrameRows.{expand}
-use Rattle.machine_core.specs.Moves.{Ending, go, returned, main_returned, Row, Outcome, trapped, ends, run}
+use Rattle.machine_core.specs.Moves.{Ending, go, main_returned, Outcome, trapped, ends, run, with_own, back_to_resumer, put_coroutine}
 use Rattle.machine_core.specs.MachineStep.{steps, error_row}
 use Rattle.machine_sound.specs.Sound.{sizes, Valid, TableOk, FunctionOk, LuaOk, FrameOk, FrameWaits, CoroutineOk, CellOk, runs, resumed_another}
 use Rattle.machine_sound.specs.Laws.{Sound}
@@ -87,7 +87,7 @@ came (ends e W) = Some (e, W.moving)
 
 -- three steps on, the script has returned 7
 three_steps : came (steps (λ n. error_row) 3 go world) ≡ Some (main_returned, known (integer (pos 7)) ∷ [])
-unfolding opcodes number_of Rattle.machine_core.specs.Moves.with_own Rattle.machine_core.specs.World.put_top Rattle.machine_core.specs.World.put_frames Rattle.machine_core.specs.World.pop Rattle.machine_core.specs.Moves.back_to_resumer Rattle.machine_core.specs.Moves.put_coroutine
+unfolding opcodes number_of with_own put_top put_frames pop back_to_resumer put_coroutine
 three_steps = refl
 
 zero_of : (co : ℕ) → Some 0 ≡ Some co → 0 ≡ co
@@ -145,7 +145,7 @@ world_sound = record {
       opened = refl;
       pending = each_none (λ r. r < 0);
       cells = λ i r e. absurd (cc);
-      captured = each_none (λ r. Rattle.std.specs.Prelude.IsSome (Rattle.machine_core.specs.World.find_open 0 0 r world.cells));
+      captured = each_none (λ r. IsSome (find_open 0 0 r world.cells));
       wait = refl;
     };
     fits = record { instruction = abx LoadI 0 65542; at_pc = refl; opcode = LoadI; is_opcode = first_opcode; no_extra = refl; fits_mark = refl; cells = omega arith };

@@ -3,13 +3,14 @@ use Rattle.std.proofs.Common.{◌≡◌, List, [], ◌∷◌, ◌++◌, Option, 
 use Rattle.std.specs.Prelude.{cond}
 use Rattle.int_core.specs.Value.{Value, boolean, a_table, a_function, a_coroutine, Shape, is_known, is_object, shape, greatest_string}
 use Rattle.machine_core.specs.Text.{read, written, arg}
-use Rattle.machine_core.specs.Moves.{over_pcall, over_xpcall, over_handler, over_nothing, CallShape, is_entered, is_primitive, not_paid, not_entered, TopShape, lua_top, pcall_top, xpcall_top, handler_top, closing_top, no_top, ResumeShape, resumed, refused, Row, stop, act, see_top, main_returned}
+use Rattle.machine_core.specs.Moves.{CallShape, is_entered, is_primitive, not_paid, not_entered, TopShape, lua_top, pcall_top, xpcall_top, handler_top, closing_top, no_top, ResumeShape, resumed, refused, Row, stop, act, see_top, main_returned, give_with, main_yielded, take_moving}
 use Rattle.machine_core.specs.FrameRows.{handed, hand_over, error_in_handler, gives_up, after_handler, raised_to, raised_row, caught, blames, after_entry, closing_by, closing_row, unwound, handed_to}
 use Rattle.machine_core.specs.MachineStep.{pcall_row, xpcall_row, error_row, after_resume, resumes, resume_row, yield_row, after_closing, closes_coroutine, close_row}
 use Rattle.machine_sound.specs.Sound.{Top, FitsIfRuns}
-use Rattle.machine_sound.specs.Safe.{Phase, on_lua, waiting, in_resumed, handing, calling, ended, between, SeenTop, seen_lua, seen_other, HeldLua, ClosingEvent, takes_one, takes_none, takes_error, IsNoLua, IsOtherTop, ResumeEvent, RefusalOk, after_catcher, after_end, after_over, after_resuming, after_beginning, after_handing, see_leads, EndsWell, Safe}
+use Rattle.machine_sound.specs.Safe.{Phase, waiting, handing, SeenTop, seen_lua, seen_other, ClosingEvent, takes_one, takes_none, takes_error, IsNoLua, IsOtherTop, RefusalOk, after_catcher, after_end, after_over, after_resuming, after_beginning, after_handing, see_leads, EndsWell, Safe, closing_values, closing_told}
 use Rattle.machine_sound.proofs.Values.{le_of}
 use Rattle.machine_sound.proofs.Rests.{fails_safe}
+use Rattle.std.proofs.lemmas.List.{append-nil}
 
 held_ends : (b : Bool) (t : Top) → b ≡ false → FitsIfRuns b t
 held_ends true t e = absurd (cc)
@@ -80,7 +81,7 @@ caught_safe s env k = (tt, λ es. (k, λ _. ((tt, (tt, tt)), λ _. hand_over_saf
 closing_row_safe : (env : List Value) → Safe (waiting (Some closing_top)) env closing_row
 closing_row_safe env = (tt, λ e. from e)
   where
-    from : (e : ClosingEvent) → Safe (waiting (Some closing_top)) (env ++ Rattle.machine_sound.specs.Safe.closing_values e) (closing_by (Rattle.machine_sound.specs.Safe.closing_told e) (length env))
+    from : (e : ClosingEvent) → Safe (waiting (Some closing_top)) (env ++ closing_values e) (closing_by (closing_told e) (length env))
     from (takes_one v x) = ((tt, tt), λ h. ((tt, tt), λ c. entry_safe _ c))
     from takes_none = (tt, λ _. ((tt, tt), λ _. hand_over_safe None _))
     from (takes_error x) = (tt, λ _. ((tt, (tt, tt)), λ _. hand_over_safe None _))
@@ -120,7 +121,7 @@ returned_safe = (tt, λ e. from e)
     other handler_top k = (tt, λ vs. (tt, λ _. ((tt, tt), λ _. tt)))
     other closing_top k = closing_row_safe []
     other (no_top true) k = (tt, λ e. ended_main e.in_main e.is)
-    other (no_top false) k = (tt, λ vs. (tt, λ e. ended_other e.in_main (vs ++ []) (Rattle.machine_core.specs.FrameRows.then (Rattle.machine_core.specs.Moves.give_with (written (boolean true) ∷ []) 0) hand_over) e.is ((tt, tt), λ _. hand_over_safe None ((vs ++ []) ++ []))))
+    other (no_top false) k = (tt, λ vs. (tt, λ e. ended_other e.in_main (vs ++ []) (Rattle.machine_core.specs.FrameRows.then (give_with (written (boolean true) ∷ []) 0) hand_over) e.is ((tt, tt), λ _. hand_over_safe None ((vs ++ []) ++ []))))
 
     from : (e : SeenTop) → Safe (see_leads e).phase ([] ++ (see_leads e).values) (handed_to (see_leads e).told)
     from (seen_lua held) = held_ends held.top.runs held.top held.waits
@@ -146,7 +147,7 @@ resumed_safe env (refused text) k = ((tt, (k, tt)), λ _. hand_over_safe None (e
 
 -- nothing was read
 nothing_more : (x : Phase) (env : List Value) (r : Row) → Safe x env r → Safe x (env ++ []) r
-nothing_more x env r s = subst (λ l. Safe x l r) (sym (Rattle.std.proofs.lemmas.List.append-nil env)) s
+nothing_more x env r s = subst (λ l. Safe x l r) (sym (append-nil env)) s
 
 pub resume_safe : Safe (waiting None) [] resume_row
 resume_safe = (tt, λ vs. (tt, λ _. nothing_more (waiting None) vs (resumes (shape (arg vs (read 0))) 0) (from vs (shape (arg vs (read 0))) refl)))
@@ -160,7 +161,7 @@ resume_safe = (tt, λ vs. (tt, λ _. nothing_more (waiting None) vs (resumes (sh
 pub yield_safe : Safe (waiting None) [] yield_row
 yield_safe = (tt, λ b. from b)
   where
-    from : (b : Bool) → Safe (after_end b) [] (cond b (stop Rattle.machine_core.specs.Moves.main_yielded) (act Rattle.machine_core.specs.Moves.take_moving (λ v _. Rattle.machine_core.specs.FrameRows.then (Rattle.machine_core.specs.Moves.give_with (written (boolean true) ∷ []) v) hand_over)))
+    from : (b : Bool) → Safe (after_end b) [] (cond b (stop main_yielded) (act take_moving (λ v _. Rattle.machine_core.specs.FrameRows.then (give_with (written (boolean true) ∷ []) v) hand_over)))
     from true = tt
     from false = (tt, λ vs. ((tt, tt), λ _. hand_over_safe None (vs ++ [])))
 

@@ -1,12 +1,11 @@
 -- What operations look at and leave: handlers, chains and values are valid, and the tables stay right.
 use Rattle.std.proofs.Common.{ℕ, zero, suc, ◌<◌, ◌≡◌, List, [], ◌∷◌, ◌++◌, Option, Some, None, refl, ◌∙◌, length, Bool, true, false, cond}
-use Rattle.std.specs.Prelude.{ℤ, pos, slice_get, slice_set, not, IsTrue, filter, codes, if◌then◌else◌, nat_le, nat_lt, count_by, unwrap_or}
+use Rattle.std.specs.Prelude.{ℤ, pos, slice_get, slice_set, not, IsTrue, filter, codes, if◌then◌else◌, nat_le, nat_lt, count_by, unwrap_or, int_lt, int_le}
 use Rattle.std.specs.Map.{lookup, set_value}
 use Rattle.int_core.specs.Rows.{get, set, kept, has_row, is_filled, is_cleared, border}
 use Rattle.int_core.specs.Value.{nil, boolean, integer, string, primitive, a_table, a_function, a_coroutine, Value, known, object, same, is_nil, table_values, bind, greatest_string}
 use Rattle.int_core.specs.Heap.{Table, Heap, raw_get, raw_set, metatable_of, filled}
-use Rattle.int_core.specs.Operations
-use Rattle.int_core.specs.Operations.{Event, of_call, of_index, of_newindex, of_len, of_eq, of_concat, handler_in, handler_of, is_function, Settled, found, ask, fault, asked, greatest_chain, indexed, index_of, set_raw, stored, store_of, Callee, callee, not_callable, callee_of, arithmetic_on, joined, concat_on, raw_length, length_on, truth, equal_on, ordered, computed, number_in, text_of, is_number, is_text, of_type, wrong_operand, at_fault, by_zero, cannot_compare, event_name, Operation, index, store, arithmetic, concat, length', equal, less, less_equal, does}
+use Rattle.int_core.specs.Operations.{Event, of_call, of_index, of_newindex, of_len, of_eq, of_concat, handler_in, handler_of, is_function, Settled, found, ask, fault, asked, greatest_chain, indexed, index_of, set_raw, stored, store_of, Callee, callee, not_callable, callee_of, arithmetic_on, joined, concat_on, raw_length, length_on, truth, equal_on, ordered, computed, number_in, text_of, of_type, by_zero, cannot_compare, event_name, Operation, index, store, arithmetic, concat, length', equal, less, less_equal, does, of_lt, before, of_le}
 use Rattle.machine_sound.specs.Sound.{Each, Sizes, Valid, OptionOk, TableOk}
 use Rattle.machine_sound.proofs.Lists.{each_none, each_cons, each_tail, each_one, each_push, each_filter, each_set, length_set}
 use Rattle.machine_sound.proofs.Values.{le_of}
@@ -254,6 +253,6 @@ module _ (z : Sizes) (H : Heap) (h : HeapOk z H) where
   does_ok concat (l ∷ r ∷ []) v = concat_ok (text_of l) (text_of r) l r (v 0 l refl) (v 1 r refl)
   does_ok length' (o ∷ []) v = length_ok o (v 0 o refl)
   does_ok equal (l ∷ r ∷ []) v = equal_ok l r (v 0 l refl) (v 1 r refl)
-  does_ok less (l ∷ r ∷ []) v = ordered_ok Rattle.int_core.specs.Operations.of_lt Rattle.std.specs.Prelude.int_lt Rattle.int_core.specs.Operations.before l r (v 0 l refl) (v 1 r refl)
-  does_ok less_equal (l ∷ r ∷ []) v = ordered_ok Rattle.int_core.specs.Operations.of_le Rattle.std.specs.Prelude.int_le (λ s t. not (Rattle.int_core.specs.Operations.before t s)) l r (v 0 l refl) (v 1 r refl)
+  does_ok less (l ∷ r ∷ []) v = ordered_ok of_lt int_lt before l r (v 0 l refl) (v 1 r refl)
+  does_ok less_equal (l ∷ r ∷ []) v = ordered_ok of_le int_le (λ s t. not (before t s)) l r (v 0 l refl) (v 1 r refl)
   does_ok _ _ v = tt

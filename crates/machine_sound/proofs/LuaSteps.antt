@@ -1,12 +1,12 @@
 -- A step of a Lua frame on top does not trap: it runs its instruction, or what is left of one for which the answer came.
 use Rattle.std.proofs.Common.{ℕ, ◌≡◌, ◌<◌, ◌≤◌, [], ◌∷◌, ◌++◌, Option, Some, None, refl, subst, sym, ap, ◌∙◌, length, Bool, true, false, arith}
-use Rattle.std.specs.Prelude.{slice_get, IsTrue}
+use Rattle.std.specs.Prelude.{slice_get, IsTrue, IsSome}
 use Rattle.int_core.specs.Value.{Value, last}
 use Rattle.code_core.specs.declared.opcode.Opcode.{Opcode}
 use Rattle.code_core.specs.declared.instruction.Instruction.{Instruction}
 use Rattle.code_core.specs.Prototype.{Prototype}
 use Rattle.code_core.specs.Check.{CodeIsChecked, at}
-use Rattle.machine_core.specs.World.{Function, Cell, Wait, running, for_call, for_iterator, for_value, for_truth, dropped, for_concat, for_close, returning, leaving, LuaFrame, Frame, lua, in_progress, World, Stack, stack_of, Place, place_of}
+use Rattle.machine_core.specs.World.{Function, Wait, running, for_call, for_iterator, for_value, for_truth, dropped, for_concat, for_close, returning, leaving, lua, World, stack_of, Place, place_of, find_open}
 use Rattle.machine_core.specs.InstructionRows.{text_at, rest_at, told_values}
 use Rattle.int_core.specs.Ask.{values}
 use Rattle.machine_core.specs.Moves.{go, returned, calls_primitive, raised, unwinding, spent, main_yielded, main_returned, main_failed, Row, Outcome, trapped, ends, run}
@@ -14,7 +14,7 @@ use Rattle.machine_core.specs.FrameRows.{expand}
 use Rattle.machine_core.specs.MachineStep.{woken, lua_step, top_step, from_world, step_by, step}
 use Rattle.machine_sound.specs.Sound.{Each, sizes, Valid, WaitOk, waits_at, waiting_size, LuaWaits, Solid, Top, RunsOrWaits, TopIs, Fits, FitsIfRuns, Settled}
 use Rattle.machine_sound.specs.Safe.{on_lua, Is, Good}
-use Rattle.machine_sound.proofs.Lists.{each_none, each_one, each_on, bind_at, last_push}
+use Rattle.machine_sound.proofs.Lists.{each_none, each_one, bind_at, last_push, some_is}
 use Rattle.machine_sound.proofs.Grow.{Grows, grows_then, values_on}
 use Rattle.machine_sound.proofs.Own.{OwnIs}
 use Rattle.machine_sound.proofs.Frames.{the_place, place_is, stack_is, top_put, top_ok, function_ok, own_known, new_grows, new_solid, new_top, new_world}
@@ -108,7 +108,7 @@ module _ (n : ℕ) (t : Top) (W : World) (h : TopIs n t W) (s : Solid n W) where
           still_open = k.still_open;
           closed_ok = k.closed_ok;
           count = k.count;
-          captured = each_none (λ r. Rattle.std.specs.Prelude.IsSome (Rattle.machine_core.specs.World.find_open h.coroutine (length h.base) r W.cells));
+          captured = each_none (λ r. IsSome (find_open h.coroutine (length h.base) r W.cells));
         }
 
     abbrev P : World
@@ -156,7 +156,7 @@ module _ (n : ℕ) (t : Top) (W : World) (h : TopIs n t W) (s : Solid n W) where
         let wait = h.top.wait in
         let vs = told_values wait (values W.moving) in
         let V = with_moving P [] P.fuel in
-        let e : w.function ≡ h.function = Rattle.machine_sound.proofs.Lists.some_is w.there h.there in
+        let e : w.function ≡ h.function = some_is w.there h.there in
         let c : w.function.code ≡ t.code = ap (λ (f : Function). f.code) e ∙ h.code in
         let at_pc : at t.code t.pc ≡ Some w.instruction = ap (λ p. at p t.pc) (sym c) ∙ ap (at w.function.code) (sym h.pc) ∙ w.at_pc in
         let size : t.size ≡ waiting_size wait w.instruction t.code.own.stack = sym h.size ∙ w.size ∙ ap (λ (p : Prototype). waiting_size wait w.instruction p.own.stack) c in
@@ -182,7 +182,7 @@ go_good n primitives W s k =
 -- the same for the place of the machine
 
 the_same : (n : ℕ) (W : World) (p : Place) (k : Settled n W) → place_of W ≡ Some p → the_place n k.top W k.is_top ≡ p
-the_same n W p k e = Rattle.machine_sound.proofs.Lists.some_is (place_is n k.top W k.is_top) e
+the_same n W p k e = some_is (place_is n k.top W k.is_top) e
 
 pub running_text_good : (n : ℕ) (W : World) (p : Place) → Solid n W → Settled n W → place_of W ≡ Some p → p.top.wait ≡ running → Good n (run (expand (text_at p.function.code p.top.own.pc)) [] W)
 running_text_good n W p s k e w =

@@ -1,6 +1,6 @@
 -- The moves of a Lua frame on top on its own activation, and what the other moves share.
 use Rattle.std.proofs.Common.{ℕ, ◌≡◌, List, [], ◌∷◌, ◌++◌, Option, Some, None, refl, subst, sym, ap, ◌∙◌, length, Bool, true, false, cond}
-use Rattle.std.specs.Prelude.{pos, slice_get, slice_set, IsTrue, IsSome, ◌&&◌}
+use Rattle.std.specs.Prelude.{pos, IsTrue, IsSome, ℤ}
 use Rattle.std.specs.List.{list_all}
 use Rattle.int_core.specs.Value.{Value, known, greatest_string}
 use Rattle.code_core.specs.declared.proto.Const.{Const}
@@ -147,7 +147,7 @@ runs_so : (b : Bool) → IsTrue b → (z y : Sizes) (f g : LuaFrame) → f.wait 
 runs_so true h z y f g e k = sym e ∙ k
 runs_so false h z y f g e k = absurd (cc)
 
-pub pc_move : (n : ℕ) (d : Rattle.std.specs.Prelude.ℤ) (t : Top) (env : List Value) (W : World) → Is n (on_lua t) env W → TopReady t env (move_pc d) → MoveGood n (on_lua t) env (move_pc d) W
+pub pc_move : (n : ℕ) (d : ℤ) (t : Top) (env : List Value) (W : World) → Is n (on_lua t) env W → TopReady t env (move_pc d) → MoveGood n (on_lua t) env (move_pc d) W
 pc_move n d t env W i r =
     let h = i.phase in
     let s = i.solid in

@@ -10,12 +10,12 @@ use Rattle.code_core.specs.Instruction.{a_of, b_of, c_of}
 use Rattle.code_core.specs.Fields.{registers, last_of, takes_list}
 use Rattle.code_core.specs.Check.{opened}
 use Rattle.machine_core.specs.World.{for_call, for_iterator, returning}
-use Rattle.machine_core.specs.Text.{Arg, read, written, behind, Own, drop_pending, cut_from, close_cells, take_pending, keep_results, read_register, read_registers, read_list, end_list, results, Text, own, quick, call, tail_call, close, leave, trap, make_function, fill_table, go_by}
+use Rattle.machine_core.specs.Text.{Arg, read, written, behind, drop_pending, cut_from, read_registers, results, Text, own, call, tail_call, close, leave, is_there, arg}
 use Rattle.machine_core.specs.InstructionRows.{row_of, read_values, returns, returned_so, counted, return_count}
 use Rattle.machine_core.specs.Moves.{TopShape, lua_top, pcall_top, xpcall_top, handler_top, closing_top, no_top, CallShape, is_entered, is_primitive, not_paid, not_entered}
 use Rattle.machine_core.specs.FrameRows.{expand, after_call, after_leaving}
 use Rattle.machine_sound.specs.Sound.{Top, waits_at}
-use Rattle.machine_sound.specs.Safe.{on_lua, waiting, HasPlace, WaitsAs, MayEnter, CapturesOk, list_of_option, end_of, end_by, list_length, Safe}
+use Rattle.machine_sound.specs.Safe.{on_lua, waiting, HasPlace, MayEnter, list_of_option, end_of, end_by, list_length, Safe, after_tail}
 use Rattle.machine_sound.proofs.Places.{Here, place, Listed}
 use Rattle.machine_sound.proofs.RowEnds.{reg, sized, moved_place, raise_safe, call_safe}
 use Rattle.machine_sound.proofs.OpcodesTables.{RowSafe}
@@ -82,7 +82,7 @@ call_row_safe t w h l = (
       (λ vs s _. call_safe t (f ∷ vs) (read 0) 1 for_call (drop_pending (a_of w) ∷ cut_from (a_of w) ∷ []) (call_ready (f ∷ vs) (read 0) 1 h)),
 )
 
-tail_ends : (t : Top) (env : List Value) → HasPlace t → (s : CallShape) → Safe (Rattle.machine_sound.specs.Safe.after_tail s t) env (after_call s)
+tail_ends : (t : Top) (env : List Value) → HasPlace t → (s : CallShape) → Safe (after_tail s t) env (after_call s)
 tail_ends t env h is_entered = tt
 tail_ends t env h (is_primitive n) = refl
 tail_ends t env h not_paid = tt
@@ -134,11 +134,11 @@ left_ends slot env (no_top b) = tt
 pub returns_safe : (t : Top) (env : List Value) (count : ℕ) (p : HasPlace t) → IsTrue t.runs → behind (a_of p.instruction) count ≤ t.size → t.pending ≤ t.code.own.stack → IsTrue (waits_at {V = Arg} (returning count) p.opcode p.instruction) → Safe (on_lua t) env (expand (returns (a_of p.instruction) count))
 returns_safe t env count p r l q f = ((tt, tt), λ o. from o)
   where
-    from : (o : Option Value) → Safe (on_lua t) (env ++ list_of_option o) (expand (cond (Rattle.machine_core.specs.Text.is_there o) (close (read (length env)) (written nil) (returning count) (returned_so (a_of p.instruction) count)) (own (read_registers (a_of p.instruction) count) (λ w _. leave (results w)))))
+    from : (o : Option Value) → Safe (on_lua t) (env ++ list_of_option o) (expand (cond (is_there o) (close (read (length env)) (written nil) (returning count) (returned_so (a_of p.instruction) count)) (own (read_registers (a_of p.instruction) count) (λ w _. leave (results w)))))
     from None = ((l, tt), λ vs. (tt, λ s. left_ends (length (env ++ [])) (((env ++ []) ++ vs) ++ []) s))
     from (Some v) = (
       (tt, tt),
-      λ g. call_safe t ((env ++ v ∷ []) ++ g ∷ Rattle.machine_core.specs.Text.arg (env ++ v ∷ []) (read (length env)) ∷ known nil ∷ []) (read (length (env ++ v ∷ []))) (suc (length (env ++ v ∷ []))) (returning count) (returned_so (a_of p.instruction) count) (record {
+      λ g. call_safe t ((env ++ v ∷ []) ++ g ∷ arg (env ++ v ∷ []) (read (length env)) ∷ known nil ∷ []) (read (length (env ++ v ∷ []))) (suc (length (env ++ v ∷ []))) (returning count) (returned_so (a_of p.instruction) count) (record {
         callee = tt;
         prepares = (tt, (tt, (omega arith, tt)));
         waits = record { place = moved_place (record t { cells = 0; captured = []; size = max t.code.own.stack (behind (a_of p.instruction) count); opened = 0 }) p refl refl; fits = f; size = refl; kept = q; error = tt };

@@ -1,6 +1,6 @@
 -- The rows of SETLIST, CLOSURE and VARARG are safe in checked code.
 use Rattle.std.proofs.Common.{ℕ, zero, suc, ◌≡◌, ◌<◌, ◌≤◌, ◌+◌, ◌-◌, ◌*◌, List, [], ◌∷◌, ◌++◌, Option, Some, None, refl, subst, sym, ap, ◌∙◌, length, Bool, true, false, arith}
-use Rattle.std.specs.Prelude.{ℤ, pos, slice_get, cond, max, nat_lt, IsTrue, IsSome, ◌==◌, if◌then◌else◌}
+use Rattle.std.specs.Prelude.{ℤ, pos, slice_get, cond, max, nat_lt, IsTrue, ◌==◌, if◌then◌else◌, drop}
 use Rattle.std.specs.List.{list_all}
 use Rattle.int_core.specs.Value.{Value, known, object, a_table, a_function, a_coroutine, shape}
 use Rattle.code_core.specs.declared.opcode.Opcode.{Opcode}
@@ -8,19 +8,20 @@ use Rattle.code_core.specs.declared.opcode.Opcode.TheVariants.{SetList, Closure,
 use Rattle.code_core.specs.declared.instruction.Instruction.{Instruction}
 use Rattle.code_core.specs.declared.proto.UpDesc.{UpDesc}
 use Rattle.code_core.specs.Instruction.{a_of, b_of, c_of, k_of, bx_of, ax_of}
-use Rattle.code_core.specs.Fields.{registers, last_of, takes_list, second_half, opens as opens_list}
+use Rattle.code_core.specs.Fields.{last_of, takes_list, second_half, opens as opens_list, is_return}
 use Rattle.code_core.specs.Prototype.{Prototype, list_of}
 use Rattle.code_core.specs.Check.{fixed, open_from, opened, there, upvalue_there}
 use Rattle.machine_core.specs.Text.{read, behind, end_list, Text, quick, open_cell, trap, make_function, fill_table, go_by}
-use Rattle.machine_core.specs.InstructionRows.{row_of, to_register, next, skip, then, read_values, write_values, fills, fills_by, opens, upvalues_of_inner}
+use Rattle.machine_core.specs.InstructionRows.{to_register, then, read_values, write_values, fills, fills_by, opens, with_extra}
 use Rattle.machine_core.specs.FrameRows.{expand}
-use Rattle.machine_sound.specs.Sound.{Top}
+use Rattle.machine_sound.specs.Sound.{Top, MarkFits}
 use Rattle.machine_sound.specs.Safe.{on_lua, CapturesOk, Safe}
 use Rattle.machine_sound.proofs.Values.{lt_of, both_of}
 use Rattle.machine_sound.proofs.Places.{Here, place, Listed, next_safe}
 use Rattle.machine_sound.proofs.RowEnds.{reg, sized, on_next, on_skip, ends_next, second_there, raise_safe}
 use Rattle.machine_sound.proofs.OpcodesTables.{RowSafe, extra_there, extra_second}
 use Rattle.machine_sound.proofs.OpcodesCalls.{ListRowSafe, values_safe, zero_is, not_zero, some_end, last_is, function_there as register_there}
+use Rattle.machine_sound.proofs.Rules.{extra_behind}
 
 -- a list for a table
 
@@ -59,8 +60,8 @@ fills_safe {t = t} {w = w} h l last d s = ((register_there h l (a_of w) (low (a_
 pub set_list_safe : ListRowSafe SetList
 set_list_safe t w h l = from (k_of w) refl
   where
-    from : (b : Bool) → k_of w ≡ b → Safe (on_lua t) [] (expand (cond b (Rattle.machine_core.specs.InstructionRows.with_extra t.code t.pc (λ ax. fills w (c_of w + 256 * ax) (pos 2))) (fills w (c_of w) (pos 1))))
-    from false e = fills_safe h l (c_of w) (pos 1) (λ env. next_safe (record t { size = t.code.own.stack; opened = 0 }) env h refl (ap (λ (b : Bool). Rattle.machine_sound.proofs.Rules.extra_behind (if b then Some ExtraArg else None)) e) refl refl h.runs refl (let c = h.cells in omega arith))
+    from : (b : Bool) → k_of w ≡ b → Safe (on_lua t) [] (expand (cond b (with_extra t.code t.pc (λ ax. fills w (c_of w + 256 * ax) (pos 2))) (fills w (c_of w) (pos 1))))
+    from false e = fills_safe h l (c_of w) (pos 1) (λ env. next_safe (record t { size = t.code.own.stack; opened = 0 }) env h refl (ap (λ (b : Bool). extra_behind (if b then Some ExtraArg else None)) e) refl refl h.runs refl (let c = h.cells in omega arith))
     from true e =
         let q : second_half SetList w ≡ Some ExtraArg = ap (λ (b : Bool). (if b then Some ExtraArg else None)) e in
         let s = second_there h ExtraArg q in
@@ -130,18 +131,18 @@ closure_safe t w h = from (slice_get (list_of t.code.inner) (bx_of w)) refl h.ru
 -- extra arguments
 
 -- values that come back or are extra go to registers, or become an open list
-pub puts_safe : {t : Top} {w : Instruction} {op : Opcode} (u : Top) (env : List Value) (r c slot : ℕ) → Here t w op → Rattle.code_core.specs.Fields.is_return op ≡ false → Rattle.machine_sound.proofs.Rules.extra_behind (second_half op w) ≡ false
+pub puts_safe : {t : Top} {w : Instruction} {op : Opcode} (u : Top) (env : List Value) (r c slot : ℕ) → Here t w op → is_return op ≡ false → extra_behind (second_half op w) ≡ false
     → u.code ≡ t.code → u.pc ≡ t.pc → IsTrue u.runs → u.size ≡ t.code.own.stack → u.cells ≤ t.code.own.stack
     → (c ≡ 0 → opened (opens_list op w) ≡ open_from r) → ((n : ℕ) → c ≡ suc n → opened (opens_list op w) ≡ fixed)
     → (c ≡ 0 → r < u.size) → ((n : ℕ) → c ≡ suc n → behind r n ≤ u.size)
     → Safe (on_lua u) env (expand (write_values r c slot))
 puts_safe {t = t} {w = w} {op = op} u env r zero slot h ret ex q p run s k o f l b = (
   (l refl, run),
-  λ _. next_safe (record u { size = max u.size (r + length (Rattle.std.specs.Prelude.drop slot env)); opened = length (Rattle.std.specs.Prelude.drop slot env) }) (env ++ []) h ret ex q p run
-      (subst (λ m. Rattle.machine_sound.specs.Sound.MarkFits m t.code.own.stack (max u.size (r + length (Rattle.std.specs.Prelude.drop slot env))) (length (Rattle.std.specs.Prelude.drop slot env))) (sym (o refl)) (ap (λ n. max n (r + length (Rattle.std.specs.Prelude.drop slot env))) s)) k,
+  λ _. next_safe (record u { size = max u.size (r + length (drop slot env)); opened = length (drop slot env) }) (env ++ []) h ret ex q p run
+      (subst (λ m. MarkFits m t.code.own.stack (max u.size (r + length (drop slot env))) (length (drop slot env))) (sym (o refl)) (ap (λ n. max n (r + length (drop slot env))) s)) k,
 )
 puts_safe {t = t} {w = w} {op = op} u env r (suc n) slot h ret ex q p run s k o f l b =
-    ((b n refl, run), λ _. next_safe u (env ++ []) h ret ex q p run (subst (λ m. Rattle.machine_sound.specs.Sound.MarkFits m t.code.own.stack u.size u.opened) (sym (f n refl)) s) k)
+    ((b n refl, run), λ _. next_safe u (env ++ []) h ret ex q p run (subst (λ m. MarkFits m t.code.own.stack u.size u.opened) (sym (f n refl)) s) k)
 
 pub var_arg_safe : RowSafe VarArg
 var_arg_safe t w h = (

@@ -1,6 +1,6 @@
 -- The rows from ADDI to CONCAT are safe in checked code.
 use Rattle.std.proofs.Common.{ℕ, zero, suc, ◌≡◌, ◌<◌, ◌≤◌, ◌+◌, ◌-◌, List, [], ◌∷◌, ◌++◌, Option, Some, None, refl, subst, sym, ap, ◌∙◌, length, Bool, true, false, arith}
-use Rattle.std.specs.Prelude.{ℤ, pos, slice_get, cond, nat_eq, nat_le, ◌==◌, ◌||◌, not, IsTrue, IsSome, if◌then◌else◌}
+use Rattle.std.specs.Prelude.{ℤ, slice_get, ◌==◌, ◌||◌, not, IsTrue, if◌then◌else◌, nat_lt}
 use Rattle.std.specs.List.{list_any}
 use Rattle.std.proofs.lemmas.Bool.Decides.{nat_tests}
 use Rattle.int_core.specs.Value.{Value, known, boolean, integer, Shape, shape, holds}
@@ -12,10 +12,10 @@ use Rattle.code_core.specs.Instruction.{opcode_of, a_of, b_of, c_of, k_of, sc_of
 use Rattle.code_core.specs.Fields.{registers, constants, integer as an_integer, second_half, stands_second, events, last_of}
 use Rattle.code_core.specs.Check.{at, in_front, there, is_same, goes_on, agrees, begins_with}
 use Rattle.machine_core.specs.World.{for_value, for_concat}
-use Rattle.machine_core.specs.Text.{Arg, read, written, constant, Text, trap}
-use Rattle.machine_core.specs.InstructionRows.{row_of, to_register, next, fast, event_numbered, handled, to_register_before, swapped, with_number, integer_of_shape, joins}
+use Rattle.machine_core.specs.Text.{Arg, read, written, constant, Text, trap, raise, write_register, own, read_register}
+use Rattle.machine_core.specs.InstructionRows.{row_of, to_register, next, fast, event_numbered, handled, to_register_before, swapped, with_number, integer_of_shape, joins, skip, with_register, with_constant}
 use Rattle.machine_core.specs.FrameRows.{expand}
-use Rattle.machine_sound.specs.Sound.{Top}
+use Rattle.machine_sound.specs.Sound.{Top, waits_at}
 use Rattle.machine_sound.specs.Safe.{on_lua, ArgOk, ArgsOk, Safe}
 use Rattle.machine_sound.proofs.Lists.{some_is}
 use Rattle.machine_sound.proofs.Values.{lt_of, le_true, all_get, both_of}
@@ -28,14 +28,14 @@ use Rattle.machine_sound.proofs.OpcodesTables.{RowSafe}
 fast_safe : {t : Top} {w : Instruction} {op : Opcode} (env : List Value) → Here t w op → (second : Opcode) → second_half op w ≡ Some second → IsSecond second → IsPlain op w → (event : Event) (r : ℕ) (m k : Option ℤ) → r < t.code.own.stack → Safe (on_lua t) env (expand (fast event r m k))
 fast_safe {t = t} env h second e i p event r (Some m) (Some k) l = from (computed event m k)
   where
-    from : (o : Option ℤ) → Safe (on_lua t) env (expand (elim o as (λ _. Text) [ None ↦ Rattle.machine_core.specs.Text.raise (by_zero event) | Some k ↦ Rattle.machine_core.specs.InstructionRows.then (Rattle.machine_core.specs.Text.write_register r (written (integer k))) Rattle.machine_core.specs.InstructionRows.skip ]))
+    from : (o : Option ℤ) → Safe (on_lua t) env (expand (elim o as (λ _. Text) [ None ↦ raise (by_zero event) | Some k ↦ Rattle.machine_core.specs.InstructionRows.then (write_register r (written (integer k))) skip ]))
     from None = raise_safe t env (by_zero event) (place h)
     from (Some j) = (((let a = h.plain p.3 in omega arith, tt), h.runs), λ _. ends_skip (env ++ []) h second e i p.3)
 fast_safe env h second e i p event r None k l = ends_next env h p
 fast_safe env h second e i p event r (Some m) None l = ends_next env h p
 
 -- two registers
-registers_safe : {t : Top} {w : Instruction} {op : Opcode} → Here t w op → (event : Event) → second_half op w ≡ Some MmBin → IsPlain op w → registers op w ≡ a_of w ∷ b_of w ∷ c_of w ∷ [] → Safe (on_lua t) [] (expand (Rattle.machine_core.specs.InstructionRows.with_register event w))
+registers_safe : {t : Top} {w : Instruction} {op : Opcode} → Here t w op → (event : Event) → second_half op w ≡ Some MmBin → IsPlain op w → registers op w ≡ a_of w ∷ b_of w ∷ c_of w ∷ [] → Safe (on_lua t) [] (expand (with_register event w))
 registers_safe {t = t} {w = w} h event e p r = (
   (sized h p.3 1 (b_of w) (ap (λ l. slice_get l 1) r), tt),
   λ v. (
@@ -46,7 +46,7 @@ registers_safe {t = t} {w = w} h event e p r = (
 )
 
 -- a register and a constant
-constant_safe : {t : Top} {w : Instruction} {op : Opcode} → Here t w op → (event : Event) → second_half op w ≡ Some MmBinK → IsPlain op w → registers op w ≡ a_of w ∷ b_of w ∷ [] → ((extra : Option ℕ) → constants op w extra ≡ (an_integer, c_of w) ∷ []) → Safe (on_lua t) [] (expand (Rattle.machine_core.specs.InstructionRows.with_constant event w))
+constant_safe : {t : Top} {w : Instruction} {op : Opcode} → Here t w op → (event : Event) → second_half op w ≡ Some MmBinK → IsPlain op w → registers op w ≡ a_of w ∷ b_of w ∷ [] → ((extra : Option ℕ) → constants op w extra ≡ (an_integer, c_of w) ∷ []) → Safe (on_lua t) [] (expand (with_constant event w))
 constant_safe {t = t} {w = w} h event e p r c = (
   (sized h p.3 1 (b_of w) (ap (λ l. slice_get l 1) r), tt),
   λ v. (
@@ -57,7 +57,7 @@ constant_safe {t = t} {w = w} h event e p r c = (
 )
 
 -- a register and a number
-number_safe : {t : Top} {w : Instruction} {op : Opcode} → Here t w op → (f : Shape → Text) → second_half op w ≡ Some MmBinI → IsPlain op w → registers op w ≡ a_of w ∷ b_of w ∷ [] → (event : Event) (m k : Shape → Option ℤ) → ((s : Shape) → f s ≡ fast event (a_of w) (m s) (k s)) → Safe (on_lua t) [] (expand (Rattle.machine_core.specs.Text.own (Rattle.machine_core.specs.Text.read_register (b_of w)) (λ _ s. f s)))
+number_safe : {t : Top} {w : Instruction} {op : Opcode} → Here t w op → (f : Shape → Text) → second_half op w ≡ Some MmBinI → IsPlain op w → registers op w ≡ a_of w ∷ b_of w ∷ [] → (event : Event) (m k : Shape → Option ℤ) → ((s : Shape) → f s ≡ fast event (a_of w) (m s) (k s)) → Safe (on_lua t) [] (expand (own (read_register (b_of w)) (λ _ s. f s)))
 number_safe {t = t} {w = w} h f e p r event m k q = (
   (sized h p.3 1 (b_of w) (ap (λ l. slice_get l 1) r), tt),
   λ v.
@@ -216,7 +216,7 @@ target_first _ w second e h = absurd (cc)
 
 pub front_register : {t : Top} {w : Instruction} {op : Opcode} → Here t w op → is_handler op ≡ true → (f : Front t w op) → a_of f.instruction < t.code.own.stack
 front_register {t = t} {op = op} h k f =
-    lt_of (a_of f.instruction) t.code.own.stack (all_get (λ r. Rattle.std.specs.Prelude.nat_lt r t.code.own.stack) (registers f.opcode f.instruction) f.rule.registers_there 0 (a_of f.instruction) (target_first f.opcode f.instruction op f.begins k))
+    lt_of (a_of f.instruction) t.code.own.stack (all_get (λ r. nat_lt r t.code.own.stack) (registers f.opcode f.instruction) f.rule.registers_there 0 (a_of f.instruction) (target_first f.opcode f.instruction op f.begins k))
 
 any_get : {A : Type 0} (test : A → Bool) (xs : List A) → IsTrue (list_any test xs) → (i : ℕ) × (x : A) × (slice_get xs i ≡ Some x) × IsTrue (test x)
 any_get test [] h = absurd (cc)
@@ -248,7 +248,7 @@ before_safe {t = t} vs h f k p =
     subst (λ (o : Option Instruction). Safe (on_lua t) vs (expand (elim o as (λ _. Text) [ None ↦ trap | Some w ↦ to_register (a_of w) (read 0) ]))) (sym f.is_front)
     (ends_write vs (a_of f.instruction) (read 0) h p (front_register h k f) tt)
 
-handled_safe : {t : Top} {w : Instruction} {op : Opcode} (env : List Value) (xs : List Arg) → Here t w op → (f : Front t w op) → is_handler op ≡ true → IsPlain op w → IsTrue (Rattle.machine_sound.specs.Sound.waits_at {V = Arg} for_value op w) → (event : Event) × (event_numbered (c_of w) ≡ Some event) → ArgsOk xs → Safe (on_lua t) env (expand (handled t.code t.pc w (event_numbered (c_of w)) xs))
+handled_safe : {t : Top} {w : Instruction} {op : Opcode} (env : List Value) (xs : List Arg) → Here t w op → (f : Front t w op) → is_handler op ≡ true → IsPlain op w → IsTrue (waits_at {V = Arg} for_value op w) → (event : Event) × (event_numbered (c_of w) ≡ Some event) → ArgsOk xs → Safe (on_lua t) env (expand (handled t.code t.pc w (event_numbered (c_of w)) xs))
 handled_safe {t = t} {w = w} env xs h f k p wait event a =
     subst (λ (o : Option Event). Safe (on_lua t) env (expand (handled t.code t.pc w o xs))) (sym event.1)
     (operate_safe t env (arithmetic event.0) xs for_value (to_register_before t.code t.pc) a (may_wait for_value h p.3 wait refl refl tt) (λ vs. before_safe vs h f k p))
@@ -330,7 +330,7 @@ concat_safe t w h = from (b_of w) refl
     last_there : (a n : ℕ) → slice_get (a ∷ last_of a (suc n)) 1 ≡ Some (a + n)
     last_there a n = let e : (suc n == 0) ≡ false = grind (arith, nat_tests) in let k : suc n - 1 ≡ n = omega arith in rw (e, k) refl
 
-    from : (b : ℕ) → b_of w ≡ b → Safe (on_lua t) [] (expand (elim b as (λ _. Text) [ zero ↦ next | suc n ↦ Rattle.machine_core.specs.Text.own (Rattle.machine_core.specs.Text.read_register (a_of w + n)) (λ v _. joins (a_of w) n (read v)) ]))
+    from : (b : ℕ) → b_of w ≡ b → Safe (on_lua t) [] (expand (elim b as (λ _. Text) [ zero ↦ next | suc n ↦ own (read_register (a_of w + n)) (λ v _. joins (a_of w) n (read v)) ]))
     from zero e = ends_next [] h (refl, refl, refl, refl)
     from (suc n) e =
         let q : slice_get (registers Concat w) 1 ≡ Some (a_of w + n) = ap (λ b. slice_get (a_of w ∷ last_of (a_of w) b) 1) e ∙ last_there (a_of w) n in

@@ -1,6 +1,6 @@
 -- The rows from MOVE to SELF are safe in checked code.
 use Rattle.std.proofs.Common.{ℕ, ◌≡◌, ◌<◌, ◌≤◌, ◌+◌, List, [], ◌∷◌, ◌++◌, Option, Some, None, refl, subst, sym, ap, ◌∙◌, length, Bool, true, false, arith}
-use Rattle.std.specs.Prelude.{pos, slice_get, cond, nat_eq, ◌==◌, if◌then◌else◌}
+use Rattle.std.specs.Prelude.{pos, slice_get, cond, ◌==◌, if◌then◌else◌, option_and_then}
 use Rattle.std.proofs.lemmas.Bool.Decides.{nat_tests}
 use Rattle.int_core.specs.Value.{Value, known, boolean, integer, object, a_table, Shape, shape}
 use Rattle.int_core.specs.Operations.{index, store}
@@ -12,7 +12,7 @@ use Rattle.code_core.specs.Instruction.{opcode_of, a_of, b_of, c_of, k_of, bx_of
 use Rattle.code_core.specs.Fields.{constants, anything, name}
 use Rattle.code_core.specs.Check.{there, is_same, extra_at}
 use Rattle.machine_core.specs.World.{for_value, dropped}
-use Rattle.machine_core.specs.Text.{Arg, read, written, constant, write_register, Text, trap}
+use Rattle.machine_core.specs.Text.{Arg, read, written, constant, write_register, Text, trap, own, read_constant, read_register, quick, make_table}
 use Rattle.machine_core.specs.InstructionRows.{row_of, to_register, register_or_constant, next, skip}
 use Rattle.machine_core.specs.FrameRows.{expand, prepares, call_row, raises}
 use Rattle.machine_core.specs.Moves.{only, is_found, is_asked, is_fault}
@@ -61,7 +61,7 @@ is_self op = go (number_of op)
 
 pub extra_there : {t : Top} {w : Instruction} → (s : Second t w ExtraArg) → extra_at t.code t.pc ≡ Some (ax_of s.instruction)
 extra_there {t = t} s =
-    ap (Rattle.std.specs.Prelude.option_and_then (λ (w : Instruction). cond (there (is_same ExtraArg) (opcode_of w)) (Some (ax_of w)) None)) s.at_pc
+    ap (option_and_then (λ (w : Instruction). cond (there (is_same ExtraArg) (opcode_of w)) (Some (ax_of w)) None)) s.at_pc
     ∙ ap (λ o. cond (there (is_same ExtraArg) o) (Some (ax_of s.instruction)) None) s.is_opcode
     ∙ ap (λ b. cond b (Some (ax_of s.instruction)) None) (is_self ExtraArg)
 
@@ -74,7 +74,7 @@ load_kx_safe t w h =
     let e = extra_there s in
     let ax = ax_of s.instruction in
     let l = con h 0 ax anything (ap (λ o. slice_get (constants LoadKx w o) 0) e) in
-    subst (λ (o : Option ℕ). Safe (on_lua t) [] (expand (elim o as (λ _. Text) [ None ↦ trap | Some ax ↦ Rattle.machine_core.specs.Text.own (Rattle.machine_core.specs.Text.read_constant ax) (λ v _. Rattle.machine_core.specs.InstructionRows.then (Rattle.machine_core.specs.Text.write_register (a_of w) (read v)) skip) ]))) (sym e)
+    subst (λ (o : Option ℕ). Safe (on_lua t) [] (expand (elim o as (λ _. Text) [ None ↦ trap | Some ax ↦ own (read_constant ax) (λ v _. Rattle.machine_core.specs.InstructionRows.then (Rattle.machine_core.specs.Text.write_register (a_of w) (read v)) skip) ]))) (sym e)
     ((l, tt), λ k. (((sized h refl 0 (a_of w) refl, tt), h.runs), λ _. ends_skip (known (constant k.found) ∷ []) h ExtraArg refl extra_second refl))
 
 -- upvalues
@@ -132,7 +132,7 @@ get_field_safe t w h = (
 pub rk_safe : (t : Top) (env : List Value) (w : Instruction) (k : ℕ → Shape → Text) → (k_of w ≡ true → c_of w < length t.code.own.constants) → (k_of w ≡ false → c_of w < t.size) → ((v : Value) → Safe (on_lua t) (env ++ v ∷ []) (expand (k (length env) (shape v)))) → Safe (on_lua t) env (expand (register_or_constant w k))
 rk_safe t env w k c r s = from (k_of w) refl
   where
-    from : (b : Bool) → k_of w ≡ b → Safe (on_lua t) env (expand (cond b (Rattle.machine_core.specs.Text.own (Rattle.machine_core.specs.Text.read_constant (c_of w)) k) (Rattle.machine_core.specs.Text.own (Rattle.machine_core.specs.Text.read_register (c_of w)) k)))
+    from : (b : Bool) → k_of w ≡ b → Safe (on_lua t) env (expand (cond b (own (read_constant (c_of w)) k) (own (read_register (c_of w)) k)))
     from true e = ((c e, tt), λ v. s (known (constant v.found)))
     from false e = ((r e, tt), λ v. s v)
 
@@ -184,7 +184,7 @@ set_field_safe t w h = (
 pub new_table_safe : RowSafe NewTable
 new_table_safe t w h =
     let s = second_there h ExtraArg refl in
-    subst (λ (o : Option ℕ). Safe (on_lua t) [] (expand (elim o as (λ _. Text) [ None ↦ trap | Some ax ↦ Rattle.machine_core.specs.Text.quick Rattle.machine_core.specs.Text.make_table (λ v. Rattle.machine_core.specs.InstructionRows.then (Rattle.machine_core.specs.Text.write_register (a_of w) (read v)) skip) ]))) (sym (extra_there s))
+    subst (λ (o : Option ℕ). Safe (on_lua t) [] (expand (elim o as (λ _. Text) [ None ↦ trap | Some ax ↦ quick make_table (λ v. Rattle.machine_core.specs.InstructionRows.then (Rattle.machine_core.specs.Text.write_register (a_of w) (read v)) skip) ]))) (sym (extra_there s))
     (tt, λ n. (((sized h refl 0 (a_of w) refl, tt), h.runs), λ _. ends_skip (object a_table n ∷ []) h ExtraArg refl extra_second refl))
 
 self_ends : (t : Top) (w : Instruction) (o k : Value) → Here t w OpSelf → (e : SettledEvent) → Safe (on_lua t) (o ∷ k ∷ settled_values e) (elim (settled_told e) [

@@ -10,14 +10,15 @@ use Rattle.code_core.specs.declared.instruction.Instruction.{Instruction}
 use Rattle.code_core.specs.Instruction.{a_of, b_of, k_of, bx_of, sb_of, sj_of}
 use Rattle.code_core.specs.Fields.{registers, anything, second_half, target, takes_list}
 use Rattle.machine_core.specs.World.{for_truth, for_close}
-use Rattle.machine_core.specs.Text.{Arg, read, written, constant, close_cells, take_pending, Text, go_by}
-use Rattle.machine_core.specs.InstructionRows.{row_of, to_register, next, skip, tested, truth_decides, with_number, is_integer, is_constant, jumps, back, goes_round, prepares, starts, runs, rounds, integer_of_shape, marks, variable_name, closes}
-use Rattle.machine_core.specs.FrameRows.{expand}
-use Rattle.machine_sound.specs.Sound.{Top}
-use Rattle.machine_sound.specs.Safe.{on_lua, ArgOk, ArgsOk, WaitsAs, Safe}
+use Rattle.machine_core.specs.Text.{Arg, read, written, constant, close_cells, take_pending, Text, go_by, arg, quick, pay, raise, mark_pending, write_register, is_there, close}
+use Rattle.machine_core.specs.InstructionRows.{row_of, to_register, next, skip, tested, truth_decides, with_number, is_integer, is_constant, jumps, back, goes_round, prepares, starts, runs, rounds, integer_of_shape, marks, variable_name, closes, compares, writes_integer}
+use Rattle.machine_core.specs.FrameRows.{expand, raises}
+use Rattle.machine_sound.specs.Sound.{Top, waits_at}
+use Rattle.machine_sound.specs.Safe.{on_lua, ArgsOk, WaitsAs, Safe, HasPlace, list_of_option}
 use Rattle.machine_sound.proofs.Places.{Here, place}
 use Rattle.machine_sound.proofs.RowEnds.{IsPlain, reg, sized, con, on_next, ends_next, ends_write, IsSecond, ends_skip, on_land, moved_place, raise_safe, call_safe, operate_safe, may_wait}
 use Rattle.machine_sound.proofs.OpcodesTables.{RowSafe}
+use Rattle.machine_core.specs.Moves.{stop, spent}
 
 jump_second : IsSecond Jmp
 jump_second v = (refl, refl, refl)
@@ -31,9 +32,9 @@ tested_safe {t = t} env h e p truth k = from (same_truth truth k)
     from false = ends_skip env h Jmp e jump_second p.3
 
 pub decides_safe : {t : Top} {w : Instruction} {op : Opcode} (vs : List Value) → Here t w op → second_half op w ≡ Some Jmp → IsPlain op w → Safe (on_lua t) vs (expand (truth_decides w))
-decides_safe {w = w} vs h e p = ((tt, tt), λ _. tested_safe (vs ++ []) h e p (holds (shape (Rattle.machine_core.specs.Text.arg vs (read 0)))) (k_of w))
+decides_safe {w = w} vs h e p = ((tt, tt), λ _. tested_safe (vs ++ []) h e p (holds (shape (arg vs (read 0)))) (k_of w))
 
-compares_safe : {t : Top} {w : Instruction} {op : Opcode} (env : List Value) (operation : Operation) (x y : Arg) → Here t w op → second_half op w ≡ Some Jmp → IsPlain op w → IsTrue (Rattle.machine_sound.specs.Sound.waits_at {V = Arg} for_truth op w) → ArgsOk (x ∷ y ∷ []) → Safe (on_lua t) env (expand (Rattle.machine_core.specs.InstructionRows.compares operation x y w))
+compares_safe : {t : Top} {w : Instruction} {op : Opcode} (env : List Value) (operation : Operation) (x y : Arg) → Here t w op → second_half op w ≡ Some Jmp → IsPlain op w → IsTrue (waits_at {V = Arg} for_truth op w) → ArgsOk (x ∷ y ∷ []) → Safe (on_lua t) env (expand (compares operation x y w))
 compares_safe {t = t} {w = w} env operation x y h e p f a = operate_safe t env operation (x ∷ y ∷ []) for_truth (truth_decides w) a (may_wait for_truth h p.3 f refl refl tt) (λ vs. decides_safe vs h e p)
 
 pub eq_safe : RowSafe Eq
@@ -94,7 +95,7 @@ jmp_safe t w h = from (sj_of w) refl
     from (pos n) e = lands_safe [] (pos (n + 1)) (pos (t.pc + 1) +ℤ sj_of w) h refl refl (forward t.pc n ∙ ap (λ z. pos (t.pc + 1) +ℤ z) (sym e))
     from (negsuc n) e = (tt, λ b. paid b)
       where
-        paid : (b : Bool) → Safe (on_lua t) [] (cond b (expand (go_by (negsuc n +ℤ pos 1))) (Rattle.machine_core.specs.Moves.stop Rattle.machine_core.specs.Moves.spent))
+        paid : (b : Bool) → Safe (on_lua t) [] (cond b (expand (go_by (negsuc n +ℤ pos 1))) (stop spent))
         paid true = lands_safe [] (negsuc n +ℤ pos 1) (pos (t.pc + 1) +ℤ sj_of w) h refl refl (backward t.pc n ∙ ap (λ z. pos (t.pc + 1) +ℤ z) (sym e))
         paid false = tt
 
@@ -110,14 +111,14 @@ first_of : (a n : ℕ) → a + 0 < n → a < n
 first_of a n l = omega arith
 
 -- a unit of the budget, if there is one left
-paid_safe : (t : Top) (env : List Value) (x : Text) → Safe (on_lua t) env (expand x) → (b : Bool) → Safe (on_lua t) env (cond b (expand x) (Rattle.machine_core.specs.Moves.stop Rattle.machine_core.specs.Moves.spent))
+paid_safe : (t : Top) (env : List Value) (x : Text) → Safe (on_lua t) env (expand x) → (b : Bool) → Safe (on_lua t) env (cond b (expand x) (stop spent))
 paid_safe t env x s true = s
 paid_safe t env x s false = tt
 
 round_safe : {t : Top} {w : Instruction} (env : List Value) → Here t w ForLoop → (i c s : Option ℤ) → Safe (on_lua t) env (expand (goes_round (a_of w) (bx_of w) i c s))
 round_safe {t = t} {w = w} env h (Some i) (Some c) (Some s) = from (same_integer c (pos 0))
   where
-    on : Safe (on_lua t) (env ++ []) (expand (Rattle.machine_core.specs.InstructionRows.writes_integer (a_of w + 1) (sub c (pos 1)) (Rattle.machine_core.specs.InstructionRows.writes_integer (a_of w) (add i s) (Rattle.machine_core.specs.InstructionRows.writes_integer (a_of w + 3) (add i s) (back (bx_of w))))))
+    on : Safe (on_lua t) (env ++ []) (expand (writes_integer (a_of w + 1) (sub c (pos 1)) (writes_integer (a_of w) (add i s) (writes_integer (a_of w + 3) (add i s) (back (bx_of w))))))
     on = (
       ((loop_register h refl refl 1 (omega arith), tt), h.runs),
       λ _. (
@@ -130,9 +131,9 @@ round_safe {t = t} {w = w} env h (Some i) (Some c) (Some s) = from (same_integer
       ),
     )
 
-    from : (b : Bool) → Safe (on_lua t) env (expand (cond b next (Rattle.machine_core.specs.Text.quick Rattle.machine_core.specs.Text.pay (λ _. Rattle.machine_core.specs.InstructionRows.writes_integer (a_of w + 1) (sub c (pos 1)) (Rattle.machine_core.specs.InstructionRows.writes_integer (a_of w) (add i s) (Rattle.machine_core.specs.InstructionRows.writes_integer (a_of w + 3) (add i s) (back (bx_of w))))))))
+    from : (b : Bool) → Safe (on_lua t) env (expand (cond b next (quick pay (λ _. writes_integer (a_of w + 1) (sub c (pos 1)) (writes_integer (a_of w) (add i s) (writes_integer (a_of w + 3) (add i s) (back (bx_of w))))))))
     from true = ends_next env h (refl, refl, refl, refl)
-    from false = (tt, λ b. paid_safe t (env ++ []) (Rattle.machine_core.specs.InstructionRows.writes_integer (a_of w + 1) (sub c (pos 1)) (Rattle.machine_core.specs.InstructionRows.writes_integer (a_of w) (add i s) (Rattle.machine_core.specs.InstructionRows.writes_integer (a_of w + 3) (add i s) (back (bx_of w))))) on b)
+    from false = (tt, λ b. paid_safe t (env ++ []) (writes_integer (a_of w + 1) (sub c (pos 1)) (writes_integer (a_of w) (add i s) (writes_integer (a_of w + 3) (add i s) (back (bx_of w))))) on b)
 round_safe {t = t} env h None c s = raise_safe t env [] (place h)
 round_safe {t = t} env h (Some i) None s = raise_safe t env [] (place h)
 round_safe {t = t} env h (Some i) (Some c) None = raise_safe t env [] (place h)
@@ -156,8 +157,8 @@ ahead pc n = grind arith
 starts_safe : {t : Top} {w : Instruction} (env : List Value) → Here t w ForPrep → (i l s : ℤ) → Safe (on_lua t) env (expand (starts (a_of w) (bx_of w) i l s))
 starts_safe {t = t} {w = w} env h i l s = from (same_integer s (pos 0)) (runs i l s)
   where
-    from : (a b : Bool) → Safe (on_lua t) env (expand (cond a (Rattle.machine_core.specs.Text.raise (Rattle.std.specs.Prelude.codes "'for' step is zero"))
-        (cond b (Rattle.machine_core.specs.InstructionRows.writes_integer (a_of w + 1) (rounds i l s) (Rattle.machine_core.specs.InstructionRows.writes_integer (a_of w + 3) i next)) (go_by (pos (bx_of w + 2))))))
+    from : (a b : Bool) → Safe (on_lua t) env (expand (cond a (raise (Rattle.std.specs.Prelude.codes "'for' step is zero"))
+        (cond b (writes_integer (a_of w + 1) (rounds i l s) (writes_integer (a_of w + 3) i next)) (go_by (pos (bx_of w + 2))))))
     from true b = raise_safe t env [] (place h)
     from false true = (((loop_register h refl refl 1 (omega arith), tt), h.runs), λ _. (((loop_register h refl refl 3 (omega arith), tt), h.runs), λ _. ends_next env h (refl, refl, refl, refl)))
     from false false = lands_safe env (pos (bx_of w + 2)) (pos (t.pc + 2 + bx_of w)) h refl refl (ahead t.pc (bx_of w))
@@ -183,15 +184,15 @@ for_prep_safe t w h = (
 
 -- variables to be closed
 
-closable_safe : (t : Top) (env : List Value) (text : List ℕ) (x : Text) → Rattle.machine_sound.specs.Safe.HasPlace t → Safe (on_lua t) (env ++ []) (expand x) → (b : Bool) → Safe (on_lua t) (env ++ []) (cond b (expand x) (Rattle.machine_core.specs.FrameRows.raises text))
+closable_safe : (t : Top) (env : List Value) (text : List ℕ) (x : Text) → HasPlace t → Safe (on_lua t) (env ++ []) (expand x) → (b : Bool) → Safe (on_lua t) (env ++ []) (cond b (expand x) (raises text))
 closable_safe t env text x p s true = s
 closable_safe t env text x p s false = raise_safe t (env ++ []) text p
 
 marks_safe : {t : Top} {w : Instruction} {op : Opcode} (r : ℕ) (x : Text) → Here t w op → r < t.size → r < t.code.own.stack → ((u : Top) (env : List Value) → u.code ≡ t.code → u.pc ≡ t.pc → IsTrue u.runs → u.size ≡ t.size → u.cells ≡ t.cells → Safe (on_lua u) env (expand x)) → Safe (on_lua t) [] (expand (marks t.code t.pc r x))
 marks_safe {t = t} r x h l b s = ((l, tt), λ v. from v (holds (shape v)))
   where
-    from : (v : Value) (q : Bool) → Safe (on_lua t) (v ∷ []) (expand (cond q (Rattle.machine_core.specs.Text.closable (read 0) (variable_name t.code t.pc r) (Rattle.machine_core.specs.InstructionRows.then (Rattle.machine_core.specs.Text.mark_pending r) x)) x))
-    from v true = (tt, λ yes. closable_safe t (v ∷ []) (codes "variable '" ++ variable_name t.code t.pc r ++ codes "' got a non-closable value") (Rattle.machine_core.specs.InstructionRows.then (Rattle.machine_core.specs.Text.mark_pending r) x) (place h) (((l, b), h.runs), λ _. s (record t { pending = t.code.own.stack }) (v ∷ []) refl refl h.runs refl refl) yes)
+    from : (v : Value) (q : Bool) → Safe (on_lua t) (v ∷ []) (expand (cond q (Rattle.machine_core.specs.Text.closable (read 0) (variable_name t.code t.pc r) (Rattle.machine_core.specs.InstructionRows.then (mark_pending r) x)) x))
+    from v true = (tt, λ yes. closable_safe t (v ∷ []) (codes "variable '" ++ variable_name t.code t.pc r ++ codes "' got a non-closable value") (Rattle.machine_core.specs.InstructionRows.then (mark_pending r) x) (place h) (((l, b), h.runs), λ _. s (record t { pending = t.code.own.stack }) (v ∷ []) refl refl h.runs refl refl) yes)
     from v false = s t (v ∷ []) refl refl h.runs refl refl
 
 pub tbc_safe : RowSafe Tbc
@@ -211,19 +212,19 @@ t_for_loop_safe t w h = ((sized h refl 0 (a_of w + 4) refl, tt), λ v. from v)
     lower : (a n : ℕ) → a + 4 < n → a + 2 < n
     lower a n l = omega arith
 
-    on : (v : Value) → Safe (on_lua t) (v ∷ []) (expand (Rattle.machine_core.specs.InstructionRows.then (Rattle.machine_core.specs.Text.write_register (a_of w + 2) (read 0)) (back (bx_of w))))
+    on : (v : Value) → Safe (on_lua t) (v ∷ []) (expand (Rattle.machine_core.specs.InstructionRows.then (write_register (a_of w + 2) (read 0)) (back (bx_of w))))
     on v = (((lower (a_of w) t.size (sized h refl 0 (a_of w + 4) refl), tt), h.runs), λ _. lands_safe (v ∷ []) (pos 1 -ℤ pos (bx_of w)) (pos (t.pc + 1) -ℤ pos (bx_of w)) h refl refl (round_back t.pc (bx_of w)))
 
-    goes : (v : Value) → Safe (on_lua t) (v ∷ []) (expand (Rattle.machine_core.specs.Text.quick Rattle.machine_core.specs.Text.pay (λ _. Rattle.machine_core.specs.InstructionRows.then (Rattle.machine_core.specs.Text.write_register (a_of w + 2) (read 0)) (back (bx_of w)))))
-    goes v = (tt, λ b. paid_safe t (v ∷ []) (Rattle.machine_core.specs.InstructionRows.then (Rattle.machine_core.specs.Text.write_register (a_of w + 2) (read 0)) (back (bx_of w))) (on v) b)
+    goes : (v : Value) → Safe (on_lua t) (v ∷ []) (expand (quick pay (λ _. Rattle.machine_core.specs.InstructionRows.then (write_register (a_of w + 2) (read 0)) (back (bx_of w)))))
+    goes v = (tt, λ b. paid_safe t (v ∷ []) (Rattle.machine_core.specs.InstructionRows.then (write_register (a_of w + 2) (read 0)) (back (bx_of w))) (on v) b)
 
-    pick : (v : Value) (b : Bool) → Safe (on_lua t) (v ∷ []) (expand (cond b next (Rattle.machine_core.specs.Text.quick Rattle.machine_core.specs.Text.pay (λ _. Rattle.machine_core.specs.InstructionRows.then (Rattle.machine_core.specs.Text.write_register (a_of w + 2) (read 0)) (back (bx_of w))))))
+    pick : (v : Value) (b : Bool) → Safe (on_lua t) (v ∷ []) (expand (cond b next (quick pay (λ _. Rattle.machine_core.specs.InstructionRows.then (write_register (a_of w + 2) (read 0)) (back (bx_of w))))))
     pick v true = ends_next (v ∷ []) h (refl, refl, refl, refl)
     pick v false = goes v
 
     from : (v : Value) → Safe (on_lua t) (v ∷ []) (expand (elim (shape v) as (λ _. Text) [
-      | is_known k ↦ cond (same_plain k nil) next (Rattle.machine_core.specs.Text.quick Rattle.machine_core.specs.Text.pay (λ _. Rattle.machine_core.specs.InstructionRows.then (Rattle.machine_core.specs.Text.write_register (a_of w + 2) (read 0)) (back (bx_of w))))
-      | is_object kind ↦ Rattle.machine_core.specs.Text.quick Rattle.machine_core.specs.Text.pay (λ _. Rattle.machine_core.specs.InstructionRows.then (Rattle.machine_core.specs.Text.write_register (a_of w + 2) (read 0)) (back (bx_of w)))
+      | is_known k ↦ cond (same_plain k nil) next (quick pay (λ _. Rattle.machine_core.specs.InstructionRows.then (write_register (a_of w + 2) (read 0)) (back (bx_of w))))
+      | is_object kind ↦ quick pay (λ _. Rattle.machine_core.specs.InstructionRows.then (write_register (a_of w + 2) (read 0)) (back (bx_of w)))
     ]))
     from (known k) = pick (known k) (same_plain k nil)
     from (object kind m) = goes (object kind m)
@@ -236,12 +237,12 @@ closes_safe {t = t} {w = w} env h = ((tt, tt), λ o. from o)
     wait : WaitsAs for_close (record t { cells = a_of w; captured = [] })
     wait = record { place = moved_place (record t { cells = a_of w; captured = [] }) (place h) refl refl; fits = refl; size = h.plain refl; kept = (let e = h.pending in omega arith); error = tt }
 
-    from : (o : Option Value) → Safe (on_lua t) (env ++ Rattle.machine_sound.specs.Safe.list_of_option o) (expand (cond (Rattle.machine_core.specs.Text.is_there o) (Rattle.machine_core.specs.Text.close (read (length env)) (written nil) for_close (close_cells (a_of w) ∷ take_pending (a_of w) ∷ [])) (Rattle.machine_core.specs.InstructionRows.then (close_cells (a_of w)) next)))
+    from : (o : Option Value) → Safe (on_lua t) (env ++ list_of_option o) (expand (cond (is_there o) (close (read (length env)) (written nil) for_close (close_cells (a_of w) ∷ take_pending (a_of w) ∷ [])) (Rattle.machine_core.specs.InstructionRows.then (close_cells (a_of w)) next)))
     from None = ((tt, h.runs), λ _. on_next (record t { cells = a_of w; captured = [] }) env h (refl, refl, refl, refl) refl refl h.runs (h.plain refl) (let l = reg h 0 (a_of w) refl in least (a_of w) t.code.own.stack l))
       where
         least : (a n : ℕ) → a < n → a ≤ n
         least a n l = omega arith
-    from (Some v) = ((tt, tt), λ f. call_safe t ((env ++ v ∷ []) ++ f ∷ Rattle.machine_core.specs.Text.arg (env ++ v ∷ []) (read (length env)) ∷ known nil ∷ []) (read (length (env ++ v ∷ []))) (suc (length (env ++ v ∷ []))) for_close (close_cells (a_of w) ∷ take_pending (a_of w) ∷ []) (record { callee = tt; prepares = (tt, (tt, tt)); waits = wait }))
+    from (Some v) = ((tt, tt), λ f. call_safe t ((env ++ v ∷ []) ++ f ∷ arg (env ++ v ∷ []) (read (length env)) ∷ known nil ∷ []) (read (length (env ++ v ∷ []))) (suc (length (env ++ v ∷ []))) for_close (close_cells (a_of w) ∷ take_pending (a_of w) ∷ []) (record { callee = tt; prepares = (tt, (tt, tt)); waits = wait }))
 
 pub close_safe : RowSafe Close
 close_safe t w h = closes_safe [] h

@@ -12,7 +12,7 @@ use Rattle.machine_sound.specs.Safe.{on_lua, Is, TopReady, QuickReady, has_found
 use Rattle.machine_sound.proofs.Lists.{each_none, each_cons, each_one, each_push, each_set, each_drop, each_on, bind_at, get_there, length_set}
 use Rattle.machine_sound.proofs.Values.{args_valid, arg_valid, nth_ok}
 use Rattle.machine_sound.proofs.Grow.{Grows, grows_self, values_on, table_on, function_on, coroutine_on, cell_on, roots_on, lua_waits_on, each_waits_on}
-use Rattle.machine_sound.proofs.Heaps.{HeapOk, HeapStays, does_ok, handler_ok, filled_ok}
+use Rattle.machine_sound.proofs.Heaps.{HeapOk, HeapStays, does_ok, handler_ok, filled_ok, SettledOk}
 use Rattle.machine_sound.proofs.Frames.{the_place, place_is}
 use Rattle.machine_sound.proofs.Moves.{made_so}
 
@@ -104,7 +104,7 @@ settle_move n op xs t env W i r = from (does op (args_of env xs) W.heap) refl (d
     is : (s : Settled) → does op (args_of env xs) W.heap ≡ s → move (settle op xs) env W ≡ settled W (the_place n t W i.phase) s
     is s e = bind_at (λ p. settled W p (does op (args_of env xs) W.heap)) (place_of W) (the_place n t W i.phase) (place_is n t W i.phase) ∙ ap (settled W (the_place n t W i.phase)) e
 
-    from : (s : Settled) → does op (args_of env xs) W.heap ≡ s → Rattle.machine_sound.proofs.Heaps.SettledOk (sizes n W) W.heap (heap_of n W i.solid) s → MoveGood n (on_lua t) env (settle op xs) W
+    from : (s : Settled) → does op (args_of env xs) W.heap ≡ s → SettledOk (sizes n W) W.heap (heap_of n W i.solid) s → MoveGood n (on_lua t) env (settle op xs) W
     from (found K vs) e k =
         let o = stays_ok n W K W.moving W.fuel i.solid k.0 i.solid.moving in
         record {

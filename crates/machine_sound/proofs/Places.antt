@@ -1,14 +1,13 @@
 -- What the rules on code give at each place.
 use Rattle.std.proofs.Common.{ℕ, zero, suc, ◌≡◌, ◌<◌, ◌≤◌, ◌+◌, List, Option, Some, None, refl, subst, sym, ap, ◌∙◌, length, Bool, true, false, arith}
-use Rattle.std.specs.Prelude.{ℤ, pos, negsuc, ◌+ℤ◌, slice_get, IsTrue, IsSome, not, ◌&&◌, ◌||◌, nat_lt, nat_le, cond, max, ◌==◌, nat_eq}
-use Rattle.std.specs.List.{list_all}
+use Rattle.std.specs.Prelude.{ℤ, pos, IsTrue, IsSome, not, ◌||◌, nat_le, max, option_and_then}
 use Rattle.int_core.specs.Value.{Value}
 use Rattle.code_core.specs.declared.opcode.Opcode.{Opcode}
 use Rattle.code_core.specs.declared.instruction.Instruction.{Instruction}
 use Rattle.code_core.specs.Instruction.{opcode_of, a_of}
 use Rattle.code_core.specs.Fields.{second_half, opens, takes_list, is_return}
 use Rattle.code_core.specs.Prototype.{Prototype}
-use Rattle.code_core.specs.Check.{CodeIsChecked, AllHold, Rule, rules, rules_by, opcode_rules, at, in_front, there, is_same, Mark, fixed, open_from, opened, leaves, mark, is_fixed, extra_at, constant_is, function_there, is_landing, lands, lands_fixed, is_paired, goes_on, agrees, begins_with, takes_from, is_taken, lists_fit_marks, varargs_fit}
+use Rattle.code_core.specs.Check.{CodeIsChecked, at, there, Mark, fixed, open_from, opened, leaves, mark, is_fixed, takes_from, is_taken, left_by}
 use Rattle.machine_core.specs.Moves.{place_from}
 use Rattle.machine_core.specs.InstructionRows.{next}
 use Rattle.machine_core.specs.Text.{go_by}
@@ -39,17 +38,17 @@ more {t = t} {op = op} h r = lt_of _ _ (or_of (is_return op) _ r h.rule.goes_on)
 
 -- what stands behind an instruction
 pub leaves_is : (w : Instruction) (op : Opcode) → opcode_of w ≡ Some op → leaves w ≡ opened (opens op w)
-leaves_is w op o = ap (λ o. opened (Rattle.std.specs.Prelude.option_and_then (λ op. opens op w) o)) o
+leaves_is w op o = ap (λ o. opened (option_and_then (λ op. opens op w) o)) o
 
 pub mark_behind : (p : Prototype) (pc : ℕ) (w : Instruction) (op : Opcode) → at p pc ≡ Some w → opcode_of w ≡ Some op → mark p (pc + 1) ≡ opened (opens op w)
-mark_behind p pc w op a o = let e : pc + 1 ≡ suc pc = omega arith in ap (mark p) e ∙ ap Rattle.code_core.specs.Check.left_by a ∙ leaves_is w op o
+mark_behind p pc w op a o = let e : pc + 1 ≡ suc pc = omega arith in ap (mark p) e ∙ ap left_by a ∙ leaves_is w op o
 
 -- a list that is opened is taken by the next instruction
 pub taken : (p : Prototype) (pc r : ℕ) (w : Instruction) (op : Opcode) → CodeIsChecked p → at p pc ≡ Some w → opcode_of w ≡ Some op → mark p pc ≡ open_from r → IsTrue (takes_list op w) × (a_of w ≤ r)
 taken p zero r w op c a o m = absurd (cc)
 taken p (suc pc) r w op c a o m = from (at p pc) refl m
   where
-    from : (i : Option Instruction) → at p pc ≡ i → Rattle.code_core.specs.Check.left_by i ≡ open_from r → IsTrue (takes_list op w) × (a_of w ≤ r)
+    from : (i : Option Instruction) → at p pc ≡ i → left_by i ≡ open_from r → IsTrue (takes_list op w) × (a_of w ≤ r)
     from None e m = absurd (cc)
     from (Some v) e m =
         let q = opcode_there p pc v c e in

@@ -9,8 +9,8 @@ use Rattle.code_core.specs.Instruction.{opcode_of, a_of, b_of, c_of}
 use Rattle.code_core.specs.Fields.{registers, last_of}
 use Rattle.code_core.specs.Check.{CodeIsChecked, at, opened}
 use Rattle.machine_core.specs.World.{Wait, for_call, for_iterator, for_value, for_truth, dropped, for_concat, for_close, returning, leaving}
-use Rattle.machine_core.specs.Text.{Arg, read, written, arg, behind, close_cells, take_pending, keep_pending, thrown, Text, close, leave, own, trap}
-use Rattle.machine_core.specs.InstructionRows.{rest, rest_at, rest_by, fails, left_so, to_register}
+use Rattle.machine_core.specs.Text.{Arg, read, arg, behind, thrown, Text, close, leave, trap, is_there}
+use Rattle.machine_core.specs.InstructionRows.{rest, rest_at, rest_by, fails, left_so, to_register, write_values, joins}
 use Rattle.machine_core.specs.Moves.{TopShape, lua_top, pcall_top, xpcall_top, handler_top, closing_top, no_top}
 use Rattle.machine_core.specs.FrameRows.{expand, after_leaving}
 use Rattle.machine_sound.specs.Sound.{Top, waits_at, waiting_size}
@@ -37,7 +37,7 @@ left_by_error env x (no_top b) = tt
 pub fails_safe : (t : Top) (env : List Value) → HasPlace t → t.pending ≤ t.code.own.stack → Safe (on_lua t) env (expand fails)
 fails_safe t env p q = ((tt, tt), λ o. from o)
   where
-    from : (o : Option Value) → Safe (on_lua t) (env ++ list_of_option o) (expand (cond (Rattle.machine_core.specs.Text.is_there o) (close (read (length env)) (read 0) (leaving (read 0)) left_so) (leave (thrown (read 0)))))
+    from : (o : Option Value) → Safe (on_lua t) (env ++ list_of_option o) (expand (cond (is_there o) (close (read (length env)) (read 0) (leaving (read 0)) left_so) (leave (thrown (read 0)))))
     from None = (tt, λ s. left_by_error ((env ++ []) ++ []) (read 0) s)
     from (Some v) = (
       (tt, tt),
@@ -72,7 +72,7 @@ here {t = t} {w = w} {op = op} b s = record {
 abbrev back_place : {t : Top} {w : Instruction} {op : Opcode} → Back t w op → HasPlace t
 back_place {w = w} {op = op} b = record { instruction = w; at_pc = b.at_pc; opcode = op; is_opcode = b.is_opcode }
 
-call_back : {t : Top} {w : Instruction} (vs : List Value) → Here t w Call → t.size ≡ t.code.own.stack → Safe (on_lua t) vs (expand (Rattle.machine_core.specs.InstructionRows.write_values (a_of w) (c_of w) 0))
+call_back : {t : Top} {w : Instruction} (vs : List Value) → Here t w Call → t.size ≡ t.code.own.stack → Safe (on_lua t) vs (expand (write_values (a_of w) (c_of w) 0))
 call_back {t = t} {w = w} vs h s =
     puts_safe t vs (a_of w) (c_of w) 0 h refl refl refl refl h.runs s (let e = h.cells in omega arith)
     (λ e. ap (λ (b : Bool). opened (if b then Some (a_of w) else None)) (zero_is (c_of w) e))
@@ -99,7 +99,7 @@ call_back {t = t} {w = w} vs h s =
         within : (a m size stack : ℕ) → size ≡ stack → a + m < stack → behind a (suc m) ≤ size
         within a m size stack s l = omega arith
 
-iterator_back : {t : Top} {w : Instruction} (vs : List Value) → Here t w TForCall → t.size ≡ t.code.own.stack → Safe (on_lua t) vs (expand (Rattle.machine_core.specs.InstructionRows.write_values (a_of w + 4) (c_of w + 1) 0))
+iterator_back : {t : Top} {w : Instruction} (vs : List Value) → Here t w TForCall → t.size ≡ t.code.own.stack → Safe (on_lua t) vs (expand (write_values (a_of w + 4) (c_of w + 1) 0))
 iterator_back {t = t} {w = w} vs h s =
     puts_safe t vs (a_of w + 4) (c_of w + 1) 0 h refl refl refl refl h.runs s (let e = h.cells in omega arith)
     (λ e. absurd (omega arith)) (λ n e. refl) (λ e. absurd (omega arith))
@@ -112,10 +112,10 @@ iterator_back {t = t} {w = w} vs h s =
         within : (a m c size stack : ℕ) → suc m ≡ c → size ≡ stack → a + 3 + c < stack → behind (a + 4) (suc m) ≤ size
         within a m c size stack e s l = omega arith
 
-concat_back : {t : Top} {w : Instruction} (vs : List Value) (left : ℕ) → Here t w Concat → left + 2 ≤ b_of w → Safe (on_lua t) vs (expand (Rattle.machine_core.specs.InstructionRows.joins (a_of w) left (read 0)))
+concat_back : {t : Top} {w : Instruction} (vs : List Value) (left : ℕ) → Here t w Concat → left + 2 ≤ b_of w → Safe (on_lua t) vs (expand (joins (a_of w) left (read 0)))
 concat_back {t = t} {w = w} vs left h l = from (b_of w) refl
   where
-    from : (b : ℕ) → b_of w ≡ b → Safe (on_lua t) vs (expand (Rattle.machine_core.specs.InstructionRows.joins (a_of w) left (read 0)))
+    from : (b : ℕ) → b_of w ≡ b → Safe (on_lua t) vs (expand (joins (a_of w) left (read 0)))
     from zero e = absurd (none (b_of w) left l e)
       where
         none : (b left : ℕ) → left + 2 ≤ b → b ≡ 0 → ⊥

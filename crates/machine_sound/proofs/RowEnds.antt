@@ -8,17 +8,17 @@ use Rattle.code_core.specs.declared.instruction.Instruction.{Instruction}
 use Rattle.code_core.specs.Instruction.{opcode_of}
 use Rattle.code_core.specs.Fields.{registers, constants, upvalues, target, second_half, opens, takes_list, is_return, Wanted}
 use Rattle.code_core.specs.Prototype.{Prototype}
-use Rattle.code_core.specs.Check.{CodeIsChecked, at, in_front, there, is_same, Mark, fixed, opened, left_by, leaves, mark, is_fixed, extra_at, constant_is, is_landing, lands, lands_fixed, is_taken, goes_on, agrees, begins_with, is_second}
+use Rattle.code_core.specs.Check.{CodeIsChecked, at, there, is_same, Mark, fixed, opened, leaves, mark, is_fixed, extra_at, constant_is, is_landing, lands, lands_fixed, is_taken, goes_on, agrees, is_second, open_from}
 use Rattle.machine_core.specs.World.{Wait}
 use Rattle.machine_core.specs.Text.{Arg, read, Own, Text, go_by, operate}
 use Rattle.machine_core.specs.InstructionRows.{next, skip, to_register}
-use Rattle.machine_core.specs.Moves.{CallShape, is_entered, is_primitive, not_paid, not_entered, place_from}
-use Rattle.machine_core.specs.FrameRows.{expand, raises, call_row}
+use Rattle.machine_core.specs.Moves.{CallShape, is_entered, is_primitive, not_paid, not_entered, place_from, is_found, only, is_asked, is_fault}
+use Rattle.machine_core.specs.FrameRows.{expand, raises, call_row, after_call}
 use Rattle.machine_sound.specs.Sound.{Top, waits_at, waiting_size, kept_below, is_extra, MarkFits, Fits}
-use Rattle.machine_sound.specs.Safe.{on_lua, ArgOk, ArgsOk, WaitArgOk, HasPlace, WaitsAs, MayEnter, SettledEvent, has_found, asks_for, fails_with, Safe, stack_of}
+use Rattle.machine_sound.specs.Safe.{on_lua, ArgOk, ArgsOk, WaitArgOk, HasPlace, WaitsAs, MayEnter, SettledEvent, has_found, asks_for, fails_with, Safe, after_entering, after_all, settled_values, settled_told}
 use Rattle.machine_sound.proofs.Lists.{get_within}
 use Rattle.machine_sound.proofs.Values.{lt_of, both_of, all_get}
-use Rattle.machine_sound.proofs.Rules.{RulesAt, rules_at, opcode_there, or_of, same_opcode, extra_behind}
+use Rattle.machine_sound.proofs.Rules.{rules_at, opcode_there, or_of, same_opcode, extra_behind, extra_is}
 use Rattle.machine_sound.proofs.Places.{Here, place, go_safe, fits_behind, next_safe}
 
 -- an instruction that goes on to the next one, which is no EXTRAARG, and has nothing to do with open lists
@@ -114,7 +114,7 @@ not_second : (p : Prototype) (pc : ℕ) (op : Opcode) → is_second p pc op ≡ 
 not_second p pc op h = from (is_extra op) refl
   where
     from : (b : Bool) → is_extra op ≡ b → is_extra op ≡ false
-    from true e = let k = subst (λ op. is_second p pc op ≡ false) (Rattle.machine_sound.proofs.Rules.extra_is op e) h in absurd (cc)
+    from true e = let k = subst (λ op. is_second p pc op ≡ false) (extra_is op e) h in absurd (cc)
     from false e = e
 
 false_of : (b : Bool) → IsTrue (not b) → b ≡ false
@@ -134,7 +134,7 @@ lands_at p (pos k) c h = from (at p k) refl h
 
 fixed_of : (m : Mark) → IsTrue (is_fixed m) → m ≡ fixed
 fixed_of fixed h = refl
-fixed_of (Rattle.code_core.specs.Check.open_from r) h = absurd (cc)
+fixed_of (open_from r) h = absurd (cc)
 
 -- a jump to the instruction's target
 pub on_land : {t : Top} {w : Instruction} {op : Opcode} (u : Top) (env : List Value) (d z : ℤ) → Here t w op → target t.pc op w ≡ Some z → pos t.pc +ℤ d ≡ z → u.code ≡ t.code → u.pc ≡ t.pc → IsTrue u.runs → u.size ≡ t.code.own.stack → u.cells ≤ t.code.own.stack → Safe (on_lua u) env (expand (go_by d))
@@ -168,11 +168,11 @@ waiting_place u h = record { instruction = h.instruction; at_pc = h.at_pc; opcod
 pub call_safe : (t : Top) (env : List Value) (f : Arg) (slot : ℕ) (wait : Wait Arg) (prepared : List Own) → MayEnter t env f wait prepared → Safe (on_lua t) env (call_row f slot wait prepared)
 call_safe t env f slot wait prepared r = (r, λ s. ends s)
   where
-    ends : (s : CallShape) → Safe (Rattle.machine_sound.specs.Safe.after_entering s t (Rattle.machine_sound.specs.Safe.after_all prepared env t)) (env ++ []) (Rattle.machine_core.specs.FrameRows.after_call s)
+    ends : (s : CallShape) → Safe (after_entering s t (after_all prepared env t)) (env ++ []) (after_call s)
     ends is_entered = tt
     ends (is_primitive n) = refl
     ends not_paid = tt
-    ends (not_entered text) = raise_safe (record (Rattle.machine_sound.specs.Safe.after_all prepared env t) { runs = false }) (env ++ []) text (waiting_place (Rattle.machine_sound.specs.Safe.after_all prepared env t) r.waits.place)
+    ends (not_entered text) = raise_safe (record (after_all prepared env t) { runs = false }) (env ++ []) text (waiting_place (after_all prepared env t) r.waits.place)
 
 drop_front : {A : Type 0} (xs ys : List A) → drop (length xs) (xs ++ ys) ≡ ys
 drop_front [] ys = refl
@@ -182,10 +182,10 @@ drop_front (x ∷ xs) ys = drop_front xs ys
 pub operate_safe : (t : Top) (env : List Value) (op : Operation) (xs : List Arg) (wait : Wait Arg) (rest : Text) → ArgsOk xs → WaitsAs wait t → ((vs : List Value) → Safe (on_lua t) vs (expand rest)) → Safe (on_lua t) env (expand (operate op xs wait [] rest))
 operate_safe t env op xs wait rest a w k = (a, λ e. ends e)
   where
-    ends : (e : SettledEvent) → Safe (on_lua t) (env ++ Rattle.machine_sound.specs.Safe.settled_values e) (elim (Rattle.machine_sound.specs.Safe.settled_told e) [
-      | Rattle.machine_core.specs.Moves.is_found ↦ Rattle.machine_core.specs.Moves.only (length env) (expand rest)
-      | Rattle.machine_core.specs.Moves.is_asked ↦ call_row (read (length env)) (suc (length env)) wait []
-      | Rattle.machine_core.specs.Moves.is_fault text ↦ raises text
+    ends : (e : SettledEvent) → Safe (on_lua t) (env ++ settled_values e) (elim (settled_told e) [
+      | is_found ↦ only (length env) (expand rest)
+      | is_asked ↦ call_row (read (length env)) (suc (length env)) wait []
+      | is_fault text ↦ raises text
     ])
     ends (has_found vs) = subst (λ vs. Safe (on_lua t) vs (expand rest)) (sym (drop_front env vs)) (k vs)
     ends (asks_for f vs) = call_safe t (env ++ f ∷ vs) (read (length env)) (suc (length env)) wait [] (record { callee = tt; prepares = tt; waits = w })

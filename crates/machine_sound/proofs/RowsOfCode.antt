@@ -18,6 +18,7 @@ use Rattle.machine_sound.proofs.OpcodesNumbers.{add_i_safe, shr_i_safe, shl_i_sa
 use Rattle.machine_sound.proofs.OpcodesTests.{eq_safe, lt_safe, le_safe, eq_k_safe, eq_i_safe, lt_i_safe, le_i_safe, gt_i_safe, ge_i_safe, test_safe, test_set_safe, jmp_safe, for_loop_safe, for_prep_safe, tbc_safe, t_for_prep_safe, t_for_loop_safe, close_safe}
 use Rattle.machine_sound.proofs.OpcodesCalls.{call_row_safe, tail_call_safe, t_for_call_safe, return_0_safe, return_1_safe, return_safe}
 use Rattle.machine_sound.proofs.OpcodesLists.{set_list_safe, closure_safe, var_arg_safe, var_arg_prep_safe}
+use Rattle.std.specs.Prelude.{IsTrue}
 
 pub row_safe : (op : Opcode) (t : Top) (w : Instruction) → Here t w op → is_extra op ≡ false → (takes_list op w ≡ true → Listed t w) → Safe (on_lua t) [] (expand (row_of t.code t.pc op w))
 row_safe Move t w h x l = move_safe t w h
@@ -105,7 +106,7 @@ row_safe VarArgPrep t w h x l = var_arg_prep_safe t w h
 row_safe ExtraArg t w h x l = absurd (cc)
 
 -- the text of the instruction at hand
-pub text_safe : (t : Top) → CodeIsChecked t.code → Fits t → t.pending ≡ t.code.own.stack → t.cells ≡ t.code.own.stack → Rattle.std.specs.Prelude.IsTrue t.runs → Safe (on_lua t) [] (expand (text_at t.code t.pc))
+pub text_safe : (t : Top) → CodeIsChecked t.code → Fits t → t.pending ≡ t.code.own.stack → t.cells ≡ t.code.own.stack → IsTrue t.runs → Safe (on_lua t) [] (expand (text_at t.code t.pc))
 text_safe t c f p k r =
     let h : Here t f.instruction f.opcode = record {
       checked = c;

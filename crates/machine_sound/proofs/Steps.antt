@@ -1,7 +1,7 @@
 -- No step of a sound world traps.
 use Rattle.std.proofs.Common.{ℕ, zero, suc, [], None}
 use Rattle.machine_core.specs.World.{World}
-use Rattle.machine_core.specs.Moves.{Ending, go, returned, calls_primitive, raised, unwinding, spent, main_yielded, main_returned, main_failed, Row, Outcome, trapped, ends, act, see_top}
+use Rattle.machine_core.specs.Moves.{Ending, go, returned, calls_primitive, raised, unwinding, spent, main_yielded, main_returned, main_failed, Row, Outcome, trapped, ends, act, see_top, run}
 use Rattle.machine_core.specs.FrameRows.{raised_row, unwound, handed_to}
 use Rattle.machine_core.specs.MachineStep.{step_by, step, steps, and_then}
 use Rattle.machine_sound.specs.Sound.{sizes, Valid, Solid, StackWaits}
@@ -13,7 +13,7 @@ use Rattle.machine_sound.proofs.LuaSteps.{from_world_good, go_good}
 use Rattle.machine_sound.proofs.FrameRowsSafe.{returned_safe, raised_safe, unwinding_safe}
 
 -- a row that begins where all frames wait
-from_waiting : (n : ℕ) (r : Row) (W : World) → Solid n W → StackWaits n W → Safe (waiting None) [] r → Good n (Rattle.machine_core.specs.Moves.run r [] W)
+from_waiting : (n : ℕ) (r : Row) (W : World) → Solid n W → StackWaits n W → Safe (waiting None) [] r → Good n (run r [] W)
 from_waiting n r W s h k = all_rows_good n r (waiting None) [] W (record { solid = s; phase = record { all = h; top = tt }; valid = each_none (Valid (sizes n W)) }) k
 
 pub steps_good : StepsGood

@@ -5,7 +5,7 @@ use Rattle.int_core.specs.Value.{Value, last, without_last}
 use Rattle.int_core.specs.Operations.{Callee, callee, not_callable, callee_of, greatest_chain, handler_in, of_close}
 use Rattle.machine_core.specs.World.{closed, open_at, Frame, lua, pcall, xpcall, handler, closing, in_progress, World, lua_frame, Stack, stack_of, put_frames, put_top, push, pop}
 use Rattle.machine_core.specs.Text.{Arg, arg, args_of}
-use Rattle.machine_core.specs.Moves.{Over, over_nothing, over_pcall, over_xpcall, over_handler, frames_over, Move, take_moving, look, give, give_with, blame, find_close, enter_over, see_top, see_catcher, pop_frame, take_closing, set_error, greatest_depth, CallShape, is_entered, is_primitive, not_paid, not_entered, TopShape, lua_top, pcall_top, xpcall_top, handler_top, closing_top, no_top, top_shape, top_now, runs_main, catcher, handler_value, next_closing, with_error, error_or_nil, push_all, has_room, called, enters_paid, enters, stack_overflow, blamed, Told, Made, made, move, ClosingShape}
+use Rattle.machine_core.specs.Moves.{Over, over_nothing, over_pcall, over_xpcall, over_handler, frames_over, Move, take_moving, look, give, give_with, blame, find_close, enter_over, see_top, see_catcher, pop_frame, take_closing, set_error, greatest_depth, CallShape, is_entered, is_primitive, not_paid, not_entered, TopShape, closing_top, no_top, top_shape, top_now, runs_main, catcher, handler_value, next_closing, with_error, error_or_nil, push_all, has_room, called, enters_paid, enters, stack_overflow, blamed, Made, made, move, ClosingShape, one_left}
 use Rattle.machine_sound.specs.Sound.{Each, Sizes, sizes, Valid, OptionOk, FrameOk, FrameWaits, FramesOk, registers_in, Solid, StackWaits}
 use Rattle.machine_sound.specs.Safe.{on_lua, waiting, Is, IsPhase, WaitsUnder, seen_lua, seen_other, takes_one, takes_none, takes_error, IsNoLua, IsOther, OverOk, WaitingReady, after_catcher, after_over, MoveGood}
 use Rattle.machine_sound.proofs.Lists.{each_none, each_cons, each_one, each_push, each_last, each_drop, each_take, each_tail, each_append, bind_at, last_push, last_splits}
@@ -18,6 +18,7 @@ use Rattle.machine_sound.proofs.Waits.{with_moving, moving_grows, moving_solid, 
 use Rattle.machine_sound.proofs.Held.{held_top, held_waits, held_is, held_place}
 use Rattle.machine_sound.proofs.Calls.{blamed_valid}
 use Rattle.machine_sound.proofs.Moves.{made_so}
+use Rattle.std.proofs.lemmas.List.{reverse-append}
 
 -- what moves
 
@@ -109,7 +110,7 @@ see_top_waits n s env W i r = from (last i.phase.all.frames) refl
 
 each_reverse : {A : Type 0} (P : A → Type 0) (xs : List A) → Each P xs → Each P (reverse xs)
 each_reverse P [] h = h
-each_reverse P (x ∷ xs) h = subst (Each P) (sym (Rattle.std.proofs.lemmas.List.reverse-append (x ∷ []) xs)) (each_push P (reverse xs) x (each_reverse P xs (each_tail P x xs h)) (h zero x refl))
+each_reverse P (x ∷ xs) h = subst (Each P) (sym (reverse-append (x ∷ []) xs)) (each_push P (reverse xs) x (each_reverse P xs (each_tail P x xs h)) (h zero x refl))
 
 catcher_ok : (P : Frame → Type 0) (fs : List Frame) → Each P fs → OptionOk P (catcher fs)
 catcher_ok P [] h = tt
@@ -307,8 +308,8 @@ take_closing_waits n (Some closing_top) env W i r =
           event = takes_one l.0 (error_or_nil e);
           world = closing_world n env W i e (v ∷ left) x e (without_last (v ∷ left)) k;
           is = is e (v ∷ left) x
-              ∙ ap (λ (o : Option Value). elim o as (λ _. Option (Made ClosingShape)) [ None ↦ None | Some y ↦ made (put_top W (record { coroutine = i.phase.all.coroutine; frames = i.phase.all.frames }) (closing e (without_last (v ∷ left)))) (y ∷ error_or_nil e ∷ []) Rattle.machine_core.specs.Moves.one_left ]) l.1
-              ∙ ap (λ V. made V (l.0 ∷ error_or_nil e ∷ []) Rattle.machine_core.specs.Moves.one_left) (put_is W (record { coroutine = i.phase.all.coroutine; frames = i.phase.all.frames }) (closing e (without_last (v ∷ left))));
+              ∙ ap (λ (o : Option Value). elim o as (λ _. Option (Made ClosingShape)) [ None ↦ None | Some y ↦ made (put_top W (record { coroutine = i.phase.all.coroutine; frames = i.phase.all.frames }) (closing e (without_last (v ∷ left)))) (y ∷ error_or_nil e ∷ []) one_left ]) l.1
+              ∙ ap (λ V. made V (l.0 ∷ error_or_nil e ∷ []) one_left) (put_is W (record { coroutine = i.phase.all.coroutine; frames = i.phase.all.frames }) (closing e (without_last (v ∷ left))));
           holds = closing_holds n env W i e (v ∷ left) x e (without_last (v ∷ left)) k (l.0 ∷ error_or_nil e ∷ []) (each_cons (Valid z) l.0 (error_or_nil e ∷ []) lv (each_one (Valid z) (error_or_nil e) (nil_or z e ok.0)));
         }
 take_closing_waits n _ env W i r = absurd r

@@ -7,7 +7,7 @@ use Rattle.int_core.specs.Operations.{is_function}
 use Rattle.code_core.specs.declared.instruction.Instruction.{Instruction}
 use Rattle.code_core.specs.Prototype.{Prototype}
 use Rattle.code_core.specs.Check.{IsChecked, at}
-use Rattle.machine_core.specs.World.{Function, Cell, closed, open_at, Wait, running, Activation, LuaFrame, Frame, lua, pcall, xpcall, handler, closing, Coroutine, in_progress, World, Stack, stack_of, put_frames, push, pop}
+use Rattle.machine_core.specs.World.{Function, closed, open_at, running, LuaFrame, Frame, lua, in_progress, World, Stack, stack_of, put_frames, push, find_open}
 use Rattle.machine_core.specs.Moves.{greatest_depth, CallShape, is_entered, is_primitive, not_paid, not_entered, Made, made, fitted, new_frame, push_all, has_room, enters, stack_overflow}
 use Rattle.machine_sound.specs.Sound.{Each, sizes, Valid, LuaOk, FrameOk, registers_in, registers_of, Solid, Settled, StackWaits}
 use Rattle.machine_sound.specs.Safe.{Calls}
@@ -152,7 +152,7 @@ module _ (n : ℕ) (P : World) (s : Solid n P) (h : StackWaits n P) (vs : List V
             opened = refl;
             pending = each_none (λ r. r < 0);
             cells = λ i r e. absurd (pushed_cells n P s h (lua new) new_ok room i r e);
-            captured = each_none (λ r. IsSome (Rattle.machine_core.specs.World.find_open h.coroutine (length h.frames) r V.cells));
+            captured = each_none (λ r. IsSome (find_open h.coroutine (length h.frames) r V.cells));
             wait = refl;
           };
           fits = record { instruction = w.0; at_pc = w.1; opcode = op.0; is_opcode = op.1; no_extra = first_no_extra g.code w.0 op.0 (s.functions m g there).code.code w.1 op.1; fits_mark = refl; cells = omega arith };

@@ -1,11 +1,11 @@
 -- Writing an upvalue: its cell may be open in any frame of any coroutine.
 use Rattle.std.proofs.Common.{ℕ, zero, suc, ◌<◌, ◌≡◌, ⊎_elim, List, [], ◌∷◌, ◌++◌, Option, Some, None, refl, subst, sym, ap, ◌∙◌, length, arith, Bool, true, false, length-append}
-use Rattle.std.specs.Prelude.{slice_get, slice_set, max}
+use Rattle.std.specs.Prelude.{slice_get, slice_set, IsSome}
 use Rattle.std.proofs.lemmas.Bool.{cases_eq}
 use Rattle.int_core.specs.Value.{Value, bind, write}
 use Rattle.machine_core.specs.World.{Cell, closed, open_at, LuaFrame, Frame, lua, pcall, xpcall, handler, closing, Coroutine, fresh, suspended, in_progress, normal, dead, failed, World, frames_of, lua_frame, with_frames, read_cell, write_in_frame, write_in_coroutine, write_cell, find_open}
 use Rattle.machine_core.specs.Text.{Arg, arg, write_upvalue}
-use Rattle.machine_core.specs.Moves.{Move, outside, Told, Made, made, own_cell, do_outside}
+use Rattle.machine_core.specs.Moves.{outside, made, own_cell, move}
 use Rattle.machine_sound.specs.Sound.{Each, Sizes, sizes, Valid, TableOk, FunctionOk, LuaOk, FrameOk, LuaWaits, FrameWaits, FramesOk, CoroutineOk, standing, ChainOk, registers_in, registers_of, CellOk, Solid, Top, RunsOrWaits, TopIs}
 use Rattle.machine_sound.specs.Safe.{on_lua, MoveGood}
 use Rattle.machine_sound.proofs.Lists.{each_none, each_set, each_on, bind_at, get_set_same, get_set_other, length_set, get_within, get_push_new, get_front, map_set, some_is}
@@ -71,7 +71,7 @@ closed_top n W m v t h =
       opened = h.opened;
       pending = h.pending;
       cells = λ i r e. h.cells i r (closed_open W.cells m v i h.coroutine (length h.base) r e);
-      captured = each_none (λ r. Rattle.std.specs.Prelude.IsSome (find_open h.coroutine (length h.base) r (slice_set W.cells m (closed v))));
+      captured = each_none (λ r. IsSome (find_open h.coroutine (length h.base) r (slice_set W.cells m (closed v))));
       wait = waits_on' (sizes n W) (sizes n (closed_world W m v)) g t.runs h.top h.wait;
     }
 
@@ -243,7 +243,7 @@ module _ (n : ℕ) (W : World) (co f r : ℕ) (v : Value) (p : Stands W co f r) 
       opened = o ∙ h.opened;
       pending = subst (λ ps. Each (λ r. r < t.pending) ps) (sym q) h.pending;
       cells = λ i r e. h.cells i r (subst (λ m. slice_get W.cells i ≡ Some (open_at h.coroutine m r)) l e);
-      captured = each_none (λ r. Rattle.std.specs.Prelude.IsSome (find_open h.coroutine (length base) r W.cells));
+      captured = each_none (λ r. IsSome (find_open h.coroutine (length base) r W.cells));
       wait = w;
     }
 
@@ -299,7 +299,7 @@ write_upvalue_move n u x t env W i r =
     ok : Valid (sizes n W) (arg env x)
     ok = arg_valid (sizes n W) env x i.valid r.1
 
-    from : (cell : Cell) (m : ℕ) → CellOk (sizes n W) W.coroutines cell → Rattle.machine_core.specs.Moves.move (outside (write_upvalue u x)) env W ≡ made (write_cell W m cell (arg env x)) [] true → MoveGood n (on_lua t) env (outside (write_upvalue u x)) W
+    from : (cell : Cell) (m : ℕ) → CellOk (sizes n W) W.coroutines cell → move (outside (write_upvalue u x)) env W ≡ made (write_cell W m cell (arg env x)) [] true → MoveGood n (on_lua t) env (outside (write_upvalue u x)) W
     from (closed w) m k e = record {
       event = tt;
       world = closed_world W m (arg env x);
