@@ -11,7 +11,7 @@ use Rattle.code_core.specs.Instruction.{a_of, b_of, k_of, bx_of, sb_of, sj_of}
 use Rattle.code_core.specs.Fields.{registers, anything, second_half, target, takes_list}
 use Rattle.machine_core.specs.World.{for_truth, for_close}
 use Rattle.machine_core.specs.Text.{Arg, read, written, constant, close_cells, take_pending, Text, go_by, arg, quick, pay, raise, mark_pending, write_register, is_there, close}
-use Rattle.machine_core.specs.InstructionRows.{row_of, to_register, next, skip, tested, truth_decides, with_number, is_integer, is_constant, jumps, back, goes_round, prepares, starts, runs, rounds, integer_of_shape, marks, variable_name, closes, compares, writes_integer}
+use Rattle.machine_core.specs.InstructionRows.{row_of, to_register, next, skip, tested, truth_decides, with_number, is_integer, is_constant, jumps, back, goes_round, prepares, starts, runs, rounds, integer_of_shape, marks, variable_name, closes, compares, writes_integer, then}
 use Rattle.machine_core.specs.FrameRows.{expand, raises}
 use Rattle.machine_sound.specs.Sound.{Top, waits_at}
 use Rattle.machine_sound.specs.Safe.{on_lua, ArgsOk, WaitsAs, Safe, HasPlace, list_of_option}
@@ -157,7 +157,7 @@ ahead pc n = grind arith
 starts_safe : {t : Top} {w : Instruction} (env : List Value) → Here t w ForPrep → (i l s : ℤ) → Safe (on_lua t) env (expand (starts (a_of w) (bx_of w) i l s))
 starts_safe {t = t} {w = w} env h i l s = from (same_integer s (pos 0)) (runs i l s)
   where
-    from : (a b : Bool) → Safe (on_lua t) env (expand (cond a (raise (Rattle.std.specs.Prelude.codes "'for' step is zero"))
+    from : (a b : Bool) → Safe (on_lua t) env (expand (cond a (raise (codes "'for' step is zero"))
         (cond b (writes_integer (a_of w + 1) (rounds i l s) (writes_integer (a_of w + 3) i next)) (go_by (pos (bx_of w + 2))))))
     from true b = raise_safe t env [] (place h)
     from false true = (((loop_register h refl refl 1 (omega arith), tt), h.runs), λ _. (((loop_register h refl refl 3 (omega arith), tt), h.runs), λ _. ends_next env h (refl, refl, refl, refl)))
@@ -191,8 +191,8 @@ closable_safe t env text x p s false = raise_safe t (env ++ []) text p
 marks_safe : {t : Top} {w : Instruction} {op : Opcode} (r : ℕ) (x : Text) → Here t w op → r < t.size → r < t.code.own.stack → ((u : Top) (env : List Value) → u.code ≡ t.code → u.pc ≡ t.pc → IsTrue u.runs → u.size ≡ t.size → u.cells ≡ t.cells → Safe (on_lua u) env (expand x)) → Safe (on_lua t) [] (expand (marks t.code t.pc r x))
 marks_safe {t = t} r x h l b s = ((l, tt), λ v. from v (holds (shape v)))
   where
-    from : (v : Value) (q : Bool) → Safe (on_lua t) (v ∷ []) (expand (cond q (Rattle.machine_core.specs.Text.closable (read 0) (variable_name t.code t.pc r) (Rattle.machine_core.specs.InstructionRows.then (mark_pending r) x)) x))
-    from v true = (tt, λ yes. closable_safe t (v ∷ []) (codes "variable '" ++ variable_name t.code t.pc r ++ codes "' got a non-closable value") (Rattle.machine_core.specs.InstructionRows.then (mark_pending r) x) (place h) (((l, b), h.runs), λ _. s (record t { pending = t.code.own.stack }) (v ∷ []) refl refl h.runs refl refl) yes)
+    from : (v : Value) (q : Bool) → Safe (on_lua t) (v ∷ []) (expand (cond q (Rattle.machine_core.specs.Text.closable (read 0) (variable_name t.code t.pc r) (then (mark_pending r) x)) x))
+    from v true = (tt, λ yes. closable_safe t (v ∷ []) (codes "variable '" ++ variable_name t.code t.pc r ++ codes "' got a non-closable value") (then (mark_pending r) x) (place h) (((l, b), h.runs), λ _. s (record t { pending = t.code.own.stack }) (v ∷ []) refl refl h.runs refl refl) yes)
     from v false = s t (v ∷ []) refl refl h.runs refl refl
 
 pub tbc_safe : RowSafe Tbc
@@ -212,19 +212,19 @@ t_for_loop_safe t w h = ((sized h refl 0 (a_of w + 4) refl, tt), λ v. from v)
     lower : (a n : ℕ) → a + 4 < n → a + 2 < n
     lower a n l = omega arith
 
-    on : (v : Value) → Safe (on_lua t) (v ∷ []) (expand (Rattle.machine_core.specs.InstructionRows.then (write_register (a_of w + 2) (read 0)) (back (bx_of w))))
+    on : (v : Value) → Safe (on_lua t) (v ∷ []) (expand (then (write_register (a_of w + 2) (read 0)) (back (bx_of w))))
     on v = (((lower (a_of w) t.size (sized h refl 0 (a_of w + 4) refl), tt), h.runs), λ _. lands_safe (v ∷ []) (pos 1 -ℤ pos (bx_of w)) (pos (t.pc + 1) -ℤ pos (bx_of w)) h refl refl (round_back t.pc (bx_of w)))
 
-    goes : (v : Value) → Safe (on_lua t) (v ∷ []) (expand (quick pay (λ _. Rattle.machine_core.specs.InstructionRows.then (write_register (a_of w + 2) (read 0)) (back (bx_of w)))))
-    goes v = (tt, λ b. paid_safe t (v ∷ []) (Rattle.machine_core.specs.InstructionRows.then (write_register (a_of w + 2) (read 0)) (back (bx_of w))) (on v) b)
+    goes : (v : Value) → Safe (on_lua t) (v ∷ []) (expand (quick pay (λ _. then (write_register (a_of w + 2) (read 0)) (back (bx_of w)))))
+    goes v = (tt, λ b. paid_safe t (v ∷ []) (then (write_register (a_of w + 2) (read 0)) (back (bx_of w))) (on v) b)
 
-    pick : (v : Value) (b : Bool) → Safe (on_lua t) (v ∷ []) (expand (cond b next (quick pay (λ _. Rattle.machine_core.specs.InstructionRows.then (write_register (a_of w + 2) (read 0)) (back (bx_of w))))))
+    pick : (v : Value) (b : Bool) → Safe (on_lua t) (v ∷ []) (expand (cond b next (quick pay (λ _. then (write_register (a_of w + 2) (read 0)) (back (bx_of w))))))
     pick v true = ends_next (v ∷ []) h (refl, refl, refl, refl)
     pick v false = goes v
 
     from : (v : Value) → Safe (on_lua t) (v ∷ []) (expand (elim (shape v) as (λ _. Text) [
-      | is_known k ↦ cond (same_plain k nil) next (quick pay (λ _. Rattle.machine_core.specs.InstructionRows.then (write_register (a_of w + 2) (read 0)) (back (bx_of w))))
-      | is_object kind ↦ quick pay (λ _. Rattle.machine_core.specs.InstructionRows.then (write_register (a_of w + 2) (read 0)) (back (bx_of w)))
+      | is_known k ↦ cond (same_plain k nil) next (quick pay (λ _. then (write_register (a_of w + 2) (read 0)) (back (bx_of w))))
+      | is_object kind ↦ quick pay (λ _. then (write_register (a_of w + 2) (read 0)) (back (bx_of w)))
     ]))
     from (known k) = pick (known k) (same_plain k nil)
     from (object kind m) = goes (object kind m)
@@ -237,7 +237,7 @@ closes_safe {t = t} {w = w} env h = ((tt, tt), λ o. from o)
     wait : WaitsAs for_close (record t { cells = a_of w; captured = [] })
     wait = record { place = moved_place (record t { cells = a_of w; captured = [] }) (place h) refl refl; fits = refl; size = h.plain refl; kept = (let e = h.pending in omega arith); error = tt }
 
-    from : (o : Option Value) → Safe (on_lua t) (env ++ list_of_option o) (expand (cond (is_there o) (close (read (length env)) (written nil) for_close (close_cells (a_of w) ∷ take_pending (a_of w) ∷ [])) (Rattle.machine_core.specs.InstructionRows.then (close_cells (a_of w)) next)))
+    from : (o : Option Value) → Safe (on_lua t) (env ++ list_of_option o) (expand (cond (is_there o) (close (read (length env)) (written nil) for_close (close_cells (a_of w) ∷ take_pending (a_of w) ∷ [])) (then (close_cells (a_of w)) next)))
     from None = ((tt, h.runs), λ _. on_next (record t { cells = a_of w; captured = [] }) env h (refl, refl, refl, refl) refl refl h.runs (h.plain refl) (let l = reg h 0 (a_of w) refl in least (a_of w) t.code.own.stack l))
       where
         least : (a n : ℕ) → a < n → a ≤ n
