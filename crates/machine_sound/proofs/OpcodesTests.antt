@@ -1,6 +1,6 @@
 -- The rows of comparisons, tests, jumps and loops are safe in checked code.
 use Rattle.std.proofs.Common.{ℕ, suc, ◌≡◌, ◌<◌, ◌≤◌, ◌+◌, List, [], ◌∷◌, ◌++◌, Option, Some, None, refl, sym, ap, ◌∙◌, length, Bool, true, false, arith}
-use Rattle.std.specs.Prelude.{ℤ, pos, negsuc, ◌+ℤ◌, ◌-ℤ◌, slice_get, cond, not, IsTrue, codes}
+use Rattle.std.specs.Prelude.{ℤ, pos, negsuc, ◌+ℤ◌, ◌-ℤ◌, slice_get, cond, IsTrue, codes}
 use Rattle.int_core.specs.Value.{Value, known, object, nil, is_known, is_object, shape, holds, same_truth, same_integer, same_plain}
 use Rattle.int_core.specs.Arithmetic.{add, sub}
 use Rattle.int_core.specs.Operations.{Operation, equal, less, less_equal}
@@ -11,7 +11,7 @@ use Rattle.code_core.specs.Instruction.{a_of, b_of, k_of, bx_of, sb_of, sj_of}
 use Rattle.code_core.specs.Fields.{registers, anything, second_half, target, takes_list}
 use Rattle.machine_core.specs.World.{for_truth, for_close}
 use Rattle.machine_core.specs.Text.{Arg, read, written, constant, close_cells, take_pending, Text, go_by, arg, quick, pay, raise, mark_pending, write_register, is_there, close}
-use Rattle.machine_core.specs.InstructionRows.{row_of, to_register, next, skip, tested, truth_decides, with_number, is_integer, is_constant, jumps, back, goes_round, prepares, starts, runs, rounds, integer_of_shape, marks, variable_name, closes, compares, writes_integer, then}
+use Rattle.machine_core.specs.InstructionRows.{to_register, next, skip, tested, truth_decides, with_number, is_integer, is_constant, jumps, back, goes_round, prepares, starts, runs, rounds, integer_of_shape, marks, variable_name, closes, compares, writes_integer, then}
 use Rattle.machine_core.specs.FrameRows.{expand, raises}
 use Rattle.machine_sound.specs.Sound.{Top, waits_at}
 use Rattle.machine_sound.specs.Safe.{on_lua, ArgsOk, WaitsAs, Safe, HasPlace, list_of_option}

@@ -10,7 +10,7 @@ pub fn rows_do_not_trap()
 {}
 
 /// From a sound world, whose code is checked, no step traps, and the world is sound behind it, as its ending says: whatever the
-/// instruction, the wait and the frame on top, where the rows of the primitives are safe. So does no number of steps.
+/// instruction, the wait and the frame on top, where the rows of the primitives are safe. Neither does any number of steps.
 pub fn steps_do_not_trap()
     ensures step { StepsGood }
     ensures runs { RunsGood }
