@@ -1,0 +1,15 @@
+pub mod Leasts
+pub mod Variables
+pub mod Captures
+pub mod Finding
+pub mod Examples
+pub mod Holding
+pub mod Going
+pub mod TreeRows
+pub mod Declaring
+pub mod Growing
+pub mod Levels
+pub mod Effects
+pub mod WalkEffects
+pub mod Settling
+pub mod MainPlaces

@@ -1,0 +1,9 @@
+pub mod Scopes
+pub mod Parts
+pub mod Held
+pub mod Places
+pub mod Reaching
+pub mod Walked
+pub mod Least
+pub mod Rules
+pub mod Answers
