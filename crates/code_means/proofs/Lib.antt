@@ -8,3 +8,4 @@ mod Moving
 mod Answering
 mod Lowering
 mod Turning
+mod Ticking

@@ -86,7 +86,7 @@ module _ {A B S T : Type 0} (Sa : System A S) (Sb : System B T) (R : Bool → �
   settled_out n W bs xss xs k g below ys (ask h vs) like asker rest = calls_for_out n W bs xss xs k g below ys h vs like asker rest
   settled_out n W bs xss xs k g below ys (fault why) like asker rest = answered_out Sa Sb R Q asks begins (Any Sa Sb R Q) n W bs xss xs k g (faulted why) below ys like asker tt rest
 
-  opt_out : {C : Type 0} → (n : ℕ) (o p : Option C) (X : World A S) (Y : World B T) (F : C → World A S) (G : C → World B T) → p ≡ o → Both n X Y → ((c : C) → Both n (F c) (G c))
+  pub opt_out : {C : Type 0} → (n : ℕ) (o p : Option C) (X : World A S) (Y : World B T) (F : C → World A S) (G : C → World B T) → p ≡ o → Both n X Y → ((c : C) → Both n (F c) (G c))
       → Both n (elim o as (λ _. World A S) [ None ↦ X | Some c ↦ F c ]) (elim p as (λ _. World B T) [ None ↦ Y | Some c ↦ G c ])
   opt_out {C = C} n o p X Y F G e first more = subst (λ z. Both n (elim o as (λ _. World A S) [ None ↦ X | Some c ↦ F c ]) (elim z as (λ _. World B T) [ None ↦ Y | Some c ↦ G c ])) (sym e) (by o) where
     by : (z : Option C) → Both n (elim z as (λ _. World A S) [ None ↦ X | Some c ↦ F c ]) (elim z as (λ _. World B T) [ None ↦ Y | Some c ↦ G c ])
