@@ -3,9 +3,3 @@ mod Forms
 mod Pairs
 mod Same
 mod WholeRuns
-mod Dressed
-mod Moving
-mod Answering
-mod Lowering
-mod Turning
-mod Ticking

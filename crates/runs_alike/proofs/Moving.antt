@@ -1,12 +1,10 @@
 -- What worlds do to calls, results, errors and coroutines, they do alike to worlds that are dressed anew.
-use Rattle.std.proofs.Common.{◌≡◌, ℕ, zero, suc, Bool, true, false, cond, List, [], ◌∷◌, ◌++◌, length, Option, Some, None, refl, sym, ◌∙◌, ap, subst, arith}
-use Rattle.std.specs.Prelude.{slice_get, slice_set, nat_lt, nat_le, map}
-use Rattle.int_core.specs.Value.{Value, known, nil, boolean, integer, string, primitive, object, a_table, a_function, a_coroutine, bind, nth}
-use Rattle.int_core.specs.Operations.{Callee, callee, not_callable, callee_of, greatest_chain, handler_in, of_close}
-use Rattle.int_core.specs.Ask.{Reply, values, faulted, left, Answer, IsLeft}
+use Rattle.std.proofs.Common.{◌≡◌, ℕ, zero, suc, Bool, true, false, cond, List, [], ◌∷◌, ◌++◌, Option, Some, None, refl, sym, ◌∙◌, ap, subst}
+use Rattle.std.specs.Prelude.{slice_get, slice_set}
+use Rattle.int_core.specs.Value.{Value}
 use Rattle.lua_meaning.specs.World.{System, Function, Asker, Frame, talking, waiting, raising, protected, handled_by, handling, closing, Coroutine, fresh, suspended, running, normal, dead, failed, Now, talks, gives_back, raises_error, unwinds, calls_primitive, ends, World, now_in, breaks, on_frames, has_room, runs_main, stack_overflow, position_of, positions_of, where_at, where_among, blamed, raises_text, shared_out, second, given_to, answered, answered_at_once}
-use Rattle.lua_meaning.specs.Calls.{text, truth, error_in_handler, error_or_nil, put_coroutine, frames_in, back_to, leaves_coroutine, returns_all, fails_all, all_pending, all_closed, enters_function, enters, pays_with, pays_for, calls_value, calls_over, closes_on, handed, raised_to, unwound, refuses, goes_along, goes_into, greatest_resumes, resumes, yields, closes_in, closes_coroutine}
-use Rattle.code_means.proofs.Dressed.{Part, state, goes, nothing, dressed_function, dress_functions, dressed_asker, dress_frame, dress, dress_coroutine, dress_coroutines, dress_world, Mid, FunctionsLike, Body, TopLike, AskerLike, Any, FrameLike, FramesLike, CoroutineLike, CoroutinesLike, Like, Out, pending_same, length_same, Found, is_none, is_some, found}
+use Rattle.lua_meaning.specs.Calls.{frames_in, back_to, returns_all, fails_all, all_pending, yields}
+use Rattle.runs_alike.proofs.Dressed.{Part, state, goes, dress_frame, dress, dress_coroutine, dress_coroutines, dress_world, FrameLike, FramesLike, CoroutineLike, CoroutinesLike, Like, Out, pending_same, length_same}
 
 module _ {A B S T : Type 0} (Sa : System A S) (Sb : System B T) (R : Bool → ℕ → A → B → Type 0) (Q : Bool → ℕ → A → B → S → T → Type 0) where
   -- lists of coroutines

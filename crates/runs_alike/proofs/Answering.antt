@@ -1,13 +1,13 @@
 -- Calls, answers, results and errors in worlds that are dressed anew.
-use Rattle.std.proofs.Common.{◌≡◌, ℕ, zero, suc, Bool, true, false, cond, List, [], ◌∷◌, ◌++◌, length, Option, Some, None, refl, sym, ◌∙◌, ap, subst, arith}
-use Rattle.std.specs.Prelude.{slice_get, slice_set, nat_lt, nat_le, map}
-use Rattle.int_core.specs.Value.{Value, known, nil, boolean, integer, string, primitive, object, a_table, a_function, a_coroutine, bind, nth}
+use Rattle.std.proofs.Common.{◌≡◌, ℕ, zero, suc, Bool, List, [], ◌∷◌, length, Option, Some, None, refl, sym, ◌∙◌, ap, subst, arith}
+use Rattle.std.specs.Prelude.{slice_set, nat_lt, map}
+use Rattle.int_core.specs.Value.{Value, known, primitive, object, a_function}
 use Rattle.int_core.specs.Operations.{Callee, callee, not_callable, callee_of, greatest_chain, handler_in, of_close}
-use Rattle.int_core.specs.Ask.{Reply, values, faulted, left, Answer, IsLeft}
-use Rattle.lua_meaning.specs.World.{System, Function, Asker, Frame, talking, waiting, raising, protected, handled_by, handling, closing, Coroutine, fresh, suspended, running, normal, dead, failed, Now, talks, gives_back, raises_error, unwinds, calls_primitive, ends, World, now_in, breaks, on_frames, has_room, runs_main, stack_overflow, position_of, positions_of, where_at, where_among, blamed, raises_text, shared_out, second, given_to, answered, answered_at_once}
-use Rattle.lua_meaning.specs.Calls.{text, truth, error_in_handler, error_or_nil, put_coroutine, frames_in, back_to, leaves_coroutine, returns_all, fails_all, all_pending, all_closed, enters_function, enters, pays_with, pays_for, calls_value, calls_over, closes_on, handed, raised_to, unwound, refuses, goes_along, goes_into, greatest_resumes, resumes, yields, closes_in, closes_coroutine}
-use Rattle.code_means.proofs.Dressed.{Part, state, goes, nothing, dressed_function, dress_functions, dressed_asker, dress_frame, dress, dress_coroutine, dress_coroutines, dress_world, Mid, FunctionsLike, Body, TopLike, AskerLike, Any, FrameLike, FramesLike, CoroutineLike, CoroutinesLike, Like, Out, pending_same, length_same, Found, is_none, is_some, found}
-use Rattle.code_means.proofs.Moving.{set_same, set_like, with_same, with_like, Within, get_like, room_same, where_same, either_out, either_by, now_like, frames_like, same_out, now_out, raises_out, then_out, returns_out, fails_out, yields_out}
+use Rattle.int_core.specs.Ask.{Reply, values, left, Answer, IsLeft}
+use Rattle.lua_meaning.specs.World.{System, Asker, Frame, talking, waiting, raising, protected, handled_by, handling, closing, Coroutine, fresh, suspended, running, normal, dead, failed, Now, gives_back, unwinds, World, now_in, on_frames, has_room, runs_main, stack_overflow, raises_text, shared_out, second, given_to, answered}
+use Rattle.lua_meaning.specs.Calls.{error_in_handler, error_or_nil, put_coroutine, all_pending, all_closed, enters, pays_with, pays_for, calls_value, calls_over, closes_on, handed, raised_to, unwound, goes_along, goes_into, greatest_resumes, resumes, closes_in, closes_coroutine}
+use Rattle.runs_alike.proofs.Dressed.{Part, state, goes, nothing, dressed_asker, dress_frame, dress, dress_coroutine, dress_world, Mid, AskerLike, Any, FrameLike, FramesLike, CoroutineLike, Like, Out, pending_same, Found, is_none, is_some, found}
+use Rattle.runs_alike.proofs.Moving.{set_same, set_like, room_same, either_out, either_by, frames_like, now_out, raises_out, then_out, returns_out, fails_out}
 
 module _ {A B S T : Type 0} (Sa : System A S) (Sb : System B T) (R : Bool → ℕ → A → B → Type 0) (Q : Bool → ℕ → A → B → S → T → Type 0)
     (asks : (l : Bool) (n : ℕ) (a : A) (b : B) (s : S) (t : T) → Q l (suc n) a b s t → Mid Sa Sb R Q l n a b s t)

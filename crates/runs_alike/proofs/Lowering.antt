@@ -1,10 +1,9 @@
 -- What is alike through more asks is alike through fewer; and new functions leave what is there alike.
-use Rattle.std.proofs.Common.{◌≡◌, ℕ, zero, suc, Bool, List, [], ◌∷◌, ◌++◌, length, Option, Some, None, refl, sym, ◌∙◌, ap, subst}
+use Rattle.std.proofs.Common.{◌≡◌, ℕ, zero, suc, Bool, List, [], ◌∷◌, ◌++◌, Some, refl, ap, subst}
 use Rattle.std.specs.Prelude.{slice_get}
-use Rattle.int_core.specs.Value.{Value}
-use Rattle.int_core.specs.Ask.{Ask, reads_upvalue, writes_upvalue, makes_table, makes_function, fills_table, pays, opens, operates, calls, calls_last, marks, closes, raises, leaves, Reply, Answer, Next, goes_on, says, stuck, AskLike, NextLike, IsLeft}
+use Rattle.int_core.specs.Ask.{Ask, reads_upvalue, writes_upvalue, makes_table, makes_function, fills_table, pays, opens, operates, calls, calls_last, marks, closes, raises, leaves, Reply, Answer, Next, says, stuck, AskLike, NextLike, IsLeft}
 use Rattle.lua_meaning.specs.World.{System, Function, Asker, Frame, talking, waiting, raising, protected, handled_by, handling, closing, Coroutine, fresh, suspended, running, normal, dead, failed, World}
-use Rattle.code_means.proofs.Dressed.{Part, state, goes, nothing, dressed_function, dress_functions, Mid, FunctionsLike, Body, TopLike, AskerLike, Any, FrameLike, FramesLike, CoroutineLike, CoroutinesLike, Like}
+use Rattle.runs_alike.proofs.Dressed.{Part, state, goes, dressed_function, dress_functions, Mid, FunctionsLike, Body, AskerLike, Any, FrameLike, FramesLike, CoroutineLike, CoroutinesLike, Like}
 
 ask_map : {A B : Type 0} → (R R' : A → B → Type 0) → ((a : A) (b : B) → R a b → R' a b) → (q : Ask A) (r : Ask B) → AskLike R q r → AskLike R' q r
 ask_map R R' f (reads_upvalue u) (reads_upvalue v) like = like

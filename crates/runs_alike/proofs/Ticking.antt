@@ -1,35 +1,35 @@
 -- A step of a world is some steps of the world that is dressed anew.
-use Rattle.std.proofs.Common.{◌≡◌, ℕ, zero, suc, Bool, true, false, cond, List, [], ◌∷◌, ◌++◌, length, Option, Some, None, refl, sym, ◌∙◌, ap, subst, arith}
+use Rattle.std.proofs.Common.{◌≡◌, ℕ, zero, suc, Bool, true, false, List, [], ◌∷◌, ◌++◌, length, Option, Some, None, refl, sym, ◌∙◌, ap, subst, arith}
 use Rattle.std.specs.Prelude.{ℤ, slice_get, drop, codes}
-use Rattle.int_core.specs.Value.{Value, known, nil, boolean, integer, string, primitive, object, a_table, a_function, a_coroutine, nth}
+use Rattle.int_core.specs.Value.{Value, known, string, object, a_table, a_function, a_coroutine, nth}
 use Rattle.int_core.specs.Operations.{is_function}
-use Rattle.int_core.specs.Ask.{Ask, Answer, Next, goes_on, says, stuck, on_from, runs, NextLike}
-use Rattle.lua_meaning.specs.World.{System, Function, Asker, Frame, talking, waiting, raising, protected, handled_by, handling, closing, Coroutine, fresh, suspended, running, normal, dead, failed, Now, talks, gives_back, raises_error, unwinds, calls_primitive, ends, World, now_in, breaks, on_frames, shared_in, as_known, where_at, limited, raises_text}
-use Rattle.lua_meaning.specs.Calls.{text, truth, calls_over, handed, raised_to, unwound}
-use Rattle.lua_meaning.specs.Asks.{turns, talks_on}
-use Rattle.lua_meaning.specs.Primitives.{Primitive, lua_error, lua_pcall, lua_xpcall, coroutine_close, coroutine_create, coroutine_isyieldable, coroutine_resume, coroutine_running, coroutine_status, coroutine_yield, prelude_out, Done, done, name_in, row, wrong_type}
+use Rattle.int_core.specs.Ask.{Next, goes_on, says, stuck, on_from, runs, NextLike}
+use Rattle.lua_meaning.specs.World.{System, Function, Frame, talking, protected, handled_by, Coroutine, fresh, suspended, running, normal, dead, failed, talks, gives_back, raises_error, World, now_in, breaks, shared_in, as_known, limited}
+use Rattle.lua_meaning.specs.Calls.{text}
+use Rattle.lua_meaning.specs.Asks.{turns}
+use Rattle.lua_meaning.specs.Primitives.{Primitive, lua_error, lua_pcall, lua_xpcall, coroutine_close, coroutine_create, coroutine_isyieldable, coroutine_resume, coroutine_running, coroutine_status, coroutine_yield, prelude_out, Done, done, name_in, row}
 use Rattle.lua_meaning.specs.Primitives.{refused as no_result}
-use Rattle.lua_meaning.specs.Step.{placed, error_by, level_in, creates, with_coroutine, status_of, running_one, after_row, does_primitive, has_ended, tick_by, tick, ticks}
-use Rattle.code_means.proofs.Dressed.{Part, state, goes, nothing, dressed_function, dress_functions, dressed_asker, dress_frame, dress, dress_coroutine, dress_coroutines, dress_world, Mid, FunctionsLike, Body, TopLike, FramesLike, CoroutineLike, CoroutinesLike, Like, Out}
-use Rattle.code_means.proofs.Moving.{with_same, with_like, where_same, either_out, now_like, frames_like, same_out, now_out, raises_out, yields_out}
-use Rattle.code_means.proofs.Answering.{calls_over_out, handed_out, raised_out, unwound_out, resumes_out, closes_out}
-use Rattle.code_means.proofs.Lowering.{next_map, like_lower, frames_lower}
-use Rattle.code_means.proofs.Turning.{Pair, handle_out, opt_out}
+use Rattle.lua_meaning.specs.Step.{placed, error_by, level_in, creates, with_coroutine, status_of, after_row, does_primitive, has_ended, tick, ticks}
+use Rattle.runs_alike.proofs.Dressed.{Part, dress, dress_coroutine, dress_coroutines, dress_world, Mid, Body, FramesLike, CoroutineLike, CoroutinesLike, Like, Out}
+use Rattle.runs_alike.proofs.Moving.{with_same, with_like, where_same, either_out, now_out, raises_out, yields_out}
+use Rattle.runs_alike.proofs.Answering.{calls_over_out, resumes_out, closes_out}
+use Rattle.runs_alike.proofs.Lowering.{like_lower}
+use Rattle.runs_alike.proofs.Turning.{handle_out}
 
 abbrev pub NoOwn : {F S : Type 0} → Next F S → Type 0
 NoOwn (goes_on s) = ⊥
 NoOwn _ = Unit {0}
 
-known_goes : {F S : Type 0} → (l : Bool) (s : S) → as_known {F = F} l (goes_on s) ≡ goes_on s
+pub known_goes : {F S : Type 0} → (l : Bool) (s : S) → as_known {F = F} l (goes_on s) ≡ goes_on s
 known_goes true s = refl
 known_goes false s = refl
 
-like_no_own : {A B S T : Type 0} → (R : A → B → Type 0) (Q : S → T → Type 0) (x : Next A S) (y : Next B T) → NextLike R Q x y → NoOwn x × NoOwn y
+pub like_no_own : {A B S T : Type 0} → (R : A → B → Type 0) (Q : S → T → Type 0) (x : Next A S) (y : Next B T) → NextLike R Q x y → NoOwn x × NoOwn y
 like_no_own R Q (says q line shared k) (says r place also l) like = (tt, tt)
 like_no_own R Q stuck stuck like = (tt, tt)
 like_no_own R Q x y like = absurd like
 
-known_no_own : {F S : Type 0} → (l : Bool) (x : Next F S) → NoOwn (as_known l x) → NoOwn x
+pub known_no_own : {F S : Type 0} → (l : Bool) (x : Next F S) → NoOwn (as_known l x) → NoOwn x
 known_no_own true x a = a
 known_no_own false (goes_on s) a = a
 known_no_own false (says q line shared k) a = tt
@@ -37,12 +37,12 @@ known_no_own false stuck a = tt
 
 -- steps of one world
 
-module _ {F S : Type 0} (system : System F S) (prims : ℕ → Option Primitive) where
-  abbrev sum_of : ℕ → ℕ → ℕ
-  sum_of zero k = k
-  sum_of (suc m) k = suc (sum_of m k)
+abbrev pub sum_of : ℕ → ℕ → ℕ
+sum_of zero k = k
+sum_of (suc m) k = suc (sum_of m k)
 
-  stay : (k : ℕ) (V : World F S) → has_ended V.now ≡ true → ticks system prims k V ≡ V
+module _ {F S : Type 0} (system : System F S) (prims : ℕ → Option Primitive) where
+  pub stay : (k : ℕ) (V : World F S) → has_ended V.now ≡ true → ticks system prims k V ≡ V
   stay zero V ended = refl
   stay (suc k) V ended = by (has_ended V.now) ended where
     by : (b : Bool) → b ≡ true → elim b as (λ _. World F S) [ true ↦ V | false ↦ ticks system prims k (tick system prims V) ] ≡ V
@@ -54,7 +54,7 @@ module _ {F S : Type 0} (system : System F S) (prims : ℕ → Option Primitive)
   ticks_sum (suc m) k V = by (has_ended V.now) refl (ticks_sum m k (tick system prims V)) where
     by : (b : Bool) → has_ended V.now ≡ b → ticks system prims (sum_of m k) (tick system prims V) ≡ ticks system prims k (ticks system prims m (tick system prims V))
         → elim b as (λ _. World F S) [ true ↦ V | false ↦ ticks system prims (sum_of m k) (tick system prims V) ]
-          ≡ ticks system prims k (elim b as (λ _. World F S) [ true ↦ V | false ↦ ticks system prims m (tick system prims V) ])
+        ≡ ticks system prims k (elim b as (λ _. World F S) [ true ↦ V | false ↦ ticks system prims m (tick system prims V) ])
     by true e h = sym (stay k V e)
     by false e h = h
 
@@ -62,12 +62,12 @@ module _ {F S : Type 0} (system : System F S) (prims : ℕ → Option Primitive)
   abbrev pub seen : World F S → ℕ → List Value → List (Frame S) → S → World F S
   seen V f pending below s = record V { frames = talking f pending s ∷ below; now = talks }
 
-  own_tick : (V : World F S) (f : ℕ) (pending : List Value) (below : List (Frame S)) (g : Function F) (s t : S) → slice_get V.functions f ≡ Some g → system.steps g.made_of s ≡ goes_on t
+  pub own_tick : (V : World F S) (f : ℕ) (pending : List Value) (below : List (Frame S)) (g : Function F) (s t : S) → slice_get V.functions f ≡ Some g → system.steps g.made_of s ≡ goes_on t
       → tick system prims (seen V f pending below s) ≡ seen V f pending below t
   own_tick V f pending below g s t there moves =
       subst (λ o. elim o as (λ _. World F S) [ None ↦ breaks (seen V f pending below s) | Some h ↦ turns system (as_known h.has_lines (system.steps h.made_of s)) (seen V f pending below s) f pending below ] ≡ seen V f pending below t) (sym there)
-        (ap (λ x. turns system (as_known g.has_lines x) (seen V f pending below s) f pending below) moves
-          ∙ ap (λ x. turns system x (seen V f pending below s) f pending below) (known_goes g.has_lines t))
+      (ap (λ x. turns system (as_known g.has_lines x) (seen V f pending below s) f pending below) moves
+      ∙ ap (λ x. turns system x (seen V f pending below s) f pending below) (known_goes g.has_lines t))
 
   -- some steps lead to the state from which it asks
   pub record Comes (V : World F S) (f : ℕ) (pending : List Value) (below : List (Frame S)) (a : F) (j : ℕ) (s : S) : Type 0 where
@@ -107,7 +107,7 @@ module _ {A B S T : Type 0} (Sa : System A S) (Sb : System B T) (R : Bool → �
   abbrev Alike : ℕ → World A S → List B → List (List (Part T)) → List (Part T) → Type 0
   Alike n W bs xss xs = Like Sa Sb R Q n W bs xss xs
 
-  abbrev lower : (n : ℕ) (W : World A S) (bs : List B) (xss : List (List (Part T))) (xs : List (Part T)) → Alike (suc n) W bs xss xs → Alike n W bs xss xs
+  abbrev pub lower : (n : ℕ) (W : World A S) (bs : List B) (xss : List (List (Part T))) (xs : List (Part T)) → Alike (suc n) W bs xss xs → Alike n W bs xss xs
   lower n W bs xss xs like = like_lower Sa Sb R Q fewer fewer_made n W bs xss xs like
 
   -- some steps of the other world
@@ -115,14 +115,14 @@ module _ {A B S T : Type 0} (Sa : System A S) (Sb : System B T) (R : Bool → �
     pub count : ℕ
     pub out : Both n X (ticks Sb prims count Y)
 
-  turns_out : (n : ℕ) (W : World A S) (bs : List B) (xss : List (List (Part T))) (xs : List (Part T)) (f : ℕ) (pending : List Value) (below : List (Frame S)) (ys : List (Part T)) (body : Body Sa Sb R Q W.functions bs f) (x : Next A S) (y : Next B T)
+  pub turns_out : (n : ℕ) (W : World A S) (bs : List B) (xss : List (List (Part T))) (xs : List (Part T)) (f : ℕ) (pending : List Value) (below : List (Frame S)) (ys : List (Part T)) (body : Body Sa Sb R Q W.functions bs f) (x : Next A S) (y : Next B T)
       → Alike n W bs xss xs → NextLike (R body.function.has_lines (suc n)) (Q body.function.has_lines (suc n) body.function.made_of body.code) x y → FramesLike Sa Sb R Q n W.functions bs below ys
       → Both n (turns Sa x W f pending below) (turns Sb y (dress_world W bs xss xs) f pending (dress below ys))
   turns_out n W bs xss xs f pending below ys body (says q line shared k) (says r other also h) like next rest =
       subst (λ z. Both n (turns Sa (says q line shared k) W f pending below) (turns Sb (says r z also h) (dress_world W bs xss xs) f pending (dress below ys))) next.1.0
-        (subst (λ z. Both n (turns Sa (says q line shared k) W f pending below) (turns Sb (says r line z h) (dress_world W bs xss xs) f pending (dress below ys))) next.1.1.0
-          (handle_out Sa Sb R Q asks begins n (record W { cells = shared_in shared W.cells }) bs xss xs q r (record { function = f; pending = pending; line = line; shared = shared; goes = k }) h below ys
-            (record { functions = like.functions; coroutines = like.coroutines; frames = like.frames }) (record { body = body; on = λ x fits. next.1.1.1 x fits }) next.0 rest))
+      (subst (λ z. Both n (turns Sa (says q line shared k) W f pending below) (turns Sb (says r line z h) (dress_world W bs xss xs) f pending (dress below ys))) next.1.1.0
+      (handle_out Sa Sb R Q asks begins n (record W { cells = shared_in shared W.cells }) bs xss xs q r (record { function = f; pending = pending; line = line; shared = shared; goes = k }) h below ys
+      (record { functions = like.functions; coroutines = like.coroutines; frames = like.frames }) (record { body = body; on = λ x fits. next.1.1.1 x fits }) next.0 rest))
   turns_out n W bs xss xs f pending below ys body stuck stuck like next rest = now_out Sa Sb R Q n W bs xss xs _ like
   turns_out n W bs xss xs f pending below ys body x y like next rest = absurd next
 
@@ -149,16 +149,16 @@ module _ {A B S T : Type 0} (Sa : System A S) (Sb : System B T) (R : Bool → �
   creates_out : (n : ℕ) (W : World A S) (bs : List B) (xss : List (List (Part T))) (xs : List (Part T)) (f : Value) → Alike n W bs xss xs → Both n (creates W f) (creates (dress_world W bs xss xs) f)
   creates_out n W bs xss xs f like =
       either_out Sa Sb R Q n (is_function f) _ _ _ _
-        (record {
-          bs = bs;
-          xss = xss ++ [] ∷ [];
-          xs = xs;
-          same =
+      (record {
+        bs = bs;
+        xss = xss ++ [] ∷ [];
+        xs = xs;
+        same =
             ap (λ cs. record (dress_world W bs xss xs) { coroutines = cs; now = gives_back (object a_coroutine (length (dress_coroutines W.coroutines xss)) ∷ []) }) (with_same Sa Sb R Q n W.functions bs W.coroutines xss (fresh f) [] like.coroutines)
             ∙ ap (λ c. record (dress_world W bs xss xs) { coroutines = dress_coroutines (W.coroutines ++ fresh f ∷ []) (xss ++ [] ∷ []); now = gives_back (object a_coroutine c ∷ []) }) (count_coroutines n W.functions bs W.coroutines xss like.coroutines);
-          like = record { functions = like.functions; coroutines = with_like Sa Sb R Q n W.functions bs W.coroutines xss (fresh f) [] like.coroutines tt; frames = like.frames };
-        })
-        (raises_out Sa Sb R Q n _ W bs xss xs like)
+        like = record { functions = like.functions; coroutines = with_like Sa Sb R Q n W.functions bs W.coroutines xss (fresh f) [] like.coroutines tt; frames = like.frames };
+      })
+      (raises_out Sa Sb R Q n _ W bs xss xs like)
 
   data Got (n : ℕ) (fs : List (Function A)) (bs : List B) (cs : List (Coroutine S)) (xss : List (List (Part T))) (k : ℕ) : Type 0 where
     got_none : slice_get cs k ≡ None → slice_get (dress_coroutines cs xss) k ≡ None → Got n fs bs cs xss k
@@ -181,10 +181,10 @@ module _ {A B S T : Type 0} (Sa : System A S) (Sb : System B T) (R : Bool → �
     by : Got n W.functions bs W.coroutines xss co → Both n (with_coroutine W f (object a_coroutine co) ga) (with_coroutine (dress_world W bs xss xs) f (object a_coroutine co) gb)
     by (got_none e d) =
         subst (λ o. Both n (elim o as (λ _. World A S) [ None ↦ breaks W | Some c ↦ ga co c ]) (elim (slice_get (dress_coroutines W.coroutines xss) co) as (λ _. World B T) [ None ↦ breaks (dress_world W bs xss xs) | Some c ↦ gb co c ])) (sym e)
-          (subst (λ o. Both n (breaks W) (elim o as (λ _. World B T) [ None ↦ breaks (dress_world W bs xss xs) | Some c ↦ gb co c ])) (sym d) (now_out Sa Sb R Q n W bs xss xs _ like))
+        (subst (λ o. Both n (breaks W) (elim o as (λ _. World B T) [ None ↦ breaks (dress_world W bs xss xs) | Some c ↦ gb co c ])) (sym d) (now_out Sa Sb R Q n W bs xss xs _ like))
     by (got_some c ys e d one) =
         subst (λ o. Both n (elim o as (λ _. World A S) [ None ↦ breaks W | Some c ↦ ga co c ]) (elim (slice_get (dress_coroutines W.coroutines xss) co) as (λ _. World B T) [ None ↦ breaks (dress_world W bs xss xs) | Some c ↦ gb co c ])) (sym e)
-          (subst (λ o. Both n (ga co c) (elim o as (λ _. World B T) [ None ↦ breaks (dress_world W bs xss xs) | Some c ↦ gb co c ])) (sym d) (more co c ys one))
+        (subst (λ o. Both n (ga co c) (elim o as (λ _. World B T) [ None ↦ breaks (dress_world W bs xss xs) | Some c ↦ gb co c ])) (sym d) (more co c ys one))
   with_out n W bs xss xs f (known p) ga gb like more = raises_out Sa Sb R Q n _ W bs xss xs like
   with_out n W bs xss xs f (object a_table m) ga gb like more = raises_out Sa Sb R Q n _ W bs xss xs like
   with_out n W bs xss xs f (object a_function m) ga gb like more = raises_out Sa Sb R Q n _ W bs xss xs like
@@ -197,7 +197,7 @@ module _ {A B S T : Type 0} (Sa : System A S) (Sb : System B T) (R : Bool → �
   status_same dead ys = refl
   status_same (failed e pending) ys = refl
 
-  primitive_out : (n : ℕ) (p : Primitive) (W : World A S) (bs : List B) (xss : List (List (Part T))) (xs : List (Part T)) (vs : List Value) → Alike n W bs xss xs
+  pub primitive_out : (n : ℕ) (p : Primitive) (W : World A S) (bs : List B) (xss : List (List (Part T))) (xs : List (Part T)) (vs : List Value) → Alike n W bs xss xs
       → Both n (does_primitive Sa p W vs) (does_primitive Sb p (dress_world W bs xss xs) vs)
   primitive_out n lua_error W bs xss xs vs like = error_out n W bs xss xs (nth vs 0) (nth vs 1) (level_in (nth vs 1)) like
   primitive_out n lua_pcall W bs xss xs vs like = calls_over_out Sa Sb R Q asks begins n W bs xss xs protected (nth vs 0) (drop 1 vs) tt like
@@ -210,7 +210,7 @@ module _ {A B S T : Type 0} (Sa : System A S) (Sb : System B T) (R : Bool → �
       with_out n W bs xss xs (codes "close") (nth vs 0) _ _ like (λ co c ys one. closes_out Sa Sb R Q asks begins n W bs xss xs co c ys like one)
   primitive_out n coroutine_status W bs xss xs vs like =
       with_out n W bs xss xs (codes "status") (nth vs 0) _ _ like (λ co c ys one.
-        subst (λ z. Both n (now_in W (gives_back (text (status_of c) ∷ []))) (now_in (dress_world W bs xss xs) (gives_back (text z ∷ [])))) (sym (status_same c ys)) (now_out Sa Sb R Q n W bs xss xs _ like))
+      subst (λ z. Both n (now_in W (gives_back (text (status_of c) ∷ []))) (now_in (dress_world W bs xss xs) (gives_back (text z ∷ [])))) (sym (status_same c ys)) (now_out Sa Sb R Q n W bs xss xs _ like))
   primitive_out n coroutine_isyieldable W bs xss xs vs like = now_out Sa Sb R Q n W bs xss xs _ like
   primitive_out n coroutine_running W bs xss xs vs like = now_out Sa Sb R Q n W bs xss xs _ like
   primitive_out n prelude_out W bs xss xs vs like =

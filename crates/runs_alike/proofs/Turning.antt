@@ -1,17 +1,16 @@
 -- Who answers an ask answers it alike in worlds that are dressed anew.
-use Rattle.std.proofs.Common.{◌≡◌, ℕ, zero, suc, Bool, true, false, cond, List, [], ◌∷◌, ◌++◌, length, Option, Some, None, refl, sym, ◌∙◌, ap, subst, arith}
-use Rattle.std.specs.Prelude.{slice_get, slice_set, map, drop, codes}
-use Rattle.int_core.specs.Value.{Value, known, object, a_table, a_function, is_nil, nth, bind}
+use Rattle.std.proofs.Common.{◌≡◌, ℕ, zero, suc, Bool, List, [], ◌∷◌, ◌++◌, length, Option, Some, None, refl, sym, ◌∙◌, ap, subst, arith}
+use Rattle.std.specs.Prelude.{slice_set, map, drop, codes}
+use Rattle.int_core.specs.Value.{Value, object, a_table, a_function, is_nil, nth}
 use Rattle.int_core.specs.Heap.{Heap, filled_table, add_table}
 use Rattle.int_core.specs.Operations.{Settled, found as settled_as, ask, fault, does, handler_in, of_close}
-use Rattle.int_core.specs.Ask.{CellName, of_local, of_upvalue, returns, throws, Ask, reads_upvalue, writes_upvalue, makes_table, makes_function, fills_table, pays, opens, operates, calls, calls_last, marks, closes, raises, leaves, Reply, values, faulted, left, Answer, Next, goes_on, says, stuck, AskLike, FitsAsk, IsLeft, IsReplyTo, IsQuiet}
-use Rattle.lua_meaning.specs.World.{System, Function, Asker, Frame, talking, waiting, raising, spent, Now, gives_back, unwinds, raises_error, ends, World, now_in, breaks, on_frames, shared_in, second, cell_of, given_to, answered, answered_at_once, as_known}
-use Rattle.lua_meaning.specs.Calls.{calls_value}
+use Rattle.int_core.specs.Ask.{CellName, of_local, of_upvalue, returns, throws, Ask, reads_upvalue, writes_upvalue, makes_table, makes_function, fills_table, pays, opens, operates, calls, calls_last, marks, closes, raises, leaves, Reply, values, faulted, Answer, AskLike, FitsAsk, IsReplyTo, IsQuiet}
+use Rattle.lua_meaning.specs.World.{System, Function, Asker, Frame, waiting, raising, World, on_frames, second, cell_of, answered, answered_at_once}
 use Rattle.lua_meaning.specs.Asks.{one, none, cells_named, made_in, with_pending, pays_unit, calls_for, calls_in_place, settled, handle}
-use Rattle.code_means.proofs.Dressed.{Part, state, goes, nothing, dressed_function, dress_functions, dressed_asker, dress, dress_coroutines, dress_world, Mid, FunctionsLike, Body, TopLike, AskerLike, Any, FramesLike, Like, Out}
-use Rattle.code_means.proofs.Moving.{either_out, now_like, frames_like, same_out, now_out, raises_out, then_out}
-use Rattle.code_means.proofs.Answering.{answered_out, calls_out, count_second, fuel_like}
-use Rattle.code_means.proofs.Lowering.{dress_more, functions_more, body_more, frames_more, coroutines_more}
+use Rattle.runs_alike.proofs.Dressed.{Part, state, goes, dressed_function, dress_functions, dressed_asker, dress, dress_world, Mid, FunctionsLike, Body, AskerLike, Any, FramesLike, Like, Out}
+use Rattle.runs_alike.proofs.Moving.{either_out, frames_like, now_out, raises_out}
+use Rattle.runs_alike.proofs.Answering.{answered_out, calls_out, count_second, fuel_like}
+use Rattle.runs_alike.proofs.Lowering.{dress_more, functions_more, body_more, frames_more, coroutines_more}
 
 module _ {A B S T : Type 0} (Sa : System A S) (Sb : System B T) (R : Bool → ℕ → A → B → Type 0) (Q : Bool → ℕ → A → B → S → T → Type 0)
     (asks : (l : Bool) (n : ℕ) (a : A) (b : B) (s : S) (t : T) → Q l (suc n) a b s t → Mid Sa Sb R Q l n a b s t)

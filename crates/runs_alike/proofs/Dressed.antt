@@ -1,10 +1,9 @@
 -- Two worlds that differ only in what functions are made of and in the states of activations: one is the other, dressed anew.
-use Rattle.std.proofs.Common.{◌≡◌, ℕ, zero, suc, Bool, true, false, cond, List, [], ◌∷◌, ◌++◌, length, Option, Some, None, refl, sym, ◌∙◌, ap, subst, arith}
-use Rattle.std.specs.Prelude.{slice_get, slice_set}
-use Rattle.int_core.specs.Value.{Value, bind}
-use Rattle.int_core.specs.Ask.{Reply, Answer, Next, runs, NextLike, IsLeft}
-use Rattle.lua_meaning.specs.World.{System, Function, Asker, Frame, talking, waiting, raising, protected, handled_by, handling, closing, Coroutine, fresh, suspended, running, normal, dead, failed, World, position_of, positions_of, as_known}
-use Rattle.lua_meaning.specs.Calls.{pending_in, all_pending, frames_in}
+use Rattle.std.proofs.Common.{◌≡◌, ℕ, zero, suc, Bool, List, [], ◌∷◌, ◌++◌, length, Some, None, refl, ap, arith}
+use Rattle.std.specs.Prelude.{slice_get}
+use Rattle.int_core.specs.Ask.{Reply, Answer, runs, NextLike, IsLeft}
+use Rattle.lua_meaning.specs.World.{System, Function, Asker, Frame, talking, waiting, raising, protected, handled_by, handling, closing, Coroutine, fresh, suspended, running, normal, dead, failed, World, as_known}
+use Rattle.lua_meaning.specs.Calls.{all_pending}
 
 -- what a frame of the other world has of its own: a state, or how it goes on
 pub data Part (T : Type 0) : Type 0 where

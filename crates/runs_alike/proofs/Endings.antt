@@ -1,0 +1,144 @@
+-- A run of a world that ends, ends alike in the world that is dressed anew.
+use Rattle.std.proofs.Common.{◌≡◌, ℕ, zero, suc, ◌+◌, ◌-◌, ◌≤◌, Bool, true, List, [], ◌∷◌, ◌++◌, Option, Some, None, refl, ◌∙◌, ap, ap₂, subst, arith}
+use Rattle.std.specs.Prelude.{option_map, unwrap_or}
+use Rattle.int_core.specs.Value.{Value}
+use Rattle.lua_meaning.specs.World.{System, yielded, returned, failed_with, spent, broken, Now, talks, gives_back, raises_error, unwinds, calls_primitive, ends, World}
+use Rattle.lua_meaning.specs.Primitives.{Primitive}
+use Rattle.lua_meaning.specs.Step.{has_ended, ticks}
+use Rattle.lua_meaning.specs.Meaning.{report, has_returned, has_failed, has_spent, is_suspended, is_broken, Meaning, behind, meant, at_end, suspends, handed_line, run_from}
+use Rattle.code_means.specs.Runs.{RunAlike}
+use Rattle.runs_alike.proofs.Dressed.{Part, dress_world, Mid, Like}
+use Rattle.runs_alike.proofs.Ticking.{sum_of, stay, ticks_sum}
+use Rattle.runs_alike.proofs.Ticks.{ticks_out}
+
+sum_is : (m k : ℕ) → sum_of m k ≡ m + k
+sum_is zero k = omega arith
+sum_is (suc m) k = let h = sum_is m k in omega (arith, h)
+
+-- as many asks as so many steps in each of the turns can make
+abbrev pub all_of : ℕ → List (List ℕ) → ℕ
+all_of k [] = sum_of k zero
+all_of k (line ∷ more) = sum_of k (all_of k more)
+
+same_given : {C : Type 0} → (x y : C) → Some x ≡ Some y → x ≡ y
+same_given x y e = ap (λ o. unwrap_or o x) e
+
+gives_ended : {F S : Type 0} → (now : Now) (W : World F S) (goes : World F S → Option (Meaning F S)) (m : Meaning F S) → at_end now W goes ≡ Some m → has_ended now ≡ true
+gives_ended (ends ending) W goes m given = refl
+gives_ended talks W goes m given = absurd (cc)
+gives_ended (gives_back vs) W goes m given = absurd (cc)
+gives_ended (raises_error e) W goes m given = absurd (cc)
+gives_ended (unwinds e) W goes m given = absurd (cc)
+gives_ended (calls_primitive n vs) W goes m given = absurd (cc)
+
+-- what is given after sufficiently many steps a turn is alike
+pub record Later {A B S T : Type 0} (m : Meaning A S) (gives_by : ℕ → Option (Meaning B T)) : Type 0 where
+  pub count : ℕ
+  pub other : Meaning B T
+  pub gives : (z : ℕ) → count ≤ z → gives_by z ≡ Some other
+  pub alike : RunAlike m other
+
+module _ {A B S T : Type 0} where
+  like_of : (x m : Meaning A S) (y : Meaning B T) → Some x ≡ Some m → RunAlike x y → RunAlike m y
+  like_of x m y given alike = subst (λ z. RunAlike z y) (same_given x m given) alike
+
+  last_out : (x m : Meaning A S) (y : Meaning B T) → Some x ≡ Some m → RunAlike x y → Later m (λ z. Some y)
+  last_out x m y given alike = record { count = zero; other = y; gives = λ z within. refl; alike = like_of x m y given alike }
+
+  suspends_out : (U : World A S) (V : World B T) (m : Meaning A S) → suspends U ≡ Some m → Later m (λ z. suspends V)
+  suspends_out U V m given = last_out (record { printed = []; outcome = is_suspended U }) m (record { printed = []; outcome = is_suspended V }) given (record { printed = refl; outcome = tt })
+
+  behind_out : (text more : List ℕ) (o : Option (Meaning A S)) (on : ℕ → Option (Meaning B T)) (m : Meaning A S) → text ≡ more → option_map (behind text) o ≡ Some m
+      → ((y : Meaning A S) → o ≡ Some y → Later y on) → Later m (λ z. option_map (behind more) (on z))
+  behind_out text more None on m same given goes = absurd (cc)
+  behind_out text more (Some y) on m same given goes =
+      let l = goes y refl in
+      record {
+        count = l.count;
+        other = behind more l.other;
+        gives = λ z within. ap (option_map (behind more)) (l.gives z within);
+        alike = like_of (behind text y) m (behind more l.other) given (record { printed = ap₂ (λ t p. t ++ p) same l.alike.printed; outcome = l.alike.outcome });
+      }
+
+  -- a turn's end on both sides
+  turn_end : (now : Now) (U : World A S) (V : World B T) (goes : World A S → Option (Meaning A S)) (on : ℕ → World B T → Option (Meaning B T)) (m : Meaning A S) → U.printed ≡ V.printed → at_end now U goes ≡ Some m
+      → ((y : Meaning A S) → goes U ≡ Some y → Later y (λ z. on z V)) → Later m (λ z. at_end now V (on z))
+  turn_end (ends (yielded vs)) U V goes on m same given more =
+      behind_out (U.printed ++ report (yielded vs)) (V.printed ++ report (yielded vs)) (goes U) (λ z. on z V) m (ap (λ t. t ++ report (yielded vs)) same) given more
+  turn_end (ends (returned vs)) U V goes on m same given more =
+      last_out (meant U (returned vs) has_returned) m (meant V (returned vs) has_returned) given (record { printed = ap (λ t. t ++ report (returned vs)) same; outcome = tt })
+  turn_end (ends (failed_with e)) U V goes on m same given more =
+      last_out (meant U (failed_with e) has_failed) m (meant V (failed_with e) has_failed) given (record { printed = ap (λ t. t ++ report (failed_with e)) same; outcome = tt })
+  turn_end (ends spent) U V goes on m same given more =
+      last_out (meant U spent has_spent) m (meant V spent has_spent) given (record { printed = ap (λ t. t ++ report spent) same; outcome = tt })
+  turn_end (ends broken) U V goes on m same given more =
+      last_out (meant U broken is_broken) m (meant V broken is_broken) given (record { printed = ap (λ t. t ++ report broken) same; outcome = tt })
+  turn_end talks U V goes on m same given more = absurd (cc)
+  turn_end (gives_back vs) U V goes on m same given more = absurd (cc)
+  turn_end (raises_error e) U V goes on m same given more = absurd (cc)
+  turn_end (unwinds e) U V goes on m same given more = absurd (cc)
+  turn_end (calls_primitive n vs) U V goes on m same given more = absurd (cc)
+
+module _ {A B S T : Type 0} (Sa : System A S) (Sb : System B T) (R : Bool → ℕ → A → B → Type 0) (Q : Bool → ℕ → A → B → S → T → Type 0)
+    (asks : (l : Bool) (n : ℕ) (a : A) (b : B) (s : S) (t : T) → Q l (suc n) a b s t → Mid Sa Sb R Q l n a b s t)
+    (begins : (l : Bool) (n : ℕ) (a : A) (b : B) (arguments : List Value) → R l n a b → Q l n a b (Sa.starts a arguments) (Sb.starts b arguments))
+    (fewer : (l : Bool) (n : ℕ) (a : A) (b : B) (s : S) (t : T) → Q l (suc n) a b s t → Q l n a b s t)
+    (fewer_made : (l : Bool) (n : ℕ) (a : A) (b : B) → R l (suc n) a b → R l n a b)
+    (prims : ℕ → Option Primitive) where
+  abbrev Alike : ℕ → World A S → List B → List (List (Part T)) → List (Part T) → Type 0
+  Alike n W bs xss xs = Like Sa Sb R Q n W bs xss xs
+
+  -- a turn that has ended at U ends on the other side at the same, dressed anew
+  pub record Turn (n : ℕ) (U : World A S) (V : World B T) : Type 0 where
+    pub bs : List B
+    pub xss : List (List (Part T))
+    pub xs : List (Part T)
+    pub count : ℕ
+    pub gives : (z : ℕ) → count ≤ z → ticks Sb prims z V ≡ dress_world U bs xss xs
+    pub like : Alike n U bs xss xs
+
+  turn_out : (k n : ℕ) (W : World A S) (bs : List B) (xss : List (List (Part T))) (xs : List (Part T)) → Alike (sum_of k n) W bs xss xs → has_ended (ticks Sa prims k W).now ≡ true
+      → Turn n (ticks Sa prims k W) (dress_world W bs xss xs)
+  turn_out k n W bs xss xs like ended =
+      let r = ticks_out Sa Sb R Q asks begins fewer fewer_made prims k n W bs xss xs like in
+      let V = dress_world W bs xss xs in
+      record {
+        bs = r.out.bs;
+        xss = r.out.xss;
+        xs = r.out.xs;
+        count = r.count;
+        gives = λ z within.
+            let rest = sum_is r.count (z - r.count) in
+            let whole : z ≡ sum_of r.count (z - r.count) = omega (arith, rest, within) in
+            ap (λ c. ticks Sb prims c V) whole ∙ ticks_sum Sb prims r.count (z - r.count) V ∙ ap (ticks Sb prims (z - r.count)) r.out.same
+            ∙ stay Sb prims (z - r.count) (dress_world (ticks Sa prims k W) r.out.bs r.out.xss r.out.xs) ended;
+        like = r.out.like;
+      }
+
+  pub runs_out : (input : List (List ℕ)) (k budget : ℕ) (W : World A S) (bs : List B) (xss : List (List (Part T))) (xs : List (Part T)) (m : Meaning A S) → Alike (all_of k input) W bs xss xs
+      → run_from Sa prims k W input budget ≡ Some m → Later m (λ z. run_from Sb prims z (dress_world W bs xss xs) input budget)
+  runs_out [] k budget W bs xss xs m like given =
+      let U = ticks Sa prims k W in
+      let t = turn_out k zero W bs xss xs like (gives_ended U.now U suspends m given) in
+      let V = dress_world U t.bs t.xss t.xs in
+      let l = turn_end U.now U V suspends (λ z. suspends) m refl given (suspends_out U V) in
+      record {
+        count = t.count + l.count;
+        other = l.other;
+        gives = λ z within. ap (λ (Y : World B T). at_end Y.now Y suspends) (t.gives z (omega (arith, within))) ∙ l.gives z (omega (arith, within));
+        alike = l.alike;
+      }
+  runs_out (line ∷ more) k budget W bs xss xs m like given =
+      let U = ticks Sa prims k W in
+      let goes = λ (X : World A S). run_from Sa prims k (handed_line Sa prims X line budget) more budget in
+      let on = λ (z : ℕ) (Y : World B T). run_from Sb prims z (handed_line Sb prims Y line budget) more budget in
+      let t = turn_out k (all_of k more) W bs xss xs like (gives_ended U.now U goes m given) in
+      let V = dress_world U t.bs t.xss t.xs in
+      let l = turn_end U.now U V goes on m refl given
+      (λ y e. runs_out more k budget (handed_line Sa prims U line budget) t.bs t.xss t.xs y (record { functions = t.like.functions; coroutines = t.like.coroutines; frames = t.like.frames }) e) in
+      record {
+        count = t.count + l.count;
+        other = l.other;
+        gives = λ z within. ap (λ (Y : World B T). at_end Y.now Y (on z)) (t.gives z (omega (arith, within))) ∙ l.gives z (omega (arith, within));
+        alike = l.alike;
+      }

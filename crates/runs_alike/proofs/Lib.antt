@@ -1,0 +1,11 @@
+mod Dressed
+mod Moving
+mod Answering
+mod Lowering
+mod Turning
+mod Ticking
+mod Ticks
+mod Endings
+mod Opened
+mod Sides
+mod Openings

@@ -1,0 +1,234 @@
+-- Trees and codes that mean them, side by side in both orders.
+use Rattle.std.proofs.Common.{◌≡◌, ℕ, zero, suc, Bool, true, false, List, [], ◌∷◌, ◌≤◌, refl, sym, ◌∙◌, ap, subst, arith}
+use Rattle.int_core.specs.Value.{Value}
+use Rattle.int_core.specs.Ask.{Ask, reads_upvalue, writes_upvalue, makes_table, makes_function, fills_table, pays, opens, operates, calls, calls_last, marks, closes, raises, leaves, Answer, Next, says, stuck, runs, AskLike, NextLike, IsReplyTo, IsQuiet, FitsAsk}
+use Rattle.tree_core.specs.Tree.{Body}
+use Rattle.tree_activation.specs.Work.{when_captured, State as TreeState}
+use Rattle.tree_activation.specs.Activation.{start, step}
+use Rattle.code_core.specs.Prototype.{Prototype}
+use Rattle.machine_core.specs.Talk.{State as CodeState, talk_start, talk_step}
+use Rattle.lua_meaning.specs.World.{System, Function, Coroutine, fresh, running, dead, failed, World, as_known, without_name}
+use Rattle.lua_meaning.specs.Meaning.{Outcome, has_returned, has_failed, has_spent, is_suspended, is_broken, Meaning, run_from, IsMeaning}
+use Rattle.lua_meaning.specs.Opening.{primitives}
+use Rattle.lua_meaning.specs.TreeMeaning.{trees}
+use Rattle.code_means.specs.Means.{Same, Means}
+use Rattle.code_means.specs.Runs.{codes_run, EndAlike, RunAlike}
+use Rattle.runs_alike.specs.Alike.{FunctionsAlike, CoroutinesAlike, WorldsAlike, IsMeantBy, script, CodeEnds, TreeEnds}
+use Rattle.runs_alike.proofs.Dressed.{Mid}
+use Rattle.runs_alike.proofs.Lowering.{next_map}
+use Rattle.runs_alike.proofs.Endings.{runs_out, all_of}
+use Rattle.runs_alike.proofs.Opened.{begun_dressed, begun_like}
+
+abbrev Flip : {A B : Type 0} → (A → B → Type 0) → B → A → Type 0
+Flip R b a = R a b
+
+-- in the other order
+
+ask_flip : {A B : Type 0} → (R : A → B → Type 0) (q : Ask A) (r : Ask B) → AskLike R q r → AskLike (Flip R) r q
+ask_flip R (reads_upvalue u) (reads_upvalue v) like = sym like
+ask_flip R (writes_upvalue u v) (writes_upvalue w x) like = (sym like.0, sym like.1)
+ask_flip R makes_table makes_table like = tt
+ask_flip R (makes_function a cells) (makes_function b others) like = (like.0, sym like.1)
+ask_flip R (fills_table t last vs) (fills_table u from ws) like = (sym like.0, (sym like.1.0, sym like.1.1))
+ask_flip R pays pays like = tt
+ask_flip R (opens v) (opens w) like = sym like
+ask_flip R (operates op vs) (operates other ws) like = (sym like.0, sym like.1)
+ask_flip R (calls c vs) (calls d ws) like = (sym like.0, sym like.1)
+ask_flip R (calls_last c vs) (calls_last d ws) like = (sym like.0, sym like.1)
+ask_flip R (marks v name) (marks w other) like = (sym like.0, sym like.1)
+ask_flip R (closes v e) (closes w g) like = (sym like.0, sym like.1)
+ask_flip R (raises text) (raises other) like = sym like
+ask_flip R (leaves l) (leaves m) like = sym like
+ask_flip R q r like = absurd like
+
+carried : {A B : Type 0} → (q : Ask A) (r : Ask B) (shared also : List (ℕ × Value)) (x : Answer) → (IsReplyTo r x.reply → IsReplyTo q x.reply) → (IsQuiet q → IsQuiet r) → shared ≡ also → FitsAsk r also x → FitsAsk q shared x
+carried q r shared also x reply quiet same fits =
+    let there : FitsAsk q also x = record { reply = reply fits.reply; count = fits.count; kept = λ z. fits.kept (quiet z) } in
+    subst (λ c. FitsAsk q c x) (sym same) there
+
+-- an answer that fits the one fits the other
+fits_flip : {A B : Type 0} → (R : A → B → Type 0) (q : Ask A) (r : Ask B) (shared also : List (ℕ × Value)) (x : Answer) → AskLike R q r → shared ≡ also → FitsAsk r also x → FitsAsk q shared x
+fits_flip R (reads_upvalue u) (reads_upvalue v) shared also x like = carried _ _ shared also x (λ z. z) (λ z. z)
+fits_flip R (writes_upvalue u v) (writes_upvalue w y) shared also x like = carried _ _ shared also x (λ z. z) (λ z. z)
+fits_flip R makes_table makes_table shared also x like = carried _ _ shared also x (λ z. z) (λ z. z)
+fits_flip R (makes_function f cells) (makes_function g others) shared also x like = carried _ _ shared also x (λ z. z) (λ z. z)
+fits_flip R (fills_table t last vs) (fills_table u from ws) shared also x like = carried _ _ shared also x (λ z. z) (λ z. z)
+fits_flip R pays pays shared also x like = carried _ _ shared also x (λ z. z) (λ z. z)
+fits_flip R (opens v) (opens w) shared also x like = carried _ _ shared also x (λ z. z) (λ z. z)
+fits_flip R (operates op vs) (operates other ws) shared also x like = carried _ _ shared also x (λ z. z) (λ z. z)
+fits_flip R (calls f vs) (calls g ws) shared also x like = carried _ _ shared also x (λ z. z) (λ z. z)
+fits_flip R (calls_last f vs) (calls_last g ws) shared also x like = carried _ _ shared also x (λ z. z) (λ z. z)
+fits_flip R (marks v name) (marks w other) shared also x like = carried _ _ shared also x (λ z. z) (λ z. z)
+fits_flip R (closes v e) (closes w f) shared also x like = carried _ _ shared also x (λ z. z) (λ z. z)
+fits_flip R (raises text) (raises other) shared also x like = carried _ _ shared also x (λ z. z) (λ z. z)
+fits_flip R (leaves l) (leaves m) shared also x like = carried _ _ shared also x (λ z. z) (λ z. z)
+fits_flip R q r shared also x like = absurd like
+
+next_flip : {A B S T : Type 0} → (R : A → B → Type 0) (Q : S → T → Type 0) (x : Next A S) (y : Next B T) → NextLike R Q x y → NextLike (Flip R) (Flip Q) y x
+next_flip R Q (says q line shared k) (says r other also h) like =
+    (ask_flip R q r like.0, (sym like.1.0, (sym like.1.1.0, (λ x fits. like.1.1.1 x (fits_flip R q r shared also x like.0 like.1.1.0 fits)))))
+next_flip R Q stuck stuck like = tt
+next_flip R Q x y like = absurd like
+
+-- what is asked without a line and a name is the same where these are dropped once more
+
+ask_plain : {A B : Type 0} → (R : A → B → Type 0) (q : Ask A) (r : Ask B) → AskLike R (without_name q) r → AskLike R (without_name q) (without_name r)
+ask_plain R (reads_upvalue u) (reads_upvalue v) like = like
+ask_plain R (writes_upvalue u v) (writes_upvalue w x) like = like
+ask_plain R makes_table makes_table like = like
+ask_plain R (makes_function a cells) (makes_function b others) like = like
+ask_plain R (fills_table t last vs) (fills_table u from ws) like = like
+ask_plain R pays pays like = like
+ask_plain R (opens v) (opens w) like = like
+ask_plain R (operates op vs) (operates other ws) like = like
+ask_plain R (calls c vs) (calls d ws) like = like
+ask_plain R (calls_last c vs) (calls_last d ws) like = like
+ask_plain R (marks v name) (marks w other) like = (like.0, refl)
+ask_plain R (closes v e) (closes w g) like = like
+ask_plain R (raises text) (raises other) like = like
+ask_plain R (leaves l) (leaves m) like = like
+ask_plain R q r like = absurd like
+
+next_plain : {A B S T : Type 0} → (R : A → B → Type 0) (Q : S → T → Type 0) (l : Bool) (x : Next A S) (y : Next B T) → NextLike R Q (as_known l x) y → NextLike R Q (as_known l x) (as_known l y)
+next_plain R Q true x y like = like
+next_plain R Q false (says q line shared k) (says r other also h) like = (ask_plain R q r like.0, (refl, like.1.1))
+next_plain R Q false stuck stuck like = tt
+next_plain R Q false x y like = absurd like
+
+-- code and body
+
+abbrev MadeAlike : Bool → ℕ → Body → Prototype → Type 0
+MadeAlike l n b p = (arguments : List Value) → Same l n p (start when_captured b arguments) (talk_start p arguments)
+
+abbrev TalkAlike : Bool → ℕ → Body → Prototype → TreeState → CodeState → Type 0
+TalkAlike l n b p s t = Same l n p s t
+
+fewer : (l : Bool) (n : ℕ) (p : Prototype) (s : TreeState) (t : CodeState) → Same l (suc n) p s t → Same l n p s t
+fewer l zero p s t same = tt
+fewer l (suc n) p s t same = (
+  same.0,
+  same.1,
+  next_map (MadeAlike l (suc n)) (MadeAlike l n) (Same l (suc n) p) (Same l n p) (λ b q made arguments. fewer l n q (start when_captured b arguments) (talk_start q arguments) (made arguments)) (fewer l n p)
+      (as_known l (runs step same.0 s)) (runs (talk_step p) same.1 t) same.2,
+)
+
+asks_tree : (l : Bool) (n : ℕ) (b : Body) (p : Prototype) (s : TreeState) (t : CodeState) → Same l (suc n) p s t → Mid (trees when_captured) codes_run MadeAlike TalkAlike l n b p s t
+asks_tree l n b p s t same = (same.0, same.1, next_plain (MadeAlike l n) (Same l n p) l (runs step same.0 s) (runs (talk_step p) same.1 t) same.2)
+
+fewer_made : (l : Bool) (n : ℕ) (b : Body) (p : Prototype) → MadeAlike l (suc n) b p → MadeAlike l n b p
+fewer_made l n b p made arguments = fewer l n p (start when_captured b arguments) (talk_start p arguments) (made arguments)
+
+fewer_tree : (l : Bool) (n : ℕ) (b : Body) (p : Prototype) (s : TreeState) (t : CodeState) → TalkAlike l (suc n) b p s t → TalkAlike l n b p s t
+fewer_tree l n b p s t same = fewer l n p s t same
+
+begins_tree : (l : Bool) (n : ℕ) (b : Body) (p : Prototype) (arguments : List Value) → MadeAlike l n b p → TalkAlike l n b p (start when_captured b arguments) (talk_start p arguments)
+begins_tree l n b p arguments made = made arguments
+
+made_tree : (l : Bool) (n : ℕ) (b : Body) (p : Prototype) → IsMeantBy l b p → MadeAlike l n b p
+made_tree l n b p means = means n
+
+-- and in the other order
+
+abbrev MadeBack : Bool → ℕ → Prototype → Body → Type 0
+MadeBack l n p b = MadeAlike l n b p
+
+abbrev TalkBack : Bool → ℕ → Prototype → Body → CodeState → TreeState → Type 0
+TalkBack l n p b t s = Same l n p s t
+
+asks_code : (l : Bool) (n : ℕ) (p : Prototype) (b : Body) (t : CodeState) (s : TreeState) → Same l (suc n) p s t → Mid codes_run (trees when_captured) MadeBack TalkBack l n p b t s
+asks_code l n p b t s same =
+    let m = asks_tree l n b p s t same in
+    (m.1, m.0, next_flip (MadeAlike l n) (Same l n p) (as_known l (runs step m.0 s)) (as_known l (runs (talk_step p) m.1 t)) m.2)
+
+fewer_back : (l : Bool) (n : ℕ) (p : Prototype) (b : Body) → MadeBack l (suc n) p b → MadeBack l n p b
+fewer_back l n p b made = fewer_made l n b p made
+
+fewer_code : (l : Bool) (n : ℕ) (p : Prototype) (b : Body) (t : CodeState) (s : TreeState) → TalkBack l (suc n) p b t s → TalkBack l n p b t s
+fewer_code l n p b t s same = fewer l n p s t same
+
+begins_code : (l : Bool) (n : ℕ) (p : Prototype) (b : Body) (arguments : List Value) → MadeBack l n p b → TalkBack l n p b (talk_start p arguments) (start when_captured b arguments)
+begins_code l n p b arguments made = made arguments
+
+-- worlds and endings in the other order
+
+functions_flip : {A B : Type 0} → (R : Bool → A → B → Type 0) (P : Bool → B → A → Type 0) → ((l m : Bool) (a : A) (b : B) → l ≡ m → R l a b → P m b a) → (fs : List (Function A)) (gs : List (Function B)) → FunctionsAlike R fs gs → FunctionsAlike P gs fs
+functions_flip R P turn [] [] like = tt
+functions_flip R P turn (f ∷ fs) (g ∷ gs) like =
+    (record { made_of = turn f.has_lines g.has_lines f.made_of g.made_of like.0.has_lines like.0.made_of; source = sym like.0.source; has_lines = sym like.0.has_lines; cells = sym like.0.cells }, functions_flip R P turn fs gs like.1)
+functions_flip R P turn [] (g ∷ gs) like = absurd like
+functions_flip R P turn (f ∷ fs) [] like = absurd like
+
+coroutines_flip : {S T : Type 0} → (cs : List (Coroutine S)) (ds : List (Coroutine T)) → CoroutinesAlike cs ds → CoroutinesAlike ds cs
+coroutines_flip [] [] like = tt
+coroutines_flip (fresh f ∷ cs) (fresh g ∷ ds) like = (sym like.0, coroutines_flip cs ds like.1)
+coroutines_flip (running ∷ cs) (running ∷ ds) like = (tt, coroutines_flip cs ds like.1)
+coroutines_flip (dead ∷ cs) (dead ∷ ds) like = (tt, coroutines_flip cs ds like.1)
+coroutines_flip (failed e vs ∷ cs) (failed d ws ∷ ds) like = ((sym like.0.0, sym like.0.1), coroutines_flip cs ds like.1)
+coroutines_flip (c ∷ cs) (d ∷ ds) like = absurd like.0
+coroutines_flip [] (d ∷ ds) like = absurd like
+coroutines_flip (c ∷ cs) [] like = absurd like
+
+abbrev MeansBack : Bool → Prototype → Body → Type 0
+MeansBack l p b = Means l p b
+
+made_code : (l : Bool) (n : ℕ) (p : Prototype) (b : Body) → MeansBack l p b → MadeBack l n p b
+made_code l n p b means = means n
+
+turned : (l m : Bool) (b : Body) (p : Prototype) → l ≡ m → Means l p b → Means m p b
+turned l m b p same means = subst (λ k. Means k p b) same means
+
+worlds_flip : (W : World Body TreeState) (V : World Prototype CodeState) → WorldsAlike IsMeantBy W V → WorldsAlike MeansBack V W
+worlds_flip W V like = record {
+  heap = sym like.heap;
+  functions = functions_flip IsMeantBy MeansBack turned W.functions V.functions like.functions;
+  cells = sym like.cells;
+  coroutines = coroutines_flip W.coroutines V.coroutines like.coroutines;
+  globals = sym like.globals;
+  chain = sym like.chain;
+}
+
+end_flip : {A B S T : Type 0} → (x : Outcome A S) (y : Outcome B T) → EndAlike x y → EndAlike y x
+end_flip has_returned has_returned like = tt
+end_flip has_failed has_failed like = tt
+end_flip has_spent has_spent like = tt
+end_flip (is_suspended W) (is_suspended V) like = tt
+end_flip is_broken is_broken like = tt
+end_flip x y like = absurd like
+
+run_flip : {A B S T : Type 0} → (x : Meaning A S) (y : Meaning B T) → RunAlike x y → RunAlike y x
+run_flip x y like = record { printed = sym like.printed; outcome = end_flip x.outcome y.outcome like.outcome }
+
+-- a count is within itself
+itself : (n : ℕ) → n ≤ n
+itself n = omega arith
+
+module _ (W : World Body TreeState) (V : World Prototype CodeState) (worlds : WorldsAlike IsMeantBy W V) (main : Body) (code : Prototype) (name : List ℕ) (lines : Bool) (means : Means lines code main)
+    (input : List (List ℕ)) (budget : ℕ) where
+  abbrev Sa : System Body TreeState
+  Sa = trees when_captured
+
+  abbrev Sb : System Prototype CodeState
+  Sb = codes_run
+
+  pub code_ends : (m : Meaning Body TreeState) → IsMeaning (trees when_captured) primitives W (script main name lines) input budget m → CodeEnds V (script code name lines) input budget m
+  code_ends m given =
+      let like = begun_like Sa Sb MadeAlike TalkAlike asks_tree begins_tree IsMeantBy made_tree primitives W V worlds main code name lines means budget (all_of given.steps input) in
+      let same = begun_dressed Sa Sb MadeAlike TalkAlike asks_tree begins_tree IsMeantBy made_tree primitives W V worlds main code name lines means budget in
+      let l = runs_out Sa Sb MadeAlike TalkAlike asks_tree begins_tree fewer_tree fewer_made primitives input given.steps budget _ _ _ _ m like given.gives in
+      record {
+        meaning = l.other;
+        is_meant = record { steps = l.count; gives = ap (λ U. run_from Sb primitives l.count U input budget) same ∙ l.gives l.count (itself l.count) };
+        alike = l.alike;
+      }
+
+  pub tree_ends : (m : Meaning Prototype CodeState) → IsMeaning codes_run primitives V (script code name lines) input budget m → TreeEnds W (script main name lines) input budget m
+  tree_ends m given =
+      let back = worlds_flip W V worlds in
+      let like = begun_like Sb Sa MadeBack TalkBack asks_code begins_code MeansBack made_code primitives V W back code main name lines means budget (all_of given.steps input) in
+      let same = begun_dressed Sb Sa MadeBack TalkBack asks_code begins_code MeansBack made_code primitives V W back code main name lines means budget in
+      let l = runs_out Sb Sa MadeBack TalkBack asks_code begins_code fewer_code fewer_back primitives input given.steps budget _ _ _ _ m like given.gives in
+      record {
+        meaning = l.other;
+        is_meant = record { steps = l.count; gives = ap (λ U. run_from Sa primitives l.count U input budget) same ∙ l.gives l.count (itself l.count) };
+        alike = run_flip m l.other l.alike;
+      }

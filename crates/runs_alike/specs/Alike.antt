@@ -1,0 +1,90 @@
+-- Runs of a script's tree and of code that means it: both print the same and end alike, whatever the lines and the budget are.
+use Rattle.std.specs.Prelude.{◌≡◌, ℕ, Bool, false, List, [], ◌∷◌}
+use Rattle.tree_core.specs.Tree.{Body}
+use Rattle.tree_activation.specs.Work.{when_captured, State as TreeState}
+use Rattle.code_core.specs.Prototype.{Prototype}
+use Rattle.machine_core.specs.Talk.{State as CodeState}
+use Rattle.lua_meaning.specs.World.{Function, Coroutine, fresh, running, dead, failed, World}
+use Rattle.lua_meaning.specs.Meaning.{Script, Meaning, IsMeaning}
+use Rattle.lua_meaning.specs.Opening.{Entry, opening, primitives}
+use Rattle.lua_meaning.specs.TreeMeaning.{trees}
+use Rattle.code_means.specs.Means.{Means}
+use Rattle.code_means.specs.Runs.{codes_run, RunAlike}
+
+-- two functions differ only in what they are made of, and these are related
+pub record FunctionAlike {A B : Type 0} (R : Bool → A → B → Type 0) (f : Function A) (g : Function B) : Type 0 where
+  pub made_of : R f.has_lines f.made_of g.made_of
+  pub source : f.source ≡ g.source
+  pub has_lines : f.has_lines ≡ g.has_lines
+  pub cells : f.cells ≡ g.cells
+
+abbrev pub FunctionsAlike : {A B : Type 0} → (Bool → A → B → Type 0) → List (Function A) → List (Function B) → Type 0
+FunctionsAlike R [] [] = Unit {0}
+FunctionsAlike R (f ∷ fs) (g ∷ gs) = FunctionAlike R f g × FunctionsAlike R fs gs
+FunctionsAlike R _ _ = ⊥
+
+-- coroutines of which none waits
+abbrev pub CoroutineAlike : {S T : Type 0} → Coroutine S → Coroutine T → Type 0
+CoroutineAlike (fresh f) (fresh g) = f ≡ g
+CoroutineAlike running running = Unit {0}
+CoroutineAlike dead dead = Unit {0}
+CoroutineAlike (failed e vs) (failed d ws) = (e ≡ d) × (vs ≡ ws)
+CoroutineAlike _ _ = ⊥
+
+abbrev pub CoroutinesAlike : {S T : Type 0} → List (Coroutine S) → List (Coroutine T) → Type 0
+CoroutinesAlike [] [] = Unit {0}
+CoroutinesAlike (c ∷ cs) (d ∷ ds) = CoroutineAlike c d × CoroutinesAlike cs ds
+CoroutinesAlike _ _ = ⊥
+
+-- two worlds in which a script is about to run: what functions of the same number are made of is related, and all else is the same.
+-- Frames, printed bytes, the budget and what is going on are those of the script, so nothing is asked of them
+pub record WorldsAlike {A B S T : Type 0} (R : Bool → A → B → Type 0) (W : World A S) (V : World B T) : Type 0 where
+  pub heap : W.heap ≡ V.heap
+  pub functions : FunctionsAlike R W.functions V.functions
+  pub cells : W.cells ≡ V.cells
+  pub coroutines : CoroutinesAlike W.coroutines V.coroutines
+  pub globals : W.globals ≡ V.globals
+  pub chain : W.chain ≡ V.chain
+
+-- code means a body
+abbrev pub IsMeantBy : Bool → Body → Prototype → Type 0
+IsMeantBy lines b p = Means lines p b
+
+abbrev pub script : {F : Type 0} → (main : F) → (name : List ℕ) → (has_lines : Bool) → Script F
+script main name has_lines = record { main = main; name = name; has_lines = has_lines }
+
+-- what the tree means, the code means as well
+pub record CodeEnds (W : World Prototype CodeState) (s : Script Prototype) (input : List (List ℕ)) (budget : ℕ) (m : Meaning Body TreeState) : Type 0 where
+  pub meaning : Meaning Prototype CodeState
+  pub is_meant : IsMeaning codes_run primitives W s input budget meaning
+  pub alike : RunAlike m meaning
+
+-- and the other way round
+pub record TreeEnds (W : World Body TreeState) (s : Script Body) (input : List (List ℕ)) (budget : ℕ) (m : Meaning Prototype CodeState) : Type 0 where
+  pub meaning : Meaning Body TreeState
+  pub is_meant : IsMeaning (trees when_captured) primitives W s input budget meaning
+  pub alike : RunAlike meaning m
+
+abbrev pub WholeRunsEndAlike : Type 0
+WholeRunsEndAlike =
+    (W : World Body TreeState) (V : World Prototype CodeState) → WorldsAlike IsMeantBy W V
+    → (main : Body) (code : Prototype) (name : List ℕ) (lines : Bool) → Means lines code main → (input : List (List ℕ)) (budget : ℕ)
+    → ((m : Meaning Body TreeState) → IsMeaning (trees when_captured) primitives W (script main name lines) input budget m → CodeEnds V (script code name lines) input budget m)
+    × ((m : Meaning Prototype CodeState) → IsMeaning codes_run primitives V (script code name lines) input budget m → TreeEnds W (script main name lines) input budget m)
+
+-- functions of the prelude of the same name and home, whose lines are not known
+pub record EntryAlike {A B : Type 0} (R : Bool → A → B → Type 0) (x : Entry A) (y : Entry B) : Type 0 where
+  pub home : x.home ≡ y.home
+  pub name : x.name ≡ y.name
+  pub body : R false x.body y.body
+
+abbrev pub EntriesAlike : {A B : Type 0} → (Bool → A → B → Type 0) → List (Entry A) → List (Entry B) → Type 0
+EntriesAlike R [] [] = Unit {0}
+EntriesAlike R (x ∷ xs) (y ∷ ys) = EntryAlike R x y × EntriesAlike R xs ys
+EntriesAlike R _ _ = ⊥
+
+-- worlds of the libraries, with such preludes
+abbrev pub OpeningsAlike : Type 0
+OpeningsAlike =
+    (xs : List (Entry Body)) (ys : List (Entry Prototype)) → EntriesAlike IsMeantBy xs ys
+    → WorldsAlike {A = Body} {B = Prototype} {S = TreeState} {T = CodeState} IsMeantBy (opening xs) (opening ys)
