@@ -317,7 +317,7 @@ expects room while_stat = word_then WHILE (λ line. exp_then room (λ test h. do
 -- | `repeat` block `until` exp
 expects room repeat_stat =
     opens_then REPEAT 0 room (λ line. block_then (room - 1) (λ b h. word_then UNTIL (λ _. exp_then room (λ test k. gives (a_stat (tree.Repeat line b test)) (max (h + 1) k)))))
--- | `if` exp `next` block {`elseif` exp `next` block} [`else` block] `end`
+-- | `if` exp `then` block {`elseif` exp `then` block} [`else` block] `end`
 expects room if_stat =
     word_then IF (λ line. within arms room (λ p h n. on_arms (λ as'. within else_part room (λ q k m. on_else (λ b.
     word_then END (λ _. gives (a_stat (if_of line as' b)) (max h k))) q)) p))

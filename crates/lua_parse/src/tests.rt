@@ -143,7 +143,10 @@ static STATEMENTS: [(&[u8], &[u8]); 9] = [
     (b"local x <const> = 1 f() return x", b"LCr"),
     (b"function a.b:c() end local function d() end", b"Af"),
     (b"do end while x do end repeat until x", b"DWR"),
-    (b"if a then b() end for i = 1, 2 do end for k in p do end", b"ING"),
+    (
+        b"if a then b() end for i = 1, 2 do end for k in p do end",
+        b"ING",
+    ),
     (b"::top:: goto top break", b":gb"),
     (b"a, b.c = f{x} -- the end", b"A"),
     (b"--[[ nothing ]] --", b""),
@@ -268,7 +271,7 @@ fn right(exp: &Exp) -> Option<&Exp> {
     }
 }
 
-// The letters of an expression and of those that are met from it by `next`.
+// The letters of an expression and of those that are met from it to the left.
 fn to_the_left(alloc: Global, exp: &Exp) -> Result<Vec<u8>, Fail> {
     let mut letters = Vec::new(alloc);
     letters.push(letter(exp))?;
@@ -282,6 +285,7 @@ fn to_the_left(alloc: Global, exp: &Exp) -> Result<Vec<u8>, Fail> {
     Ok(letters)
 }
 
+// The same to the right.
 fn to_the_right(alloc: Global, exp: &Exp) -> Result<Vec<u8>, Fail> {
     let mut letters = Vec::new(alloc);
     letters.push(letter(exp))?;

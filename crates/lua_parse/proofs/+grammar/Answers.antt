@@ -24,7 +24,6 @@ use Rattle.lua_parse.proofs.Steps.{Comes, Leads, starts, picked, passed, turned,
 use Rattle.lua_parse.proofs.+grammar.Goals as goal
 use Rattle.lua_parse.proofs.+grammar.Answers.Expressions as expressions
 use Rattle.lua_parse.proofs.+grammar.Answers.Statements as statements
-
 mod Expressions
 mod Statements
 
