@@ -1,0 +1,42 @@
+-- The tokens that are left from a place on.
+use Rattle.std.proofs.Common.{◌≡◌, ℕ, ◌+◌, List, [], ◌∷◌, drop, Option, Some, None, false, refl, sym, ap, subst, ◌∙◌, arith, get_or}
+use Rattle.std.specs.Prelude.{slice_get}
+use Rattle.std.specs.Option.{option_map}
+use Rattle.std.proofs.lemmas.List.{drop-drop, get_or-drop}
+use Rattle.std.proofs.lemmas.Option.{get_or_from_slice_get}
+use Rattle.lua_lex.specs.declared.token.Token.{Token}
+use Rattle.lua_lex.specs.declared.token.Token.TheVariants.{End}
+use Rattle.lua_lex.specs.Lexical.{EndsOnce, LastWhere, is_end}
+use Rattle.token_cursor.specs.Words.{Lexeme}
+use Rattle.token_cursor.specs.Words.{first}
+
+first_of : (ts : List Lexeme) → first ts ≡ get_or ts 0 (End, 0)
+first_of [] = refl
+first_of (t ∷ ts) = refl
+
+get_or_zero : (at : ℕ) (ts : List Lexeme) → first (drop at ts) ≡ get_or ts at (End, 0)
+get_or_zero at ts = first_of (drop at ts) ∙ get_or-drop at ts 0 (End, 0) ∙ ap (λ n. get_or ts n (End, 0)) (omega arith)
+
+pub first_token : (at : ℕ) (ts : List Lexeme) (token : Token) → option_map (λ (pair : Lexeme). pair.0) (slice_get ts at) ≡ Some token → token ≡ (first (drop at ts)).0
+first_token at ts token e = at_cases (slice_get ts at) refl e
+  where
+    at_cases : (o : Option Lexeme) → slice_get ts at ≡ o → option_map (λ (pair : Lexeme). pair.0) o ≡ Some token → token ≡ (first (drop at ts)).0
+    at_cases None is e' = absurd (let bad : ◌≡◌ {A = Option Token} None (Some token) = e' in cc)
+    at_cases (Some t) is e' = let same : t.0 ≡ token = cc in sym same ∙ ap (λ (p : Lexeme). p.0) (sym (get_or_from_slice_get ts at t (End, 0) is) ∙ sym (get_or_zero at ts))
+
+pub first_line : (at : ℕ) (ts : List Lexeme) (line : ℕ) → option_map (λ (pair : Lexeme). pair.1) (slice_get ts at) ≡ Some line → line ≡ (first (drop at ts)).1
+first_line at ts line e = at_cases (slice_get ts at) refl e
+  where
+    at_cases : (o : Option Lexeme) → slice_get ts at ≡ o → option_map (λ (pair : Lexeme). pair.1) o ≡ Some line → line ≡ (first (drop at ts)).1
+    at_cases None is e' = absurd (let bad : ◌≡◌ {A = Option ℕ} None (Some line) = e' in cc)
+    at_cases (Some t) is e' = let same : t.1 ≡ line = cc in sym same ∙ ap (λ (p : Lexeme). p.1) (sym (get_or_from_slice_get ts at t (End, 0) is) ∙ sym (get_or_zero at ts))
+
+ends_later : (ts : List Lexeme) → EndsOnce ts → is_end (first ts).0 ≡ false → EndsOnce (drop 1 ts)
+ends_later [] once not_end = absurd once
+ends_later (t ∷ ts) once not_end = subst (λ b. LastWhere b ts (EndsOnce ts)) not_end once
+
+pub ends_behind : (at : ℕ) (ts : List Lexeme) → EndsOnce (drop at ts) → is_end (first (drop at ts)).0 ≡ false → EndsOnce (drop (at + 1) ts)
+ends_behind at ts once not_end = subst EndsOnce (drop-drop 1 at ts) (ends_later (drop at ts) once not_end)
+
+pub drop_more : (at : ℕ) (ts : List Lexeme) → drop (at + 1) ts ≡ drop 1 (drop at ts)
+drop_more at ts = sym (drop-drop 1 at ts)

@@ -1,0 +1,2 @@
+pub mod Words
+pub use Rattle.lua_lex.specs.Lexical
