@@ -1,1 +1,5 @@
 mod Opened
+mod Lists
+mod Relation
+mod Facts
+mod Steps

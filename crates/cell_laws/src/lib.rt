@@ -4,4 +4,4 @@
 
 mod law;
 
-pub use law::opening_changes_nothing;
+pub use law::{cells_do_not_show, opening_changes_nothing};
