@@ -1,5 +1,5 @@
-mod Opened
 mod Lists
+mod Opened
 mod Relation
 mod Facts
 mod Steps

@@ -5,7 +5,8 @@ use Rattle.std.proofs.lemmas.Bool.{cases_eq}
 use Rattle.std.proofs.lemmas.Bool.Decides.{nat_tests}
 use Rattle.int_core.specs.Value.{Value, nth, write}
 use Rattle.int_core.specs.Ask.{shared_by, held_below, brought, cell_held}
-use Rattle.cell_laws.specs.Alike.{Has, carried}
+use Rattle.cell_laws.specs.Opening.{carried}
+use Rattle.cell_laws.specs.Alike.{Has}
 
 pub nth_write_same : (s : ℕ) (v : Value) (xs : List Value) → nth (write s v xs) s ≡ v
 nth_write_same zero v [] = refl

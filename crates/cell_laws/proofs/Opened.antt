@@ -1,30 +1,18 @@
 -- Cells that are opened one after another.
-use Rattle.std.proofs.Common.{ℕ, zero, suc, ◌<◌, ◌≡◌, List, [], ◌∷◌, ◌++◌, length, Option, Some, None, refl, sym, ap, ◌∙◌, arith, Bool, true, false, cond}
+use Rattle.std.proofs.Common.{ℕ, suc, ◌≡◌, List, [], ◌∷◌, ◌++◌, length, Option, Some, None, refl, sym, ap, ◌∙◌, Bool, true, false, cond}
 use Rattle.std.specs.Prelude.{map, nat_eq}
-use Rattle.std.proofs.lemmas.Bool.Decides.{nat_tests}
-use Rattle.int_core.specs.Value.{Value, nth, write}
+use Rattle.int_core.specs.Value.{Value}
 use Rattle.int_core.specs.Ask.{Captured, shared_by, brought, cell_held}
 use Rattle.tree_activation.specs.Work.{Control, capture, Work, Activation, at}
 use Rattle.tree_activation.specs.Asking.{captures_one}
 use Rattle.cell_laws.specs.Opening.{carried, opening, by_step, AreInScope, HoldsInScope, AreHeld, KeepsCells}
-
-write_own : (s : ℕ) (xs : List Value) → s < length xs → write s (nth xs s) xs ≡ xs
-write_own zero [] h = absurd (omega arith)
-write_own zero (x ∷ xs) h = refl
-write_own (suc s) [] h = absurd (omega arith)
-write_own (suc s) (x ∷ xs) h = ap (λ z. x ∷ z) (write_own s xs (omega arith))
+use Rattle.cell_laws.proofs.Lists.{write_own, eq_refl, eq_true}
 
 -- values that come back as they were carried change nothing
 bring_own : (held : List (ℕ × ℕ)) (gone : List (ℕ × Value)) (xs : List Value) → HoldsInScope (length xs) held
     → brought held (map carried (shared_by held xs ++ gone)) xs ≡ xs
 bring_own [] gone xs k = refl
 bring_own (h ∷ held) gone xs k = ap (brought held (map carried (shared_by held xs ++ gone))) (write_own h.0 xs k.0) ∙ bring_own held gone xs k.1
-
-eq_refl : (n : ℕ) → nat_eq n n ≡ true
-eq_refl n = grind (arith, nat_tests)
-
-eq_true : (m n : ℕ) → nat_eq m n ≡ true → m ≡ n
-eq_true m n h = grind (arith, nat_tests)
 
 newest : (n cell : ℕ) (held : List (ℕ × ℕ)) → cell_held n ((n, cell) ∷ held) ≡ Some cell
 newest n cell held = ap (λ b. cond b (Some cell) (cell_held n held)) (eq_refl n)

@@ -6,6 +6,7 @@ use Rattle.int_core.specs.Ask.{CellName, of_local, of_upvalue, Ask, opens, makes
 use Rattle.tree_core.specs.Tree.{Body}
 use Rattle.tree_activation.specs.Work.{capture, when_declared, when_captured, State, at}
 use Rattle.tree_activation.specs.Activation.{start, step}
+use Rattle.cell_laws.specs.Opening.{carried}
 
 -- a list has this entry
 abbrev pub Has : {A : Type 0} → ℕ → A → List (ℕ × A) → Type 0
@@ -20,9 +21,6 @@ abbrev pub IsUnpaired : ℕ → Pairs → Type 0
 IsUnpaired c pairs = (d : ℕ) → Has c d pairs → ⊥
 
 -- answers
-
-abbrev pub carried : ℕ × Value → Value
-carried s = s.1
 
 -- a new cell of the first form
 pub record IsNew (pairs : Pairs) (shared : List (ℕ × Value)) (c : ℕ) : Type 0 where
