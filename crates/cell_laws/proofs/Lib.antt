@@ -1,0 +1,5 @@
+mod Lists
+mod Opened
+mod Relation
+mod Facts
+mod Steps

@@ -1,0 +1,16 @@
+// The laws of cells.
+ghost use Rattle.cell_laws.specs.Alike.{CellsDoNotShow};
+ghost use Rattle.cell_laws.specs.Opening.{OpeningChangesNothing};
+
+/// The opening of cells for locals in scope changes no variable of the activation: it goes on as
+/// it would have done without, and holds cells for these locals.
+pub fn opening_changes_nothing()
+    ensures { OpeningChangesNothing }
+{}
+
+/// An activation whose locals get their cells as they are declared, and one whose locals get them
+/// before the first function that captures them, ask the same on the same answers, but for the
+/// opening of cells and their numbers.
+pub fn cells_do_not_show()
+    ensures { CellsDoNotShow }
+{}
