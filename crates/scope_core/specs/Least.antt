@@ -1,5 +1,5 @@
 -- The answer where static rules are broken: the least violation by line, and on one line by rule.
-use Rattle.std.specs.Prelude.{◌≤◌, ◌<◌, ◌≡◌, ◌⊎◌, Bool, ◌&&◌, ◌||◌, ◌==◌, nat_lt, List, [], All, Contains, Option, Some, None}
+use Rattle.std.specs.Prelude.{◌≤◌, ◌<◌, ◌≡◌, ◌⊎◌, Bool, ◌&&◌, ◌||◌, ◌==◌, nat_lt, if◌then◌else◌, List, [], All, Contains, Option, Some, None}
 use Rattle.scope_core.specs.declared.violation.Violation.{Violation}
 
 abbrev pub is_before : Violation → Violation → Bool
@@ -7,6 +7,11 @@ is_before one other = nat_lt one.line other.line || (one.line == other.line) && 
 
 abbrev pub IsBefore : Violation → Violation → Type 0
 IsBefore one other = (one.line < other.line) ⊎ ((one.line ≡ other.line) × (one.rule ≤ other.rule))
+
+-- the least of those met so far, after one more
+abbrev pub meet : Option Violation → Violation → Option Violation
+meet None violation = Some violation
+meet (Some least) violation = if is_before violation least then Some violation else Some least
 
 pub record IsLeast (all : List Violation) (least : Violation) : Type 0 where
   pub there : Contains all least

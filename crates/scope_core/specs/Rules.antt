@@ -16,13 +16,13 @@ use Rattle.scope_core.specs.Places.{placed}
 abbrev pub breach : Bool → ℕ → ℕ → List Violation
 breach holds line rule = if holds then record { line = line; rule = rule } ∷ [] else []
 
-abbrev locals : List Frame → ℕ
+abbrev pub locals : List Frame → ℕ
 locals [] = 0
 locals (frame ∷ frames) = length frame.variables
 
 -- Rule 1: a variable that was declared `const` or `close` is assigned.
 
-abbrev target_violations : List Frame → Exps → List Violation
+abbrev pub target_violations : List Frame → Exps → List Violation
 target_violations frames EndExps = []
 target_violations frames (MoreExps (Var line name) targets) =
     breach (names_fixed name.text frames) name.line 1 ++ target_violations frames targets
@@ -39,7 +39,7 @@ declares_variable (Local line names values) = true
 declares_variable (LocalFunction line name body) = true
 declares_variable _ = false
 
-abbrev is_empty_or_label : Stat → Bool
+abbrev pub is_empty_or_label : Stat → Bool
 is_empty_or_label (Empty line) = true
 is_empty_or_label (Label line name) = true
 is_empty_or_label _ = false
@@ -55,18 +55,18 @@ pub data Found : Type 0 where
   Entering : Found
 
 -- looking forward, where a variable was declared behind the `goto` or not
-abbrev find_behind : List ℕ → (entered ends_scope : Bool) → Stats → Found
+abbrev pub find_behind : List ℕ → (entered ends_scope : Bool) → Stats → Found
 find_behind text entered ends_scope EndStats = Missing
 find_behind text entered ends_scope (MoreStats stat stats) =
     if is_label text stat
     then (if entered && not (ends_scope && only_labels stats) then Entering else Fine)
     else find_behind text (entered || declares_variable stat) ends_scope stats
 
-abbrev find_in : List ℕ → Around → Found
+abbrev pub find_in : List ℕ → Around → Found
 find_in text block =
     if list_any (is_label text) block.before then Fine else find_behind text false block.ends_scope block.behind
 
-abbrev or_further : Found → Found → Found
+abbrev pub or_further : Found → Found → Found
 or_further Missing further = further
 or_further Fine further = Fine
 or_further Entering further = Entering
@@ -75,7 +75,7 @@ abbrev pub find_label : List ℕ → List Around → Found
 find_label text [] = Missing
 find_label text (block ∷ blocks) = or_further (find_in text block) (find_label text blocks)
 
-abbrev goto_violations : ℕ → Found → List Violation
+abbrev pub goto_violations : ℕ → Found → List Violation
 goto_violations line Missing = record { line = line; rule = 2 } ∷ []
 goto_violations line Fine = []
 goto_violations line Entering = record { line = line; rule = 4 } ∷ []
@@ -86,17 +86,17 @@ stands_before text blocks = list_any (λ block. list_any (is_label text) block.b
 
 -- Rules 6 and 7: attributes.
 
-abbrev is_close : Attrib → Bool
+abbrev pub is_close : Attrib → Bool
 is_close Close = true
 is_close _ = false
 
 -- of an attribute before which the declaration has a `close`, or none
-abbrev attrib_breach : (closed : Bool) → Attrib → ℕ → List Violation
+abbrev pub attrib_breach : (closed : Bool) → Attrib → ℕ → List Violation
 attrib_breach closed Close line = breach closed line 6
 attrib_breach closed (Other word) line = breach true line 7
 attrib_breach closed _ line = []
 
-abbrev attrib_violations : (closed : Bool) → List Declared → List Violation
+abbrev pub attrib_violations : (closed : Bool) → List Declared → List Violation
 attrib_violations closed [] = []
 attrib_violations closed (declared ∷ names) =
     attrib_breach closed declared.attrib declared.attrib_line
@@ -104,17 +104,17 @@ attrib_violations closed (declared ∷ names) =
 
 -- Rule 12: the tokens in the body of a `for`.
 
-abbrev tokens_of : Block → ℕ
+abbrev pub tokens_of : Block → ℕ
 tokens_of (Falls stats tokens line) = tokens
 tokens_of (Returns stats values tokens line) = tokens
 
 -- All rules.
 
 -- Rule 11: with the variables in scope more than 250 values are held
-abbrev held_violations : Scope → ℕ → ℕ → List Violation
+abbrev pub held_violations : Scope → ℕ → ℕ → List Violation
 held_violations scope line count = breach (nat_lt 250 (locals scope.frames + count)) line 11
 
-abbrev stat_line : Stat → ℕ
+abbrev pub stat_line : Stat → ℕ
 stat_line (Empty line) = line
 stat_line (Local line names values) = line
 stat_line (LocalFunction line name body) = line
@@ -132,7 +132,7 @@ stat_line (Label line name) = line
 stat_line (Goto line name) = line
 stat_line (Break line) = line
 
-abbrev stat_violations : Scope → Stat → List Violation
+abbrev pub stat_violations : Scope → Stat → List Violation
 stat_violations scope (Assign line targets values) = target_violations scope.frames targets
 stat_violations scope (Goto line name) = goto_violations line (find_label name.text scope.blocks)
 stat_violations scope (Label line name) = breach (stands_before name.text scope.blocks) line 3
@@ -152,7 +152,7 @@ part_violations scope (Until line test) = held_violations scope line (held test)
 part_violations scope (Result line values) = held_violations scope line (held_behind 0 values)
 part_violations scope (Declares line) = breach (nat_lt 200 (locals scope.frames)) line 9
 
-abbrev begin : Scope
+abbrev pub begin : Scope
 begin = record { frames = []; blocks = []; in_loop = false; is_vararg = false }
 
 -- the violations of all rules in a source

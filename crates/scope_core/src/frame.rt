@@ -1,6 +1,6 @@
 // The scope of one function while it is walked through.
-ghost use Rattle.std.specs.Prelude.{◌≡◌, List, [], ◌∷◌, length, drop, ◌-◌, ◌≤◌, ◌++◌, OnOk, IfOk};
-ghost use Rattle.scope_core.specs.Scopes.{Frame, register_of, upvalue_of, is_local};
+ghost use Rattle.std.specs.Prelude.{◌≡◌, List, [], ◌∷◌, length, drop, find, option_map, ◌-◌, ◌≤◌, ◌++◌, OnOk, IfOk};
+ghost use Rattle.scope_core.specs.Scopes.{Frame, register_of, upvalue_of, is_local, has_name, is_fixed_variable};
 ghost use Rattle.scope_core.specs.Places.{as_byte};
 ghost use Rattle.scope_core.specs.Reaching.{source_in, up_name_at, captured_at, local_place, global_place_at};
 
@@ -111,6 +111,21 @@ impl FunctionScope {
             register -= 1;
             if self.variables[register].has_name(name) {
                 return Some(register);
+            }
+        }
+        None
+    }
+
+    /// Whether the variable that was declared last under a name is never assigned.
+    #[tactic(auto, using(crate::proofs::Variables::first_named, crate::proofs::Variables::first_passed))]
+    pub fn fixed(&self, name: &Bytes) -> Option<bool>
+        ensures { result ≡ option_map is_fixed_variable (find (has_name name.now) self.now.variables) }
+    {
+        let mut register = self.variables.len();
+        while register > 0 {
+            register -= 1;
+            if self.variables[register].has_name(name) {
+                return Some(self.variables[register].is_fixed());
             }
         }
         None

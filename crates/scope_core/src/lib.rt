@@ -15,6 +15,7 @@ mod violation;
 pub use frame::{FunctionScope, Source};
 pub use functions::Functions;
 pub use held::{held_by, held_by_list, held_by_name, held_by_stat, held_by_targets, held_by_tests};
+pub use nesting::Nesting;
 pub use places::place;
 pub use resolved::{Resolved, ScopeFault};
 pub use variable::Variable;

@@ -1,6 +1,6 @@
 // The functions around a place while the places of names are set.
-ghost use Rattle.std.specs.Prelude.{◌≡◌, length, OnOk, IfOk};
-ghost use Rattle.scope_core.specs.Scopes.{declare, declare_all, numeric_hidden, generic_hidden};
+ghost use Rattle.std.specs.Prelude.{◌≡◌, [], length, OnOk, IfOk};
+ghost use Rattle.scope_core.specs.Scopes.{declare, declare_all, numeric_hidden, generic_hidden, names_fixed};
 ghost use Rattle.scope_core.specs.Places.{place_of, next_register};
 ghost use Rattle.scope_core.specs.Walked.{own_variables, own_upvalues, kept, entered, left, named, main_frames};
 
@@ -28,6 +28,17 @@ impl Model for Nesting {
 }
 
 impl Nesting {
+    /// No function.
+    pub fn new(alloc: Global) -> Nesting
+        ensures { result ≡ [] }
+    {
+        Nesting {
+            functions: Functions {
+                scopes: Vec::new(alloc),
+            },
+        }
+    }
+
     /// The main function, which has the one upvalue `_ENV`.
     pub fn main(alloc: Global) -> Result<Nesting, AllocError>
         ensures { IfOk result (λ nesting. nesting ≡ main_frames) }
@@ -70,6 +81,21 @@ impl Nesting {
         ensures place { IfOk result (λ place. place ≡ place_of text.now self.new) }
     {
         self.functions.place(alloc, text)
+    }
+
+    /// Whether a name means a variable that is never assigned.
+    #[tactic(auto, using(crate::proofs::Variables::frame_decides, crate::proofs::Variables::frame_passed))]
+    pub fn names_fixed(&self, name: &Bytes) -> bool
+        ensures { result ≡ names_fixed name.now self.now }
+    {
+        let mut count = self.functions.scopes.len();
+        while count > 0 {
+            count -= 1;
+            if let Some(fixed) = self.functions.scopes[count].fixed(name) {
+                return fixed;
+            }
+        }
+        false
     }
 
     /// Brings a variable into scope.

@@ -1,6 +1,6 @@
 // Local variables as they stand in a scope.
 ghost use Rattle.std.specs.Prelude.{◌≡◌};
-ghost use Rattle.scope_core.specs.Scopes.{has_name};
+ghost use Rattle.scope_core.specs.Scopes.{has_name, is_fixed_variable};
 
 use int_core::Bytes;
 
@@ -25,6 +25,15 @@ impl Variable {
     {
         match self {
             Variable::Named { text, .. } => text == name,
+            Variable::Hidden => false,
+        }
+    }
+    /// Whether it is never assigned.
+    pub fn is_fixed(&self) -> bool
+        ensures { result ≡ is_fixed_variable self.now }
+    {
+        match self {
+            Variable::Named { fixed, .. } => *fixed,
             Variable::Hidden => false,
         }
     }

@@ -1,6 +1,6 @@
 // The violations of the static rules, of which the least is answered.
 ghost use Rattle.std.specs.Prelude.{◌≡◌, ◌++◌, List, [], ◌∷◌, None};
-ghost use Rattle.scope_core.specs.Least.{IsLeastOf, is_before};
+ghost use Rattle.scope_core.specs.Least.{IsLeastOf, is_before, meet};
 
 /// A static rule that is broken, and the line.
 #[derive(Debug, Clone, Copy, PartialEq, Eq)]
@@ -32,6 +32,7 @@ impl Least {
     /// Takes one more violation.
     #[tactic(auto, using(crate::proofs::Leasts::first_met, crate::proofs::Leasts::earlier_met, crate::proofs::Leasts::later_met))]
     pub fn meet(&mut self, violation: Violation)
+        ensures value { self.new.violation ≡ meet self.old.violation violation }
         ensures met { (all : List Violation) → IsLeastOf all self.old.violation → IsLeastOf (all ++ violation ∷ []) self.new.violation }
     {
         match self.violation {

@@ -1,0 +1,4 @@
+pub mod Meeting
+pub mod Rows
+pub mod Looping
+pub mod Sought
