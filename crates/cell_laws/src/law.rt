@@ -10,7 +10,8 @@ pub fn opening_changes_nothing()
 
 /// An activation whose locals get their cells as they are declared, and one whose locals get them
 /// before the first function that captures them, ask the same on the same answers, but for the
-/// opening of cells and their numbers.
+/// opening of cells and their numbers, until a function names a local that is not in scope. The
+/// values that asks carry into cells are not compared.
 pub fn cells_do_not_show()
     ensures { CellsDoNotShow }
 {}
