@@ -5,7 +5,7 @@ use Rattle.std.proofs.lemmas.Bool.{cases_eq}
 use Rattle.int_core.specs.Value.{Value, nth}
 use Rattle.int_core.specs.Ask.{shared_by, held_below, brought, cell_held, Answer}
 use Rattle.tree_core.specs.Tree.{Body}
-use Rattle.tree_activation.specs.Work.{End, until, Passed, Point, Purpose, for_call, for_return, Control, collect, aim, store, choose, run, complete, decide, count_round, test_round, enter_round, capture, make, mark, pay, leave_scope, finish, Work, looping, repeating, counting, iterating, until_test, in_block, listed, dropped, function_to, if_test, while_test, aimed_key, aimed_field, when_declared, when_captured, Activation, State, at}
+use Rattle.tree_activation.specs.Work.{End, until, Passed, Point, Purpose, for_call, for_return, Control, collect, aim, store, choose, run, complete, decide, count_round, test_round, enter_round, capture, make, mark, pay, leave_scope, finish, Work, looping, repeating, counting, iterating, until_test, in_block, listed, dropped, function_to, if_test, while_test, aimed_key, aimed_field, when_declared, when_captured, Pending, Activation, State, at}
 use Rattle.tree_activation.specs.Asking.{captured_locals, upvalues_of}
 use Rattle.cell_laws.specs.Alike.{Has, Pairs, IsUnpaired, Answered}
 use Rattle.cell_laws.proofs.Lists.{bring_at, bring_size, shares, same_list, below_has, below_was, find_has, has_find}
@@ -14,7 +14,7 @@ use Rattle.cell_laws.proofs.Lists.{bring_at, bring_size, shares, same_list, belo
 pub record View : Type 0 where
   pub ls : List Value
   pub vs : List Value
-  pub pd : List ℕ
+  pub pd : List Pending
   pub hd : List (ℕ × ℕ)
   pub gd : List (ℕ × Value)
   pub hc : List (ℕ × ℕ)

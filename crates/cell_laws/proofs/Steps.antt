@@ -16,7 +16,7 @@ use Rattle.tree_core.specs.declared.operator.UnOp.TheVariants.{Neg, BitNot, Not,
 use Rattle.tree_core.specs.declared.operator.BinOp.{BinOp}
 use Rattle.tree_core.specs.declared.operator.BinOp.TheVariants.{Add, Sub, Mul, Mod, Idiv, Band, Bor, Bxor, Shl, Shr, Concat, Eq, Ne, Lt, Le, Gt, Ge}
 use Rattle.tree_core.specs.Tree.{Block, Body, BodyOf, Stats, EndStats, MoreStats, Stat, Empty, Local, LocalFunction, Assign, CallStat, Do, While, Repeat, If, IfElse, NumFor, NumForStep, GenFor, Label, Goto, Break, Arms, EndArms, MoreArms, Exp, Nil, True, False, Int, Str, Vararg, Function, Var, Index, Call, Method, Unary, Binary, And, Or, Paren, Table, Exps, EndExps, MoreExps, Fields, EndFields, MoreFields, Item, Keyed}
-use Rattle.tree_activation.specs.Work.{End, falls_off, returns_list, until, Point, Target, to_local, to_upvalue, to_field, Purpose, for_call, for_return, for_declaration, for_assignment, for_counting, for_iterating, Control, evaluate, give, collect, construct, aim, store, choose, run, complete, decide, count_round, test_round, enter_round, capture, make, mark, pay, leave_scope, raise, finish, over, Work, key_of, object_of, field_of, operand_of, right_of, left_of, and_right, or_right, first_only, callee_of, method_of, listed, item_of, keyed_value, keyed_store, aimed_key, aimed_field, function_to, dropped, if_test, while_test, until_test, in_block, looping, repeating, counting, iterating, end_of_body, when_declared, when_captured, Activation, State, at}
+use Rattle.tree_activation.specs.Work.{End, falls_off, returns_list, until, Point, Target, to_local, to_upvalue, to_field, Purpose, for_call, for_return, for_declaration, for_assignment, for_counting, for_iterating, Control, evaluate, give, collect, construct, aim, store, choose, run, complete, decide, count_round, test_round, enter_round, capture, make, mark, pay, leave_scope, raise, finish, over, Work, key_of, object_of, field_of, operand_of, right_of, left_of, and_right, or_right, first_only, callee_of, method_of, listed, item_of, keyed_value, keyed_store, aimed_key, aimed_field, function_to, dropped, if_test, while_test, until_test, in_block, looping, repeating, counting, iterating, end_of_body, when_declared, when_captured, Pending, Activation, State, at}
 use Rattle.tree_activation.specs.Asking.{first, go, fitted, says_so, asks_quickly, heard, asks, last_pending, leave_by, leaves_scope, marked, marks_local, captures_one, captures, numbers, captured_locals, cell_names, line_of_body, upvalues_of}
 use Rattle.tree_activation.specs.Expressions.{give_first, reads_variable, evaluates, makes_with, makes, integer_in, gives_integer, by_integers, operation_of, truth_of, binary, unary, added, constructs, stores_item}
 use Rattle.tree_activation.specs.Jumps.{Landing, passed_by, ahead, behind, lands, goes_to, breaks}
@@ -85,23 +85,23 @@ module _ (Q : Pairs → State → State → Type 0) (keep : (ps : Pairs) (s t : 
 
   -- scopes
 
-  close_like : (v : View) (k : List Work) (n level line : ℕ) (e : Value) (next : Control) → Held ps (length v.ls) v.hd v.hc → floor k ≤ length v.ls
+  close_like : (v : View) (k : List Work) (p : Pending) (level line : ℕ) (e : Value) (next : Control) → Held ps (length v.ls) v.hd v.hc → floor k ≤ length v.ls
       → (floor k ≤ level) × Landed level next (bound k) (floor k) → Sound k
-      → Moves Q ps (leave_by (Some n) level line e next (one v) k) (leave_by (Some n) level line e next (two v) k)
-  close_like v k n level line e next h d r s =
+      → Moves Q ps (leave_by (Some p) level line e next (one v) k) (leave_by (Some p) level line e next (two v) k)
+  close_like v k p level line e next h d r s =
       let w = record v { pd = without_last v.pd; hd = held_below level v.hd; gd = gone_from level v.hd v.ls ++ v.gd; hc = held_below level v.hc; gc = gone_from level v.hc v.ls ++ v.gc } in
       let u = record v { pd = without_last v.pd } in
-      either (holds (shape (nth v.ls n)))
-      (asks (closes (nth v.ls n) e) line (one w) k (λ _. leave_scope level line e next)) (go (leave_scope level line e next) (one u) k)
-      (asks (closes (nth v.ls n) e) line (two w) k (λ _. leave_scope level line e next)) (go (leave_scope level line e next) (two u) k)
-      (asks_like w line k (closes (nth v.ls n) e) (λ _. leave_scope level line e next) refl (held_cut ps (length v.ls) (length v.ls) level v.hd v.hc h (λ m a b. a)) d (λ _. r) s)
+      either p.needed
+      (asks (closes (nth v.ls p.number) e) line (one w) k (λ _. leave_scope level line e next)) (go (leave_scope level line e next) (one u) k)
+      (asks (closes (nth v.ls p.number) e) line (two w) k (λ _. leave_scope level line e next)) (go (leave_scope level line e next) (two u) k)
+      (asks_like w line k (closes (nth v.ls p.number) e) (λ _. leave_scope level line e next) refl (held_cut ps (length v.ls) (length v.ls) level v.hd v.hc h (λ m a b. a)) d (λ _. r) s)
       (goes u k (leave_scope level line e next) h d r s)
 
   leave_like : (v : View) (k : List Work) (level line : ℕ) (e : Value) (next : Control) → Held ps (length v.ls) v.hd v.hc → floor k ≤ length v.ls
       → (floor k ≤ level) × Landed level next (bound k) (floor k) → Sound k → Moves Q ps (leaves_scope level line e next (one v) k) (leaves_scope level line e next (two v) k)
   leave_like v k level line e next h d r s = by (last_pending level v.pd) where
-    by : (o : Option ℕ) → Moves Q ps (leave_by o level line e next (one v) k) (leave_by o level line e next (two v) k)
-    by (Some n) = close_like v k n level line e next h d r s
+    by : (o : Option Pending) → Moves Q ps (leave_by o level line e next (one v) k) (leave_by o level line e next (two v) k)
+    by (Some p) = close_like v k p level line e next h d r s
     by None =
         let z = length-take level v.ls in
         let low = r.0 in
@@ -111,7 +111,7 @@ module _ (Q : Pairs → State → State → Type 0) (keep : (ps : Pairs) (s t : 
   mark_like : (v : View) (k : List Work) (line : ℕ) (name : List ℕ) (n : ℕ) (next : Control) → Held ps (length v.ls) v.hd v.hc → floor k ≤ length v.ls
       → Req next (bound k) (floor k) v.hd v.hc → Sound k → Moves Q ps (marks_local line name n next (one v) k) (marks_local line name n next (two v) k)
   mark_like v k line name n next h d r s =
-      let u = record v { pd = v.pd ++ n ∷ [] } in
+      let u = record v { pd = v.pd ++ record { number = n; needed = false } ∷ [] } in
       either (holds (shape (nth v.ls n)))
       (says_so (marks (nth v.ls n) name) line (one v) (λ x b. marked x.reply line n next b k)) (go next (one u) k)
       (says_so (marks (nth v.ls n) name) line (two v) (λ x b. marked x.reply line n next b k)) (go next (two u) k)
@@ -119,7 +119,7 @@ module _ (Q : Pairs → State → State → Type 0) (keep : (ps : Pairs) (s t : 
       (goes u k next h d r s)
     where
       after : (reply : Reply) (ls : List Value) → Held ps (length ls) v.hd v.hc → length ls ≡ length v.ls → Q ps (marked reply line n next (one (told v ls)) k) (marked reply line n next (two (told v ls)) k)
-      after (values ws) ls held e = goes (record v { ls = ls; gd = []; gc = []; pd = v.pd ++ n ∷ [] }) k next held (omega (arith, d, e)) r s
+      after (values ws) ls held e = goes (record v { ls = ls; gd = []; gc = []; pd = v.pd ++ record { number = n; needed = true } ∷ [] }) k next held (omega (arith, d, e)) r s
       after (faulted text) ls held e = heard_like v line k (λ _. next) d (λ _. r) s (faulted text) ls held e
       after (left error) ls held e = heard_like v line k (λ _. next) d (λ _. r) s (left error) ls held e
 

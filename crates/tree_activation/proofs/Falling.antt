@@ -13,7 +13,7 @@ use Rattle.tree_core.specs.declared.operator.UnOp.TheVariants.{Not}
 use Rattle.tree_core.specs.declared.operator.BinOp.{BinOp}
 use Rattle.tree_core.specs.declared.operator.BinOp.TheVariants.{Add, Sub, Mul, Mod, Idiv, Band, Bor, Bxor, Shl, Shr}
 use Rattle.tree_core.specs.Tree.{Body, BodyOf, Exp, Nil, True, False, Int, Str, Vararg, Function, Var, Index, Call, Method, Unary, Binary, And, Or, Paren, Table, Fields, EndFields, MoreFields, Item, Keyed}
-use Rattle.tree_activation.specs.Work.{Control, Celling, when_declared, when_captured, Work, Activation, State}
+use Rattle.tree_activation.specs.Work.{Control, Celling, when_declared, when_captured, Work, Pending, Activation, State}
 use Rattle.tree_activation.specs.Asking.{last_pending, leave_by, leaves_scope, marks_local, captures_one, captures, declared, numbers, captured_locals}
 use Rattle.tree_activation.specs.Expressions.{reads_variable, evaluates, by_integers, integer_in, arithmetic_of, binary, unary, gives_integer, makes_with, constructs, stores_item}
 use Rattle.tree_activation.proofs.Sizes.{exp_size, fields_size, works_size, control_size, state_size}
@@ -115,20 +115,20 @@ makes_less (Some names) body m a k = tt
 
 -- scopes
 
-shorter : (pending : List ℕ) (level n : ℕ) → last_pending level pending ≡ Some n → length (without_last pending) < length pending
-shorter [] level n found = absurd (cc)
-shorter (x ∷ xs) level n found = omega (arith, length-take (length (x ∷ xs) - 1) (x ∷ xs))
+shorter : (pending : List Pending) (level : ℕ) (p : Pending) → last_pending level pending ≡ Some p → length (without_last pending) < length pending
+shorter [] level p found = absurd (cc)
+shorter (x ∷ xs) level p found = omega (arith, length-take (length (x ∷ xs) - 1) (x ∷ xs))
 
 pub leaves_less : (level line : ℕ) (e : Value) (next : Control) (a : Activation) (k : List Work)
     → Less (1 + control_size next (works_size k) + length a.pending) (leaves_scope level line e next a k)
 leaves_less level line e next a k = by (last_pending level a.pending) refl where
-  by : (o : Option ℕ) → last_pending level a.pending ≡ o → Less (1 + control_size next (works_size k) + length a.pending) (leave_by o level line e next a k)
+  by : (o : Option Pending) → last_pending level a.pending ≡ o → Less (1 + control_size next (works_size k) + length a.pending) (leave_by o level line e next a k)
   by None found = omega arith
-  by (Some n) found = either_less _ (holds (shape (nth a.locals n))) _ _ tt (let h = shorter a.pending level n found in omega (arith, h))
+  by (Some p) found = either_less _ p.needed _ _ tt (let h = shorter a.pending level p found in omega (arith, h))
 
 pub marks_less : (line : ℕ) (name : List ℕ) (n : ℕ) (next : Control) (a : Activation) (k : List Work)
     → Less (2 + control_size next (works_size k) + length a.pending) (marks_local line name n next a k)
-marks_less line name n next a k = either_less _ (holds (shape (nth a.locals n))) _ _ tt (omega (arith, length-append a.pending (n ∷ [])))
+marks_less line name n next a k = either_less _ (holds (shape (nth a.locals n))) _ _ tt (omega (arith, length-append a.pending (record { number = n; needed = false } ∷ [])))
 
 pub captures_less : (line : ℕ) (ns : List ℕ) (next : Control) (a : Activation) (k : List Work)
     → Less (length ns + 1 + control_size next (works_size k) + length a.pending) (captures line ns next a k)

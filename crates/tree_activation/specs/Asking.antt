@@ -1,10 +1,10 @@
 -- How an activation asks, and how it goes on with the answer.
-use Rattle.std.specs.Prelude.{ℕ, zero, suc, cond, nat_le, List, [], ◌∷◌, ◌++◌, take, Option, Some, None}
+use Rattle.std.specs.Prelude.{ℕ, zero, suc, Bool, true, false, cond, nat_le, List, [], ◌∷◌, ◌++◌, take, Option, Some, None}
 use Rattle.int_core.specs.Value.{Value, known, nil, nth, shape, holds, bind, last, without_last}
 use Rattle.int_core.specs.Ask.{CellName, of_local, of_upvalue, Left, throws, Ask, opens, marks, closes, raises, leaves, Reply, values, faulted, left, values_in, Answer, Next, goes_on, says, Captured, cell_held, held_below, gone_from, shared_by, brought}
 use Rattle.tree_core.specs.declared.name.UpName.{UpName}
 use Rattle.tree_core.specs.Tree.{Body, BodyOf}
-use Rattle.tree_activation.specs.Work.{Control, capture, leave_scope, raise, finish, over, Work, Celling, when_declared, when_captured, Activation, State, at}
+use Rattle.tree_activation.specs.Work.{Control, capture, leave_scope, raise, finish, over, Work, Celling, when_declared, when_captured, Pending, Activation, State, at}
 
 abbrev pub first : List Value → Value
 first vs = nth vs 0
@@ -47,33 +47,35 @@ abbrev pub cut : ℕ → Activation → Captured
 cut level a = record { held = held_below level a.captured.held; gone = gone_from level a.captured.held a.locals ++ a.captured.gone }
 
 -- the last local to be closed, where it is at a level or above
-abbrev pub last_pending : ℕ → List ℕ → Option ℕ
-last_pending level pending = bind (last pending) (λ n. cond (nat_le level n) (Some n) None)
+abbrev pub last_pending : ℕ → List Pending → Option Pending
+last_pending level pending = bind (last pending) (λ p. cond (nat_le level p.number) (Some p) None)
 
--- nil and false are closed by nothing
-abbrev pub close_local : ℕ → ℕ → ℕ → Value → Control → Activation → List Work → Next Body State
-close_local n level line e next a k =
-    cond (holds (shape (nth a.locals n)))
-    (asks (closes (nth a.locals n) e) line (record a { pending = without_last a.pending; captured = cut level a }) k (λ _. leave_scope level line e next))
+abbrev pub close_local : Pending → ℕ → ℕ → Value → Control → Activation → List Work → Next Body State
+close_local p level line e next a k =
+    cond p.needed
+    (asks (closes (nth a.locals p.number) e) line (record a { pending = without_last a.pending; captured = cut level a }) k (λ _. leave_scope level line e next))
     (go (leave_scope level line e next) (record a { pending = without_last a.pending }) k)
 
-abbrev pub leave_by : Option ℕ → ℕ → ℕ → Value → Control → Activation → List Work → Next Body State
-leave_by (Some n) level line e next a k = close_local n level line e next a k
+abbrev pub leave_by : Option Pending → ℕ → ℕ → Value → Control → Activation → List Work → Next Body State
+leave_by (Some p) level line e next a k = close_local p level line e next a k
 leave_by None level line e next a k = go next (record a { locals = take level a.locals; captured = cut level a }) k
 
 abbrev pub leaves_scope : ℕ → ℕ → Value → Control → Activation → List Work → Next Body State
 leaves_scope level line e next a k = leave_by (last_pending level a.pending) level line e next a k
 
+abbrev pub with_pending : Activation → ℕ → Bool → Activation
+with_pending a n needed = record a { pending = a.pending ++ record { number = n; needed = needed } ∷ [] }
+
 -- a variable to be closed: nil and false need no closing method
 abbrev pub marked : Reply → ℕ → ℕ → Control → Activation → List Work → State
-marked (values vs) line n next a k = at next (record a { pending = a.pending ++ n ∷ [] }) k
+marked (values vs) line n next a k = at next (with_pending a n true) k
 marked reply line n next a k = heard reply line a k (λ _. next)
 
 abbrev pub marks_local : ℕ → List ℕ → ℕ → Control → Activation → List Work → Next Body State
 marks_local line name n next a k =
     cond (holds (shape (nth a.locals n)))
     (says_so (marks (nth a.locals n) name) line a (λ x b. marked x.reply line n next b k))
-    (go next (record a { pending = a.pending ++ n ∷ [] }) k)
+    (go next (with_pending a n false) k)
 
 -- leaving
 

@@ -115,12 +115,17 @@ pub data Celling : Type 0 where
   when_declared : Celling
   when_captured : Celling
 
+-- a local to be closed that is in scope. One that was nil or false as it was declared needs no closing; it never changes
+pub record Pending : Type 0 where
+  pub number : ℕ
+  pub needed : Bool
+
 -- `pending` are the locals to be closed that are in scope, the last one last
 pub record Activation : Type 0 where
   pub celling : Celling
   pub locals : List Value
   pub varargs : List Value
-  pub pending : List ℕ
+  pub pending : List Pending
   pub captured : Captured
 
 -- what is done next, the activation's variables, and the work that waits, the nearest first
