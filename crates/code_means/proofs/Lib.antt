@@ -1,5 +1,5 @@
-mod Traces
-mod Forms
+pub mod Traces
+pub mod Forms
 mod Pairs
 mod Same
 mod WholeRuns

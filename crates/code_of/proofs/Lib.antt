@@ -1,0 +1,5 @@
+mod Hand
+mod Vectors
+mod MoreVectors
+mod Allowed
+mod ClosedCells

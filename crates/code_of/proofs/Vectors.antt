@@ -1,0 +1,150 @@
+-- Bodies whose code is written by hand, and that the code asks as the body does.
+use Rattle.std.proofs.Common.{true, false, [], ◌∷◌, refl}
+use Rattle.std.specs.Prelude.{codes}
+use Rattle.std.specs.Int.{int_wrap}
+use Rattle.code_core.specs.Opcode.{opcodes, number_of}
+use Rattle.code_core.specs.declared.opcode.Opcode.TheVariants.{Move, LoadFalse, LoadTrue, LoadNil, SetUpval, GetUpval, IDiv, Add, MmBin, Close, Tbc, Test, Call, TailCall, Return, Closure, VarArg, VarArgPrep}
+use Rattle.code_core.specs.Instruction.{abc, abx}
+use Rattle.code_core.specs.Prototype.{Prototype}
+use Rattle.int_core.specs.Value.{Value, known, nil, object, a_table}
+use Rattle.int_core.specs.Ask.{Reply, values, faulted, left}
+use Rattle.tree_core.specs.declared.name.Place.TheVariants.{Local as LocalPlace}
+use Rattle.tree_core.specs.declared.operator.BinOp.TheVariants.{Add as Plus, Idiv}
+use Rattle.tree_core.specs.Tree.{Body, True, False, Vararg, Do, While}
+use Rattle.code_means.proofs.Traces.{number}
+use Rattle.code_means.proofs.Forms.{name, declared, closed, of_local, loc, outer, global, int, str, call, bin, block, returning, locals, loc_is, assign, does, fun, vararg_fun, function, text, variable, load_int, jump, jump_back, AskAlike, tree_asks, code_asks}
+use Rattle.code_of.proofs.Hand.{hand, Compiles, word}
+
+abbrev one : Value → Reply
+one v = values (v ∷ [])
+
+-- print("hi"), by the words of its chunk
+abbrev greets : Body
+greets = vararg_fun [] (of_local "_ENV" 0 ∷ []) (block (does (call (global "print") (str "hi" ∷ [])) ∷ []))
+
+greets_code : Compiles greets (hand 0 true 2 (text "print" ∷ text "hi" ∷ []) (("_ENV", 0) ∷ []) [] []
+    (word 81 ∷ word 11 ∷ word 32899 ∷ word 16908356 ∷ word 16842822 ∷ []))
+unfolding opcodes number_of
+greets_code = refl
+
+greeting : AskAlike 4 (tree_asks greets [] (one (number 1) ∷ values [] ∷ []))
+    (code_asks (hand 0 true 2 (text "print" ∷ text "hi" ∷ []) (("_ENV", 0) ∷ []) [] [] (word 81 ∷ word 11 ∷ word 32899 ∷ word 16908356 ∷ word 16842822 ∷ [])) [] (one (number 1) ∷ values [] ∷ []))
+unfolding opcodes number_of int_wrap
+greeting = (refl, refl)
+
+-- local a=1 local function f() a=10 return 1 end return a+f()
+abbrev changes_operand : Body
+changes_operand = vararg_fun [] [] (returning (
+    loc_is "a" 0 (int 1)
+    ∷ Rattle.tree_core.specs.Tree.LocalFunction 1 (name "f" (LocalPlace 1)) (fun [] (of_local "a" 0 ∷ []) (returning (assign (outer "a" 0) (int 10) ∷ []) (int 1 ∷ []))) ∷ [])
+    (bin Plus (loc "a" 0) (call (loc "f" 1) []) ∷ []))
+
+abbrev pub changes_operand_code : Prototype
+changes_operand_code = hand 0 true 4 [] [] (variable "a" 2 10 ∷ variable "f" 3 10 ∷ []) (
+    hand 0 false 3 [] (("a", 0) ∷ []) [] [] (load_int 2 10 ∷ abc SetUpval 2 0 0 false ∷ load_int 0 1 ∷ abc Return 0 2 0 false ∷ []) ∷ [])
+    (abc VarArgPrep 0 0 0 false ∷ load_int 0 1 ∷ abc LoadNil 1 0 0 false ∷ abx Closure 1 0
+    ∷ abc Move 2 0 0 false ∷ abc Move 3 1 0 false ∷ abc Call 3 1 2 false ∷ abc Add 2 2 3 false ∷ abc MmBin 2 3 6 false ∷ abc Return 2 2 1 false ∷ [])
+
+operand_code : Compiles changes_operand changes_operand_code
+unfolding opcodes number_of
+operand_code = refl
+
+operand_at_its_turn : AskAlike 4 (tree_asks changes_operand [] (one (number 4) ∷ []))
+    (code_asks changes_operand_code [] (one (number 4) ∷ []))
+unfolding opcodes number_of int_wrap
+operand_at_its_turn = (refl, refl)
+
+operand_not_integer : AskAlike 5 (tree_asks changes_operand [] (one (known nil) ∷ one (number 7) ∷ []))
+    (code_asks changes_operand_code [] (one (known nil) ∷ one (number 7) ∷ []))
+unfolding opcodes number_of int_wrap
+operand_not_integer = (refl, refl)
+
+-- local f local c=true while c do local x=0 f=function() return x end x=5 c=false end return f()
+abbrev last_value : Body
+last_value = vararg_fun [] [] (returning (
+    locals (declared "f" 0 ∷ []) [] ∷ loc_is "c" 1 (True 1)
+    ∷ While 1 (loc "c" 1) (block (
+    loc_is "x" 2 (int 0) ∷ assign (loc "f" 0) (function (fun [] (of_local "x" 2 ∷ []) (returning [] (outer "x" 0 ∷ []))))
+    ∷ assign (loc "x" 2) (int 5) ∷ assign (loc "c" 1) (False 1) ∷ [])) ∷ [])
+    (call (loc "f" 0) [] ∷ []))
+
+abbrev pub last_value_code : Prototype
+last_value_code = hand 0 true 6 [] [] (variable "f" 2 18 ∷ variable "c" 3 18 ∷ variable "x" 7 14 ∷ [])
+    (hand 0 false 1 [] (("x", 2) ∷ []) [] [] (abc GetUpval 0 0 0 false ∷ abc Return 0 2 0 false ∷ []) ∷ [])
+    (abc VarArgPrep 0 0 0 false ∷ abc LoadNil 0 0 0 false ∷ abc LoadTrue 1 0 0 false ∷ abc Move 2 1 0 false ∷ abc Test 2 0 0 false ∷ jump 9
+    ∷ load_int 2 0 ∷ abx Closure 5 0 ∷ abc Move 0 5 0 false ∷ load_int 5 5 ∷ abc Move 2 5 0 false ∷ abc LoadFalse 5 0 0 false ∷ abc Move 1 5 0 false
+    ∷ abc Close 2 0 0 false ∷ jump_back 12 ∷ abc Move 2 0 0 false ∷ abc TailCall 2 1 0 false ∷ abc Return 2 0 1 false ∷ [])
+
+last_code : Compiles last_value last_value_code
+unfolding opcodes number_of
+last_code = refl
+
+last_value_in_scope : AskAlike 4 (tree_asks last_value [] []) (code_asks last_value_code [] [])
+unfolding opcodes number_of int_wrap
+last_value_in_scope = (refl, refl)
+
+-- function(...) local a,b=... return a,... end
+abbrev spreads : Body
+spreads = vararg_fun [] [] (returning (locals (declared "a" 0 ∷ declared "b" 1 ∷ []) (Vararg 1 ∷ []) ∷ []) (loc "a" 0 ∷ Vararg 1 ∷ []))
+
+abbrev pub spreads_code : Prototype
+spreads_code = hand 0 true 4 [] [] (variable "a" 2 5 ∷ variable "b" 2 5 ∷ []) []
+    (abc VarArgPrep 0 0 0 false ∷ abc VarArg 0 0 3 false ∷ abc Move 2 0 0 false ∷ abc VarArg 3 0 0 false ∷ abc Return 2 0 1 false ∷ [])
+
+varargs_code : Compiles spreads spreads_code
+unfolding opcodes number_of
+varargs_code = refl
+
+varargs : AskAlike 1 (tree_asks spreads (number 1 ∷ number 2 ∷ number 3 ∷ []) []) (code_asks spreads_code (number 1 ∷ number 2 ∷ number 3 ∷ []) [])
+unfolding opcodes number_of int_wrap
+varargs = (refl, refl)
+
+-- function(v) local x <close> = v return 1//0 end
+abbrev faults : Body
+faults = fun ("v" ∷ []) [] (returning (locals (closed "x" 1 ∷ []) (loc "v" 0 ∷ []) ∷ []) (bin Idiv (int 1) (int 0) ∷ []))
+
+abbrev pub faults_code : Prototype
+faults_code = hand 1 false 4 [] [] (variable "v" 0 7 ∷ variable "x" 1 7 ∷ []) []
+    (abc Move 1 0 0 false ∷ abc Tbc 1 0 0 false ∷ load_int 2 1 ∷ load_int 3 0 ∷ abc IDiv 2 2 3 false ∷ abc MmBin 2 3 12 false ∷ abc Return 2 2 0 false ∷ [])
+
+fault_code : Compiles faults faults_code
+unfolding opcodes number_of
+fault_code = refl
+
+own_fault : AskAlike 4 (tree_asks faults (object a_table 3 ∷ []) (left (number 5) ∷ values [] ∷ []))
+    (code_asks faults_code (object a_table 3 ∷ []) (left (number 5) ∷ values [] ∷ []))
+unfolding opcodes number_of int_wrap
+own_fault = (refl, refl)
+
+-- function(f,v) do local x <close> = v local y=1 f(function() return y end) end return 2 end
+abbrev closes_at_end : Body
+closes_at_end = fun ("f" ∷ "v" ∷ []) [] (returning (
+    Do 1 (block (
+    locals (closed "x" 2 ∷ []) (loc "v" 1 ∷ []) ∷ loc_is "y" 3 (int 1)
+    ∷ does (call (loc "f" 0) (function (fun [] (of_local "y" 3 ∷ []) (returning [] (outer "y" 0 ∷ []))) ∷ [])) ∷ [])) ∷ [])
+    (int 2 ∷ []))
+
+abbrev pub closes_at_end_code : Prototype
+closes_at_end_code = hand 2 false 6 [] [] (variable "f" 0 9 ∷ variable "v" 0 9 ∷ variable "x" 1 7 ∷ variable "y" 3 7 ∷ [])
+    (hand 0 false 1 [] (("y", 3) ∷ []) [] [] (abc GetUpval 0 0 0 false ∷ abc Return 0 2 0 false ∷ []) ∷ [])
+    (abc Move 2 1 0 false ∷ abc Tbc 2 0 0 false ∷ load_int 3 1 ∷ abc Move 4 0 0 false ∷ abx Closure 5 0 ∷ abc Call 4 2 1 false ∷ abc Close 2 0 0 false
+    ∷ load_int 2 2 ∷ abc Return 2 2 0 false ∷ [])
+
+closes_code : Compiles closes_at_end closes_at_end_code
+unfolding opcodes number_of
+closes_code = refl
+
+closed_at_block_end : AskAlike 6 (tree_asks closes_at_end (number 1 ∷ object a_table 5 ∷ []) (values [] ∷ values [] ∷ []))
+    (code_asks closes_at_end_code (number 1 ∷ object a_table 5 ∷ []) (values [] ∷ values [] ∷ []))
+unfolding opcodes number_of int_wrap
+closed_at_block_end = (refl, refl)
+
+closed_by_error : AskAlike 6 (tree_asks closes_at_end (number 1 ∷ object a_table 5 ∷ []) (left (number 6) ∷ left (number 7) ∷ []))
+    (code_asks closes_at_end_code (number 1 ∷ object a_table 5 ∷ []) (left (number 6) ∷ left (number 7) ∷ []))
+unfolding opcodes number_of int_wrap
+closed_by_error = (refl, refl)
+
+faulted_call : AskAlike 7 (tree_asks closes_at_end (number 1 ∷ object a_table 5 ∷ []) (faulted (codes "no") ∷ left (number 6) ∷ values [] ∷ []))
+    (code_asks closes_at_end_code (number 1 ∷ object a_table 5 ∷ []) (faulted (codes "no") ∷ left (number 6) ∷ values [] ∷ []))
+unfolding opcodes number_of int_wrap
+faulted_call = (refl, refl)

@@ -1,0 +1,10 @@
+pub mod Registers
+pub mod Talking
+pub mod Placing
+pub mod Steps
+pub mod Arithmetic
+pub mod Loads
+pub mod Prefixes
+pub mod Tests
+pub mod Comparisons
+pub mod Exps

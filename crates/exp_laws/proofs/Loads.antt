@@ -1,0 +1,65 @@
+-- Instructions that load constants, as one equation each.
+use Rattle.std.proofs.Common.{◌≡◌, ℕ, ◌+◌, ◌<◌, ◌^◌, lit<, true, false, ℤ, pos, negsuc, ◌-ℤ◌, List, [], ◌∷◌, length, slice_get, Some, None, ⊎_elim, sym, ap, ap₂, ◌∙◌, arith}
+use borrow.Author.Tests.{lt-ltb, ltb-true, le-leb, leb-true}
+use Rattle.std.proofs.lemmas.Option.{slice_get_cases}
+use Rattle.int_core.specs.Value.{Value, known, nil, integer, write}
+use Rattle.int_core.specs.Ask.{Captured, goes_on}
+use Rattle.code_core.specs.declared.opcode.Opcode.TheVariants.{LoadI, LoadK, LoadNil}
+use Rattle.code_core.specs.declared.instruction.Instruction.{Instruction}
+use Rattle.code_core.specs.declared.proto.Const.{Const}
+use Rattle.code_core.specs.Instruction.{abc, abx}
+use Rattle.code_core.specs.Prototype.{Prototype}
+use Rattle.code_core.specs.Check.{at}
+use Rattle.code_core.proofs.FieldLemmas.{opcode_of-abc, a_of-abc, b_of-abc, opcode_of-abx, a_of-abx, bx_of-abx}
+use Rattle.machine_core.specs.World.{Activation}
+use Rattle.machine_core.specs.Text.{read, written, read_constant, write_nils, constant, own}
+use Rattle.machine_core.specs.InstructionRows.{next, then, to_register}
+use Rattle.machine_core.specs.Talk.{before, talk, talk_step}
+use Rattle.code_of.specs.Constants.{is_small, small_field, number_in}
+use Rattle.exp_laws.proofs.Steps.{row_step, own_step, go_step, put_on, to_register_step}
+
+-- a small integer is the field of its LOADI
+
+pub field_fits : (z : ℤ) → is_small z ≡ true → small_field z < 2 ^ 17
+field_fits (pos n) e = let h = leb-true n 65536 e in omega (arith, h)
+field_fits (negsuc n) e = omega arith
+
+pub field_value : (z : ℤ) → is_small z ≡ true → pos (small_field z) -ℤ pos 65535 ≡ z
+field_value (pos n) e = grind arith
+field_value (negsuc n) e = let h : n < 65535 = ltb-true n 65535 e in grind arith
+
+-- a constant has its number in the table
+pub record Found (cs : List Const) (x : Const) : Type 0 where
+  pub near : number_in cs x < 131072
+  pub there : slice_get cs (number_in cs x) ≡ Some x
+
+found_below : (cs : List Const) (i : ℕ) (x : Const) → slice_get cs i ≡ Some x → i < length cs
+found_below cs i x e = ⊎_elim (λ h. h.1) (λ h. let no : None ≡ Some x = sym h.1 ∙ e in absurd (cc)) (slice_get_cases cs i).1
+
+module _ (p : Prototype) (a : Activation) (c : Captured) (w : Instruction) (there : at p (a.pc + 1) ≡ Some w) where
+  pub nil_step : (t : ℕ) → at p a.pc ≡ Some (abc LoadNil t 0 0 false) → t < 2 ^ 8 → t < length a.registers
+      → talk_step p (before a c) ≡ goes_on (before (put_on p a t (known nil) 1) c)
+  nil_step t here fits room =
+      row_step p (abc LoadNil t 0 0 false) LoadNil (then (write_nils t 1) next) a c here (opcode_of-abc LoadNil t 0 0 false)
+      (ap₂ (λ d b. then (write_nils d (b + 1)) next) (a_of-abc LoadNil t 0 0 false fits) (b_of-abc LoadNil t 0 0 false fits (lit< tt)))
+      ∙ own_step p (write_nils t 1) (λ _ _. next) [] a c (le-leb (t + 1) (length a.registers) (omega arith))
+      ∙ go_step p 1 w [] (record a { registers = write t (known nil) a.registers }) c there
+
+  pub integer_step : (t : ℕ) (z : ℤ) → at p a.pc ≡ Some (abx LoadI t (small_field z)) → is_small z ≡ true → t < 2 ^ 8 → t < length a.registers
+      → talk_step p (before a c) ≡ goes_on (before (put_on p a t (known (integer z)) 1) c)
+  integer_step t z here is fits room =
+      row_step p (abx LoadI t (small_field z)) LoadI (to_register t (written (integer z))) a c here (opcode_of-abx LoadI t (small_field z))
+      (ap₂ (λ d b. to_register d (written (integer (pos b -ℤ pos 65535)))) (a_of-abx LoadI t (small_field z) fits) (bx_of-abx LoadI t (small_field z) fits (field_fits z is))
+      ∙ ap (λ y. to_register t (written (integer y))) (field_value z is))
+      ∙ to_register_step p t (written (integer z)) w [] a c room there
+
+  pub constant_step : (t : ℕ) (x : Const) → at p a.pc ≡ Some (abx LoadK t (number_in p.own.constants x)) → Found p.own.constants x → t < 2 ^ 8 → t < length a.registers
+      → talk_step p (before a c) ≡ goes_on (before (put_on p a t (known (constant x)) 1) c)
+  constant_step t x here found fits room =
+      let n = number_in p.own.constants x in
+      let near : n < 2 ^ 17 = found.near in
+      row_step p (abx LoadK t n) LoadK (own (read_constant n) (λ v _. to_register t (read v))) a c here (opcode_of-abx LoadK t n)
+      (ap₂ (λ b d. own (read_constant b) (λ v _. to_register d (read v))) (bx_of-abx LoadK t n fits near) (a_of-abx LoadK t n fits))
+      ∙ own_step p (read_constant n) (λ v _. to_register t (read v)) [] a c (lt-ltb n (length p.own.constants) (found_below p.own.constants n x found.there))
+      ∙ ap (λ o. talk p (to_register t (read 0)) (elim o as (λ _. List Value) [ None ↦ [] | Some k ↦ known (constant k) ∷ [] ]) a c) found.there
+      ∙ to_register_step p t (read 0) w (known (constant x) ∷ []) a c room there
