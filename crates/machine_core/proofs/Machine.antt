@@ -192,6 +192,11 @@ not_closed : result (protected 5 fails 1) ≡ (Some (spent, [], 0), int 7 ∷ in
 unfolding opcodes number_of int_wrap put_frames put_top push pop write_cell with_own put_coroutine back_to_resumer raw_set woken
 not_closed = refl
 
+-- where the handler cannot be paid, the step has no effect: the error is still on its way
+handler_unpaid : result (protected 3 fails 1) ≡ (Some (spent, int 42 ∷ [], 0), [])
+unfolding opcodes number_of int_wrap put_frames put_top push pop write_cell with_own put_coroutine back_to_resumer raw_set woken
+handler_unpaid = refl
+
 -- a fault of f's own step; the handler fails on its text, which gives up
 own_fault : result (protected 5 faults 1) ≡ (Some (main_returned, known (boolean false) ∷ text (codes "error in error handling") ∷ [], 0), int 7 ∷ text (codes "error in error handling") ∷ text (codes "error in error handling") ∷ [])
 unfolding opcodes number_of int_wrap put_frames put_top push pop write_cell with_own put_coroutine back_to_resumer raw_set woken
