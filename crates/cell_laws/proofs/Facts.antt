@@ -12,7 +12,8 @@ use Rattle.tree_activation.specs.Expressions.{integer_in}
 use Rattle.tree_activation.specs.Jumps.{Landing, passed_by, is_at_end, ahead, behind}
 use Rattle.tree_activation.specs.Statements.{point_of, repeat_point, is_closed, marks_closed, hidden}
 use Rattle.cell_laws.proofs.Lists.{length_write, lt_is}
-use Rattle.cell_laws.proofs.Relation.{Member, Under, Low, Labels, IsPoint, Req}
+use Rattle.cell_laws.specs.Alike.{Member}
+use Rattle.cell_laws.proofs.Relation.{Under, Low, Labels, IsPoint, Req}
 
 not_lt : (m n : ℕ) → nat_lt m n ≡ false → n ≤ m
 not_lt m n h = grind (arith, nat_tests)

@@ -1,5 +1,5 @@
-mod Lists
+pub mod Lists
 mod Opened
-mod Relation
+pub mod Relation
 mod Facts
-mod Steps
+pub mod Steps

@@ -5,7 +5,7 @@ use Rattle.std.specs.Int.{int_wrap}
 use Rattle.std.specs.Fmt.{digits}
 use Rattle.std.specs.Prelude.{codes, option_map}
 use Rattle.int_core.specs.Heap.{raw_set}
-use Rattle.tree_core.specs.declared.operator.BinOp.TheVariants.{Add, Concat}
+use Rattle.tree_core.specs.declared.operator.BinOp.TheVariants.{Add, Mul, Concat}
 use Rattle.tree_core.specs.declared.name.Place.TheVariants.{Local as LocalPlace, GlobalOf}
 use Rattle.tree_core.specs.Tree.{Body, Exp, True, Table, Var, While, NumFor, Keyed, fields}
 use Rattle.tree_activation.specs.Work.{State, when_captured}
@@ -135,3 +135,15 @@ failed_is_closed : run 5000 (chunk (returning (
     (call (co "close") (loc "co" 0 ∷ []) ∷ call (co "close") (loc "co" 0 ∷ []) ∷ []))) [] usual ≡ ran "false\te\nc\te\nreturn\tfalse\ttrue\n" 0
 unfolding int_wrap digits raw_set put_metatable
 failed_is_closed = refl
+
+-- local a=coroutine.wrap(function() local n=0 local function bump() n=n+1 end while true do bump() n=n*2 coroutine.yield(n) bump() end end)
+-- return a(),a(),a(): a local of the coroutine that a function shares, across yields
+shared_across_yields : run 3000 (chunk (returning (
+    loc_is "a" 0 (call (co "wrap") (function (fun [] (env ∷ []) (block (
+    loc_is "n" 0 (int 0)
+    ∷ local_function "bump" 1 (fun [] (of_local "n" 0 ∷ []) (block (assign (outer "n" 0) (bin Add (outer "n" 0) (int 1)) ∷ [])))
+    ∷ While 1 (True 1) (block (
+    does (call (loc "bump" 1) []) ∷ assign (loc "n" 0) (bin Mul (loc "n" 0) (int 2)) ∷ does (call (co "yield") (loc "n" 0 ∷ [])) ∷ does (call (loc "bump" 1) []) ∷ [])) ∷ []))) ∷ [])) ∷ [])
+    (call (loc "a" 0) [] ∷ call (loc "a" 0) [] ∷ call (loc "a" 0) [] ∷ []))) [] usual ≡ ran "return\t2\t8\t20\n" 0
+unfolding int_wrap digits raw_set
+shared_across_yields = refl

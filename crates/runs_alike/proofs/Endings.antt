@@ -23,7 +23,7 @@ all_of k (line ∷ more) = sum_of k (all_of k more)
 same_given : {C : Type 0} → (x y : C) → Some x ≡ Some y → x ≡ y
 same_given x y e = ap (λ o. unwrap_or o x) e
 
-gives_ended : {F S : Type 0} → (now : Now) (W : World F S) (goes : World F S → Option (Meaning F S)) (m : Meaning F S) → at_end now W goes ≡ Some m → has_ended now ≡ true
+pub gives_ended : {F S : Type 0} → (now : Now) (W : World F S) (goes : World F S → Option (Meaning F S)) (m : Meaning F S) → at_end now W goes ≡ Some m → has_ended now ≡ true
 gives_ended (ends ending) W goes m given = refl
 gives_ended talks W goes m given = absurd (cc)
 gives_ended (gives_back vs) W goes m given = absurd (cc)
@@ -45,7 +45,7 @@ module _ {A B S T : Type 0} where
   last_out : (x m : Meaning A S) (y : Meaning B T) → Some x ≡ Some m → RunAlike x y → Later m (λ z. Some y)
   last_out x m y given alike = record { count = zero; other = y; gives = λ z within. refl; alike = like_of x m y given alike }
 
-  suspends_out : (U : World A S) (V : World B T) (m : Meaning A S) → suspends U ≡ Some m → Later m (λ z. suspends V)
+  pub suspends_out : (U : World A S) (V : World B T) (m : Meaning A S) → suspends U ≡ Some m → Later m (λ z. suspends V)
   suspends_out U V m given = last_out (record { printed = []; outcome = is_suspended U }) m (record { printed = []; outcome = is_suspended V }) given (record { printed = refl; outcome = tt })
 
   behind_out : (text more : List ℕ) (o : Option (Meaning A S)) (on : ℕ → Option (Meaning B T)) (m : Meaning A S) → text ≡ more → option_map (behind text) o ≡ Some m
@@ -61,7 +61,7 @@ module _ {A B S T : Type 0} where
       }
 
   -- a turn's end on both sides
-  turn_end : (now : Now) (U : World A S) (V : World B T) (goes : World A S → Option (Meaning A S)) (on : ℕ → World B T → Option (Meaning B T)) (m : Meaning A S) → U.printed ≡ V.printed → at_end now U goes ≡ Some m
+  pub turn_end : (now : Now) (U : World A S) (V : World B T) (goes : World A S → Option (Meaning A S)) (on : ℕ → World B T → Option (Meaning B T)) (m : Meaning A S) → U.printed ≡ V.printed → at_end now U goes ≡ Some m
       → ((y : Meaning A S) → goes U ≡ Some y → Later y (λ z. on z V)) → Later m (λ z. at_end now V (on z))
   turn_end (ends (yielded vs)) U V goes on m same given more =
       behind_out (U.printed ++ report (yielded vs)) (V.printed ++ report (yielded vs)) (goes U) (λ z. on z V) m (ap (λ t. t ++ report (yielded vs)) same) given more

@@ -5,7 +5,7 @@ mod Lowering
 mod Turning
 mod Ticking
 mod Ticks
-mod Endings
+pub mod Endings
 mod Opened
 mod Sides
 mod Openings
