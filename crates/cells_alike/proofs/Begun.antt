@@ -10,7 +10,7 @@ use Rattle.lua_meaning.specs.Meaning.{Script, Meaning, begun, run_from, IsMeanin
 use Rattle.lua_meaning.specs.Opening.{Entry, globals_table, environment_table, prelude_function, opening, primitives}
 use Rattle.cell_laws.specs.Alike.{Has, AreEven}
 use Rattle.cell_laws.proofs.Steps.{starts_alike}
-use Rattle.cells_alike.specs.Alike.{Comes, begins, StaysInScope, Ends}
+use Rattle.cells_alike.specs.Alike.{Ends}
 use Rattle.cells_alike.proofs.Joint.{Made, Thread, is_running, Store, Joint, function_one, function_two, one, two, cells_for, IsStore, LayersAt, layers_in, ArePaired, Base, talking_in, Stands, busy}
 use Rattle.cells_alike.proofs.Moving.{more_map, get_more}
 use Rattle.cells_alike.proofs.Answering.{first_form, second_form}
@@ -120,25 +120,20 @@ module _ (prelude : List (Entry Body)) (script : Script Body) (budget : ℕ) whe
       ap (λ fs. record (two joint) { functions = fs })
       (sym (more_map function_two (map from_prelude prelude) (main_of script)) ∙ ap (λ fs. fs ++ function_two (main_of script) ∷ []) (prelude_two prelude))
 
-  comes : Comes budget (begun second_form primitives (opening prelude) script budget) (two joint)
-  comes = subst (λ V. Comes budget (begun second_form primitives (opening prelude) script budget) V) (sym begun_two) begins
-
-  pub second_ends : StaysInScope prelude script budget → (input : List (List ℕ)) (m : Meaning Body State) → IsMeaning first_form primitives (opening prelude) script input budget m
+  pub second_ends : (input : List (List ℕ)) (m : Meaning Body State) → IsMeaning first_form primitives (opening prelude) script input budget m
       → Ends when_captured prelude script input budget m
-  second_ends scope input m is =
-      let W = begun second_form primitives (opening prelude) script budget in
-      let l = first_runs budget W scope is.steps input joint stands comes m (ap (λ V. run_from first_form primitives is.steps V input budget) begun_one ∙ is.gives) in
+  second_ends input m is =
+      let l = first_runs budget is.steps input joint stands m (ap (λ V. run_from first_form primitives is.steps V input budget) begun_one ∙ is.gives) in
       record {
         meaning = l.other;
         is_meant = record { steps = l.count; gives = sym (ap (λ V. run_from second_form primitives l.count V input budget) begun_two) ∙ l.gives l.count (omega arith) };
         alike = l.alike;
       }
 
-  pub first_ends : StaysInScope prelude script budget → (input : List (List ℕ)) (m : Meaning Body State) → IsMeaning second_form primitives (opening prelude) script input budget m
+  pub first_ends : (input : List (List ℕ)) (m : Meaning Body State) → IsMeaning second_form primitives (opening prelude) script input budget m
       → Ends when_declared prelude script input budget m
-  first_ends scope input m is =
-      let W = begun second_form primitives (opening prelude) script budget in
-      let l = second_runs budget W scope is.steps input joint stands comes m (ap (λ V. run_from second_form primitives is.steps V input budget) begun_two ∙ is.gives) in
+  first_ends input m is =
+      let l = second_runs budget is.steps input joint stands m (ap (λ V. run_from second_form primitives is.steps V input budget) begun_two ∙ is.gives) in
       record {
         meaning = l.other;
         is_meant = record { steps = l.count; gives = sym (ap (λ V. run_from first_form primitives l.count V input budget) begun_one) ∙ l.gives l.count (omega arith) };

@@ -7,5 +7,5 @@ mod Ticking
 mod Ticks
 pub mod Endings
 mod Opened
-mod Sides
-mod Openings
+pub mod Sides
+pub mod Openings
