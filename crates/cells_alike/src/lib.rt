@@ -4,4 +4,4 @@
 
 mod law;
 
-pub use law::{code_keeps_the_letter, runs_do_not_show_cells};
+pub use law::{code_keeps_the_letter, openings_are_ready, runs_do_not_show_cells};

@@ -8,4 +8,4 @@ mod Ticks
 pub mod Endings
 mod Opened
 pub mod Sides
-pub mod Openings
+mod Openings
