@@ -96,7 +96,7 @@ abbrev pub captures_one : Option ℕ → ℕ → ℕ → List ℕ → Control �
 captures_one (Some cell) line n ns next a k = go (capture line ns next) a k
 captures_one None line n ns next a k = says_so (opens (nth a.locals n)) line a (λ x b. at (capture line ns next) (hold n x.cell b) k)
 
--- the number of no local in scope stands in no placed tree
+-- each of these locals gets a cell; where one is not in scope, which stands in no placed tree, nothing more is done
 abbrev pub captures : ℕ → List ℕ → Control → Activation → List Work → Next Body State
 captures line [] next a k = go next a k
 captures line (n ∷ ns) next a k = cond (nat_lt n (length a.locals)) (captures_one (cell_held n a.captured.held) line n ns next a k) stuck
