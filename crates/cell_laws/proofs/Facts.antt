@@ -1,8 +1,7 @@
 -- Facts on numbers of locals, points of blocks and labels.
-use Rattle.std.proofs.Common.{ℕ, zero, suc, ◌+◌, ◌<◌, ◌≤◌, ◌≡◌, ◌⊎◌, inl, inr, ⊎_elim, Bool, true, false, cond, List, [], ◌∷◌, ◌++◌, length, Option, Some, None, refl, ap, arith, length-append}
+use Rattle.std.proofs.Common.{ℕ, zero, suc, ◌+◌, ◌<◌, ◌≤◌, ◌≡◌, ⊎_elim, Bool, true, false, cond, List, [], ◌∷◌, ◌++◌, length, Option, Some, None, refl, ap, arith, length-append}
 use Rattle.std.proofs.lemmas.List.{length-take}
-use Rattle.std.proofs.lemmas.Bool.Decides.{nat_tests}
-use Rattle.std.specs.Prelude.{ℤ, take, nat_lt, bytes_eq}
+use Rattle.std.specs.Prelude.{ℤ, take, bytes_eq}
 use Rattle.int_core.specs.Value.{Value, known, integer, nth, shape, write}
 use Rattle.tree_core.specs.declared.name.Declared.{Declared}
 use Rattle.tree_core.specs.Tree.{Block, Falls, Returns, Stats, EndStats, MoreStats, Local, LocalFunction, Label, Exp}
@@ -11,18 +10,9 @@ use Rattle.tree_activation.specs.Asking.{fitted, numbers}
 use Rattle.tree_activation.specs.Expressions.{integer_in}
 use Rattle.tree_activation.specs.Jumps.{Landing, passed_by, is_at_end, ahead, behind}
 use Rattle.tree_activation.specs.Statements.{point_of, repeat_point, is_closed, marks_closed, hidden}
-use Rattle.cell_laws.proofs.Lists.{length_write, lt_is}
+use Rattle.cell_laws.proofs.Lists.{length_write}
 use Rattle.cell_laws.specs.Alike.{Member}
 use Rattle.cell_laws.proofs.Relation.{Under, Low, Labels, IsPoint, Req}
-
-not_lt : (m n : ℕ) → nat_lt m n ≡ false → n ≤ m
-not_lt m n h = grind (arith, nat_tests)
-
-pub at_or_below : (size m : ℕ) → (size ≤ m) ⊎ (m < size)
-at_or_below size m = by (nat_lt m size) refl where
-  by : (b : Bool) → nat_lt m size ≡ b → (size ≤ m) ⊎ (m < size)
-  by true e = inr (lt_is m size e)
-  by false e = inl (not_lt m size e)
 
 pub under_none : (b : Option ℕ) → b ≡ None → (level : ℕ) → Under b level
 under_none None e level = tt

@@ -63,6 +63,9 @@ eq_true m n h = grind (arith, nat_tests)
 pub lt_is : (m n : ℕ) → nat_lt m n ≡ true → m < n
 lt_is m n h = grind (arith, nat_tests)
 
+pub lt_true : (m n : ℕ) → m < n → nat_lt m n ≡ true
+lt_true m n h = grind (arith, nat_tests)
+
 pub lt_off : (m n : ℕ) → nat_lt m n ≡ false → m < n → ⊥
 lt_off m n h l = grind (arith, nat_tests)
 

@@ -2,11 +2,11 @@
 use Rattle.std.proofs.Common.{ℕ, suc, ◌≡◌, List, [], ◌∷◌, ◌++◌, length, Option, Some, None, refl, sym, ap, ◌∙◌, Bool, true, false, cond}
 use Rattle.std.specs.Prelude.{map, nat_eq}
 use Rattle.int_core.specs.Value.{Value}
-use Rattle.int_core.specs.Ask.{Captured, shared_by, brought, cell_held}
+use Rattle.int_core.specs.Ask.{stuck, Captured, shared_by, brought, cell_held}
 use Rattle.tree_activation.specs.Work.{Control, capture, Work, Activation, at}
 use Rattle.tree_activation.specs.Asking.{captures_one}
 use Rattle.cell_laws.specs.Opening.{carried, opening, by_step, AreInScope, HoldsInScope, AreHeld, KeepsCells}
-use Rattle.cell_laws.proofs.Lists.{write_own, eq_refl, eq_true}
+use Rattle.cell_laws.proofs.Lists.{write_own, eq_refl, eq_true, lt_true}
 
 -- values that come back as they were carried change nothing
 bring_own : (held : List (ℕ × ℕ)) (gone : List (ℕ × Value)) (xs : List Value) → HoldsInScope (length xs) held
@@ -33,6 +33,10 @@ catches_up cell line [] next a k scope holds = (1, a.captured, refl, tt, λ n c 
 catches_up cell line (m ∷ ns) next a k scope holds =
     by (cell_held m a.captured.held) refl (λ c b. catches_up c line ns next b k)
   where
+    in_scope : (n : ℕ) → opening (suc n) cell (at (capture line (m ∷ ns) next) a k) ≡ by_step (at (capture line (m ∷ ns) next) a k) (opening n) cell (captures_one (cell_held m a.captured.held) line m ns next a k)
+    in_scope n =
+        ap (λ b. by_step (at (capture line (m ∷ ns) next) a k) (opening n) cell (cond b (captures_one (cell_held m a.captured.held) line m ns next a k) stuck)) (lt_true m (length a.locals) scope.0)
+
     by : (o : Option ℕ) → cell_held m a.captured.held ≡ o
         → ((c : ℕ) (b : Activation) → AreInScope (length b.locals) ns → HoldsInScope (length b.locals) b.captured.held
         → (n : ℕ) × (captured : Captured) × (opening n c (at (capture line ns next) b k) ≡ at next (record b { captured = captured }) k)
@@ -45,7 +49,8 @@ catches_up cell line (m ∷ ns) next a k scope holds =
         let h = ih (suc cell) b scope.1 (scope.0, holds) in (
           suc h.0,
           h.1,
-          ap (λ o. by_step (at (capture line (m ∷ ns) next) a k) (opening h.0) cell (captures_one o line m ns next a k)) none
+          in_scope h.0
+              ∙ ap (λ o. by_step (at (capture line (m ∷ ns) next) a k) (opening h.0) cell (captures_one o line m ns next a k)) none
               ∙ ap (λ ls. opening h.0 (suc cell) (at (capture line ns next) (record a { locals = ls; captured = record { held = (m, cell) ∷ held; gone = [] } }) k))
               (bring_own held a.captured.gone a.locals holds)
               ∙ h.2,
@@ -56,7 +61,7 @@ catches_up cell line (m ∷ ns) next a k scope holds =
         let h = ih cell a scope.1 holds in (
           suc h.0,
           h.1,
-          ap (λ o. by_step (at (capture line (m ∷ ns) next) a k) (opening h.0) cell (captures_one o line m ns next a k)) found ∙ h.2,
+          in_scope h.0 ∙ ap (λ o. by_step (at (capture line (m ∷ ns) next) a k) (opening h.0) cell (captures_one o line m ns next a k)) found ∙ h.2,
           ((x, h.4 m x found), h.3),
           h.4,
         )

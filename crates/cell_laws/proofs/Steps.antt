@@ -1,11 +1,11 @@
 -- One step of the two forms, by the control.
 use Rattle.std.proofs.Common.{ℕ, zero, suc, ◌+◌, ◌<◌, ◌≤◌, ◌≡◌, inl, inr, ⊎_elim, Bool, true, false, cond, List, [], ◌∷◌, ◌++◌, length, Option, Some, None, refl, sym, ap, subst, ◌∙◌, arith, length-append}
 use Rattle.std.proofs.lemmas.List.{length-take}
-use Rattle.std.specs.Prelude.{ℤ, pos, negsuc, not, take, drop, reverse, codes}
+use Rattle.std.specs.Prelude.{ℤ, pos, negsuc, not, nat_lt, take, drop, reverse, codes}
 use Rattle.int_core.specs.Arithmetic.{add, sub}
 use Rattle.int_core.specs.Value.{Value, known, nil, boolean, integer, string, same_integer, is_nil, nth, shape, holds, bind, write, without_last}
 use Rattle.int_core.specs.Operations.{Event, of_add, of_sub, of_mul, of_mod, of_idiv, of_band, of_bor, of_bxor, of_shl, of_shr, of_unm, of_bnot, computed, by_zero, Operation, index, arithmetic, concat, length', equal, less, less_equal}
-use Rattle.int_core.specs.Ask.{CellName, of_local, of_upvalue, returns, throws, Ask, reads_upvalue, writes_upvalue, makes_table, makes_function, fills_table, pays, operates, calls, calls_last, marks, closes, raises, leaves, Reply, values, faulted, left, values_in, Next, goes_on, says, opens, shared_by, held_below, gone_from, brought, cell_held}
+use Rattle.int_core.specs.Ask.{CellName, of_local, of_upvalue, returns, throws, Ask, reads_upvalue, writes_upvalue, makes_table, makes_function, fills_table, pays, operates, calls, calls_last, marks, closes, raises, leaves, Reply, values, faulted, left, values_in, Next, stuck, goes_on, says, opens, shared_by, held_below, gone_from, brought, cell_held}
 use Rattle.tree_core.specs.declared.name.UpName.{UpName}
 use Rattle.tree_core.specs.declared.name.Name.{Name}
 use Rattle.tree_core.specs.declared.name.Declared.{Declared}
@@ -21,11 +21,11 @@ use Rattle.tree_activation.specs.Asking.{first, go, fitted, says_so, asks_quickl
 use Rattle.tree_activation.specs.Expressions.{give_first, reads_variable, evaluates, makes_with, makes, integer_in, gives_integer, by_integers, operation_of, truth_of, binary, unary, added, constructs, stores_item}
 use Rattle.tree_activation.specs.Jumps.{Landing, passed_by, ahead, behind, lands, goes_to, breaks}
 use Rattle.tree_activation.specs.Statements.{point_of, repeat_point, begins, marks_closed, declares, declares_function, aims_at_name, aims, paired, stores_at, stores, goes_on_from, rounds_to_come, hidden, begins_round, begins_counting, starts_counting, step_of, counts_on, counts_round, hidden_integer, iterates, tests_round, enters_round, has_none, begins_return, executes, ends, runs_on, chooses}
-use Rattle.tree_activation.specs.Activation.{uses_list, takes_all, collects, given, completes, decides, counts_in, tests_in, enters_in, on_top, line_of_end, start}
+use Rattle.tree_activation.specs.Activation.{step, uses_list, takes_all, collects, given, completes, decides, counts_in, tests_in, enters_in, on_top, line_of_end, start}
 use Rattle.cell_laws.specs.Alike.{Has, Member, IsUnpaired, Cells, AreCells, AreEven, opened, SameAsk, SameCells, Moves, FirstAlone, SecondOpens, BothOpen, Together, Steps, Alike}
-use Rattle.cell_laws.proofs.Lists.{write_more, bring_size, bring_own, below_was, find_has, has_find}
+use Rattle.cell_laws.proofs.Lists.{lt_is, lt_true, write_more, bring_size, bring_own, below_was, find_has, has_find}
 use Rattle.cell_laws.proofs.Relation.{View, one, two, Held, held_more, held_even, held_owns, held_cut, held_told, held_first, held_second, held_both, bound, floor, Under, Low, IsEnd, IsPoint, Serves, Sound, Ready, Landed, Req, Rel, same, early, steps_behind, brought_same, in_scope_too}
-use Rattle.cell_laws.proofs.Facts.{at_or_below, under_none, low_none, point_ok, repeat_ok, numbers_in, fitted_size, marks_req, round_size, enter_size, integer_in_scope, IsLanding, ahead_ok, behind_ok}
+use Rattle.cell_laws.proofs.Facts.{under_none, low_none, point_ok, repeat_ok, numbers_in, fitted_size, marks_req, round_size, enter_size, integer_in_scope, IsLanding, ahead_ok, behind_ok}
 use Rattle.tree_core.specs.declared.name.Place.TheVariants.{Local as LocalPlace}
 use Rattle.int_core.specs.Operations.{store as store_op}
 
@@ -53,20 +53,23 @@ pub early_like : (ps : Cells) (v : View) (k : List Work) (line : ℕ) (ns : List
     → ((n : ℕ) → Member n ns → n < length v.ls) → ((hd : List (ℕ × ℕ)) → Req control (bound k) (floor k) hd v.hc) → Sound k
     → FirstAlone (Behind (length ns)) ps (captures line ns control (one v) k) (at control (two v) k)
 early_like ps v k line [] control h d scope r s = (same v k control h d (r v.hd) s, omega arith)
-early_like ps v k line (m ∷ ns) control h d scope r s = by (cell_held m v.hd) refl where
-  by : (o : Option ℕ) → cell_held m v.hd ≡ o → FirstAlone (Behind (suc (length ns))) ps (captures_one o line m ns control (one v) k) (at control (two v) k)
-  by (Some c) e = (early v k line ns control h d (λ n z. scope n (inr z)) r s, omega arith)
-  by None e = (
-    held_owns ps (length v.ls) v.hd v.gd v.hc v.gc v.ls h,
-    λ x quiet number.
-        let w = record v { hd = (m, x.cell) ∷ v.hd; gd = [] } in
-        let now : Cells = record ps { stored = opened (shared_by v.hd v.ls ++ v.gd) (nth v.ls m) ps.stored; own = x.cell ∷ ps.own } in
-        subst (λ ls. Behind (suc (length ns)) now (at (capture line ns control) (one (record v { ls = ls; hd = (m, x.cell) ∷ v.hd; gd = [] })) k) (at control (two v) k))
-        (sym (ap (λ xs. brought v.hd xs v.ls) quiet ∙ bring_own v.hd v.gd v.ls h.scope)) (
-          early w k line ns control (held_first ps (length v.ls) m v.ls (nth v.ls m) v.hd v.gd v.hc v.gc x.cell h (scope m (inl refl)) e number) d (λ n z. scope n (inr z)) r s,
-          omega arith,
-        ),
-  )
+early_like ps v k line (m ∷ ns) control h d scope r s =
+    subst (λ b. FirstAlone (Behind (suc (length ns))) ps (cond b (captures_one (cell_held m v.hd) line m ns control (one v) k) stuck) (at control (two v) k))
+    (sym (lt_true m (length v.ls) (scope m (inl refl)))) (by (cell_held m v.hd) refl)
+  where
+    by : (o : Option ℕ) → cell_held m v.hd ≡ o → FirstAlone (Behind (suc (length ns))) ps (captures_one o line m ns control (one v) k) (at control (two v) k)
+    by (Some c) e = (early v k line ns control h d (λ n z. scope n (inr z)) r s, omega arith)
+    by None e = (
+      held_owns ps (length v.ls) v.hd v.gd v.hc v.gc v.ls h,
+      λ x quiet number.
+          let w = record v { hd = (m, x.cell) ∷ v.hd; gd = [] } in
+          let now : Cells = record ps { stored = opened (shared_by v.hd v.ls ++ v.gd) (nth v.ls m) ps.stored; own = x.cell ∷ ps.own } in
+          subst (λ ls. Behind (suc (length ns)) now (at (capture line ns control) (one (record v { ls = ls; hd = (m, x.cell) ∷ v.hd; gd = [] })) k) (at control (two v) k))
+          (sym (ap (λ xs. brought v.hd xs v.ls) quiet ∙ bring_own v.hd v.gd v.ls h.scope)) (
+            early w k line ns control (held_first ps (length v.ls) m v.ls (nth v.ls m) v.hd v.gd v.hc v.gc x.cell h (scope m (inl refl)) e number) d (λ n z. scope n (inr z)) r s,
+            omega arith,
+          ),
+    )
 
 first_by : (Q R : Cells → State → State → Type 0) → ((ps : Cells) (s t : State) → Q ps s t → R ps s t) → (ps : Cells) (x : Next Body State) (t : State) → FirstAlone Q ps x t → FirstAlone R ps x t
 first_by Q R f ps (goes_on s) t q = f ps s t q
@@ -166,17 +169,17 @@ module _ (Q : Cells → State → State → Type 0) (keep : (ps : Cells) (s t : 
       ⊎_elim (λ a. ⊎_elim (λ e. inr (d, subst (λ z. Has z d to) e has)) (λ b. inl b) a) (λ a. inr (a.0, more n a.0 a.1)) (r n k)
 
   capture_like : (v : View) (k : List Work) (line : ℕ) (ns : List ℕ) (body : Body) → Held ps (length v.ls) v.hd v.gd v.hc v.gc → floor k ≤ length v.ls
-      → Ready ns body v.hc → Sound k → Together Q ps (at (capture line ns (make body)) (one v) k) (at (capture line ns (make body)) (two v) k)
+      → Ready ns body v.hc → Sound k → Together Q ps (captures line ns (make body) (one v) k) (captures line ns (make body) (two v) k)
   capture_like v k line [] body h d r s = inl (goes v k (make body) h d r s)
-  capture_like v k line (m ∷ ns) body h d r s = by (cell_held m v.hd) (cell_held m v.hc) refl refl where
-    by : (o p : Option ℕ) → cell_held m v.hd ≡ o → cell_held m v.hc ≡ p
-        → Together Q ps (at (capture line (m ∷ ns) (make body)) (one v) k) (at (capture line (m ∷ ns) (make body)) (two v) k)
-    by None (Some c) e f = absurd (let b = h.both m c (find_has v.hc m c f) in has_find v.hd m b.0 b.1 e)
-    by (Some c) (Some x) e f =
+  capture_like v k line (m ∷ ns) body h d r s = in_scope (nat_lt m (length v.ls)) refl where
+    by : m < length v.ls → (o p : Option ℕ) → cell_held m v.hd ≡ o → cell_held m v.hc ≡ p
+        → Together Q ps (captures_one (cell_held m v.hd) line m ns (make body) (one v) k) (captures_one (cell_held m v.hc) line m ns (make body) (two v) k)
+    by l None (Some c) e f = absurd (let b = h.both m c (find_has v.hc m c f) in has_find v.hd m b.0 b.1 e)
+    by l (Some c) (Some x) e f =
         inl (subst (λ o. Moves Q ps (captures_one o line m ns (make body) (one v) k) (captures_one (cell_held m v.hc) line m ns (make body) (two v) k)) (sym e)
         (subst (λ o. Moves Q ps (captures_one (Some c) line m ns (make body) (one v) k) (captures_one o line m ns (make body) (two v) k)) (sym f)
         (goes v k (capture line ns (make body)) h d (ready_more ns m body v.hc v.hc x r (find_has v.hc m x f) (λ n y z. z)) s)))
-    by (Some c) None e f =
+    by l (Some c) None e f =
         let has = find_has v.hd m c e in
         let alone : IsUnpaired c ps.pairs = ⊎_elim (λ a. absurd (has_find v.hc m a.0 a.1 f)) (λ a. a) (h.each m c has) in
         inr (inl (subst (λ o. SecondOpens Q ps (captures_one o line m ns (make body) (one v) k) (captures_one (cell_held m v.hc) line m ns (make body) (two v) k)) (sym e)
@@ -193,9 +196,8 @@ module _ (Q : Cells → State → State → Type 0) (keep : (ps : Cells) (s t : 
               (held_second ps (length v.ls) m c v.ls (nth v.ls m) v.hd v.gd v.hc v.gc y.cell h has alone f number) d
               (ready_more ns m body v.hc ((m, y.cell) ∷ v.hc) y.cell r (inl (refl, refl)) (λ n x z. inr z)) s)),
         ))))
-    by None None e f = ⊎_elim
-        (λ l. inr (inr (inr l)))
-        (λ l. inr (inr (inl (subst (λ o. BothOpen Q ps (captures_one o line m ns (make body) (one v) k) (captures_one (cell_held m v.hc) line m ns (make body) (two v) k)) (sym e)
+    by l None None e f =
+        inr (inr (subst (λ o. BothOpen Q ps (captures_one o line m ns (make body) (one v) k) (captures_one (cell_held m v.hc) line m ns (make body) (two v) k)) (sym e)
         (subst (λ o. BothOpen Q ps (captures_one None line m ns (make body) (one v) k) (captures_one o line m ns (make body) (two v) k)) (sym f) (
           refl,
           refl,
@@ -215,8 +217,12 @@ module _ (Q : Cells → State → State → Type 0) (keep : (ps : Cells) (s t : 
               keep now (at (capture line ns (make body)) (one w) k) (at (capture line ns (make body)) (two w) k)
               (same w k (capture line ns (make body)) (held_both ps (length v.ls) m v.ls (nth v.ls m) (nth v.ls m) v.hd v.gd v.hc v.gc x.cell y.cell h l e f number number_too) d
               (ready_more ns m body v.hc ((m, y.cell) ∷ v.hc) y.cell r (inl (refl, refl)) (λ n z q. inr q)) s))),
-        ))))))
-        (at_or_below (length v.ls) m)
+        ))))
+
+    in_scope : (b : Bool) → nat_lt m (length v.ls) ≡ b
+        → Together Q ps (cond b (captures_one (cell_held m v.hd) line m ns (make body) (one v) k) stuck) (cond b (captures_one (cell_held m v.hc) line m ns (make body) (two v) k) stuck)
+    in_scope true e = by (lt_is m (length v.ls) e) (cell_held m v.hd) (cell_held m v.hc) refl refl
+    in_scope false e = inl tt
 
   -- expressions
 
@@ -667,7 +673,7 @@ module _ (Q : Cells → State → State → Type 0) (keep : (ps : Cells) (s t : 
   enters_in_like vs v w k h d r s = tt
 
   pub same_like : (v : View) (k : List Work) (control : Control) → Held ps (length v.ls) v.hd v.gd v.hc v.gc → floor k ≤ length v.ls → Req control (bound k) (floor k) v.hd v.hc → Sound k
-      → Together Q ps (at control (one v) k) (at control (two v) k)
+      → Together Q ps (step (at control (one v) k)) (step (at control (two v) k))
   same_like v k (evaluate e) h d r s = inl (expressions_like e v k h d s)
   same_like v [] (give vs) h d r s = inl tt
   same_like v (w ∷ k) (give vs) h d r s = inl (given_like vs v w k h d s)

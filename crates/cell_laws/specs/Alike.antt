@@ -1,10 +1,10 @@
 -- The two forms in which an activation's locals get their cells, side by side: as they are declared, and before the first function that
 -- captures them. Cells of the two that stand for the same variable are a pair.
-use Rattle.std.specs.Prelude.{◌≡◌, ◌⊎◌, ℕ, zero, suc, ◌<◌, ◌≤◌, List, [], ◌∷◌, ◌++◌, length, map}
+use Rattle.std.specs.Prelude.{◌≡◌, ◌⊎◌, ℕ, zero, suc, ◌<◌, List, [], ◌∷◌, ◌++◌, length, map}
 use Rattle.int_core.specs.Value.{Value, nth}
 use Rattle.int_core.specs.Ask.{CellName, of_local, of_upvalue, Ask, opens, makes_function, Answer, Next, goes_on, says, stuck}
 use Rattle.tree_core.specs.Tree.{Body}
-use Rattle.tree_activation.specs.Work.{capture, when_declared, when_captured, State, at}
+use Rattle.tree_activation.specs.Work.{when_declared, when_captured, State}
 use Rattle.tree_activation.specs.Activation.{start, step}
 use Rattle.lua_meaning.specs.World.{shared_in, shared_out}
 use Rattle.cell_laws.specs.Opening.{carried}
@@ -132,16 +132,11 @@ module _ (Q : Cells → State → State → Type 0) (cells : Cells) where
       → Q (record { pairs = (x.cell, y.cell) ∷ cells.pairs; stored = opened shared v cells.stored; stored_too = opened also w cells.stored_too; own = x.cell ∷ cells.own }) (k x) (l y))
   BothOpen _ _ = ⊥
 
-  -- a function names a local that is not in scope, which stands in no placed tree
-  abbrev pub IsMisplaced : State → Type 0
-  IsMisplaced (at (capture line (n ∷ ns) next) a k) = length a.locals ≤ n
-  IsMisplaced _ = ⊥
-
-  abbrev pub Together : State → State → Type 0
-  Together s t = Moves (step s) (step t) ⊎ (SecondOpens (step s) (step t) ⊎ (BothOpen (step s) (step t) ⊎ IsMisplaced t))
+  abbrev pub Together : Next Body State → Next Body State → Type 0
+  Together x y = Moves x y ⊎ (SecondOpens x y ⊎ BothOpen x y)
 
   abbrev pub Steps : State → State → Type 0
-  Steps s t = Together s t ⊎ FirstAlone (step s) t
+  Steps s t = Together (step s) (step t) ⊎ FirstAlone (step s) t
 
 -- the two are alike through n steps
 abbrev pub Alike : ℕ → Cells → State → State → Type 0

@@ -10,8 +10,8 @@ pub fn opening_changes_nothing()
 
 /// An activation whose locals get their cells as they are declared, and one whose locals get them
 /// before the first function that captures them, ask the same on the same answers, but for the
-/// opening of cells and their numbers, until a function names a local that is not in scope. The
-/// values that asks carry into cells are not compared.
+/// opening of cells and their numbers. After each ask of both, cells that stand for one variable have
+/// the same value. While an activation waits others may act.
 pub fn cells_do_not_show()
     ensures { CellsDoNotShow }
 {}

@@ -6,3 +6,4 @@ mod Turning
 mod Ticking
 mod Runs
 mod Begun
+mod Letter

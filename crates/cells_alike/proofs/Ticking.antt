@@ -7,20 +7,19 @@ use Rattle.int_core.specs.Value.{Value, known, string, object, a_table, a_functi
 use Rattle.int_core.specs.Operations.{is_function}
 use Rattle.int_core.specs.Ask.{Ask, reads_upvalue, writes_upvalue, makes_table, makes_function, fills_table, pays, opens, operates, calls, calls_last, marks, closes, raises, leaves, Answer, Next, goes_on, says, stuck}
 use Rattle.tree_core.specs.Tree.{Body}
-use Rattle.tree_activation.specs.Work.{capture, State, at}
+use Rattle.tree_activation.specs.Work.{State}
 use Rattle.tree_activation.specs.Activation.{step}
-use Rattle.lua_meaning.specs.World.{System, Function, Frame, talking, Coroutine, Now, talks, gives_back, raises_error, unwinds, calls_primitive, ends, World, now_in, breaks, limited, second, without_name, as_known, shared_in}
+use Rattle.lua_meaning.specs.World.{System, Function, Frame, Coroutine, Now, talks, gives_back, raises_error, unwinds, calls_primitive, ends, World, now_in, breaks, limited, second, without_name, as_known, shared_in}
 use Rattle.lua_meaning.specs.Calls.{text, truth}
 use Rattle.lua_meaning.specs.Asks.{none as no_values, handle, turns, talks_on}
 use Rattle.lua_meaning.specs.Primitives.{Primitive, lua_error, lua_pcall, lua_xpcall, coroutine_close, coroutine_create, coroutine_isyieldable, coroutine_resume, coroutine_running, coroutine_status, coroutine_yield, prelude_out, Done, done, wrong_type, name_in, row}
 use Rattle.lua_meaning.specs.Primitives.{refused as no_result}
 use Rattle.lua_meaning.specs.Step.{placed, error_by, level_in, creates, with_coroutine, status_of, running_one as running_value, after_row, does_primitive, has_ended, tick_by, tick}
 use Rattle.lua_meaning.specs.Opening.{primitives}
-use Rattle.cell_laws.specs.Alike.{Member, Pairs, Cells, AreEven, Onward, Answered, after_asks, CarriesOwn, SameAsk, new_cell, Moves, FirstAlone, SecondOpens, BothOpen, IsMisplaced, Together}
+use Rattle.cell_laws.specs.Alike.{Member, Pairs, Cells, AreEven, Onward, Answered, after_asks, CarriesOwn, SameAsk, new_cell, Moves, FirstAlone, SecondOpens, BothOpen, Together}
 use Rattle.cell_laws.proofs.Relation.{Rel, same, early, steps_behind}
 use Rattle.cell_laws.proofs.Lists.{in_size}
 use Rattle.cell_laws.proofs.Steps.{Behind, early_like, same_like}
-use Rattle.cells_alike.specs.Alike.{CapturesInScope}
 use Rattle.cells_alike.proofs.Joint.{Made, Waiting, Layer, is_talking, is_waiting, is_raising, is_protected, is_handled, is_handling, is_closing, Thread, is_fresh, is_suspended, is_running, is_normal, is_dead, has_failed, Joint, function_one, function_two, frame_one, frame_two, coroutine_one, coroutine_two, one, two, cells_for, OwnedAt, LayersAt, layers_in, head, Quiet, TalksIn, talking_in, Stands, quiet, stopped, busy, Both}
 use Rattle.cells_alike.proofs.Moving.{more_map, get_more, where_same, either_by, stay_both, now_both, breaks_both, raises_both, yields_both}
 use Rattle.cells_alike.proofs.Answering.{first_form, second_form, calls_over_both, handed_both, raised_both, unwound_both, resumes_both, closes_both}
@@ -321,23 +320,19 @@ pub data Step (J : Joint) (st : Stands J) : Type 0 where
   alone : (K : Joint) (k : Stands K) → tick first_form primitives (one J) ≡ one K → two J ≡ two K → behind k < behind st → has_ended J.now ≡ false → Step J st
 
 data Split (cs : Cells) (s t : State) (r : Rel cs s t) : Type 0 where
-  as_one : Together Rel cs s t → Split cs s t r
+  as_one : Together Rel cs (step s) (step t) → Split cs s t r
   first_only : (m : ℕ) → FirstAlone (Behind m) cs (step s) t → m < steps_behind r → Split cs s t r
 
 split : (cs : Cells) (s t : State) (r : Rel cs s t) → Split cs s t r
 split cs _ _ (same v k control h d r l) = as_one (same_like Rel (λ _ _ _ z. z) cs v k control h d r l)
 split cs _ _ (early v k line ns control h d scope r l) = first_only (length ns) (early_like cs v k line ns control h d scope r l) (omega arith)
 
-in_scope : (f : ℕ) (pending : List Value) (t : State) (below : List (Frame State)) (cs : Cells) → CapturesInScope (talking f pending t ∷ below) → IsMisplaced Rel cs t → ⊥
-in_scope f pending (at (capture line (n ∷ ns) next) a k) below cs c m = omega (arith, c, m)
-in_scope f pending t below cs c m = absurd m
-
 abbrev top_by : System Body State → Option (Function Body) → World Body State → ℕ → List Value → State → List (Frame State) → World Body State
 top_by system o W f pending s below = elim o as (λ _. World Body State) [ None ↦ breaks W | Some g ↦ turns system (as_known g.has_lines (system.steps g.made_of s)) W f pending below ]
 
-busy_step : (J : Joint) (f : ℕ) (pending : List Value) (s t : State) (below : List Layer) (tk : TalksIn J s t below) → CapturesInScope (talking f pending t ∷ map frame_two below)
+busy_step : (J : Joint) (f : ℕ) (pending : List Value) (s t : State) (below : List Layer) (tk : TalksIn J s t below)
     → Step (talking_in J f pending s t below) (busy J f pending s t below tk)
-busy_step J f pending s t below tk scope = by (slice_get J.functions f) refl where
+busy_step J f pending s t below tk = by (slice_get J.functions f) refl where
   there : (o : Option Made) → slice_get J.functions f ≡ o
       → tick first_form primitives (one (talking_in J f pending s t below)) ≡ top_by first_form (option_map function_one o) (one (talking_in J f pending s t below)) f pending s (map frame_one below)
   there o e = ap (λ z. top_by first_form z (one (talking_in J f pending s t below)) f pending s (map frame_one below)) (slice_get-map function_one J.functions f ∙ ap (option_map function_one) e)
@@ -358,9 +353,7 @@ busy_step J f pending s t below tk scope = by (slice_get J.functions f) refl whe
       (λ m. joined (Some g) e (moves_both J f pending s t below tk g.has_lines (step s) (step t) m))
       (λ y. ⊎_elim
       (λ m. joined (Some g) e (second_opens_both J f pending s t below tk g.has_lines (step s) (step t) m))
-      (λ x. ⊎_elim
-      (λ m. joined (Some g) e (both_open_both J f pending s t below tk g.has_lines (step s) (step t) m))
-      (λ m. absurd (in_scope f pending t (map frame_two below) (cells_for J.store tk.own) scope m)) x) y) z
+      (λ m. joined (Some g) e (both_open_both J f pending s t below tk g.has_lines (step s) (step t) m)) y) z
   moved g e (first_only m z l) =
       let a = first_ahead J f pending s t below tk m g.has_lines (step s) z in
       let fewer = a.fewer in
@@ -370,7 +363,7 @@ busy_step J f pending s t below tk scope = by (slice_get J.functions f) refl whe
   by None e = joined None e (breaks_both (talking_in J f pending s t below))
   by (Some g) e = moved g e (split (cells_for J.store tk.own) s t tk.like)
 
-pub step_both : (J : Joint) (st : Stands J) → CapturesInScope (two J).frames → Step J st
-step_both _ (quiet J q) scope = together (quiet_tick J J.now q)
-step_both _ (stopped J ending l) scope = together (record { there = record J { now = ends ending }; same = refl; same_too = refl; stands = stopped J ending l })
-step_both _ (busy J f pending s t below tk) scope = busy_step J f pending s t below tk scope
+pub step_both : (J : Joint) (st : Stands J) → Step J st
+step_both _ (quiet J q) = together (quiet_tick J J.now q)
+step_both _ (stopped J ending l) = together (record { there = record J { now = ends ending }; same = refl; same_too = refl; stands = stopped J ending l })
+step_both _ (busy J f pending s t below tk) = busy_step J f pending s t below tk

@@ -38,11 +38,11 @@ opt_both (Some c) X Y F G x f = f c
 
 -- the cells of an outer variable
 
-pub data Cells (pairs : Pairs) (o p : Option ℕ) : Type 0 where
-  no_cell : o ≡ None → p ≡ None → Cells pairs o p
-  a_pair : (c d : ℕ) → o ≡ Some c → p ≡ Some d → Has c d pairs → Cells pairs o p
+pub data OuterCells (pairs : Pairs) (o p : Option ℕ) : Type 0 where
+  no_cell : o ≡ None → p ≡ None → OuterCells pairs o p
+  a_pair : (c d : ℕ) → o ≡ Some c → p ≡ Some d → Has c d pairs → OuterCells pairs o p
 
-cells_both : (pairs : Pairs) (o p : Option ℕ) (X Y : World Body State) (F G : ℕ → World Body State) → Cells pairs o p → Both X Y → ((c d : ℕ) → Has c d pairs → Both (F c) (G d))
+cells_both : (pairs : Pairs) (o p : Option ℕ) (X Y : World Body State) (F G : ℕ → World Body State) → OuterCells pairs o p → Both X Y → ((c d : ℕ) → Has c d pairs → Both (F c) (G d))
     → Both (elim o as (λ _. World Body State) [ None ↦ X | Some c ↦ F c ]) (elim p as (λ _. World Body State) [ None ↦ Y | Some c ↦ G c ])
 cells_both pairs o p X Y F G (no_cell e d) x f =
     subst (λ z. Both (elim z as (λ _. World Body State) [ None ↦ X | Some c ↦ F c ]) (elim p as (λ _. World Body State) [ None ↦ Y | Some c ↦ G c ])) (sym e)
@@ -51,7 +51,7 @@ cells_both pairs o p X Y F G (a_pair c d e i h) x f =
     subst (λ z. Both (elim z as (λ _. World Body State) [ None ↦ X | Some c ↦ F c ]) (elim p as (λ _. World Body State) [ None ↦ Y | Some c ↦ G c ])) (sym e)
     (subst (λ z. Both (F c) (elim z as (λ _. World Body State) [ None ↦ Y | Some c ↦ G c ])) (sym i) (f c d h))
 
-among : (pairs : Pairs) (cs ds : List ℕ) (u : ℕ) → ArePaired pairs cs ds → Cells pairs (slice_get cs u) (slice_get ds u)
+among : (pairs : Pairs) (cs ds : List ℕ) (u : ℕ) → ArePaired pairs cs ds → OuterCells pairs (slice_get cs u) (slice_get ds u)
 among pairs [] [] u l = no_cell refl refl
 among pairs (c ∷ cs) (d ∷ ds) zero l = a_pair c d refl refl l.0
 among pairs (c ∷ cs) (d ∷ ds) (suc u) l = among pairs cs ds u l.1
@@ -61,13 +61,13 @@ among pairs (c ∷ cs) [] u l = absurd l
 abbrev cell_in : ℕ → Function Body → Option ℕ
 cell_in u g = slice_get g.cells u
 
-outer : (J : Joint) → Base J.store J.functions J.coroutines J.chain → (f u : ℕ) → Cells J.store.pairs (cell_of (one J) f u) (cell_of (two J) f u)
+outer : (J : Joint) → Base J.store J.functions J.coroutines J.chain → (f u : ℕ) → OuterCells J.store.pairs (cell_of (one J) f u) (cell_of (two J) f u)
 outer J b f u =
-    subst (λ o. Cells J.store.pairs (bind o (cell_in u)) (bind (slice_get (map function_two J.functions) f) (cell_in u))) (sym (slice_get-map function_one J.functions f))
-    (subst (λ o. Cells J.store.pairs (bind (option_map function_one (slice_get J.functions f)) (cell_in u)) (bind o (cell_in u))) (sym (slice_get-map function_two J.functions f))
+    subst (λ o. OuterCells J.store.pairs (bind o (cell_in u)) (bind (slice_get (map function_two J.functions) f) (cell_in u))) (sym (slice_get-map function_one J.functions f))
+    (subst (λ o. OuterCells J.store.pairs (bind (option_map function_one (slice_get J.functions f)) (cell_in u)) (bind o (cell_in u))) (sym (slice_get-map function_two J.functions f))
     (by (slice_get J.functions f) refl))
   where
-    by : (o : Option Made) → slice_get J.functions f ≡ o → Cells J.store.pairs (bind (option_map function_one o) (cell_in u)) (bind (option_map function_two o) (cell_in u))
+    by : (o : Option Made) → slice_get J.functions f ≡ o → OuterCells J.store.pairs (bind (option_map function_one o) (cell_in u)) (bind (option_map function_two o) (cell_in u))
     by None e = no_cell refl refl
     by (Some g) e = among J.store.pairs g.cells g.cells_too u (b.paired f g e)
 
@@ -76,7 +76,7 @@ outer J b f u =
 abbrev cell_or : Option ℕ → ℕ
 cell_or o = elim o as (λ _. ℕ) [ None ↦ 0 | Some c ↦ c ]
 
-cell_paired : (pairs : Pairs) (o p : Option ℕ) → Has 0 0 pairs → Cells pairs o p → Has (cell_or o) (cell_or p) pairs
+cell_paired : (pairs : Pairs) (o p : Option ℕ) → Has 0 0 pairs → OuterCells pairs o p → Has (cell_or o) (cell_or p) pairs
 cell_paired pairs o p z (no_cell e d) = subst (λ x. Has (cell_or x) (cell_or p) pairs) (sym e) (subst (λ x. Has 0 (cell_or x) pairs) (sym d) z)
 cell_paired pairs o p z (a_pair c d e i h) = subst (λ x. Has (cell_or x) (cell_or p) pairs) (sym e) (subst (λ x. Has c (cell_or x) pairs) (sym i) h)
 

@@ -1,38 +1,55 @@
 -- Runs of a script in the two forms in which locals get their cells: both print the same and end alike, whatever the lines and the budget are.
-use Rattle.std.specs.Prelude.{ℕ, ◌<◌, List, ◌∷◌, length}
+use Rattle.std.specs.Prelude.{◌≡◌, ℕ, ◌<◌, Bool, List, [], ◌∷◌, length, Some, slice_get}
 use Rattle.tree_core.specs.Tree.{Body}
-use Rattle.tree_activation.specs.Work.{capture, Celling, when_declared, when_captured, State, at}
-use Rattle.lua_meaning.specs.World.{Frame, talking, World}
-use Rattle.lua_meaning.specs.Step.{tick}
-use Rattle.lua_meaning.specs.Meaning.{Script, Meaning, begun, handed_line, IsMeaning}
+use Rattle.tree_activation.specs.Work.{Celling, when_declared, when_captured, State}
+use Rattle.code_core.specs.Prototype.{Prototype}
+use Rattle.machine_core.specs.Talk.{State as CodeState}
+use Rattle.lua_meaning.specs.World.{Function, Coroutine, World}
+use Rattle.lua_meaning.specs.Calls.{frames_in}
+use Rattle.lua_meaning.specs.Meaning.{Script, Meaning, IsMeaning}
 use Rattle.lua_meaning.specs.Opening.{Entry, opening, primitives}
 use Rattle.lua_meaning.specs.TreeMeaning.{trees}
-use Rattle.code_means.specs.Runs.{RunAlike}
+use Rattle.code_means.specs.Means.{Means}
+use Rattle.code_means.specs.Runs.{codes_run, RunAlike}
+use Rattle.runs_alike.specs.Alike.{IsMeantBy, script, CodeEnds, WorldsAlike}
 
--- the worlds to which a run comes: by steps, and by a line that is handed over
-pub data Comes (budget : ℕ) (W : World Body State) : World Body State → Type 0 where
-  begins : Comes budget W W
-  goes_on : (V : World Body State) → Comes budget W V → Comes budget W (tick (trees when_captured) primitives V)
-  is_handed : (V : World Body State) (line : List ℕ) → Comes budget W V → Comes budget W (handed_line (trees when_captured) primitives V line budget)
+abbrev pub AreThere : List ℕ → (size : ℕ) → Type 0
+AreThere [] size = Unit {0}
+AreThere (c ∷ cells) size = (c < size) × AreThere cells size
 
--- the activation on top is not about to capture a local that is not in scope
-abbrev pub CapturesInScope : List (Frame State) → Type 0
-CapturesInScope (talking f pending (at (capture line (n ∷ ns) next) a k) ∷ below) = n < length a.locals
-CapturesInScope _ = Unit {0}
-
--- it never is, which every script keeps to whose names have their places
-abbrev pub StaysInScope : List (Entry Body) → Script Body → (budget : ℕ) → Type 0
-StaysInScope prelude script budget =
-    (V : World Body State) → Comes budget (begun (trees when_captured) primitives (opening prelude) script budget) V → CapturesInScope V.frames
+-- a world before a script: no coroutine has frames, and the cells that functions name are there
+pub record IsReady (W : World Body State) : Type 0 where
+  pub coroutines : (n : ℕ) (c : Coroutine State) → slice_get W.coroutines n ≡ Some c → frames_in (Some c) ≡ []
+  pub functions : (n : ℕ) (f : Function Body) → slice_get W.functions n ≡ Some f → AreThere f.cells (length W.cells)
 
 -- a run in this form prints the same and ends alike
-pub record Ends (celling : Celling) (prelude : List (Entry Body)) (script : Script Body) (input : List (List ℕ)) (budget : ℕ) (m : Meaning Body State) : Type 0 where
+pub record Ends (celling : Celling) (W : World Body State) (s : Script Body) (input : List (List ℕ)) (budget : ℕ) (m : Meaning Body State) : Type 0 where
   pub meaning : Meaning Body State
-  pub is_meant : IsMeaning (trees celling) primitives (opening prelude) script input budget meaning
+  pub is_meant : IsMeaning (trees celling) primitives W s input budget meaning
   pub alike : RunAlike m meaning
 
 abbrev pub RunsDoNotShowCells : Type 0
 RunsDoNotShowCells =
-    (prelude : List (Entry Body)) (script : Script Body) (input : List (List ℕ)) (budget : ℕ) (m : Meaning Body State) → StaysInScope prelude script budget
-    → (IsMeaning (trees when_declared) primitives (opening prelude) script input budget m → Ends when_captured prelude script input budget m)
-    × (IsMeaning (trees when_captured) primitives (opening prelude) script input budget m → Ends when_declared prelude script input budget m)
+    (W : World Body State) → IsReady W → (s : Script Body) (input : List (List ℕ)) (budget : ℕ) (m : Meaning Body State)
+    → (IsMeaning (trees when_declared) primitives W s input budget m → Ends when_captured W s input budget m)
+    × (IsMeaning (trees when_captured) primitives W s input budget m → Ends when_declared W s input budget m)
+
+-- worlds of the libraries are such worlds
+abbrev pub OpeningsAreReady : Type 0
+OpeningsAreReady = (prelude : List (Entry Body)) → IsReady (opening prelude)
+
+-- code, and the tree by the letter of the manual
+
+pub record LetterEnds (W : World Body State) (s : Script Body) (input : List (List ℕ)) (budget : ℕ) (m : Meaning Prototype CodeState) : Type 0 where
+  pub meaning : Meaning Body State
+  pub is_meant : IsMeaning (trees when_declared) primitives W s input budget meaning
+  pub alike : RunAlike meaning m
+
+-- where code means the main function and the functions that are there before the script, the tree's meaning by the letter is the code's, and the
+-- other way round
+abbrev pub CodeKeepsTheLetter : Type 0
+CodeKeepsTheLetter =
+    (W : World Body State) (V : World Prototype CodeState) → IsReady W → WorldsAlike IsMeantBy W V
+    → (main : Body) (code : Prototype) (name : List ℕ) (lines : Bool) → Means lines code main → (input : List (List ℕ)) (budget : ℕ)
+    → ((m : Meaning Body State) → IsMeaning (trees when_declared) primitives W (script main name lines) input budget m → CodeEnds V (script code name lines) input budget m)
+    × ((m : Meaning Prototype CodeState) → IsMeaning codes_run primitives V (script code name lines) input budget m → LetterEnds W (script main name lines) input budget m)

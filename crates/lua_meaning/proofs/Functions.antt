@@ -188,3 +188,7 @@ local_environment : run 300 (chunk (returning (
     (Rattle.tree_core.specs.Tree.Var 1 (Rattle.lua_meaning.proofs.Scripts.name "x" (Rattle.tree_core.specs.declared.name.Place.TheVariants.GlobalIn 0)) ∷ []))) [] usual ≡ ran "return\t3\n" 0
 unfolding digits raw_set
 local_environment = refl
+
+-- return function() return x end, where x is to be a local and none is in scope, which stands in no placed tree
+misplaced : run 300 (chunk (returning [] (function (fun [] (of_local "x" 0 ∷ []) (returning [] (outer "x" 0 ∷ []))) ∷ []))) [] usual ≡ ran "" 99
+misplaced = refl

@@ -7,5 +7,5 @@ mod Ticking
 mod Ticks
 pub mod Endings
 mod Opened
-mod Sides
+pub mod Sides
 mod Openings

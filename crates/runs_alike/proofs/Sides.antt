@@ -195,7 +195,7 @@ end_flip (is_suspended W) (is_suspended V) like = tt
 end_flip is_broken is_broken like = tt
 end_flip x y like = absurd like
 
-run_flip : {A B S T : Type 0} → (x : Meaning A S) (y : Meaning B T) → RunAlike x y → RunAlike y x
+pub run_flip : {A B S T : Type 0} → (x : Meaning A S) (y : Meaning B T) → RunAlike x y → RunAlike y x
 run_flip x y like = record { printed = sym like.printed; outcome = end_flip x.outcome y.outcome like.outcome }
 
 -- a count is within itself

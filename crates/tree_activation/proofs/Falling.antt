@@ -1,6 +1,6 @@
 -- Each own step of an activation makes its size less.
 use Rattle.std.proofs.Common.{◌≡◌, ℕ, zero, suc, ◌+◌, ◌-◌, ◌<◌, ◌≤◌, Bool, true, false, cond, List, [], ◌∷◌, length, Option, Some, None, refl, arith, length-take, length-append}
-use Rattle.std.specs.Prelude.{ℤ}
+use Rattle.std.specs.Prelude.{ℤ, nat_lt}
 use Rattle.int_core.specs.Value.{Value, shape, holds, nth, without_last}
 use Rattle.int_core.specs.Operations.{Event, of_add, of_sub, of_mul, of_mod, of_idiv, of_band, of_bor, of_bxor, of_shl, of_shr, computed}
 use Rattle.int_core.specs.Ask.{CellName, Next, goes_on, says, stuck, cell_held}
@@ -133,7 +133,7 @@ marks_less line name n next a k = either_less _ (holds (shape (nth a.locals n)))
 pub captures_less : (line : ℕ) (ns : List ℕ) (next : Control) (a : Activation) (k : List Work)
     → Less (length ns + 1 + control_size next (works_size k) + length a.pending) (captures line ns next a k)
 captures_less line [] next a k = omega arith
-captures_less line (n ∷ ns) next a k = by (cell_held n a.captured.held) where
+captures_less line (n ∷ ns) next a k = either_less _ (nat_lt n (length a.locals)) _ _ (by (cell_held n a.captured.held)) tt where
   by : (o : Option ℕ) → Less (length (n ∷ ns) + 1 + control_size next (works_size k) + length a.pending) (captures_one o line n ns next a k)
   by None = tt
   by (Some cell) = omega arith

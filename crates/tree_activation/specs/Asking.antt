@@ -1,7 +1,7 @@
 -- How an activation asks, and how it goes on with the answer.
-use Rattle.std.specs.Prelude.{ℕ, zero, suc, Bool, true, false, cond, nat_le, List, [], ◌∷◌, ◌++◌, take, Option, Some, None}
+use Rattle.std.specs.Prelude.{ℕ, zero, suc, Bool, true, false, cond, nat_le, nat_lt, List, [], ◌∷◌, ◌++◌, length, take, Option, Some, None}
 use Rattle.int_core.specs.Value.{Value, known, nil, nth, shape, holds, bind, last, without_last}
-use Rattle.int_core.specs.Ask.{CellName, of_local, of_upvalue, Left, throws, Ask, opens, marks, closes, raises, leaves, Reply, values, faulted, left, values_in, Answer, Next, goes_on, says, Captured, cell_held, held_below, gone_from, shared_by, brought}
+use Rattle.int_core.specs.Ask.{CellName, of_local, of_upvalue, Left, throws, Ask, opens, marks, closes, raises, leaves, Reply, values, faulted, left, values_in, Answer, Next, goes_on, says, stuck, Captured, cell_held, held_below, gone_from, shared_by, brought}
 use Rattle.tree_core.specs.declared.name.UpName.{UpName}
 use Rattle.tree_core.specs.Tree.{Body, BodyOf}
 use Rattle.tree_activation.specs.Work.{Control, capture, leave_scope, raise, finish, over, Work, Celling, when_declared, when_captured, Pending, Activation, State, at}
@@ -96,9 +96,10 @@ abbrev pub captures_one : Option ℕ → ℕ → ℕ → List ℕ → Control �
 captures_one (Some cell) line n ns next a k = go (capture line ns next) a k
 captures_one None line n ns next a k = says_so (opens (nth a.locals n)) line a (λ x b. at (capture line ns next) (hold n x.cell b) k)
 
+-- each of these locals gets a cell; where one is not in scope, which stands in no placed tree, nothing more is done
 abbrev pub captures : ℕ → List ℕ → Control → Activation → List Work → Next Body State
 captures line [] next a k = go next a k
-captures line (n ∷ ns) next a k = captures_one (cell_held n a.captured.held) line n ns next a k
+captures line (n ∷ ns) next a k = cond (nat_lt n (length a.locals)) (captures_one (cell_held n a.captured.held) line n ns next a k) stuck
 
 -- locals have been declared
 abbrev pub declared : Celling → ℕ → List ℕ → Control → Control

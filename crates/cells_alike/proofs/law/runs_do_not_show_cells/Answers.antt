@@ -2,4 +2,4 @@ use Rattle.cells_alike.proofs.Begun.{second_ends, first_ends}
 use Rattle.cells_alike.proofs.law.runs_do_not_show_cells.Goals as goal
 
 pub returns : goal.returns
-returns c = λ prelude script input budget m scope. (λ is. second_ends prelude script budget scope input m is, λ is. first_ends prelude script budget scope input m is)
+returns c = λ W ready s input budget m. (λ is. second_ends W ready s budget input m is, λ is. first_ends W ready s budget input m is)
