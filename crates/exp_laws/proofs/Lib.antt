@@ -1,10 +1,16 @@
 pub mod Registers
 pub mod Talking
 pub mod Placing
+pub mod Leaving
+pub mod Asking
+pub mod Going
+pub mod Placed
+pub mod NameForms
+pub mod OperatorForms
+pub mod Exps
 pub mod Steps
 pub mod Arithmetic
 pub mod Loads
 pub mod Prefixes
 pub mod Tests
 pub mod Comparisons
-pub mod Exps
