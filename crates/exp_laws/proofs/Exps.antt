@@ -1,28 +1,36 @@
 -- The code of an expression talks as the expression does. The work below is any work, and code goes on by a hypothesis.
-use Rattle.std.proofs.Common.{◌≡◌, ℕ, ◌+◌, ◌<◌, ◌≤◌, Bool, true, false, List, [], ◌∷◌, ◌++◌, length, cond, refl, sym, ◌∙◌, subst, arith, length-append}
-use Rattle.int_core.specs.Value.{Value, same_truth, known, nil, boolean, shape, holds}
-use Rattle.int_core.specs.Ask.{Captured}
-use Rattle.tree_core.specs.Tree.{Exp, Nil, True, False, Int, Str, Vararg, Function, Var, Index, Call, Method, Unary, Binary, And, Or, Paren, Table}
-use Rattle.tree_activation.specs.Work.{evaluate, give, Work, Pending, key_of, object_of, operand_of, right_of, left_of, and_right, or_right, first_only}
+use Rattle.std.proofs.Common.{◌≡◌, ℕ, ◌+◌, ◌<◌, ◌≤◌, ◌^◌, lit<, max, Bool, true, false, zero, suc, Option, Some, None, List, [], ◌∷◌, ◌++◌, length, cond, refl, ap, sym, ◌∙◌, subst, arith, length-append}
+use Rattle.int_core.specs.Value.{Value, same_truth, known, nil, boolean, string, nth, write, shape, holds}
+use Rattle.machine_join.proofs.Lists.{nth_write_same, nth_write_other}
+use Rattle.int_core.specs.Ask.{Captured, goes_on}
+use Rattle.tree_core.specs.Tree.{Exp, Nil, True, False, Int, Str, Vararg, Function, Var, Index, Call, Method, Unary, Binary, And, Or, Paren, Table, Exps, EndExps, MoreExps}
+use Rattle.tree_activation.specs.Work.{Purpose, for_call, evaluate, give, collect, callee_of, method_of, listed, Work, Pending, key_of, object_of, operand_of, right_of, left_of, and_right, or_right, first_only}
 use Rattle.tree_activation.specs.Work as tree
+use Rattle.tree_activation.specs.Activation.{takes_all}
 use Rattle.tree_activation.specs.Asking.{first}
-use Rattle.code_core.specs.declared.opcode.Opcode.TheVariants.{LoadNil, LoadTrue, LoadFalse, GetTable, Test}
+use Rattle.code_core.specs.declared.opcode.Opcode.TheVariants.{LoadNil, LoadTrue, LoadFalse, GetTable, Test, OpSelf}
+use Rattle.code_core.specs.declared.opcode.Opcode.TheVariants.{Call as CallCode}
 use Rattle.code_core.specs.declared.proto.Const.{Const}
 use Rattle.code_core.specs.declared.proto.Const.TheVariants.{Str as StrConst}
 use Rattle.code_core.specs.Instruction.{abc}
+use Rattle.code_core.specs.Check.{fixed, open_from}
 use Rattle.machine_core.specs.Talk.{before}
 use Rattle.code_of.specs.Coded.{with_abc, jump_over}
-use Rattle.code_of.specs.Constants.{is_small}
+use Rattle.code_of.specs.Constants.{is_small, loads}
 use Rattle.code_of.specs.Operators.{prefix_code, operator_code}
-use Rattle.code_of.specs.Expressions.{made_by, is_open, exp_code}
-use Rattle.exp_laws.proofs.Registers.{Rel, after_then}
+use Rattle.code_of.specs.Expressions.{made_by, count, is_open, ends_open, Wanted, results_field, one_less, field_of, wanted_after, list_field, exp_code, exps_code}
+use Rattle.exp_laws.proofs.Registers.{Rel, After, after_then, lower, after_put}
 use Rattle.exp_laws.proofs.Talking.{Setting, Agree, go_left, of_tree, of_code}
 use Rattle.exp_laws.proofs.Placing.{HasAt, has_front, has_back}
 use Rattle.exp_laws.proofs.Steps.{true_step, false_step}
+use Rattle.exp_laws.proofs.Lists.{Holds, held_first}
+use Rattle.exp_laws.proofs.CallForms.{varargs_goes, call_goes, method_goes}
+use Rattle.exp_laws.proofs.ListForms.{GoesListed, Listed, total, listed_at, listed_after, listed_less, passed, nils_goes, held_both}
+use Rattle.exp_laws.proofs.FunctionForms.{function_goes}
 use Rattle.exp_laws.proofs.Loads.{nil_step}
-use Rattle.exp_laws.proofs.Placed.{IsPlaced, room_of, name_room}
-use Rattle.exp_laws.proofs.Going.{Goes, at_place, goes_at, goes_after, one_goes}
-use Rattle.exp_laws.proofs.NameForms.{constant_goes, integer_goes, index_goes, name_goes}
+use Rattle.exp_laws.proofs.Placed.{IsPlaced, ArePlaced, room_of, room_of_list, room_of_values, name_room}
+use Rattle.exp_laws.proofs.Going.{Given, Filled, Goes, GoesFilled, at_place, goes_at, goes_after, one_goes}
+use Rattle.exp_laws.proofs.NameForms.{load_right, constant_goes, integer_goes, index_goes, name_goes}
 use Rattle.exp_laws.proofs.OperatorForms.{unary_goes, binary_goes, decides_goes}
 
 and_decides : {A : Type 0} (x y : A) (b : Bool) → same_truth b false ≡ true → cond b x y ≡ y
@@ -61,130 +69,435 @@ room_some cs (Or line e d) = let h = room_some cs e in omega (arith, h)
 room_some cs (Paren line e) = room_some cs e
 room_some cs (Table line fs) = omega arith
 
--- the forms that are proved so far
-abbrev pub IsCovered : Exp → Type 0
-IsCovered (Vararg line) = ⊥
-IsCovered (Function line body) = ⊥
-IsCovered (Index line object key) = IsCovered object × IsCovered key
-IsCovered (Call line f es) = ⊥
-IsCovered (Method line object name es) = ⊥
-IsCovered (Unary line op e) = IsCovered e
-IsCovered (Binary line op e d) = IsCovered e × IsCovered d
-IsCovered (And line e d) = IsCovered e × IsCovered d
-IsCovered (Or line e d) = IsCovered e × IsCovered d
-IsCovered (Paren line e) = IsCovered e
-IsCovered (Table line fs) = ⊥
-IsCovered _ = Unit {0}
+-- all forms but constructors
+abbrev mutual
+  pub IsCovered : Exp → Type 0
+  IsCovered (Index line object key) = IsCovered object × IsCovered key
+  IsCovered (Call line f es) = IsCovered f × AreCovered es
+  IsCovered (Method line object name es) = IsCovered object × AreCovered es
+  IsCovered (Unary line op e) = IsCovered e
+  IsCovered (Binary line op e d) = IsCovered e × IsCovered d
+  IsCovered (And line e d) = IsCovered e × IsCovered d
+  IsCovered (Or line e d) = IsCovered e × IsCovered d
+  IsCovered (Paren line e) = IsCovered e
+  IsCovered (Table line fs) = ⊥
+  IsCovered _ = Unit {0}
+
+  pub AreCovered : Exps → Type 0
+  AreCovered EndExps = Unit {0}
+  AreCovered (MoreExps e es) = IsCovered e × AreCovered es
+
+-- each value of a list that is not open has its register
+room_count : (cs : List Const) (above : ℕ) (es : Exps) → ends_open es ≡ false → above + count es ≤ max above (room_of_list cs above es None)
+room_count cs above EndExps e = omega arith
+room_count cs above (MoreExps d EndExps) e =
+    let some = room_some cs d in
+    let same : room_of cs d (field_of d EndExps None) ≡ room_of cs d 2 = ap (λ b. room_of cs d (cond b 0 2)) e in
+    omega (arith, some, same)
+room_count cs above (MoreExps d (MoreExps f es)) e =
+    let some = room_some cs d in
+    let rest = room_count cs (above + 1) (MoreExps f es) e in
+    omega (arith, some, rest)
+
+-- a list that ends by a call or `...` has one
+open_some : (es : Exps) → ends_open es ≡ true → 1 ≤ count es
+open_some EndExps e = absurd (cc)
+open_some (MoreExps d es) e = omega arith
+
+-- what is wanted of a list has a field of 8 bits
+abbrev pub WantedFits : Wanted → Type 0
+WantedFits None = Unit {0}
+WantedFits (Some n) = n + 1 < 2 ^ 8
 
 module _ (S : Setting) (pending : List Pending) where
   placed : (e : Exp) (m n j : ℕ) → m ≡ n → IsPlaced S e n j → IsPlaced S e m j
   placed e m n j same h = subst (λ z. IsPlaced S e z j) (sym same) h
 
-  pub exp_same : (e : Exp) (t j n pc opened : ℕ) (env regs : List Value) (c : Captured) (k : List Work)
+  placed_all : (es : Exps) (m n j : ℕ) → m ≡ n → ArePlaced S es n j → ArePlaced S es m j
+  placed_all es m n j same h = subst (λ z. ArePlaced S es z j) (sym same) h
+
+  -- an expression goes on with as many values as its field C says, if it is a call or `...`, and else with one
+  abbrev GoesBy : (n : ℕ) → Exp → (field t : ℕ) → (env regs : List Value) → (pc : ℕ) → (k : List Work) → Type 0
+  GoesBy n (Vararg line) field t env regs pc k = GoesFilled S pending n field t env regs pc k
+  GoesBy n (Call line f es) field t env regs pc k = GoesFilled S pending n field t env regs pc k
+  GoesBy n (Method line object name es) field t env regs pc k = GoesFilled S pending n field t env regs pc k
+  GoesBy n e field t env regs pc k = Goes S pending n false t env regs pc k
+
+  goes_by : (n : ℕ) (e : Exp) (field t : ℕ) (env regs : List Value) (pc : ℕ) (k : List Work) → (is_open e ≡ true → GoesFilled S pending n field t env regs pc k) → (is_open e ≡ false → Goes S pending n false t env regs pc k) → GoesBy n e field t env regs pc k
+  goes_by n (Nil line) field t env regs pc k many one = one refl
+  goes_by n (True line) field t env regs pc k many one = one refl
+  goes_by n (False line) field t env regs pc k many one = one refl
+  goes_by n (Int line z) field t env regs pc k many one = one refl
+  goes_by n (Str line bytes) field t env regs pc k many one = one refl
+  goes_by n (Vararg line) field t env regs pc k many one = many refl
+  goes_by n (Function line body) field t env regs pc k many one = one refl
+  goes_by n (Var line name) field t env regs pc k many one = one refl
+  goes_by n (Index line object key) field t env regs pc k many one = one refl
+  goes_by n (Call line f es) field t env regs pc k many one = many refl
+  goes_by n (Method line object name es) field t env regs pc k many one = many refl
+  goes_by n (Unary line op e) field t env regs pc k many one = one refl
+  goes_by n (Binary line op e d) field t env regs pc k many one = one refl
+  goes_by n (And line e d) field t env regs pc k many one = one refl
+  goes_by n (Or line e d) field t env regs pc k many one = one refl
+  goes_by n (Paren line e) field t env regs pc k many one = one refl
+  goes_by n (Table line fs) field t env regs pc k many one = one refl
+
+  -- one value is wanted
+  first_by : (n : ℕ) (e : Exp) (t : ℕ) (env regs : List Value) (pc : ℕ) (k : List Work) → Goes S pending n (is_open e) t env regs pc k → GoesBy n e 2 t env regs pc k
+  first_by n e t env regs pc k goes =
+      goes_by n e 2 t env regs pc k
+      (λ many vs env1 regs1 c1 o1 af filled. goes vs env1 regs1 c1 o1 af (held_first t 0 vs regs1 filled) (subst (λ b. Given b vs) (sym many) tt))
+      (λ one. subst (λ b. Goes S pending n b t env regs pc k) one goes)
+
+  abbrev AllSame : Exp → Type 0
+  AllSame e =
+      (field t j n pc opened : ℕ) (env regs : List Value) (c : Captured) (k : List Work)
+      → n ≤ S.bound → HasAt S pc (exp_code S.code.own.constants e t j field) → field < 2 ^ 8 → IsCovered e → IsPlaced S e (length env) j → pc + length (exp_code S.code.own.constants e t j field) < length S.code.own.code
+      → length env ≤ t → t + room_of S.code.own.constants e field ≤ S.code.own.stack → Rel S.code.own.stack pending env c regs
+      → GoesBy n e field t env regs (pc + length (exp_code S.code.own.constants e t j field)) k
+      → Agree S n (tree.at (evaluate e) (of_tree S pending env c) k) (before (of_code S pending pc regs opened) c)
+
+  abbrev pub ExpSame : Exp → Type 0
+  ExpSame e =
+      (t j n pc opened : ℕ) (env regs : List Value) (c : Captured) (k : List Work)
       → n ≤ S.bound → HasAt S pc (exp_code S.code.own.constants e t j 2) → IsCovered e → IsPlaced S e (length env) j → pc + length (exp_code S.code.own.constants e t j 2) < length S.code.own.code
       → length env ≤ t → t + room_of S.code.own.constants e 2 ≤ S.code.own.stack → Rel S.code.own.stack pending env c regs
       → Goes S pending n (is_open e) t env regs (pc + length (exp_code S.code.own.constants e t j 2)) k
       → Agree S n (tree.at (evaluate e) (of_tree S pending env c) k) (before (of_code S pending pc regs opened) c)
-  exp_same (Nil line) t j n pc opened env regs c k bound has cov ok inside le room rel goes =
-      one_goes S pending (with_abc LoadNil t 0 0 line) (with_abc LoadNil t 0 0 line ∷ []) (known nil) n false t pc opened _ env regs c k refl refl has inside le rel
-      (λ here w there. nil_step S.code (of_code S pending pc regs opened) c w there t here (omega (arith, S.small)) (omega (arith, rel.room))) goes
-  exp_same (True line) t j n pc opened env regs c k bound has cov ok inside le room rel goes =
-      one_goes S pending (with_abc LoadTrue t 0 0 line) (with_abc LoadTrue t 0 0 line ∷ []) (known (boolean true)) n false t pc opened _ env regs c k refl refl has inside le rel
-      (λ here w there. true_step S.code (of_code S pending pc regs opened) c w there t here (omega (arith, S.small)) (omega (arith, rel.room))) goes
-  exp_same (False line) t j n pc opened env regs c k bound has cov ok inside le room rel goes =
-      one_goes S pending (with_abc LoadFalse t 0 0 line) (with_abc LoadFalse t 0 0 line ∷ []) (known (boolean false)) n false t pc opened _ env regs c k refl refl has inside le rel
-      (λ here w there. false_step S.code (of_code S pending pc regs opened) c w there t here (omega (arith, S.small)) (omega (arith, rel.room))) goes
-  exp_same (Int line z) t j n pc opened env regs c k bound has cov ok inside le room rel goes =
-      integer_goes S pending z (is_small z) n false line t pc opened _ env regs c k refl refl ok _ refl has inside le (omega arith) rel goes
-  exp_same (Str line bytes) t j n pc opened env regs c k bound has cov ok inside le room rel goes =
-      constant_goes S pending (StrConst bytes) n false t line pc opened _ env regs c k ok refl has inside le (omega arith) rel goes
-  exp_same (Var line name) t j n pc opened env regs c k bound has cov ok inside le room rel goes =
-      name_goes S pending name.place name.text n false line t pc opened _ env regs c k refl has ok inside le room rel goes
-  exp_same (Index line object key) t j n pc opened env regs c k bound has cov ok inside le room rel goes =
-      let first_code = exp_code S.code.own.constants object t j 2 in
-      let second_code = exp_code S.code.own.constants key (t + 1) (j + made_by object) 2 in
-      let last_code = with_abc GetTable t t (t + 1) line ∷ [] in
-      let behind = has_back S pc first_code (second_code ++ last_code) has in
-      let whole = length-append first_code (second_code ++ last_code) in
-      let rest = length-append second_code last_code in
-      let some = room_some S.code.own.constants key in
-      go_left S n _ (tree.at (evaluate object) (of_tree S pending env c) (key_of line key ∷ k)) _ refl
-      (exp_same object t j n pc opened env regs c (key_of line key ∷ k) bound (has_front S pc first_code (second_code ++ last_code) has) cov.0 ok.0 (omega (arith, inside, whole)) le (omega arith) rel
-      (λ vs env1 regs1 c1 o1 af eq one. go_left S n _ (tree.at (evaluate key) (of_tree S pending env1 c1) (object_of line (first vs) ∷ k)) _ refl
-      (exp_same key (t + 1) (j + made_by object) n (pc + length first_code) o1 env1 regs1 c1 (object_of line (first vs) ∷ k) bound (has_front S (pc + length first_code) second_code last_code behind) cov.1
-      (placed key _ _ _ af.size ok.1) (omega (arith, inside, whole, rest)) (omega (arith, le, af.size)) (omega arith) af.rel
-      (λ ws env2 regs2 c2 o2 af2 eq2 one2. index_goes S pending t (t + 1) (first vs) (first ws) n false t line (pc + length first_code + length second_code) o2 _ env2 regs2 c2 k refl
-      (has_back S (pc + length first_code) second_code last_code behind) (omega (arith, inside, whole, rest)) (omega (arith, le, af.size, af2.size)) (omega (arith, some)) (omega (arith, some)) (omega (arith, some)) af2.rel
-      (af2.keeps t (omega (arith, le, af.size)) (omega arith) ∙ eq) eq2
-      (goes_at S pending n false t _ (pc + length (first_code ++ (second_code ++ last_code))) env2 regs2 k (omega (arith, whole, rest))
-      (goes_after S pending n false t _ env regs env2 regs2 c2 k
-      (after_then S.code.own.stack pending env regs env1 regs1 env2 regs2 c1 c2 t (t + 1) (omega arith) af af2) goes))))))
-  exp_same (Paren line e) t j n pc opened env regs c k bound has cov ok inside le room rel goes =
-      go_left S n _ (tree.at (evaluate e) (of_tree S pending env c) (first_only ∷ k)) _ refl
-      (exp_same e t j n pc opened env regs c (first_only ∷ k) bound has cov ok inside le room rel
-      (λ vs env1 regs1 c1 o1 af eq one. go_left S n _ (tree.at (give (first vs ∷ [])) (of_tree S pending env1 c1) k) _ refl (goes (first vs ∷ []) env1 regs1 c1 o1 af eq refl)))
-  exp_same (Unary line op e) t j n pc opened env regs c k bound has cov ok inside le room rel goes =
-      let code = exp_code S.code.own.constants e t j 2 in
-      let last_code = prefix_code op t line in
-      let sum = length-append code last_code in
-      let some = room_some S.code.own.constants e in
-      go_left S n _ (tree.at (evaluate e) (of_tree S pending env c) (operand_of line op ∷ k)) _ refl
-      (exp_same e t j n pc opened env regs c (operand_of line op ∷ k) bound (has_front S pc code last_code has) cov ok (omega (arith, inside, sum)) le room rel
-      (λ vs env1 regs1 c1 o1 af eq one. unary_goes S pending op n false line t (pc + length code) o1 vs env1 regs1 c1 k (has_back S pc code last_code has) (omega (arith, inside, sum)) (omega (arith, le, af.size)) (omega (arith, room, some)) af.rel eq
-      (goes_at S pending n false t _ (pc + length (code ++ last_code)) env1 regs1 k (omega (arith, sum)) (goes_after S pending n false t _ env regs env1 regs1 c1 k af goes))))
-  exp_same (Binary line op e d) t j n pc opened env regs c k bound has cov ok inside le room rel goes =
-      let first_code = exp_code S.code.own.constants e t j 2 in
-      let second_code = exp_code S.code.own.constants d (t + 1) (j + made_by e) 2 in
-      let last_code = operator_code op t line in
-      let behind = has_back S pc first_code (second_code ++ last_code) has in
-      let whole = length-append first_code (second_code ++ last_code) in
-      let rest = length-append second_code last_code in
-      let some = room_some S.code.own.constants d in
-      go_left S n _ (tree.at (evaluate e) (of_tree S pending env c) (right_of line op d ∷ k)) _ refl
-      (exp_same e t j n pc opened env regs c (right_of line op d ∷ k) bound (has_front S pc first_code (second_code ++ last_code) has) cov.0 ok.0 (omega (arith, inside, whole)) le (omega arith) rel
-      (λ vs env1 regs1 c1 o1 af eq one. go_left S n _ (tree.at (evaluate d) (of_tree S pending env1 c1) (left_of line op (first vs) ∷ k)) _ refl
-      (exp_same d (t + 1) (j + made_by e) n (pc + length first_code) o1 env1 regs1 c1 (left_of line op (first vs) ∷ k) bound (has_front S (pc + length first_code) second_code last_code behind) cov.1
-      (placed d _ _ _ af.size ok.1) (omega (arith, inside, whole, rest)) (omega (arith, le, af.size)) (omega arith) af.rel
-      (λ ws env2 regs2 c2 o2 af2 eq2 one2. binary_goes S pending op n false line t (pc + length first_code + length second_code) o2 (first vs) ws env2 regs2 c2 k
-      (has_back S (pc + length first_code) second_code last_code behind) (omega (arith, inside, whole, rest)) (omega (arith, le, af.size, af2.size)) (omega (arith, some)) af2.rel
-      (af2.keeps t (omega (arith, le, af.size)) (omega arith) ∙ eq) eq2
-      (goes_at S pending n false t _ (pc + length (first_code ++ (second_code ++ last_code))) env2 regs2 k (omega (arith, whole, rest))
-      (goes_after S pending n false t _ env regs env2 regs2 c2 k
-      (after_then S.code.own.stack pending env regs env1 regs1 env2 regs2 c1 c2 t (t + 1) (omega arith) af af2) goes))))))
-  exp_same (And line e d) t j n pc opened env regs c k bound has cov ok inside le room rel goes =
-      let first_code = exp_code S.code.own.constants e t j 2 in
-      let second_code = exp_code S.code.own.constants d t (j + made_by e) 2 in
-      let test_code = (abc Test t 0 0 false, line) ∷ jump_over (length second_code) line ∷ second_code in
-      let whole = length-append first_code test_code in
-      let behind = has_back S pc first_code test_code has in
-      let some = room_some S.code.own.constants d in
-      let two : pc + length first_code + 1 + 1 ≡ pc + length first_code + 2 = omega arith in
-      go_left S n _ (tree.at (evaluate e) (of_tree S pending env c) (and_right d ∷ k)) _ refl
-      (exp_same e t j n pc opened env regs c (and_right d ∷ k) bound (has_front S pc first_code test_code has) cov.0 ok.0 (omega (arith, inside, whole)) le (omega arith) rel
-      (λ vs env1 regs1 c1 o1 af eq one. decides_goes S pending false (same_truth (holds (shape (first vs))) false) line t n (pc + length first_code) o1 second_code (first vs) _ env1 regs1 c1 behind (omega (arith, inside, whole)) (omega (arith, some)) af.rel eq refl
-      (λ e1. go_left S n _ (tree.at (give (first vs ∷ [])) (of_tree S pending env1 c1) k) _ (and_decides _ _ (holds (shape (first vs))) e1)
-      (at_place S pending n (pc + length first_code + (2 + length second_code)) (pc + length (first_code ++ test_code)) o1 _ regs1 c1 (omega (arith, whole)) (goes (first vs ∷ []) env1 regs1 c1 o1 af eq refl)))
-      (λ e1. go_left S n _ (tree.at (evaluate d) (of_tree S pending env1 c1) (first_only ∷ k)) _ (and_goes_on _ _ (holds (shape (first vs))) e1)
-      (exp_same d t (j + made_by e) n (pc + length first_code + 2) o1 env1 regs1 c1 (first_only ∷ k) bound (subst (λ q. HasAt S q second_code) two behind.1.1.1.1) cov.1 (placed d _ _ _ af.size ok.1) (omega (arith, inside, whole)) (omega (arith, le, af.size)) (omega arith) af.rel
-      (λ ws env2 regs2 c2 o2 af2 eq2 one2. go_left S n _ (tree.at (give (first ws ∷ [])) (of_tree S pending env2 c2) k) _ refl
-      (at_place S pending n (pc + length first_code + 2 + length second_code) (pc + length (first_code ++ test_code)) o2 _ regs2 c2 (omega (arith, whole))
-      (goes (first ws ∷ []) env2 regs2 c2 o2 (after_then S.code.own.stack pending env regs env1 regs1 env2 regs2 c1 c2 t t (omega arith) af af2) eq2 refl)))))))
-  exp_same (Or line e d) t j n pc opened env regs c k bound has cov ok inside le room rel goes =
-      let first_code = exp_code S.code.own.constants e t j 2 in
-      let second_code = exp_code S.code.own.constants d t (j + made_by e) 2 in
-      let test_code = (abc Test t 0 0 true, line) ∷ jump_over (length second_code) line ∷ second_code in
-      let whole = length-append first_code test_code in
-      let behind = has_back S pc first_code test_code has in
-      let some = room_some S.code.own.constants d in
-      let two : pc + length first_code + 1 + 1 ≡ pc + length first_code + 2 = omega arith in
-      go_left S n _ (tree.at (evaluate e) (of_tree S pending env c) (or_right d ∷ k)) _ refl
-      (exp_same e t j n pc opened env regs c (or_right d ∷ k) bound (has_front S pc first_code test_code has) cov.0 ok.0 (omega (arith, inside, whole)) le (omega arith) rel
-      (λ vs env1 regs1 c1 o1 af eq one. decides_goes S pending true (same_truth (holds (shape (first vs))) true) line t n (pc + length first_code) o1 second_code (first vs) _ env1 regs1 c1 behind (omega (arith, inside, whole)) (omega (arith, some)) af.rel eq refl
-      (λ e1. go_left S n _ (tree.at (give (first vs ∷ [])) (of_tree S pending env1 c1) k) _ (or_decides _ _ (holds (shape (first vs))) e1)
-      (at_place S pending n (pc + length first_code + (2 + length second_code)) (pc + length (first_code ++ test_code)) o1 _ regs1 c1 (omega (arith, whole)) (goes (first vs ∷ []) env1 regs1 c1 o1 af eq refl)))
-      (λ e1. go_left S n _ (tree.at (evaluate d) (of_tree S pending env1 c1) (first_only ∷ k)) _ (or_goes_on _ _ (holds (shape (first vs))) e1)
-      (exp_same d t (j + made_by e) n (pc + length first_code + 2) o1 env1 regs1 c1 (first_only ∷ k) bound (subst (λ q. HasAt S q second_code) two behind.1.1.1.1) cov.1 (placed d _ _ _ af.size ok.1) (omega (arith, inside, whole)) (omega (arith, le, af.size)) (omega arith) af.rel
-      (λ ws env2 regs2 c2 o2 af2 eq2 one2. go_left S n _ (tree.at (give (first ws ∷ [])) (of_tree S pending env2 c2) k) _ refl
-      (at_place S pending n (pc + length first_code + 2 + length second_code) (pc + length (first_code ++ test_code)) o2 _ regs2 c2 (omega (arith, whole))
-      (goes (first ws ∷ []) env2 regs2 c2 o2 (after_then S.code.own.stack pending env regs env1 regs1 env2 regs2 c1 c2 t t (omega arith) af af2) eq2 refl)))))))
-  exp_same _ t j n pc opened env regs c k bound has cov ok inside le room rel goes = absurd cov
+
+  one_same : (e : Exp) → AllSame e → ExpSame e
+  one_same e all t j n pc opened env regs c k bound has cov ok inside le room rel goes =
+      all 2 t j n pc opened env regs c k bound has (lit< tt) cov ok inside le room rel
+      (first_by n e t env regs (pc + length (exp_code S.code.own.constants e t j 2)) k goes)
+
+  abbrev pub ListSame : Exps → Type 0
+  ListSame es =
+      (purpose : Purpose) (wanted : Wanted) (base above j line n pc opened : ℕ) (have env regs : List Value) (c : Captured) (k : List Work)
+      → n ≤ S.bound → takes_all purpose ≡ true → HasAt S pc (exps_code S.code.own.constants es wanted (base + above) j line) → WantedFits wanted → AreCovered es → ArePlaced S es (length env) j
+      → pc + length (exps_code S.code.own.constants es wanted (base + above) j line) < length S.code.own.code → length have ≡ above → Holds base above have regs
+      → length env ≤ base → base + above ≤ S.code.own.stack → base + room_of_list S.code.own.constants above es wanted ≤ S.code.own.stack → Rel S.code.own.stack pending env c regs
+      → GoesListed S pending n (total wanted above) (ends_open es) (above + count es) purpose base env regs (pc + length (exps_code S.code.own.constants es wanted (base + above) j line)) k
+      → Agree S n (tree.at (collect purpose have es) (of_tree S pending env c) k) (before (of_code S pending pc regs opened) c)
+
+  less_fits : (wanted : Wanted) → WantedFits wanted → WantedFits (one_less wanted)
+  less_fits None h = tt
+  less_fits (Some m) h = omega (arith, h)
+
+  results_fit : (wanted : Wanted) → WantedFits wanted → results_field wanted < 2 ^ 8
+  results_fit None h = lit< tt
+  results_fit (Some m) h = h
+
+  -- an expression has given a value, which joins the list; the rest follows
+  one_more : (es : Exps) → ListSame es → (purpose : Purpose) (wanted : Wanted) (base above j line n pc opened : ℕ) (have vs env regs env1 regs1 : List Value) (c1 : Captured) (k : List Work)
+      → n ≤ S.bound → takes_all purpose ≡ true → HasAt S pc (exps_code S.code.own.constants es (one_less wanted) (base + above + 1) j line) → WantedFits wanted → AreCovered es → ArePlaced S es (length env) j
+      → pc + length (exps_code S.code.own.constants es (one_less wanted) (base + above + 1) j line) < length S.code.own.code → length have ≡ above → Holds base above have regs
+      → length env ≤ base → base + above + 1 ≤ S.code.own.stack → base + room_of_list S.code.own.constants (above + 1) es (one_less wanted) ≤ S.code.own.stack
+      → After S.code.own.stack pending env regs (base + above) env1 regs1 c1 → nth regs1 (base + above) ≡ first vs
+      → GoesListed S pending n (total wanted above) (ends_open es) (above + suc (count es)) purpose base env regs (pc + length (exps_code S.code.own.constants es (one_less wanted) (base + above + 1) j line)) k
+      → Agree S n (tree.at (collect purpose (have ++ first vs ∷ []) es) (of_tree S pending env1 c1) k) (before (of_code S pending pc regs1 opened) c1)
+  one_more es rest purpose wanted base above j line n pc opened have vs env regs env1 regs1 c1 k bound all has wf cov ok inside size held le below room af eq goes =
+      let at : base + above + 1 ≡ base + (above + 1) = omega arith in
+      let sum = length-append have (first vs ∷ []) in
+      rest purpose (one_less wanted) base (above + 1) j line n pc opened (have ++ first vs ∷ []) env1 regs1 c1 k bound all
+      (subst (λ r. HasAt S pc (exps_code S.code.own.constants es (one_less wanted) r j line)) at has) (less_fits wanted wf) cov (placed_all es _ _ _ af.size ok)
+      (subst (λ r. pc + length (exps_code S.code.own.constants es (one_less wanted) r j line) < length S.code.own.code) at inside) (omega (arith, sum, size))
+      (held_both base above 1 have (first vs ∷ []) regs1 size (λ i lt. af.keeps (base + i) (omega (arith, le)) (omega (arith, lt)) ∙ held i lt) (λ i lt. only i lt))
+      (omega (arith, le, af.size)) (omega (arith, below)) room af.rel
+      (listed_less S pending n wanted (ends_open es) (above + suc (count es)) (above + 1 + count es) purpose base above _ env1 regs1 k (omega arith)
+      (subst (λ r. GoesListed S pending n (total wanted above) (ends_open es) (above + suc (count es)) purpose base env1 regs1 (pc + length (exps_code S.code.own.constants es (one_less wanted) r j line)) k) at
+      (listed_after S pending n (total wanted above) (ends_open es) (above + suc (count es)) purpose base _ env regs env1 regs1 c1 k
+      (lower S.code.own.stack pending env regs env1 regs1 c1 (base + above) base (omega arith) af) goes)))
+    where
+      only : (i : ℕ) → i < 1 → nth regs1 (base + above + i) ≡ nth (first vs ∷ []) i
+      only zero lt = let here : base + above + 0 ≡ base + above = omega arith in ap (nth regs1) here ∙ eq
+      only (suc i) lt = absurd (omega arith)
+
+  -- all values of the last expression join the list
+  all_more : (purpose : Purpose) (wanted : Wanted) (base above n pc opened : ℕ) (have vs env regs env1 regs1 : List Value) (c1 : Captured) (k : List Work)
+      → length have ≡ above → Holds base above have regs → length env ≤ base → After S.code.own.stack pending env regs (base + above) env1 regs1 c1 → Filled S (results_field wanted) pc (base + above) vs regs1 opened
+      → GoesListed S pending n (total wanted above) true (above + 1) purpose base env regs pc k
+      → Agree S n (tree.at (collect purpose (have ++ vs) EndExps) (of_tree S pending env1 c1) k) (before (of_code S pending pc regs1 opened) c1)
+  all_more purpose None base above n pc opened have vs env regs env1 regs1 c1 k size held le af filled goes =
+      let sum = length-append have vs in
+      let wide : length (have ++ vs) ≡ above + length vs = omega (arith, sum, size) in
+      let end : base + above + opened ≡ base + length (have ++ vs) = (let o = filled.1.0 in omega (arith, wide, o)) in
+      goes (have ++ vs) env1 regs1 c1 opened (lower S.code.own.stack pending env regs env1 regs1 c1 (base + above) base (omega arith) af) (
+        omega (arith, wide),
+        (
+          ap (λ m. elim m as (λ _. Option ℕ) [ fixed ↦ None | open_from r ↦ Some (r + opened) ]) filled.0 ∙ ap Some end,
+          subst (λ m. Holds base m (have ++ vs) regs1) (sym wide) (held_both base above (length vs) have vs regs1 size (λ i lt. af.keeps (base + i) (omega (arith, le)) (omega (arith, lt)) ∙ held i lt) filled.1.1),
+        ),
+      )
+  all_more purpose (Some m) base above n pc opened have vs env regs env1 regs1 c1 k size held le af filled goes =
+      let one : m + 1 ≡ suc m = omega arith in
+      goes (have ++ vs) env1 regs1 c1 opened (lower S.code.own.stack pending env regs env1 regs1 c1 (base + above) base (omega arith) af)
+      (held_both base above m have vs regs1 size (λ i lt. af.keeps (base + i) (omega (arith, le)) (omega (arith, lt)) ∙ held i lt) (subst (λ z. Filled S z pc (base + above) vs regs1 opened) one filled))
+
+  field_fits : (many : Bool) (wanted : Wanted) → WantedFits wanted → cond many (results_field wanted) 2 < 2 ^ 8
+  field_fits true wanted h = results_fit wanted h
+  field_fits false wanted h = lit< tt
+
+  held_one : (t : ℕ) (v : Value) (regs : List Value) → nth regs t ≡ v → Holds t 1 (v ∷ []) regs
+  held_one t v regs e zero lt = let here : t + 0 ≡ t = omega arith in ap (nth regs) here ∙ e
+  held_one t v regs e (suc i) lt = absurd (omega arith)
+
+  held_two : (t : ℕ) (v w : Value) (regs : List Value) → nth regs t ≡ v → nth regs (t + 1) ≡ w → Holds t 2 (v ∷ w ∷ []) regs
+  held_two t v w regs e d zero lt = let here : t + 0 ≡ t = omega arith in ap (nth regs) here ∙ e
+  held_two t v w regs e d (suc zero) lt = d
+  held_two t v w regs e d (suc (suc i)) lt = absurd (omega arith)
+
+  filled_at : (n field t pc pc' : ℕ) (env regs : List Value) (k : List Work) → pc ≡ pc' → GoesFilled S pending n field t env regs pc' k → GoesFilled S pending n field t env regs pc k
+  filled_at n field t pc pc' env regs k e goes = subst (λ q. GoesFilled S pending n field t env regs q k) (sym e) goes
+
+  filled_after : (n field t pc : ℕ) (env regs env1 regs1 : List Value) (c1 : Captured) (k : List Work) → After S.code.own.stack pending env regs t env1 regs1 c1 → GoesFilled S pending n field t env regs pc k → GoesFilled S pending n field t env1 regs1 pc k
+  filled_after n field t pc env regs env1 regs1 c1 k af goes = λ vs env2 regs2 c2 o2 af2 filled. goes vs env2 regs2 c2 o2 (after_then S.code.own.stack pending env regs env1 regs1 env2 regs2 c1 c2 t t (omega arith) af af2) filled
+
+  -- the arguments are there, behind the function and `more` others: the call
+  called : (es : Exps) (more field : ℕ) (args : List Value) (n line t pc opened : ℕ) (env regs : List Value) (c : Captured) (k : List Work) → HasAt S pc (with_abc CallCode t (list_field more es) field line ∷ []) → pc + 1 < length S.code.own.code
+      → length env ≤ t → t + (more + 1) ≤ S.code.own.stack → t + room_of_list S.code.own.constants (more + 1) es None ≤ S.code.own.stack → t + room_of_values field ≤ S.code.own.stack → field < 2 ^ 8 → Rel S.code.own.stack pending env c regs
+      → Listed S pending None (ends_open es) (more + 1 + count es) pc t args regs opened → GoesFilled S pending n field t env regs (pc + 1) k
+      → Agree S n (tree.at (collect (for_call line false) args EndExps) (of_tree S pending env c) k) (before (of_code S pending pc regs opened) c)
+  called es more field [] n line t pc opened env regs c k has inside le below room wide fits rel l goes = absurd (none (ends_open es) refl l)
+    where
+      none : (b : Bool) → ends_open es ≡ b → Listed S pending None b (more + 1 + count es) pc t [] regs opened → ⊥
+      none true is l = let some = open_some es is in let h = l.0 in omega (arith, some, h)
+      none false is l = let h = l.0 in omega (arith, h)
+  called es more field (f ∷ args) n line t pc opened env regs c k has inside le below room wide fits rel l goes = by (ends_open es) refl l
+    where
+      width : ends_open es ≡ false → t + (more + 1 + count es) ≤ S.code.own.stack
+      width one = let all = room_count S.code.own.constants (more + 1) es one in omega (arith, all, below, room)
+
+      is_field : (b : Bool) → ends_open es ≡ b → list_field more es ≡ cond b 0 (more + 1 + count es)
+      is_field true is = ap (λ b. cond b 0 (more + count es + 1)) is
+      is_field false is = ap (λ b. cond b 0 (more + count es + 1)) is ∙ omega arith
+
+      small_field : (b : Bool) → ends_open es ≡ b → list_field more es < 2 ^ 8
+      small_field true is = let e = is_field true is in omega (arith, e)
+      small_field false is = let e = is_field false is in let w = width is in omega (arith, e, w, S.small)
+
+      first_held : (b : Bool) → Listed S pending None b (more + 1 + count es) pc t (f ∷ args) regs opened → nth regs t ≡ f
+      first_held true l = held_first t (length args) (f ∷ args) regs l.1.1
+      first_held false l = held_first t (length args) (f ∷ args) regs l.1
+
+      by : (b : Bool) → ends_open es ≡ b → Listed S pending None b (more + 1 + count es) pc t (f ∷ args) regs opened → Agree S n (tree.at (collect (for_call line false) (f ∷ args) EndExps) (of_tree S pending env c) k) (before (of_code S pending pc regs opened) c)
+      by b is l =
+          call_goes S pending field (list_field more es) n line t pc opened f args _ env regs c k refl has inside le (omega (arith, below)) wide fits (small_field b is) rel (first_held b l)
+          (passed S pending b (more + 1 + count es) (list_field more es) pc t opened f args regs (is_field b is) (λ one. let w = width (is ∙ one) in omega (arith, w, rel.room)) l) goes
+
+  mutual
+    all_same : (e : Exp) → AllSame e
+    all_same (Nil line) field t j n pc opened env regs c k bound has fits cov ok inside le room rel goes =
+        one_goes S pending (with_abc LoadNil t 0 0 line) (with_abc LoadNil t 0 0 line ∷ []) (known nil) n false t pc opened _ env regs c k refl refl has inside le rel
+        (λ here w there. nil_step S.code (of_code S pending pc regs opened) c w there t here (omega (arith, S.small)) (omega (arith, rel.room))) goes
+    all_same (True line) field t j n pc opened env regs c k bound has fits cov ok inside le room rel goes =
+        one_goes S pending (with_abc LoadTrue t 0 0 line) (with_abc LoadTrue t 0 0 line ∷ []) (known (boolean true)) n false t pc opened _ env regs c k refl refl has inside le rel
+        (λ here w there. true_step S.code (of_code S pending pc regs opened) c w there t here (omega (arith, S.small)) (omega (arith, rel.room))) goes
+    all_same (False line) field t j n pc opened env regs c k bound has fits cov ok inside le room rel goes =
+        one_goes S pending (with_abc LoadFalse t 0 0 line) (with_abc LoadFalse t 0 0 line ∷ []) (known (boolean false)) n false t pc opened _ env regs c k refl refl has inside le rel
+        (λ here w there. false_step S.code (of_code S pending pc regs opened) c w there t here (omega (arith, S.small)) (omega (arith, rel.room))) goes
+    all_same (Int line z) field t j n pc opened env regs c k bound has fits cov ok inside le room rel goes =
+        integer_goes S pending z (is_small z) n false line t pc opened _ env regs c k refl refl ok _ refl has inside le (omega arith) rel goes
+    all_same (Str line bytes) field t j n pc opened env regs c k bound has fits cov ok inside le room rel goes =
+        constant_goes S pending (StrConst bytes) n false t line pc opened _ env regs c k ok refl has inside le (omega arith) rel goes
+    all_same (Var line name) field t j n pc opened env regs c k bound has fits cov ok inside le room rel goes =
+        name_goes S pending name.place name.text n false line t pc opened _ env regs c k refl has ok inside le room rel goes
+    all_same (Index line object key) field t j n pc opened env regs c k bound has fits cov ok inside le room rel goes =
+        let first_code = exp_code S.code.own.constants object t j 2 in
+        let second_code = exp_code S.code.own.constants key (t + 1) (j + made_by object) 2 in
+        let last_code = with_abc GetTable t t (t + 1) line ∷ [] in
+        let behind = has_back S pc first_code (second_code ++ last_code) has in
+        let whole = length-append first_code (second_code ++ last_code) in
+        let rest = length-append second_code last_code in
+        let some = room_some S.code.own.constants key in
+        go_left S n _ (tree.at (evaluate object) (of_tree S pending env c) (key_of line key ∷ k)) _ refl
+        (one_same object (all_same object) t j n pc opened env regs c (key_of line key ∷ k) bound (has_front S pc first_code (second_code ++ last_code) has) cov.0 ok.0 (omega (arith, inside, whole)) le (omega arith) rel
+        (λ vs env1 regs1 c1 o1 af eq one. go_left S n _ (tree.at (evaluate key) (of_tree S pending env1 c1) (object_of line (first vs) ∷ k)) _ refl
+        (one_same key (all_same key) (t + 1) (j + made_by object) n (pc + length first_code) o1 env1 regs1 c1 (object_of line (first vs) ∷ k) bound (has_front S (pc + length first_code) second_code last_code behind) cov.1
+        (placed key _ _ _ af.size ok.1) (omega (arith, inside, whole, rest)) (omega (arith, le, af.size)) (omega arith) af.rel
+        (λ ws env2 regs2 c2 o2 af2 eq2 one2. index_goes S pending t (t + 1) (first vs) (first ws) n false t line (pc + length first_code + length second_code) o2 _ env2 regs2 c2 k refl
+        (has_back S (pc + length first_code) second_code last_code behind) (omega (arith, inside, whole, rest)) (omega (arith, le, af.size, af2.size)) (omega (arith, some)) (omega (arith, some)) (omega (arith, some)) af2.rel
+        (af2.keeps t (omega (arith, le, af.size)) (omega arith) ∙ eq) eq2
+        (goes_at S pending n false t _ (pc + length (first_code ++ (second_code ++ last_code))) env2 regs2 k (omega (arith, whole, rest))
+        (goes_after S pending n false t _ env regs env2 regs2 c2 k
+        (after_then S.code.own.stack pending env regs env1 regs1 env2 regs2 c1 c2 t (t + 1) (omega arith) af af2) goes))))))
+    all_same (Paren line e) field t j n pc opened env regs c k bound has fits cov ok inside le room rel goes =
+        go_left S n _ (tree.at (evaluate e) (of_tree S pending env c) (first_only ∷ k)) _ refl
+        (one_same e (all_same e) t j n pc opened env regs c (first_only ∷ k) bound has cov ok inside le room rel
+        (λ vs env1 regs1 c1 o1 af eq one. go_left S n _ (tree.at (give (first vs ∷ [])) (of_tree S pending env1 c1) k) _ refl (goes (first vs ∷ []) env1 regs1 c1 o1 af eq refl)))
+    all_same (Unary line op e) field t j n pc opened env regs c k bound has fits cov ok inside le room rel goes =
+        let code = exp_code S.code.own.constants e t j 2 in
+        let last_code = prefix_code op t line in
+        let sum = length-append code last_code in
+        let some = room_some S.code.own.constants e in
+        go_left S n _ (tree.at (evaluate e) (of_tree S pending env c) (operand_of line op ∷ k)) _ refl
+        (one_same e (all_same e) t j n pc opened env regs c (operand_of line op ∷ k) bound (has_front S pc code last_code has) cov ok (omega (arith, inside, sum)) le room rel
+        (λ vs env1 regs1 c1 o1 af eq one. unary_goes S pending op n false line t (pc + length code) o1 vs env1 regs1 c1 k (has_back S pc code last_code has) (omega (arith, inside, sum)) (omega (arith, le, af.size)) (omega (arith, room, some)) af.rel eq
+        (goes_at S pending n false t _ (pc + length (code ++ last_code)) env1 regs1 k (omega (arith, sum)) (goes_after S pending n false t _ env regs env1 regs1 c1 k af goes))))
+    all_same (Binary line op e d) field t j n pc opened env regs c k bound has fits cov ok inside le room rel goes =
+        let first_code = exp_code S.code.own.constants e t j 2 in
+        let second_code = exp_code S.code.own.constants d (t + 1) (j + made_by e) 2 in
+        let last_code = operator_code op t line in
+        let behind = has_back S pc first_code (second_code ++ last_code) has in
+        let whole = length-append first_code (second_code ++ last_code) in
+        let rest = length-append second_code last_code in
+        let some = room_some S.code.own.constants d in
+        go_left S n _ (tree.at (evaluate e) (of_tree S pending env c) (right_of line op d ∷ k)) _ refl
+        (one_same e (all_same e) t j n pc opened env regs c (right_of line op d ∷ k) bound (has_front S pc first_code (second_code ++ last_code) has) cov.0 ok.0 (omega (arith, inside, whole)) le (omega arith) rel
+        (λ vs env1 regs1 c1 o1 af eq one. go_left S n _ (tree.at (evaluate d) (of_tree S pending env1 c1) (left_of line op (first vs) ∷ k)) _ refl
+        (one_same d (all_same d) (t + 1) (j + made_by e) n (pc + length first_code) o1 env1 regs1 c1 (left_of line op (first vs) ∷ k) bound (has_front S (pc + length first_code) second_code last_code behind) cov.1
+        (placed d _ _ _ af.size ok.1) (omega (arith, inside, whole, rest)) (omega (arith, le, af.size)) (omega arith) af.rel
+        (λ ws env2 regs2 c2 o2 af2 eq2 one2. binary_goes S pending op n false line t (pc + length first_code + length second_code) o2 (first vs) ws env2 regs2 c2 k
+        (has_back S (pc + length first_code) second_code last_code behind) (omega (arith, inside, whole, rest)) (omega (arith, le, af.size, af2.size)) (omega (arith, some)) af2.rel
+        (af2.keeps t (omega (arith, le, af.size)) (omega arith) ∙ eq) eq2
+        (goes_at S pending n false t _ (pc + length (first_code ++ (second_code ++ last_code))) env2 regs2 k (omega (arith, whole, rest))
+        (goes_after S pending n false t _ env regs env2 regs2 c2 k
+        (after_then S.code.own.stack pending env regs env1 regs1 env2 regs2 c1 c2 t (t + 1) (omega arith) af af2) goes))))))
+    all_same (And line e d) field t j n pc opened env regs c k bound has fits cov ok inside le room rel goes =
+        let first_code = exp_code S.code.own.constants e t j 2 in
+        let second_code = exp_code S.code.own.constants d t (j + made_by e) 2 in
+        let test_code = (abc Test t 0 0 false, line) ∷ jump_over (length second_code) line ∷ second_code in
+        let whole = length-append first_code test_code in
+        let behind = has_back S pc first_code test_code has in
+        let some = room_some S.code.own.constants d in
+        let two : pc + length first_code + 1 + 1 ≡ pc + length first_code + 2 = omega arith in
+        go_left S n _ (tree.at (evaluate e) (of_tree S pending env c) (and_right d ∷ k)) _ refl
+        (one_same e (all_same e) t j n pc opened env regs c (and_right d ∷ k) bound (has_front S pc first_code test_code has) cov.0 ok.0 (omega (arith, inside, whole)) le (omega arith) rel
+        (λ vs env1 regs1 c1 o1 af eq one. decides_goes S pending false (same_truth (holds (shape (first vs))) false) line t n (pc + length first_code) o1 second_code (first vs) _ env1 regs1 c1 behind (omega (arith, inside, whole)) (omega (arith, some)) af.rel eq refl
+        (λ e1. go_left S n _ (tree.at (give (first vs ∷ [])) (of_tree S pending env1 c1) k) _ (and_decides _ _ (holds (shape (first vs))) e1)
+        (at_place S pending n (pc + length first_code + (2 + length second_code)) (pc + length (first_code ++ test_code)) o1 _ regs1 c1 (omega (arith, whole)) (goes (first vs ∷ []) env1 regs1 c1 o1 af eq refl)))
+        (λ e1. go_left S n _ (tree.at (evaluate d) (of_tree S pending env1 c1) (first_only ∷ k)) _ (and_goes_on _ _ (holds (shape (first vs))) e1)
+        (one_same d (all_same d) t (j + made_by e) n (pc + length first_code + 2) o1 env1 regs1 c1 (first_only ∷ k) bound (subst (λ q. HasAt S q second_code) two behind.1.1.1.1) cov.1 (placed d _ _ _ af.size ok.1) (omega (arith, inside, whole)) (omega (arith, le, af.size)) (omega arith) af.rel
+        (λ ws env2 regs2 c2 o2 af2 eq2 one2. go_left S n _ (tree.at (give (first ws ∷ [])) (of_tree S pending env2 c2) k) _ refl
+        (at_place S pending n (pc + length first_code + 2 + length second_code) (pc + length (first_code ++ test_code)) o2 _ regs2 c2 (omega (arith, whole))
+        (goes (first ws ∷ []) env2 regs2 c2 o2 (after_then S.code.own.stack pending env regs env1 regs1 env2 regs2 c1 c2 t t (omega arith) af af2) eq2 refl)))))))
+    all_same (Or line e d) field t j n pc opened env regs c k bound has fits cov ok inside le room rel goes =
+        let first_code = exp_code S.code.own.constants e t j 2 in
+        let second_code = exp_code S.code.own.constants d t (j + made_by e) 2 in
+        let test_code = (abc Test t 0 0 true, line) ∷ jump_over (length second_code) line ∷ second_code in
+        let whole = length-append first_code test_code in
+        let behind = has_back S pc first_code test_code has in
+        let some = room_some S.code.own.constants d in
+        let two : pc + length first_code + 1 + 1 ≡ pc + length first_code + 2 = omega arith in
+        go_left S n _ (tree.at (evaluate e) (of_tree S pending env c) (or_right d ∷ k)) _ refl
+        (one_same e (all_same e) t j n pc opened env regs c (or_right d ∷ k) bound (has_front S pc first_code test_code has) cov.0 ok.0 (omega (arith, inside, whole)) le (omega arith) rel
+        (λ vs env1 regs1 c1 o1 af eq one. decides_goes S pending true (same_truth (holds (shape (first vs))) true) line t n (pc + length first_code) o1 second_code (first vs) _ env1 regs1 c1 behind (omega (arith, inside, whole)) (omega (arith, some)) af.rel eq refl
+        (λ e1. go_left S n _ (tree.at (give (first vs ∷ [])) (of_tree S pending env1 c1) k) _ (or_decides _ _ (holds (shape (first vs))) e1)
+        (at_place S pending n (pc + length first_code + (2 + length second_code)) (pc + length (first_code ++ test_code)) o1 _ regs1 c1 (omega (arith, whole)) (goes (first vs ∷ []) env1 regs1 c1 o1 af eq refl)))
+        (λ e1. go_left S n _ (tree.at (evaluate d) (of_tree S pending env1 c1) (first_only ∷ k)) _ (or_goes_on _ _ (holds (shape (first vs))) e1)
+        (one_same d (all_same d) t (j + made_by e) n (pc + length first_code + 2) o1 env1 regs1 c1 (first_only ∷ k) bound (subst (λ q. HasAt S q second_code) two behind.1.1.1.1) cov.1 (placed d _ _ _ af.size ok.1) (omega (arith, inside, whole)) (omega (arith, le, af.size)) (omega arith) af.rel
+        (λ ws env2 regs2 c2 o2 af2 eq2 one2. go_left S n _ (tree.at (give (first ws ∷ [])) (of_tree S pending env2 c2) k) _ refl
+        (at_place S pending n (pc + length first_code + 2 + length second_code) (pc + length (first_code ++ test_code)) o2 _ regs2 c2 (omega (arith, whole))
+        (goes (first ws ∷ []) env2 regs2 c2 o2 (after_then S.code.own.stack pending env regs env1 regs1 env2 regs2 c1 c2 t t (omega arith) af af2) eq2 refl)))))))
+    all_same (Table line fs) field t j n pc opened env regs c k bound has fits cov ok inside le room rel goes = absurd cov
+    all_same (Function line body) field t j n pc opened env regs c k bound has fits cov ok inside le room rel goes =
+        function_goes S pending n false t j pc opened body _ env regs c k refl has bound ok.0 ok.1 inside le (omega arith) rel goes
+    all_same (Vararg line) field t j n pc opened env regs c k bound has fits cov ok inside le room rel goes =
+        varargs_goes S pending field n line t pc opened _ env regs c k refl has inside le room fits rel goes
+    all_same (Call line f es) field t j n pc opened env regs c k bound has fits cov ok inside le room rel goes =
+        let first_code = exp_code S.code.own.constants f t j 2 in
+        let args_code = exps_code S.code.own.constants es None (t + 1) (j + made_by f) line in
+        let last_code = with_abc CallCode t (list_field 0 es) field line ∷ [] in
+        let behind = has_back S pc first_code (args_code ++ last_code) has in
+        let whole = length-append first_code (args_code ++ last_code) in
+        let rest = length-append args_code last_code in
+        let some = room_some S.code.own.constants f in
+        go_left S n _ (tree.at (evaluate f) (of_tree S pending env c) (callee_of line false es ∷ k)) _ refl
+        (one_same f (all_same f) t j n pc opened env regs c (callee_of line false es ∷ k) bound (has_front S pc first_code (args_code ++ last_code) has) cov.0 ok.0 (omega (arith, inside, whole)) le (omega (arith, room)) rel
+        (λ vs env1 regs1 c1 o1 af eq one. go_left S n _ (tree.at (collect (for_call line false) (first vs ∷ []) es) (of_tree S pending env1 c1) k) _ refl
+        (lists_same es (for_call line false) None t 1 (j + made_by f) line n (pc + length first_code) o1 (first vs ∷ []) env1 regs1 c1 k bound refl (has_front S (pc + length first_code) args_code last_code behind) tt cov.1 (placed_all es _ _ _ af.size ok.1)
+        (omega (arith, inside, whole, rest)) refl (held_one t (first vs) regs1 eq) (omega (arith, le, af.size)) (omega (arith, room, some)) (omega (arith, room)) af.rel
+        (λ args env2 regs2 c2 o2 af2 l. called es 0 field args n line t (pc + length first_code + length args_code) o2 env2 regs2 c2 k (has_back S (pc + length first_code) args_code last_code behind)
+        (omega (arith, inside, whole, rest)) (omega (arith, le, af.size, af2.size)) (omega (arith, room, some)) (omega (arith, room)) (omega (arith, room)) fits af2.rel l
+        (filled_at n field t _ (pc + length (first_code ++ (args_code ++ last_code))) env2 regs2 k (omega (arith, whole, rest))
+        (filled_after n field t _ env regs env2 regs2 c2 k (after_then S.code.own.stack pending env regs env1 regs1 env2 regs2 c1 c2 t t (omega arith) af af2) goes))))))
+    all_same (Method line object name es) field t j n pc opened env regs c k bound has fits cov ok inside le room rel goes =
+        let first_code = exp_code S.code.own.constants object t j 2 in
+        let name_code = loads S.code.own.constants (StrConst name.text) (t + 1) line in
+        let self_code = with_abc OpSelf t t (t + 1) line in
+        let args_code = exps_code S.code.own.constants es None (t + 2) (j + made_by object) line in
+        let last_code = with_abc CallCode t (list_field 1 es) field line ∷ [] in
+        let key = known (string name.text) in
+        let behind = has_back S pc first_code (name_code ++ (self_code ∷ (args_code ++ last_code))) has in
+        let beyond = has_back S (pc + length first_code) name_code (self_code ∷ (args_code ++ last_code)) behind in
+        let whole = length-append first_code (name_code ++ (self_code ∷ (args_code ++ last_code))) in
+        let middle = length-append name_code (self_code ∷ (args_code ++ last_code)) in
+        let rest = length-append args_code last_code in
+        let q = pc + length first_code + length name_code in
+        go_left S n _ (tree.at (evaluate object) (of_tree S pending env c) (method_of line false name.text es ∷ k)) _ refl
+        (one_same object (all_same object) t j n pc opened env regs c (method_of line false name.text es ∷ k) bound (has_front S pc first_code (name_code ++ (self_code ∷ (args_code ++ last_code))) has) cov.0 ok.0 (omega (arith, inside, whole)) le (omega (arith, room)) rel
+        (λ vs env1 regs1 c1 o1 af eq one. let put = after_put S.code.own.stack pending env1 regs1 c1 (t + 1) key (omega (arith, le, af.size)) af.rel in
+        load_right S pending (StrConst name.text) (t + 1) line n (pc + length first_code) o1 _ regs1 c1 ok.1.0 (has_front S (pc + length first_code) name_code (self_code ∷ (args_code ++ last_code)) behind) (omega (arith, inside, whole, middle)) (omega (arith, room, S.small)) (omega (arith, room, af.rel.room))
+        (method_goes S pending n line t q o1 (first vs) key _ env1 (write (t + 1) key regs1) c1 k (λ ws. collect (for_call line false) (first ws ∷ first vs ∷ []) es) refl (beyond.0, (beyond.1.0, tt)) (omega (arith, inside, whole, middle, rest)) (omega (arith, le, af.size)) (omega (arith, room)) put.rel
+        (nth_write_other (t + 1) key regs1 t (λ same. absurd (omega (arith, same))) ∙ eq) (nth_write_same (t + 1) key regs1)
+        (λ ws env2 regs2 c2 af2 method_is self_is. lists_same es (for_call line false) None t 2 (j + made_by object) line n (q + 1) o1 (first ws ∷ first vs ∷ []) env2 regs2 c2 k bound refl (has_front S (q + 1) args_code last_code beyond.1.1) tt cov.1
+        (placed_all es _ _ _ (af2.size ∙ af.size) ok.1.1) (omega (arith, inside, whole, middle, rest)) refl (held_two t (first ws) (first vs) regs2 method_is self_is) (omega (arith, le, af.size, af2.size)) (omega (arith, room)) (omega (arith, room)) af2.rel
+        (λ args env3 regs3 c3 o3 af3 l. called es 1 field args n line t (q + 1 + length args_code) o3 env3 regs3 c3 k (has_back S (q + 1) args_code last_code beyond.1.1)
+        (omega (arith, inside, whole, middle, rest)) (omega (arith, le, af.size, af2.size, af3.size)) (omega (arith, room)) (omega (arith, room)) (omega (arith, room)) fits af3.rel l
+        (filled_at n field t _ (pc + length (first_code ++ (name_code ++ (self_code ∷ (args_code ++ last_code))))) env3 regs3 k (omega (arith, whole, middle, rest))
+        (filled_after n field t _ env regs env3 regs3 c3 k
+        (after_then S.code.own.stack pending env regs env1 regs1 env3 regs3 c1 c3 t t (omega arith) af
+        (after_then S.code.own.stack pending env1 regs1 env2 regs2 env3 regs3 c2 c3 t t (omega arith)
+        (after_then S.code.own.stack pending env1 regs1 env1 (write (t + 1) key regs1) env2 regs2 c1 c2 t t (omega arith) (lower S.code.own.stack pending env1 regs1 env1 (write (t + 1) key regs1) c1 (t + 1) t (omega arith) put) af2) af3)) goes)))))))
+
+    lists_same : (es : Exps) → ListSame es
+    lists_same EndExps purpose wanted base above j line n pc opened have env regs c k bound all has wf cov ok inside size held le below room rel goes =
+        let none : above + 0 ≡ above = omega arith in
+        nils_goes S pending wanted n purpose base above line pc opened have env regs c k has inside size held le below room rel
+        (subst (λ z. GoesListed S pending n (total wanted above) false z purpose base env regs (pc + length (exps_code S.code.own.constants EndExps wanted (base + above) j line)) k) none goes)
+    lists_same (MoreExps e EndExps) purpose wanted base above j line n pc opened have env regs c k bound all has wf cov ok inside size held le below room rel goes =
+        let field = field_of e EndExps wanted in
+        let after = wanted_after e EndExps wanted in
+        let first_code = exp_code S.code.own.constants e (base + above) j field in
+        let rest_code = exps_code S.code.own.constants EndExps after (base + above + 1) (j + made_by e) line in
+        let sum = length-append first_code rest_code in
+        let some = room_some S.code.own.constants e in
+        go_left S n _ (tree.at (evaluate e) (of_tree S pending env c) (listed purpose have EndExps ∷ k)) _ refl
+        (all_same e field (base + above) j n pc opened env regs c (listed purpose have EndExps ∷ k) bound (has_front S pc first_code rest_code has) (field_fits (is_open e) wanted wf) cov.0 ok.0 (omega (arith, inside, sum)) (omega (arith, le)) (omega (arith, room)) rel
+        (goes_by n e field (base + above) env regs (pc + length first_code) (listed purpose have EndExps ∷ k)
+        (λ many vs env1 regs1 c1 o1 af filled. go_left S n _ (tree.at (collect purpose (have ++ vs) EndExps) (of_tree S pending env1 c1) k) _ (ap (λ b. goes_on (tree.at (collect purpose (cond b (have ++ vs) (have ++ first vs ∷ [])) EndExps) (of_tree S pending env1 c1) k)) all)
+        (all_more purpose wanted base above n (pc + length first_code) o1 have vs env regs env1 regs1 c1 k size held le af
+        (subst (λ z. Filled S z (pc + length first_code) (base + above) vs regs1 o1) (ap (λ b. cond b (results_field wanted) 2) many) filled)
+        (listed_at S pending n (total wanted above) true (above + 1) purpose base (pc + length first_code) (pc + length (first_code ++ rest_code)) env regs k
+        (let none : length rest_code ≡ 0 = ap (λ b. length (exps_code S.code.own.constants EndExps (cond b None (one_less wanted)) (base + above + 1) (j + made_by e) line)) many in omega (arith, sum, none))
+        (subst (λ b. GoesListed S pending n (total wanted above) b (above + 1) purpose base env regs (pc + length (first_code ++ rest_code)) k) many goes))))
+        (λ one vs env1 regs1 c1 o1 af eq given. go_left S n _ (tree.at (collect purpose (have ++ vs) EndExps) (of_tree S pending env1 c1) k) _ (ap (λ b. goes_on (tree.at (collect purpose (cond b (have ++ vs) (have ++ first vs ∷ [])) EndExps) (of_tree S pending env1 c1) k)) all)
+        (subst (λ l. Agree S n (tree.at (collect purpose (have ++ l) EndExps) (of_tree S pending env1 c1) k) (before (of_code S pending (pc + length first_code) regs1 o1) c1)) (sym given)
+        (let fewer : after ≡ one_less wanted = ap (λ b. cond b None (one_less wanted)) one in
+        let two : room_of S.code.own.constants e field ≡ room_of S.code.own.constants e 2 = ap (λ b. room_of S.code.own.constants e (cond b (results_field wanted) 2)) one in
+        let same : exps_code S.code.own.constants EndExps after (base + above + 1) (j + made_by e) line ≡ exps_code S.code.own.constants EndExps (one_less wanted) (base + above + 1) (j + made_by e) line = ap (λ w. exps_code S.code.own.constants EndExps w (base + above + 1) (j + made_by e) line) fewer in
+        let rooms : room_of_list S.code.own.constants (above + 1) EndExps after ≡ room_of_list S.code.own.constants (above + 1) EndExps (one_less wanted) = ap (room_of_list S.code.own.constants (above + 1) EndExps) fewer in
+        let sizes = ap length same in
+        one_more EndExps (lists_same EndExps) purpose wanted base above (j + made_by e) line n (pc + length first_code) o1 have vs env regs env1 regs1 c1 k bound all
+        (subst (HasAt S (pc + length first_code)) same (has_back S pc first_code rest_code has)) wf cov.1 ok.1
+        (omega (arith, inside, sum, sizes)) size held le (omega (arith, room, some, two)) (omega (arith, room, rooms)) af eq
+        (listed_at S pending n (total wanted above) false _ purpose base _ (pc + length (first_code ++ rest_code)) env regs k (omega (arith, sum, sizes))
+        (subst (λ b. GoesListed S pending n (total wanted above) b (above + 1) purpose base env regs (pc + length (first_code ++ rest_code)) k) one goes)))))))
+    lists_same (MoreExps e (MoreExps d es)) purpose wanted base above j line n pc opened have env regs c k bound all has wf cov ok inside size held le below room rel goes =
+        let first_code = exp_code S.code.own.constants e (base + above) j 2 in
+        let rest_code = exps_code S.code.own.constants (MoreExps d es) (one_less wanted) (base + above + 1) (j + made_by e) line in
+        let sum = length-append first_code rest_code in
+        let some = room_some S.code.own.constants e in
+        go_left S n _ (tree.at (evaluate e) (of_tree S pending env c) (listed purpose have (MoreExps d es) ∷ k)) _ refl
+        (one_same e (all_same e) (base + above) j n pc opened env regs c (listed purpose have (MoreExps d es) ∷ k) bound (has_front S pc first_code rest_code has) cov.0 ok.0 (omega (arith, inside, sum)) (omega (arith, le)) (omega (arith, room)) rel
+        (λ vs env1 regs1 c1 o1 af eq one. go_left S n _ (tree.at (collect purpose (have ++ first vs ∷ []) (MoreExps d es)) (of_tree S pending env1 c1) k) _ refl
+        (one_more (MoreExps d es) (lists_same (MoreExps d es)) purpose wanted base above (j + made_by e) line n (pc + length first_code) o1 have vs env regs env1 regs1 c1 k bound all (has_back S pc first_code rest_code has) wf cov.1 ok.1
+        (omega (arith, inside, sum)) size held le (omega (arith, room, some)) (omega (arith, room)) af eq
+        (listed_at S pending n (total wanted above) (ends_open (MoreExps d es)) _ purpose base _ (pc + length (first_code ++ rest_code)) env regs k (omega (arith, sum)) goes))))
+
+  -- the code of an expression of which one value is wanted
+  pub exp_same : (e : Exp) → ExpSame e
+  exp_same e = one_same e (all_same e)
+
+  -- the code of a call or of `...` with any field C
+  pub open_same : (e : Exp) → is_open e ≡ true → (field t j n pc opened : ℕ) (env regs : List Value) (c : Captured) (k : List Work)
+      → n ≤ S.bound → HasAt S pc (exp_code S.code.own.constants e t j field) → field < 2 ^ 8 → IsCovered e → IsPlaced S e (length env) j → pc + length (exp_code S.code.own.constants e t j field) < length S.code.own.code
+      → length env ≤ t → t + room_of S.code.own.constants e field ≤ S.code.own.stack → Rel S.code.own.stack pending env c regs
+      → GoesFilled S pending n field t env regs (pc + length (exp_code S.code.own.constants e t j field)) k
+      → Agree S n (tree.at (evaluate e) (of_tree S pending env c) k) (before (of_code S pending pc regs opened) c)
+  open_same e many field t j n pc opened env regs c k bound has fits cov ok inside le room rel goes =
+      all_same e field t j n pc opened env regs c k bound has fits cov ok inside le room rel
+      (goes_by n e field t env regs (pc + length (exp_code S.code.own.constants e t j field)) k (λ is. goes) (λ is. absurd (cc)))
+
+  -- the code of a list of expressions
+  pub exps_same : (es : Exps) → ListSame es
+  exps_same es = lists_same es

@@ -21,6 +21,7 @@ use Rattle.code_of.specs.Coded.{Coded}
 use Rattle.exp_laws.proofs.Registers.{Rel, After, after_then, after_put}
 use Rattle.exp_laws.proofs.Talking.{Setting, Here, Agree, go_left, go_right, of_tree, of_code}
 use Rattle.exp_laws.proofs.Placing.{HasAt}
+use Rattle.exp_laws.proofs.Lists.{Holds}
 use Rattle.exp_laws.proofs.Asking.{asks_alike}
 use Rattle.exp_laws.proofs.Steps.{to_register_step}
 
@@ -28,10 +29,6 @@ use Rattle.exp_laws.proofs.Steps.{to_register_step}
 abbrev pub Given : (many : Bool) → List Value → Type 0
 Given true vs = Unit {0}
 Given false vs = vs ≡ first vs ∷ []
-
--- the registers from t on have the first values of a list
-abbrev pub Holds : (t count : ℕ) → (vs regs : List Value) → Type 0
-Holds t count vs regs = (i : ℕ) → i < count → nth regs (t + i) ≡ nth vs i
 
 module _ (S : Setting) where
   -- what a call or `...` with this field C leaves in front of a place: all its values as an open list from register t on, or so many of them

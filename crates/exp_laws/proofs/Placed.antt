@@ -83,14 +83,15 @@ abbrev pub room_of_values : (field : ℕ) → ℕ
 room_of_values zero = 1
 room_of_values (suc count) = count
 
+abbrev pub room_of_nils : (above : ℕ) → Wanted → ℕ
+room_of_nils above None = 0
+room_of_nils above (Some zero) = 0
+room_of_nils above (Some (suc n)) = above + suc n
+
 module _ (cs : List Const) where
   abbrev pub room_of_name : Place → List ℕ → ℕ
   room_of_name (GlobalOf u) text = cond (nat_lt (number_in cs (StrConst text)) 256) 1 2
   room_of_name _ text = 1
-
-  abbrev pub room_of_nils : Wanted → ℕ
-  room_of_nils None = 0
-  room_of_nils (Some n) = n
 
   abbrev mutual
     pub room_of : Exp → (field : ℕ) → ℕ
@@ -109,7 +110,7 @@ module _ (cs : List Const) where
 
     -- a list that stands `above` registers higher
     pub room_of_list : (above : ℕ) → Exps → Wanted → ℕ
-    room_of_list above EndExps wanted = cond (nat_lt 0 (room_of_nils wanted)) (above + room_of_nils wanted) 0
+    room_of_list above EndExps wanted = room_of_nils above wanted
     room_of_list above (MoreExps e es) wanted = max (above + room_of e (field_of e es wanted)) (room_of_list (above + 1) es (wanted_after e es wanted))
 
     -- above the table's own register

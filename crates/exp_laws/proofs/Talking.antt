@@ -90,6 +90,14 @@ module _ (S : Setting) where
   both_say n s t x y e d h =
       (0, 0, subst (λ z. NextAgree n (as_known S.lines (step s)) z) (sym d) (subst (λ z. NextAgree n (as_known S.lines z) y) (sym e) h))
 
+  pub both_stuck : (n : ℕ) (s : tree.State) (t : code.State) → step s ≡ stuck → talk_step S.code t ≡ stuck → Agree n s t
+  both_stuck zero s t e d = tt
+  both_stuck (suc n) s t e d = both_say n s t stuck stuck e d (by S.lines)
+    where
+      by : (b : Bool) → NextAgree n (as_known b stuck) stuck
+      by true = tt
+      by false = tt
+
   -- an instruction is at a place, and its line is this one, where lines are known
   pub record Here (pc line : ℕ) : Type 0 where
     pub word : Instruction
