@@ -1,40 +1,124 @@
--- What the code of a source writes is its output.
-use Rattle.std.proofs.Common.{◌≡◌, ℕ, ◌+◌, ◌≤◌, ◌^◌, List, [], ◌++◌, length, Some, refl, sym, ap, subst, ◌∙◌, arith, length-append, append-nil}
+-- What the code of a source writes is its output, and why a source is refused.
+use Rattle.std.proofs.Common.{◌≡◌, ◌⊎◌, inl, inr, ℕ, ◌+◌, ◌≤◌, ◌<◌, ◌^◌, List, [], ◌∷◌, ◌++◌, length, Option, Some, None, Result, Ok, Err, refl, sym, ap, subst, ◌∙◌, arith, append-nil}
 use Rattle.std.specs.Prelude.{codes}
+use Rattle.std.specs.Result.{result_err}
 use Rattle.lua_lex.specs.declared.token.Token.{Token}
-use Rattle.lua_lex.specs.Lexical.{TokensOf}
+use Rattle.lua_lex.specs.declared.source.LexFault.{LexFault}
+use Rattle.lua_lex.specs.Lexical.{TokensOf, BadToken}
+use Rattle.tree_core.specs.Tree as tree
+use Rattle.lua_parse.specs.Reading.{Derives}
+use Rattle.lua_lex.specs.declared.source.LexFault.TheVariants as lexer
+use Rattle.lua_lex.specs.Answers.{OnRefused}
+use Rattle.lua_parse.specs.Answers.{IsOnlyTree, IsRefusal, Refuses}
+use Rattle.lua_parse.specs.declared.fault.ParseFault.{ParseFault}
+use Rattle.lua_parse.specs.declared.fault.ParseFault.TheVariants as parser
 use Rattle.luaris.specs.declared.chunk.Chunk.{Chunk}
-use Rattle.luaris.specs.Script.{Statement, Spells, ends, declares, prints, printed}
-use Rattle.luaris.specs.Code.{constants_of, constants_of_script, output_from, first_word, empty_registers}
-use Rattle.luaris.specs.Answers.{IsChunkOf}
-use Rattle.luaris.specs.Outcomes.{IsOutput}
-use Rattle.luaris.proofs.ReadingLemmas.{constants_fit}
+use Rattle.luaris.specs.Script.{Statement, script_of, statements_of, printed}
+use Rattle.luaris.specs.Holding.{crowded}
+use Rattle.luaris.specs.Code.{constants_of_script, output_from, first_word, empty_registers}
+use Rattle.luaris.specs.Answers.{IsChunkOf, IsCompiled, BlockHoldsFew}
+use Rattle.luaris.specs.Straight.{HasTree, Straight, RefusedOn, Violates, bad_token, no_tree, not_built, IsNoScript}
+use Rattle.luaris.specs.Faults.{fault_of_lexer, fault_of_parser}
+use Rattle.luaris.specs.Outcomes.{IsOutput, IsRefusedFor, SourceAnswers}
 use Rattle.luaris.proofs.Registers.{Hold}
-use Rattle.luaris.proofs.ScriptRuns.{script_runs, prints_values}
-use Rattle.luaris.proofs.SpellsLemmas.{spells_once}
+use Rattle.luaris.proofs.ScriptRuns.{Runs, script_runs, prints_values}
+use Rattle.luaris.proofs.Straightness.{script_reaches, never_outside}
+use Rattle.luaris.proofs.CrowdLemmas.{block_holds_few}
 
-script_fits : {names : List (List ℕ)} {tokens : List (Token × ℕ)} {script : List Statement} → Spells names tokens script → length (constants_of_script script) ≤ length tokens
-script_fits ends = omega arith
-script_fits (declares {expression = e} {script = script} few other reads declared later) = let a = constants_fit reads in let b = script_fits later in let c = length-append (constants_of e) (constants_of_script script) in omega arith
-script_fits (prints {expression = e} {script = script} reads declared later) = let a = constants_fit reads in let b = script_fits later in let c = length-append (constants_of e) (constants_of_script script) in omega arith
+-- the source has this tree alone
+pub record IsRead (source : List ℕ) (tokens : List (Token × ℕ)) (own : tree.Block) : Type 0 where
+  pub short : length source ≤ 2 ^ 20
+  pub tokens_are : TokensOf source tokens
+  pub tokens_only : (other : List (Token × ℕ)) → TokensOf source other → other ≡ tokens
+  pub derives : Derives tokens own
+  pub tree_only : IsOnlyTree tokens own
+
+pub has_tree : {source : List ℕ} {tokens : List (Token × ℕ)} {own : tree.Block} → IsRead source tokens own → HasTree source own
+has_tree {tokens = tokens} read = record { tokens = tokens; tokens_are = read.tokens_are; derives = read.derives }
+
+same_tree : {source : List ℕ} {tokens : List (Token × ℕ)} {own other : tree.Block} → IsRead source tokens own → HasTree source other → other ≡ own
+same_tree {own = own} {other = other} read has = read.tree_only other (subst (λ l. Derives l other) (read.tokens_only has.tokens has.tokens_are) has.derives)
+
+-- refusals
+
+pub refused_token : (source : List ℕ) (line : ℕ) → length source ≤ 2 ^ 20 → BadToken source line → ((list : List (Token × ℕ)) → TokensOf source list → ⊥) → IsRefusedFor source (RefusedOn source line)
+refused_token source line short bad none = record { none = λ values straight. none straight.has_tree.tokens straight.has_tree.tokens_are; short = short; cause = bad_token bad }
+
+pub refused_tokens : (source : List ℕ) (tokens : List (Token × ℕ)) (line : ℕ) → length source ≤ 2 ^ 20 → TokensOf source tokens → ((other : List (Token × ℕ)) → TokensOf source other → other ≡ tokens) → IsRefusal tokens line → IsRefusedFor source (RefusedOn source line)
+refused_tokens source tokens line short tokens_are only refusal = record {
+  none = λ values straight.
+      let has = straight.has_tree in
+      refusal.no_tree straight.tree (subst (λ l. Derives l straight.tree) (only has.tokens has.tokens_are) has.derives);
+  short = short;
+  cause = no_tree tokens tokens_are refusal;
+}
+
+of_fault : {A : Type 0} (line : ℕ) (r : Result A ℕ) → Some line ≡ result_err r → r ≡ Err line
+of_fault line (Ok x) is = absurd (cc)
+of_fault line (Err own) is = let same : own ≡ line = cc in ap Err same
+
+of_none : {A : Type 0} (r : Result A ℕ) → None ≡ result_err r → (x : A) × (r ≡ Ok x)
+of_none (Ok x) is = (x, refl)
+of_none (Err own) is = absurd (cc)
+
+pub refused_form : (source : List ℕ) (tokens : List (Token × ℕ)) (own : tree.Block) (line : ℕ) → IsRead source tokens own → Some line ≡ result_err (script_of own) → IsRefusedFor source (RefusedOn source line)
+refused_form source tokens own line read found =
+    let is = of_fault line (script_of own) found in
+    record {
+      none = λ values straight. absurd (let bad : Err line ≡ Ok straight.script = sym is ∙ ap script_of (sym (same_tree read straight.has_tree)) ∙ straight.script_is in cc);
+      short = read.short;
+      cause = not_built own (has_tree read) is;
+    }
+
+pub refused_crowd : (source : List ℕ) (tokens : List (Token × ℕ)) (own : tree.Block) (line : ℕ) → IsRead source tokens own → None ≡ result_err (script_of own) → Some line ≡ crowded own → IsRefusedFor source (Violates source 11 line)
+refused_crowd source tokens own line read built found =
+    let script = of_none (script_of own) built in
+    record {
+      none = λ values straight. absurd (let bad : Some line ≡ None = found ∙ ap crowded (sym (same_tree read straight.has_tree)) ∙ straight.uncrowded in cc);
+      short = read.short;
+      cause = record { tree = own; script = script.0; has_tree = has_tree read; script_is = script.1; rule_is = refl; first = sym found };
+    }
+
+-- what each step's fault says of the source
+
+pub lexer_fault : (source : List ℕ) (reason : LexFault) → length source ≤ 2 ^ 20 ⊎ (reason ≡ lexer.Limit) → (reason ≡ lexer.Limit → 2 ^ 20 < length source) → OnRefused {T = List (Token × ℕ)} (Err reason) (λ line. BadToken source line) → OnRefused {T = List (Token × ℕ)} (Err reason) (λ line. (list : List (Token × ℕ)) → TokensOf source list → ⊥) → SourceAnswers source (Err (fault_of_lexer reason))
+lexer_fault source (lexer.Refused line) (inl short) over bad none = refused_token source line short bad none
+lexer_fault source (lexer.Refused line) (inr is) over bad none = absurd (cc)
+lexer_fault source lexer.Limit short over bad none = over refl
+lexer_fault source lexer.Memory short over bad none = tt
+
+pub parser_fault : (source : List ℕ) (tokens : List (Token × ℕ)) (reason : ParseFault) → length source ≤ 2 ^ 20 → TokensOf source tokens → ((other : List (Token × ℕ)) → TokensOf source other → other ≡ tokens) → Refuses tokens reason → SourceAnswers source (Err (fault_of_parser reason))
+parser_fault source tokens (parser.Refused line) short tokens_are only refusal = refused_tokens source tokens line short tokens_are only refusal
+parser_fault source tokens parser.Memory short tokens_are only refusal = tt
+
+-- the output
 
 empty_hold : Hold [] empty_registers
 empty_hold = record { size = refl; values = λ place within. absurd (omega arith) }
 
-pub output_is : (source : List ℕ) (tokens : List (Token × ℕ)) (chunk : Chunk) (text : List ℕ) → length source ≤ 2 ^ 20 → length tokens ≤ length source + 1 → TokensOf source tokens → ((other : List (Token × ℕ)) → TokensOf source other → other ≡ tokens) → (script : List Statement) × Spells [] tokens script × IsChunkOf script chunk → text ≡ output_from chunk.constants.items first_word chunk.code.items empty_registers ++ codes "return\n" → IsOutput source text
-output_is source tokens chunk text short count tokens_are tokens_only (script, spells, is) text_is =
-    let values = prints_values spells [] refl in
-    let fits = script_fits spells in
-    let whole : chunk.constants.items ≡ [] ++ (constants_of_script script ++ []) = is.constants ∙ sym (append-nil (constants_of_script script)) in
-    let runs = script_runs spells [] chunk.constants.items [] [] first_word empty_registers 0 values.0 refl whole refl (omega arith) empty_hold (omega arith) values.1 in
+block_reaches : (b : tree.Block) (script : List Statement) → script_of b ≡ Ok script → BlockHoldsFew b → Runs [] script
+block_reaches (tree.Falls ss tokens line) script is few = script_reaches [] ss script is few
+block_reaches (tree.Returns ss values tokens line) script is few = never_outside (statements_of [] ss) line script is
+
+pub output_is : (source : List ℕ) (tokens : List (Token × ℕ)) (own : tree.Block) (chunk : Chunk) (text : List ℕ) → IsRead source tokens own → None ≡ result_err (script_of own) → None ≡ crowded own → IsCompiled own chunk → text ≡ output_from chunk.constants.items first_word chunk.code.items empty_registers ++ codes "return\n" → IsOutput source text
+output_is source tokens own chunk text read built uncrowded is text_is =
+    let found = of_none (script_of own) built in
+    let script : List Statement = found.0 in
+    let reaches = block_reaches own script found.1 (block_holds_few own uncrowded) in
+    let values = prints_values [] script reaches [] refl in
+    let made = is.is_chunk script found.1 in
+    let whole : chunk.constants.items ≡ [] ++ (constants_of_script script ++ []) = made.constants ∙ sym (append-nil (constants_of_script script)) in
+    let room = is.few in
+    let size = ap length made.constants in
+    let runs = script_runs [] script reaches [] chunk.constants.items [] [] first_word empty_registers 0 values.0 refl whole refl (omega (arith, room, size)) empty_hold values.1 in
     record {
       values = values.0;
-      straight = record { tokens = tokens; script = script; short = short; tokens_are = tokens_are; spells = spells; prints = values.1 };
-      text_is = text_is ∙ ap (λ l. l ++ codes "return\n") (ap (λ code. output_from chunk.constants.items first_word code empty_registers) is.code ∙ runs);
+      straight = record { tree = own; script = script; short = read.short; has_tree = has_tree read; script_is = found.1; uncrowded = sym uncrowded; prints = values.1 };
+      text_is = text_is ∙ ap (λ l. l ++ codes "return\n") (ap (λ code. output_from chunk.constants.items first_word code empty_registers) made.code ∙ runs);
       only = λ values' straight.
-          let same_tokens = tokens_only straight.tokens straight.tokens_are in
-          let spells' : Spells [] tokens straight.script = subst (λ l. Spells [] l straight.script) same_tokens straight.spells in
-          let same_script : straight.script ≡ script = spells_once spells' spells in
-          let both : Some values' ≡ Some values.0 = sym straight.prints ∙ ap (printed []) same_script ∙ values.1 in
+          let same : straight.tree ≡ own = same_tree read straight.has_tree in
+          let both : Ok straight.script ≡ Ok script = sym straight.script_is ∙ ap script_of same ∙ found.1 in
+          let scripts : straight.script ≡ script = cc in
+          let all : Some values' ≡ Some values.0 = sym straight.prints ∙ ap (printed []) scripts ∙ values.1 in
           cc;
     }

@@ -4,7 +4,8 @@ use Rattle.std.specs.Prelude.{slice_get, map}
 use Rattle.std.specs.Str.{bytes_eq}
 use Rattle.std.proofs.lemmas.Option.{unwrap_or-slice_get}
 use Rattle.std.proofs.lemmas.List.{get_or-set_same, get_or-set_other}
-use Rattle.luaris.specs.Script.{first_some, last_place, last_value}
+use Rattle.luaris.specs.Expression.{first_some, last_place}
+use Rattle.luaris.specs.Script.{last_value}
 use Rattle.luaris.specs.Code.{at_place}
 
 pub at_place-set_same : (values : List ℤ) (place : ℕ) (value : ℤ) → place < length values → at_place (slice_set values place value) place ≡ value

@@ -1,10 +1,11 @@
 -- The last place of a name in a list that grows.
 use Rattle.std.proofs.Common.{◌≡◌, ℕ, suc, ◌+◌, ◌<◌, List, [], ◌∷◌, ◌++◌, length, take, Option, Some, None, true, false, if◌then◌else◌, refl, sym, ap, ◌∙◌, arith}
+use Rattle.std.specs.Prelude.{IfSome}
 use Rattle.std.specs.Str.{bytes_eq}
 use Rattle.std.proofs.Common.{get_or}
 use Rattle.std.proofs.lemmas.List.{take_more}
 use Rattle.std.proofs.lemmas.Grind.{common_steps}
-use Rattle.luaris.specs.Script.{first_some, last_place}
+use Rattle.luaris.specs.Expression.{first_some, last_place}
 
 pub first_some-assoc : {A : Type 0} (a b c : Option A) → first_some a (first_some b c) ≡ first_some (first_some a b) c
 first_some-assoc (Some value) b c = refl
@@ -29,3 +30,10 @@ one_more names place declared name before now inside item known step =
     step ∙ ap (first_some (if bytes_eq declared name then Some place else None)) known
     ∙ sym (ap (λ n. first_some (if bytes_eq declared name then Some n else None) (last_place 0 (take place names) name)) size)
     ∙ sym whole ∙ sym (ap (λ l. last_place 0 l name) parts)
+
+pub found_below : (place : ℕ) (found : Option ℕ) → found ≡ Some place → IfSome found (λ own. own < place + 1)
+found_below place found is = rw is (omega arith)
+
+pub still_below : (place : ℕ) (before now : Option ℕ) → now ≡ before → IfSome before (λ own. own < place) → IfSome now (λ own. own < place + 1)
+still_below place (Some own) now is below = rw is (omega (arith, below))
+still_below place None now is below = rw is tt

@@ -5,53 +5,27 @@ use Rattle.std.specs.Option.{option_map}
 use Rattle.std.proofs.lemmas.List.{length-map, map-append, get_or_append_left}
 use Rattle.std.proofs.Math.Seq.{get_or-append_seam}
 use Rattle.std.proofs.lemmas.Bool.{cases_lt}
-use Rattle.lua_lex.specs.declared.token.Token.{Token}
 use Rattle.code_core.specs.declared.opcode.Opcode.TheVariants.{Call}
 use Rattle.code_core.specs.declared.instruction.Instruction.{Instruction}
 use Rattle.code_core.specs.Instruction.{abc}
-use Rattle.luaris.specs.declared.operator.Level.{Level}
-use Rattle.luaris.specs.declared.operator.Level.TheVariants.{Sums, Products}
-use Rattle.luaris.specs.Expression.{Expression, Numeral, Variable, Operation, Part, chain, behind, atom, operand, Reads, numeral, variable, brackets, first, another, no_more}
-use Rattle.luaris.specs.Script.{Statement, most_declarations, AllDeclared, Spells, ends, declares, prints, last_place, last_value, value_of, result_of, printed, line_of, lines_of}
+use Rattle.luaris.specs.Expression.{Expression, Numeral, Variable, Operation, last_place}
+use Rattle.luaris.specs.Script.{Statement, Declare, Print, last_value, value_of, result_of, printed, line_of, lines_of}
 use Rattle.luaris.specs.Code.{constants_of, code_of, at_place, output_from, constants_of_script, code_of_script}
-use Rattle.luaris.specs.Answers.{reach}
 use Rattle.luaris.proofs.Registers.{names_of, values_of, no_place, Hold}
 use Rattle.luaris.proofs.Rows.{run_call}
 use Rattle.luaris.proofs.Runs.{need, RunsTo, hold_kept, expression_runs}
 
--- the registers that a part reaches
-abbrev bound : Part → (levels : ℕ) → ℕ
-bound (behind level left) levels = reach (chain level) levels
-bound (chain level) levels = reach (chain level) levels
-bound atom levels = reach atom levels
+-- each name that stands in the expression is one of these
+abbrev pub AllDeclared : List (List ℕ) → Expression → Type 0
+AllDeclared names (Numeral value) = Unit {0}
+AllDeclared names (Variable name) = IsSome (last_place 0 names name)
+AllDeclared names (Operation operator left right) = AllDeclared names left × AllDeclared names right
 
-abbrev need_before : Part → ℕ
-need_before (behind level left) = need left
-need_before _ = 0
-
-operand_bound : (level : Level) (levels : ℕ) → 1 + bound (operand level) levels ≤ reach (chain level) levels
-operand_bound Sums levels = omega arith
-operand_bound Products levels = omega arith
-
-no_need_before : (level : Level) → need_before (operand level) ≡ 0
-no_need_before Sums = refl
-no_need_before Products = refl
-
-need_within : {part : Part} {levels : ℕ} {tokens rest : List (Token × ℕ)} {e : Expression} → Reads part levels tokens e rest → need_before part ≤ bound part levels → need e ≤ bound part levels
-need_within numeral before = omega arith
-need_within variable before = omega arith
-need_within (brackets h) before = let a = need_within h (omega arith) in omega arith
-need_within (first {level = level} {levels = levels} h k) before =
-    let none = no_need_before level in
-    let more = operand_bound level levels in
-    let a = need_within h (omega arith) in
-    need_within k (omega arith)
-need_within (another {level = level} {levels = levels} operator is h k) before =
-    let none = no_need_before level in
-    let more = operand_bound level levels in
-    let a = need_within h (omega arith) in
-    need_within k (omega arith)
-need_within (no_more none) before = before
+-- names are declared before, and the registers reach for each statement
+abbrev pub Runs : (names : List (List ℕ)) → List Statement → Type 0
+Runs names [] = Unit {0}
+Runs names (Declare name e ∷ script) = AllDeclared names e × (length names + need e < 2 ^ 8) × Runs (names ++ name ∷ []) script
+Runs names (Print e ∷ script) = AllDeclared names e × (length names + 1 + need e < 2 ^ 8) × Runs names script
 
 -- a value of an expression, and what follows
 record IsSomeBoth (entries : List (List ℕ × ℤ)) (e : Expression) (F : ℤ → Option (List ℤ)) (values : List ℤ) : Type 0 where
@@ -95,38 +69,36 @@ named_runs constants last more registers names entries target before front back 
     subst (λ (own : List (List ℕ)). RunsTo constants last (code_of own target before e) more registers target value) (sym same) (expression_runs constants last more registers entries target before front back e value whole count few hold below fits is)
 
 -- a script's code runs on
-pub script_runs : {names : List (List ℕ)} {tokens : List (Token × ℕ)} {script : List Statement} → Spells names tokens script → (entries : List (List ℕ × ℤ)) (constants front back : List ℤ) (last : Instruction) (registers : List ℤ) (before : ℕ) (values : List ℤ) → names ≡ names_of entries → constants ≡ front ++ (constants_of_script script ++ back) → length front ≡ before → before + length (constants_of_script script) ≤ 2 ^ 25 → Hold entries registers → length names ≤ most_declarations → printed entries script ≡ Some values → output_from constants last (code_of_script names before script) registers ≡ lines_of values
-script_runs ends entries constants front back last registers before values same whole count few hold names_few is = let none : [] ≡ values = cc in ap lines_of none
-script_runs (declares {names = names} {name = name} {expression = e} {script = script} more_names other reads declared later) entries constants front back last registers before values same whole count few hold names_few is =
+pub script_runs : (names : List (List ℕ)) (script : List Statement) → Runs names script → (entries : List (List ℕ × ℤ)) (constants front back : List ℤ) (last : Instruction) (registers : List ℤ) (before : ℕ) (values : List ℤ) → names ≡ names_of entries → constants ≡ front ++ (constants_of_script script ++ back) → length front ≡ before → before + length (constants_of_script script) ≤ 2 ^ 25 → Hold entries registers → printed entries script ≡ Some values → output_from constants last (code_of_script names before script) registers ≡ lines_of values
+script_runs names [] reaches entries constants front back last registers before values same whole count few hold is = let none : [] ≡ values = cc in ap lines_of none
+script_runs names (Declare name e ∷ script) (declared, reaches, later) entries constants front back last registers before values same whole count few hold is =
     let both = some_both entries e (λ v. printed (entries ++ (name, v) ∷ []) script) values (value_of entries e) refl is in
     let sizes = length-append (constants_of e) (constants_of_script script) in
     let names_size = ap length same ∙ length-map entries (λ (entry : List ℕ × ℤ). entry.0) in
-    let reached = need_within reads (omega arith) in
     let whole' : constants ≡ front ++ (constants_of e ++ (constants_of_script script ++ back)) = whole ∙ ap (λ l. front ++ l) (append_assoc (constants_of e) (constants_of_script script) back) in
     let rest_code : List Instruction = code_of_script (names ++ name ∷ []) (before + length (constants_of e)) script in
-    let run : RunsTo constants last (code_of names (length names) before e) rest_code registers (length names) both.value = named_runs constants last rest_code registers names entries (length names) before front (constants_of_script script ++ back) e both.value same whole' count (omega (arith, sizes)) hold (omega (arith, names_size)) (omega (arith, reached)) both.value_is in
+    let run : RunsTo constants last (code_of names (length names) before e) rest_code registers (length names) both.value = named_runs constants last rest_code registers names entries (length names) before front (constants_of_script script ++ back) e both.value same whole' count (omega (arith, sizes)) hold (omega (arith, names_size)) reaches both.value_is in
     let kept = hold_kept (length names) hold (omega (arith, names_size)) run.size run.kept in
     let held : Hold (entries ++ (name, both.value) ∷ []) run.registers' = hold_more name both.value kept (ap (at_place run.registers') (sym names_size) ∙ run.value_is) in
     let same' : names ++ name ∷ [] ≡ names_of (entries ++ (name, both.value) ∷ []) = ap (λ l. l ++ name ∷ []) same ∙ sym (map-append (λ (entry : List ℕ × ℤ). entry.0) entries ((name, both.value) ∷ [])) in
     let whole'' : constants ≡ (front ++ constants_of e) ++ (constants_of_script script ++ back) = whole' ∙ sym (append_assoc front (constants_of e) (constants_of_script script ++ back)) in
     let count' : length (front ++ constants_of e) ≡ before + length (constants_of e) = length-append front (constants_of e) ∙ ap (λ n. n + length (constants_of e)) count in
-    let rest = script_runs later (entries ++ (name, both.value) ∷ []) constants (front ++ constants_of e) back run.last' run.registers' (before + length (constants_of e)) values same' whole'' count' (omega (arith, sizes)) held (omega (arith, length-append names (name ∷ []))) both.rest_is in
+    let rest = script_runs (names ++ name ∷ []) script later (entries ++ (name, both.value) ∷ []) constants (front ++ constants_of e) back run.last' run.registers' (before + length (constants_of e)) values same' whole'' count' (omega (arith, sizes)) held both.rest_is in
     run.output ∙ rest
-script_runs (prints {names = names} {expression = e} {script = script} reads declared later) entries constants front back last registers before values same whole count few hold names_few is =
+script_runs names (Print e ∷ script) (declared, reaches, later) entries constants front back last registers before values same whole count few hold is =
     let both = some_both entries e (λ v. option_map (λ more. v ∷ more) (printed entries script)) values (value_of entries e) refl is in
     let tail = some_tail both.value values (printed entries script) both.rest_is in
     let sizes = length-append (constants_of e) (constants_of_script script) in
     let names_size = ap length same ∙ length-map entries (λ (entry : List ℕ × ℤ). entry.0) in
-    let reached = need_within reads (omega arith) in
     let whole' : constants ≡ front ++ (constants_of e ++ (constants_of_script script ++ back)) = whole ∙ ap (λ l. front ++ l) (append_assoc (constants_of e) (constants_of_script script) back) in
     let call : Instruction = abc Call (length names) 2 1 false in
     let own_code : List Instruction = code_of names (length names + 1) before e in
     let rest_code : List Instruction = code_of_script names (before + length (constants_of e)) script in
-    let run : RunsTo constants last own_code (call ∷ rest_code) registers (length names + 1) both.value = named_runs constants last (call ∷ rest_code) registers names entries (length names + 1) before front (constants_of_script script ++ back) e both.value same whole' count (omega (arith, sizes)) hold (omega (arith, names_size)) (omega (arith, reached)) both.value_is in
+    let run : RunsTo constants last own_code (call ∷ rest_code) registers (length names + 1) both.value = named_runs constants last (call ∷ rest_code) registers names entries (length names + 1) before front (constants_of_script script ++ back) e both.value same whole' count (omega (arith, sizes)) hold (omega (arith, names_size)) reaches both.value_is in
     let kept = hold_kept (length names + 1) hold (omega (arith, names_size)) run.size run.kept in
     let whole'' : constants ≡ (front ++ constants_of e) ++ (constants_of_script script ++ back) = whole' ∙ sym (append_assoc front (constants_of e) (constants_of_script script ++ back)) in
     let count' : length (front ++ constants_of e) ≡ before + length (constants_of e) = length-append front (constants_of e) ∙ ap (λ n. n + length (constants_of e)) count in
-    let rest = script_runs later entries constants (front ++ constants_of e) back call run.registers' (before + length (constants_of e)) tail.more same whole'' count' (omega (arith, sizes)) kept names_few tail.more_is in
+    let rest = script_runs names script later entries constants (front ++ constants_of e) back call run.registers' (before + length (constants_of e)) tail.more same whole'' count' (omega (arith, sizes)) kept tail.more_is in
     let calls = run_call constants run.last' run.registers' (length names) rest_code (omega arith) in
     ap (λ code. output_from constants last code registers) (append_assoc own_code (call ∷ []) rest_code)
     ∙ run.output ∙ calls ∙ ap₂ (λ value text. line_of value ++ text) run.value_is rest ∙ ap lines_of tail.is
@@ -144,13 +116,13 @@ value_exists entries (Operation operator left right) declared =
     let b = value_exists entries right declared.1 in
     (result_of operator a.0 b.0, ap₂ (λ x y. option_and_then (λ m. option_map (result_of operator m) y) x) a.1 b.1)
 
-pub prints_values : {names : List (List ℕ)} {tokens : List (Token × ℕ)} {script : List Statement} → Spells names tokens script → (entries : List (List ℕ × ℤ)) → names ≡ names_of entries → (values : List ℤ) × (printed entries script ≡ Some values)
-prints_values ends entries same = ([], refl)
-prints_values (declares {name = name} {expression = e} {script = script} few other reads declared later) entries same =
+pub prints_values : (names : List (List ℕ)) (script : List Statement) → Runs names script → (entries : List (List ℕ × ℤ)) → names ≡ names_of entries → (values : List ℤ) × (printed entries script ≡ Some values)
+prints_values names [] reaches entries same = ([], refl)
+prints_values names (Declare name e ∷ script) (declared, reaches, later) entries same =
     let value = value_exists entries e (subst (λ names. AllDeclared names e) same declared) in
-    let rest = prints_values later (entries ++ (name, value.0) ∷ []) (ap (λ l. l ++ name ∷ []) same ∙ sym (map-append (λ (entry : List ℕ × ℤ). entry.0) entries ((name, value.0) ∷ []))) in
+    let rest = prints_values (names ++ name ∷ []) script later (entries ++ (name, value.0) ∷ []) (ap (λ l. l ++ name ∷ []) same ∙ sym (map-append (λ (entry : List ℕ × ℤ). entry.0) entries ((name, value.0) ∷ []))) in
     (rest.0, ap (λ o. option_and_then (λ v. printed (entries ++ (name, v) ∷ []) script) o) value.1 ∙ rest.1)
-prints_values (prints {expression = e} {script = script} reads declared later) entries same =
+prints_values names (Print e ∷ script) (declared, reaches, later) entries same =
     let value = value_exists entries e (subst (λ names. AllDeclared names e) same declared) in
-    let rest = prints_values later entries same in
+    let rest = prints_values names script later entries same in
     (value.0 ∷ rest.0, ap₂ (λ o p. option_and_then (λ v. option_map (λ more. v ∷ more) p) o) value.1 rest.1)

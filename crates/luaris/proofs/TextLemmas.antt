@@ -2,7 +2,7 @@
 use Rattle.std.proofs.Common.{Err, ◌≡◌, ◌⊎◌, inl, inr, ℕ, List, refl, sym, ap, ◌∙◌, arith}
 use Rattle.luaris.specs.declared.words.Job.TheVariants.{Run}
 use Rattle.luaris.specs.declared.fault.SourceFault.{SourceFault}
-use Rattle.luaris.specs.declared.fault.SourceFault.TheVariants.{Refused, Limit, Memory}
+use Rattle.luaris.specs.declared.fault.SourceFault.TheVariants.{Refused, Rule, Limit, Memory}
 use Rattle.luaris.specs.declared.fault.Fault.TheVariants as fault
 use Rattle.luaris.specs.Faults.{fault_of_source}
 use Rattle.luaris.specs.Straight.{output_of}
@@ -15,6 +15,7 @@ script_text source text output = record {
 }
 
 pub script_refused : (source : List ℕ) (reason : SourceFault) → SourceAnswers source (Err reason) → IsRefusal Run source (fault_of_source reason) ⊎ (fault_of_source reason ≡ fault.Memory)
-script_refused source (Refused line) refused = inl (record { status = refl; refuses = λ text (values, straight, is). refused.none values straight; fits = record { short = refused.short; bad_token = refused.bad_token } })
+script_refused source (Refused line) refused = inl (record { status = refl; refuses = λ text (values, straight, is). refused.none values straight; fits = record { short = refused.short; cause = refused.cause } })
+script_refused source (Rule rule line) refused = inl (record { status = refl; refuses = λ text (values, straight, is). refused.none values straight; fits = record { short = refused.short; cause = refused.cause } })
 script_refused source Limit over = inl (record { status = refl; refuses = λ text (values, straight, is). absurd (omega (arith, straight.short)); fits = over })
 script_refused source Memory ample = inr refl

@@ -7,8 +7,8 @@ use Rattle.code_core.specs.declared.instruction.Instruction.{Instruction}
 use Rattle.code_core.specs.Instruction.{abc, abx, op_ax, opcode_of, a_of, b_of, c_of, bx_of, ax_of}
 use Rattle.luaris.specs.declared.operator.Operator.{Operator}
 use Rattle.luaris.specs.declared.operator.Operator.TheVariants.{Add as Adds, Sub as Subtracts, Mul as Multiplies}
-use Rattle.luaris.specs.Expression.{Expression, Numeral, Variable, Operation}
-use Rattle.luaris.specs.Script.{Statement, Declare, Print, last_place, line_of}
+use Rattle.luaris.specs.Expression.{Expression, Numeral, Variable, Operation, last_place}
+use Rattle.luaris.specs.Script.{Statement, Declare, Print, line_of}
 
 -- the constants of an expression, in the order of the text
 abbrev pub constants_of : Expression → List ℤ

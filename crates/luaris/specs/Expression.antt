@@ -1,57 +1,66 @@
--- The expressions of a straight script and how tokens spell them (Lua 5.4 manual, 3.4).
-use Rattle.std.specs.Prelude.{◌≡◌, ℕ, suc, ℤ, List, [], ◌∷◌, ◌==◌, if◌then◌else◌, Option, Some, None}
-use Rattle.lua_lex.specs.declared.token.Token.{Token}
-use Rattle.lua_lex.specs.declared.token.Token.TheVariants.{Name, Int, Mark}
-use Rattle.lua_lex.specs.declared.mark.TheConstants.{PLUS, MINUS, STAR, OPEN_ROUND, CLOSE_ROUND}
+-- The expressions of a straight script, and what an expression of a tree is as one (Lua 5.4 manual, 3.4).
+use Rattle.std.specs.Prelude.{ℕ, ◌+◌, ℤ, List, [], ◌∷◌, Option, Some, None, Result, Ok, Err, if◌then◌else◌}
+use Rattle.std.specs.Str.{bytes_eq}
+use Rattle.tree_core.specs.declared.operator.BinOp.{BinOp}
+use Rattle.tree_core.specs.declared.operator.BinOp.TheVariants as binary
+use Rattle.tree_core.specs.Tree.{Exp, Nil, True, False, Int, Str, Vararg, Function, Var, Index, Call, Method, Unary, Binary, And, Or, Paren, Table}
 use Rattle.luaris.specs.declared.operator.Operator.{Operator}
 use Rattle.luaris.specs.declared.operator.Operator.TheVariants.{Add, Sub, Mul}
-use Rattle.luaris.specs.declared.operator.Level.{Level}
-use Rattle.luaris.specs.declared.operator.Level.TheVariants.{Sums, Products}
 
 pub data Expression : Type 0 where
   Numeral : ℤ → Expression
   Variable : (name : List ℕ) → Expression
   Operation : Operator → Expression → Expression → Expression
 
--- the operator of a level that a token is; products bind tighter than sums
-abbrev pub operator_of : Level → Token → Option Operator
-operator_of Sums (Mark number) = if number == PLUS then Some Add else if number == MINUS then Some Sub else None
-operator_of Products (Mark number) = if number == STAR then Some Mul else None
-operator_of _ _ = None
+abbrev pub operator_of : BinOp → Option Operator
+operator_of binary.Add = Some Add
+operator_of binary.Sub = Some Sub
+operator_of binary.Mul = Some Mul
+operator_of _ = None
 
--- what a place of the grammar expects: operands of a level with its operators between them; what may follow such an operand; a numeral, a name or brackets
-pub data Part : Type 0 where
-  chain : Level → Part
-  behind : Level → (left : Expression) → Part
-  atom : Part
+abbrev pub first_some : {A : Type 0} → Option A → Option A → Option A
+first_some (Some value) other = Some value
+first_some None other = other
 
-abbrev pub operand : Level → Part
-operand Sums = chain Products
-operand Products = atom
+-- the last place that has the name, counted from `at` on
+abbrev pub last_place : (at : ℕ) → List (List ℕ) → (name : List ℕ) → Option ℕ
+last_place at [] name = None
+last_place at (first ∷ names) name = first_some (last_place (at + 1) names name) (if bytes_eq first name then Some at else None)
 
--- the first token, if there is one, is no operator of the level
-abbrev pub NoOperator : Level → List (Token × ℕ) → Type 0
-NoOperator level [] = Unit {0}
-NoOperator level (token ∷ rest) = operator_of level token.0 ≡ None
+-- a form that is not built, behind what stands before it in the text
+abbrev pub outside : {A : Type 0} → (before : Result A ℕ) → (line : ℕ) → Result A ℕ
+outside (Ok before) line = Err line
+outside (Err earlier) line = Err earlier
 
--- The tokens begin with the part, which is this expression and takes all that it can; then comes the rest. So many levels of brackets may be opened.
-pub data Reads : Part → (levels : ℕ) → List (Token × ℕ) → Expression → (rest : List (Token × ℕ)) → Type 0 where
-  numeral : {levels line : ℕ} {value : ℤ} {rest : List (Token × ℕ)} →
-      Reads atom levels ((Int value, line) ∷ rest) (Numeral value) rest
-  variable : {levels line : ℕ} {name : List ℕ} {rest : List (Token × ℕ)} →
-      Reads atom levels ((Name name, line) ∷ rest) (Variable name) rest
-  brackets : {levels line line' : ℕ} {inner : List (Token × ℕ)} {expression : Expression} {rest : List (Token × ℕ)} →
-      Reads (chain Sums) levels inner expression ((Mark CLOSE_ROUND, line') ∷ rest) →
-      Reads atom (suc levels) ((Mark OPEN_ROUND, line) ∷ inner) expression rest
-  first : {level : Level} {levels : ℕ} {tokens between rest : List (Token × ℕ)} {left expression : Expression} →
-      Reads (operand level) levels tokens left between →
-      Reads (behind level left) levels between expression rest →
-      Reads (chain level) levels tokens expression rest
-  another : {level : Level} {levels line : ℕ} {token : Token} {tokens between rest : List (Token × ℕ)} {left right expression : Expression} (operator : Operator) →
-      operator_of level token ≡ Some operator →
-      Reads (operand level) levels tokens right between →
-      Reads (behind level (Operation operator left right)) levels between expression rest →
-      Reads (behind level left) levels ((token, line) ∷ tokens) expression rest
-  no_more : {level : Level} {levels : ℕ} {left : Expression} {rest : List (Token × ℕ)} →
-      NoOperator level rest →
-      Reads (behind level left) levels rest left rest
+-- a name that is declared at a place, or at none
+abbrev pub variable : Option ℕ → (name : List ℕ) → (line : ℕ) → Result Expression ℕ
+variable (Some place) name line = Ok (Variable name)
+variable None name line = Err line
+
+-- two operands with an operator between them
+abbrev pub operation : Option Operator → (line : ℕ) → (left right : Result Expression ℕ) → Result Expression ℕ
+operation (Some operator) line (Ok left) (Ok right) = Ok (Operation operator left right)
+operation (Some operator) line (Ok left) (Err later) = Err later
+operation (Some operator) line (Err earlier) right = Err earlier
+operation None line left right = outside left line
+
+-- What an expression is as one of a straight script, where these names are declared. Where it is none, the line of the first node or name, in the
+-- order of the text, whose form is not built. What stands behind a node's own token does not come before it.
+abbrev pub expression_of : (names : List (List ℕ)) → Exp → Result Expression ℕ
+expression_of names (Int line value) = Ok (Numeral value)
+expression_of names (Var line name) = variable (last_place 0 names name.text) name.text line
+expression_of names (Paren line inner) = expression_of names inner
+expression_of names (Binary line operator left right) = operation (operator_of operator) line (expression_of names left) (expression_of names right)
+expression_of names (And line left right) = outside (expression_of names left) line
+expression_of names (Or line left right) = outside (expression_of names left) line
+expression_of names (Index line indexed key) = outside (expression_of names indexed) line
+expression_of names (Call line called arguments) = outside (expression_of names called) line
+expression_of names (Method line object name arguments) = outside (expression_of names object) line
+expression_of names (Nil line) = Err line
+expression_of names (True line) = Err line
+expression_of names (False line) = Err line
+expression_of names (Str line bytes) = Err line
+expression_of names (Vararg line) = Err line
+expression_of names (Function line body) = Err line
+expression_of names (Unary line operator operand) = Err line
+expression_of names (Table line fields) = Err line

@@ -2,10 +2,10 @@
 use Rattle.std.specs.Prelude.{ℕ, Result, Ok, Err}
 use Rattle.lua_lex.specs.declared.source.LexFault.{LexFault}
 use Rattle.lua_lex.specs.declared.source.LexFault.TheVariants.{Refused as LexRefused, Limit as LexLimit, Memory as LexMemory}
-use Rattle.luaris.specs.declared.fault.CompileFault.{CompileFault}
-use Rattle.luaris.specs.declared.fault.CompileFault.TheVariants.{Refused as CompileRefused, Memory as CompileMemory}
+use Rattle.lua_parse.specs.declared.fault.ParseFault.{ParseFault}
+use Rattle.lua_parse.specs.declared.fault.ParseFault.TheVariants.{Refused as ParseRefused, Memory as ParseMemory}
 use Rattle.luaris.specs.declared.fault.SourceFault.{SourceFault}
-use Rattle.luaris.specs.declared.fault.SourceFault.TheVariants.{Refused, Limit, Memory}
+use Rattle.luaris.specs.declared.fault.SourceFault.TheVariants.{Refused, Rule, Limit, Memory}
 use Rattle.io_edge.specs.declared.fault.FileFault.{FileFault}
 use Rattle.io_edge.specs.declared.fault.FileFault.TheVariants.{Failed as FileFailed, Absent as FileAbsent, Memory as FileMemory}
 use Rattle.chunk_format.specs.declared.fault.ChunkFault.{ChunkFault}
@@ -21,12 +21,13 @@ fault_of_lexer (LexRefused line) = Refused line
 fault_of_lexer LexLimit = Limit
 fault_of_lexer LexMemory = Memory
 
-abbrev pub fault_of_compiler : CompileFault → SourceFault
-fault_of_compiler (CompileRefused line) = Refused line
-fault_of_compiler CompileMemory = Memory
+abbrev pub fault_of_parser : ParseFault → SourceFault
+fault_of_parser (ParseRefused line) = Refused line
+fault_of_parser ParseMemory = Memory
 
 abbrev pub fault_of_source : SourceFault → Fault
 fault_of_source (Refused line) = fault.Refused line
+fault_of_source (Rule rule line) = fault.Rule rule line
 fault_of_source Limit = fault.Limit
 fault_of_source Memory = fault.Memory
 

@@ -1,7 +1,7 @@
 pub mod Expression
 pub mod Script
+pub mod Holding
 pub mod Code
-pub mod Taking
 pub mod Answers
 pub mod Straight
 pub mod Outcomes

@@ -2,12 +2,11 @@
 use Rattle.std.specs.Prelude.{◌≡◌, ℕ, ◌<◌, ◌≤◌, ◌^◌, ℤ, List, length, ◌⊎◌, Result, Ok, Err}
 use Rattle.std.specs.declared.vec.Vec.{Vec}
 use Rattle.std.specs.declared.alloc.Global.{Global}
-use Rattle.lua_lex.specs.Lexical.{BadToken}
 use Rattle.luaris.specs.declared.fault.SourceFault.{SourceFault}
-use Rattle.luaris.specs.declared.fault.SourceFault.TheVariants.{Refused, Limit, Memory}
+use Rattle.luaris.specs.declared.fault.SourceFault.TheVariants.{Refused, Rule, Limit, Memory}
 use Rattle.luaris.specs.declared.fault.Fault.{Fault}
 use Rattle.luaris.specs.declared.fault.Fault.TheVariants as fault
-use Rattle.luaris.specs.Straight.{Straight, IsNoScript, output_of}
+use Rattle.luaris.specs.Straight.{Straight, IsNoScript, RefusedOn, Violates, output_of}
 use Rattle.luaris.specs.declared.words.Job.{Job}
 use Rattle.luaris.specs.Program.{Writes, Refuses, refusal_status}
 use Rattle.luaris.specs.Report.{FaultFits, status_of_fault}
@@ -19,15 +18,16 @@ pub record IsOutput (source text : List ℕ) : Type 0 where
   pub text_is : text ≡ output_of values
   pub only : (values' : List ℤ) → Straight source values' → values' ≡ values
 
--- The source is refused: it is no straight script. Where a place of it begins no token the line is that of the first such place.
-pub record IsRefusedAt (source : List ℕ) (line : ℕ) : Type 0 where
+-- the source is no straight script, for this cause
+pub record IsRefusedFor (source : List ℕ) (Cause : Type 0) : Type 0 where
   pub none : IsNoScript source
   pub short : length source ≤ 2 ^ 20
-  pub bad_token : (bad : ℕ) → BadToken source bad → line ≡ bad
+  pub cause : Cause
 
 abbrev pub SourceAnswers : List ℕ → Result (Vec ℕ Global) SourceFault → Type 0
 SourceAnswers source (Ok text) = IsOutput source text.items
-SourceAnswers source (Err (Refused line)) = IsRefusedAt source line
+SourceAnswers source (Err (Refused line)) = IsRefusedFor source (RefusedOn source line)
+SourceAnswers source (Err (Rule rule line)) = IsRefusedFor source (Violates source rule line)
 SourceAnswers source (Err Limit) = 2 ^ 20 < length source
 SourceAnswers source (Err Memory) = Unit {0}
 

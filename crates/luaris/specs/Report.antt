@@ -2,7 +2,6 @@
 use Rattle.std.specs.Prelude.{◌≡◌, ℕ, ◌<◌, ◌≤◌, ◌^◌, List, [], ◌++◌, length, Option, Some, None, codes, decimal}
 use Rattle.std.specs.Option.{option_map}
 use Rattle.io_edge.specs.Content.{FileMap}
-use Rattle.lua_lex.specs.Lexical.{BadToken}
 use Rattle.code_core.specs.Prototype.{Prototype}
 use Rattle.chunk_format.specs.Grammar.{BeginsWith, ChunkOf}
 use Rattle.chunk_format.specs.Reading.{chunk_kind}
@@ -10,12 +9,13 @@ use Rattle.chunk_check.specs.Faults.{first_fault}
 use Rattle.luaris.specs.declared.words.Job.{Job}
 use Rattle.luaris.specs.declared.fault.Fault.{Fault}
 use Rattle.luaris.specs.declared.fault.Fault.TheVariants as fault
+use Rattle.luaris.specs.Straight.{RefusedOn, Violates}
 use Rattle.luaris.specs.Program.{Device, RoseIn, Holds}
 
--- a source that is refused on a line has no place before that begins no token
-pub record IsRefusedAt (source : List ℕ) (line : ℕ) : Type 0 where
+-- a source within the limit on its bytes, for which this is the cause
+pub record IsRefusedBy (source : List ℕ) (Cause : Type 0) : Type 0 where
   pub short : length source ≤ 2 ^ 20
-  pub bad_token : (bad : ℕ) → BadToken source bad → line ≡ bad
+  pub cause : Cause
 
 -- bytes that begin with the chunk of a function of which this is the first rule that is broken
 pub record IsBroken (bytes : List ℕ) (number pc rule : ℕ) : Type 0 where
@@ -26,7 +26,8 @@ pub record IsBroken (bytes : List ℕ) (number pc rule : ℕ) : Type 0 where
 
 -- what a fault tells of the file's bytes
 abbrev pub FaultFits : List ℕ → Fault → Type 0
-FaultFits content (fault.Refused line) = IsRefusedAt content line
+FaultFits content (fault.Refused line) = IsRefusedBy content (RefusedOn content line)
+FaultFits content (fault.Rule rule line) = IsRefusedBy content (Violates content rule line)
 FaultFits content fault.Limit = 2 ^ 20 < length content
 FaultFits content (fault.NoChunk kind) = chunk_kind content ≡ Some kind
 FaultFits content (fault.BrokenRule number pc rule) = IsBroken content number pc rule
@@ -35,6 +36,7 @@ FaultFits content _ = Unit {0}
 abbrev pub status_of_fault : Fault → ℕ
 status_of_fault fault.Words = 2
 status_of_fault (fault.Refused line) = 5
+status_of_fault (fault.Rule rule line) = 5
 status_of_fault fault.Limit = 5
 status_of_fault fault.Device = 6
 status_of_fault (fault.NoChunk kind) = 8
@@ -45,6 +47,7 @@ status_of_fault fault.Absent = 11
 abbrev pub line_of_fault : Fault → List ℕ
 line_of_fault fault.Words = codes "luaris: wrong words\n"
 line_of_fault (fault.Refused line) = codes "luaris: source refused at line " ++ (decimal line ++ codes "\n")
+line_of_fault (fault.Rule rule line) = codes "luaris: source refused by rule " ++ (decimal rule ++ (codes " at line " ++ (decimal line ++ codes "\n")))
 line_of_fault fault.Limit = codes "luaris: source refused by rule 13 at line 1\n"
 line_of_fault fault.Device = codes "luaris: device fault\n"
 line_of_fault (fault.NoChunk kind) = codes "luaris: chunk refused: kind " ++ (decimal kind ++ codes "\n")

@@ -1,17 +1,17 @@
--- Straight scripts: the statements that tokens are, and the values that they print (Lua 5.4 manual, 3.3).
-use Rattle.std.specs.Prelude.{◌≢◌, ℕ, ◌+◌, ◌<◌, ℤ, List, [], ◌∷◌, ◌++◌, length, if◌then◌else◌, Option, Some, None, option_and_then, IsSome, codes}
+-- Straight scripts: the statements that a tree is, and the values that they print (Lua 5.4 manual, 3.3).
+use Rattle.std.specs.Prelude.{ℕ, ℤ, List, [], ◌∷◌, ◌++◌, map, Bool, true, false, not, if◌then◌else◌, Option, Some, None, option_and_then, Result, Ok, Err, codes}
 use Rattle.std.specs.Option.{option_map}
 use Rattle.std.specs.Str.{bytes_eq}
 use Rattle.std.specs.Fmt.{signed_decimal}
 use Rattle.int_core.specs.Arithmetic.{add, sub, mul}
-use Rattle.lua_lex.specs.declared.token.Token.{Token}
-use Rattle.lua_lex.specs.declared.token.Token.TheVariants.{Name, Keyword, Mark, End}
-use Rattle.lua_lex.specs.declared.keyword.TheConstants.{LOCAL}
-use Rattle.lua_lex.specs.declared.mark.TheConstants.{ASSIGN, OPEN_ROUND, CLOSE_ROUND}
+use Rattle.tree_core.specs.declared.name.Attrib.{Attrib}
+use Rattle.tree_core.specs.declared.name.Attrib.TheVariants.{Plain}
+use Rattle.tree_core.specs.declared.name.Declared.{Declared}
+use Rattle.tree_core.specs.Tree.{Block, Falls, Returns, Stats, EndStats, MoreStats, Stat, Local, CallStat, Exps, EndExps, MoreExps, Exp, Var, Call}
+use Rattle.scope_core.specs.Rules.{stat_line}
 use Rattle.luaris.specs.declared.operator.Operator.{Operator}
 use Rattle.luaris.specs.declared.operator.Operator.TheVariants.{Add, Sub, Mul}
-use Rattle.luaris.specs.declared.operator.Level.TheVariants.{Sums}
-use Rattle.luaris.specs.Expression.{Expression, Numeral, Variable, Operation, Reads, chain}
+use Rattle.luaris.specs.Expression.{Expression, Numeral, Variable, Operation, expression_of, first_some, outside}
 
 pub data Statement : Type 0 where
   Declare : (name : List ℕ) → Expression → Statement
@@ -21,45 +21,67 @@ pub data Statement : Type 0 where
 abbrev pub print_name : List ℕ
 print_name = codes "print"
 
--- the levels of brackets that an expression may have
-abbrev pub most_levels : ℕ
-most_levels = 40
+-- the one item of a list that has one
 
--- the declarations that a script may have
-abbrev pub most_declarations : ℕ
-most_declarations = 100
+abbrev pub only : {A : Type 0} → List A → Option A
+only (item ∷ []) = Some item
+only _ = None
 
-abbrev pub first_some : {A : Type 0} → Option A → Option A → Option A
-first_some (Some value) other = Some value
-first_some None other = other
+abbrev pub only_value : Exps → Option Exp
+only_value (MoreExps value EndExps) = Some value
+only_value _ = None
 
--- the last place that has the name, counted from `at` on
-abbrev pub last_place : (at : ℕ) → List (List ℕ) → (name : List ℕ) → Option ℕ
-last_place at [] name = None
-last_place at (first ∷ names) name = first_some (last_place (at + 1) names name) (if bytes_eq first name then Some at else None)
+abbrev pub has_attribute : Attrib → Bool
+has_attribute Plain = false
+has_attribute _ = true
 
--- each name that stands in the expression is one of these
-abbrev pub AllDeclared : List (List ℕ) → Expression → Type 0
-AllDeclared names (Numeral value) = Unit {0}
-AllDeclared names (Variable name) = IsSome (last_place 0 names name)
-AllDeclared names (Operation operator left right) = AllDeclared names left × AllDeclared names right
+abbrev pub with_expression : (Expression → Statement) → Result Expression ℕ → Result Statement ℕ
+with_expression form (Ok expression) = Ok (form expression)
+with_expression form (Err line) = Err line
 
--- The tokens, up to their end, are these statements, where these names have been declared before.
-pub data Spells : (declared : List (List ℕ)) → List (Token × ℕ) → List Statement → Type 0 where
-  ends : {names : List (List ℕ)} {line : ℕ} {rest : List (Token × ℕ)} →
-      Spells names ((End, line) ∷ rest) []
-  declares : {names : List (List ℕ)} {name : List ℕ} {line line' line'' : ℕ} {tokens rest : List (Token × ℕ)} {expression : Expression} {script : List Statement} →
-      length names < most_declarations →
-      name ≢ print_name →
-      Reads (chain Sums) most_levels tokens expression rest →
-      AllDeclared names expression →
-      Spells (names ++ name ∷ []) rest script →
-      Spells names ((Keyword LOCAL, line) ∷ (Name name, line') ∷ (Mark ASSIGN, line'') ∷ tokens) (Declare name expression ∷ script)
-  prints : {names : List (List ℕ)} {line line' line'' : ℕ} {tokens rest : List (Token × ℕ)} {expression : Expression} {script : List Statement} →
-      Reads (chain Sums) most_levels tokens expression ((Mark CLOSE_ROUND, line'') ∷ rest) →
-      AllDeclared names expression →
-      Spells names rest script →
-      Spells names ((Name print_name, line) ∷ (Mark OPEN_ROUND, line') ∷ tokens) (Print expression ∷ script)
+-- `local` one name, with no attribute and other than `print`, and one value
+abbrev pub declaration : (names : List (List ℕ)) → (line : ℕ) → Option Declared → Option Exp → Result Statement ℕ
+declaration names line (Some declared) (Some value) =
+    if has_attribute declared.attrib then Err line
+    else if bytes_eq declared.name.text print_name then Err declared.name.line
+    else with_expression (Declare declared.name.text) (expression_of names value)
+declaration names line _ _ = Err line
+
+-- a call of `print` with one value
+abbrev pub printing : (names : List (List ℕ)) → (line : ℕ) → (called : Exp) → Option Exp → Result Statement ℕ
+printing names line (Var at name) (Some value) =
+    if bytes_eq name.text print_name then with_expression Print (expression_of names value) else Err line
+printing names line _ _ = Err line
+
+abbrev pub calling : (names : List (List ℕ)) → (line : ℕ) → Exp → Result Statement ℕ
+calling names line (Call at called arguments) = printing names line called (only_value arguments)
+calling names line _ = Err line
+
+-- What a statement is in a straight script, or the line of the first form in it that is not built.
+abbrev pub statement_of : (names : List (List ℕ)) → Stat → Result Statement ℕ
+statement_of names (Local line declared values) = declaration names line (only declared) (only_value values)
+statement_of names (CallStat line call) = calling names line call
+statement_of names stat = Err (stat_line stat)
+
+-- the declared names behind a statement
+abbrev pub names_behind : List (List ℕ) → Stat → List (List ℕ)
+names_behind names (Local line declared values) = names ++ map (λ own. own.name.text) declared
+names_behind names _ = names
+
+abbrev pub preceded : Result Statement ℕ → Result (List Statement) ℕ → Result (List Statement) ℕ
+preceded (Ok first) (Ok script) = Ok (first ∷ script)
+preceded (Ok first) (Err line) = Err line
+preceded (Err line) script = Err line
+
+abbrev pub statements_of : (names : List (List ℕ)) → Stats → Result (List Statement) ℕ
+statements_of names EndStats = Ok []
+statements_of names (MoreStats stat stats) = preceded (statement_of names stat) (statements_of (names_behind names stat) stats)
+
+-- The straight script that a source's tree is. Where it is none, the line of the first node or name in the text whose form is not built; lines never
+-- fall in a text, so no such form has a lesser one. A `return` at the end is not built.
+abbrev pub script_of : Block → Result (List Statement) ℕ
+script_of (Falls stats tokens line) = statements_of [] stats
+script_of (Returns stats values tokens line) = outside (statements_of [] stats) line
 
 -- The declared names with their values; the last entry of a name counts.
 abbrev pub last_value : List (List ℕ × ℤ) → (name : List ℕ) → Option ℤ

@@ -1,17 +1,43 @@
 -- A straight script as a text, and what running it writes (Lua 5.4 manual, 3.1 to 3.4).
-use Rattle.std.specs.Prelude.{◌≡◌, ℕ, ◌≤◌, ◌^◌, ℤ, List, [], ◌++◌, length, Some, codes}
+use Rattle.std.specs.Prelude.{◌≡◌, ℕ, ◌≤◌, ◌^◌, ℤ, List, [], ◌++◌, length, Ok, Err, Some, None, codes}
 use Rattle.lua_lex.specs.declared.token.Token.{Token}
-use Rattle.lua_lex.specs.Lexical.{TokensOf}
-use Rattle.luaris.specs.Script.{Statement, Spells, printed, lines_of}
+use Rattle.lua_lex.specs.Lexical.{TokensOf, BadToken}
+use Rattle.tree_core.specs.Tree.{Block}
+use Rattle.lua_parse.specs.Reading.{Derives}
+use Rattle.lua_parse.specs.Answers.{IsRefusal}
+use Rattle.luaris.specs.Script.{Statement, script_of, printed, lines_of}
+use Rattle.luaris.specs.Holding.{crowded}
 
--- the text is a straight script, which prints these values
-pub record Straight (source : List ℕ) (values : List ℤ) : Type 0 where
+-- the text has this tree
+pub record HasTree (source : List ℕ) (tree : Block) : Type 0 where
   pub tokens : List (Token × ℕ)
+  pub tokens_are : TokensOf source tokens
+  pub derives : Derives tokens tree
+
+-- the text is a straight script that does not hold too many values, and prints these
+pub record Straight (source : List ℕ) (values : List ℤ) : Type 0 where
+  pub tree : Block
   pub script : List Statement
   pub short : length source ≤ 2 ^ 20
-  pub tokens_are : TokensOf source tokens
-  pub spells : Spells [] tokens script
+  pub has_tree : HasTree source tree
+  pub script_is : script_of tree ≡ Ok script
+  pub uncrowded : crowded tree ≡ None
   pub prints : printed [] script ≡ Some values
+
+-- Why a text is refused on a line: a place of it begins no token; its tokens have no tree; or its tree has a form that is not built.
+pub data RefusedOn (source : List ℕ) (line : ℕ) : Type 0 where
+  bad_token : BadToken source line → RefusedOn source line
+  no_tree : (tokens : List (Token × ℕ)) → TokensOf source tokens → IsRefusal tokens line → RefusedOn source line
+  not_built : (tree : Block) → HasTree source tree → script_of tree ≡ Err line → RefusedOn source line
+
+-- The text has only forms that are built, and a statement that holds too many values, which breaks rule 11; the first such stands on the line.
+pub record Violates (source : List ℕ) (rule line : ℕ) : Type 0 where
+  pub tree : Block
+  pub script : List Statement
+  pub has_tree : HasTree source tree
+  pub script_is : script_of tree ≡ Ok script
+  pub rule_is : rule ≡ 11
+  pub first : crowded tree ≡ Some line
 
 abbrev pub IsNoScript : List ℕ → Type 0
 IsNoScript source = (values : List ℤ) → Straight source values → ⊥

@@ -1,5 +1,5 @@
 // The code of a script while it grows, and its constants.
-ghost use Rattle.std.specs.Prelude.{◌≡◌, ◌+◌, ◌<◌, ◌^◌, false, [], ◌∷◌, ◌++◌, length, OnOk};
+ghost use Rattle.std.specs.Prelude.{◌≡◌, ◌+◌, ◌<◌, ◌≤◌, ◌^◌, false, [], ◌∷◌, ◌++◌, length, OnOk};
 ghost use Rattle.code_core.specs.declared.opcode.Opcode.TheVariants.{Call, Move};
 ghost use Rattle.code_core.specs.Instruction.{abc};
 ghost use Rattle.luaris.specs.Code.{load, opcode_for};
@@ -7,6 +7,9 @@ ghost use Rattle.luaris.specs.Code.{load, opcode_for};
 use crate::operator::Operator;
 use code_core::{Instruction, Opcode};
 use std::alloc::{AllocError, Global};
+
+/// The greatest number of constants that instructions can name.
+const MOST_CONSTANTS: usize = 1 << 25;
 
 /// Code with the constants that it names by their places.
 #[derive(Debug, Drop)]
@@ -27,12 +30,16 @@ impl Chunk {
         }
     }
 
-    /// Loads a number into a register, as a new constant.
+    /// Loads a number into a register, as a new constant. More constants than an instruction can
+    /// name, which no source within the limit on its bytes has, count as want of memory.
     pub fn load(&mut self, register: u8, value: i64) -> Result<(), AllocError>
-        requires { length self.old.constants.items < 2 ^ 25 }
         ensures code { OnOk result (self.new.code.items ≡ self.old.code.items ++ load register (length self.old.constants.items)) }
         ensures constants { OnOk result (self.new.constants.items ≡ self.old.constants.items ++ value ∷ []) }
+        ensures few { OnOk result (length self.new.constants.items ≤ 2 ^ 25) }
     {
+        if self.constants.len() >= MOST_CONSTANTS {
+            return Err(AllocError);
+        }
         let number = self.constants.len() as u32;
         self.constants.push(value)?;
         if number < 1 << 17 {

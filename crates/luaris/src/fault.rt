@@ -1,32 +1,25 @@
 // Why a script is not run to its end.
 ghost use Rattle.std.specs.Prelude.{◌≡◌};
-ghost use Rattle.luaris.specs.Faults.{fault_of_lexer, fault_of_compiler, fault_of_source, fault_of_file, fault_of_chunk, fault_of_check};
+ghost use Rattle.luaris.specs.Faults.{fault_of_lexer, fault_of_parser, fault_of_source, fault_of_file, fault_of_chunk, fault_of_check};
 ghost use Rattle.luaris.specs.Report.{status_of_fault};
 
 use chunk_check::CheckFault;
 use chunk_format::ChunkFault;
 use io_edge::{Failed, FileFault};
 use lua_lex::LexFault;
+use lua_parse::ParseFault;
 use std::alloc::{AllocError, AllocFailed};
 use thiserror::Error;
-
-/// Why tokens are not compiled.
-#[derive(Debug, Drop, Error)]
-pub enum CompileFault {
-    /// They are no straight script.
-    #[error("source refused at line {line}")]
-    Refused { line: u32 },
-    /// Memory ran out.
-    #[error("out of memory")]
-    Memory,
-}
 
 /// Why a source is not run.
 #[derive(Debug, Drop, Error)]
 pub enum SourceFault {
-    /// It is no straight script.
+    /// A place of it begins no token, a token cannot stand where it does, or a form is not built.
     #[error("source refused at line {line}")]
     Refused { line: u32 },
+    /// It breaks the rule of this number.
+    #[error("source refused by rule {rule} at line {line}")]
+    Rule { rule: u8, line: u32 },
     /// It has more than 1,048,576 bytes.
     #[error("source refused by rule 13 at line 1")]
     Limit,
@@ -41,9 +34,13 @@ pub enum Fault {
     /// The words are no command.
     #[error("wrong words")]
     Words,
-    /// The source is no straight script.
+    /// A place of the source begins no token, a token cannot stand where it does, or a form is
+    /// not built.
     #[error("source refused at line {line}")]
     Refused { line: u32 },
+    /// The source breaks the rule of this number.
+    #[error("source refused by rule {rule} at line {line}")]
+    Rule { rule: u8, line: u32 },
     /// The source has more than 1,048,576 bytes.
     #[error("source refused by rule 13 at line 1")]
     Limit,
@@ -71,7 +68,7 @@ impl Fault {
     {
         match self {
             Fault::Words => 2,
-            Fault::Refused { line: _ } | Fault::Limit => 5,
+            Fault::Refused { line: _ } | Fault::Rule { rule: _, line: _ } | Fault::Limit => 5,
             Fault::Device => 6,
             Fault::NoChunk { kind: _ } => 8,
             Fault::BrokenRule {
@@ -155,19 +152,10 @@ impl From<SourceFault> for Fault {
     fn from(fault: SourceFault) -> Fault {
         match fault {
             SourceFault::Refused { line } => Fault::Refused { line },
+            SourceFault::Rule { rule, line } => Fault::Rule { rule, line },
             SourceFault::Limit => Fault::Limit,
             SourceFault::Memory => Fault::Memory,
         }
-    }
-}
-
-impl From<AllocError> for CompileFault {
-    ghost use Rattle.luaris.specs.declared.fault.CompileFault.TheVariants.{Memory};
-
-    ghost from_gives = { λ _ fault. fault ≡ Memory };
-
-    fn from(_: AllocError) -> CompileFault {
-        CompileFault::Memory
     }
 }
 
@@ -193,13 +181,13 @@ impl From<LexFault> for SourceFault {
     }
 }
 
-impl From<CompileFault> for SourceFault {
-    ghost from_gives = { λ fault made. made ≡ fault_of_compiler fault };
+impl From<ParseFault> for SourceFault {
+    ghost from_gives = { λ fault made. made ≡ fault_of_parser fault };
 
-    fn from(fault: CompileFault) -> SourceFault {
+    fn from(fault: ParseFault) -> SourceFault {
         match fault {
-            CompileFault::Refused { line } => SourceFault::Refused { line },
-            CompileFault::Memory => SourceFault::Memory,
+            ParseFault::Refused { line } => SourceFault::Refused { line },
+            ParseFault::Memory => SourceFault::Memory,
         }
     }
 }

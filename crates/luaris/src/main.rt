@@ -3,14 +3,14 @@
 
 mod chunk;
 mod chunk_report;
-mod cursor;
-mod expression;
+mod compile;
+mod crowd;
 mod fault;
+mod form;
 mod machine;
 mod operator;
 mod program;
 mod scope;
-mod script;
 mod source;
 #[cfg(test)]
 mod tests;

@@ -89,6 +89,7 @@ pub fn report<E: Sink>(err: &mut E, fault: &Fault) -> Result<(), Failed>
     match fault {
         Fault::Words => write_all(err, b"luaris: wrong words\n"),
         Fault::Refused { line } => report_line(err, *line),
+        Fault::Rule { rule, line } => report_violation(err, *rule, *line),
         Fault::Limit => write_all(err, b"luaris: source refused by rule 13 at line 1\n"),
         Fault::Device => write_all(err, b"luaris: device fault\n"),
         Fault::NoChunk { kind } => report_kind(err, *kind),
@@ -104,6 +105,17 @@ fn report_line<E: Sink>(err: &mut E, line: u32) -> Result<(), Failed>
     ensures written { OnOk result (E.written err.new ≡ option_map (λ text. text ++ line_of_fault (Fault.Refused line)) (E.written err.old)) }
 {
     write_all(err, b"luaris: source refused at line ")?;
+    write_end(err, line)
+}
+
+/// Writes which static rule a source breaks.
+fn report_violation<E: Sink>(err: &mut E, rule: u8, line: u32) -> Result<(), Failed>
+    ensures cause { HasCause (E.faults err.old) (E.faults err.new) (is_err result) }
+    ensures written { OnOk result (E.written err.new ≡ option_map (λ text. text ++ line_of_fault (Fault.Rule rule line)) (E.written err.old)) }
+{
+    write_all(err, b"luaris: source refused by rule ")?;
+    write_number(err, u32::from(rule))?;
+    write_all(err, b" at line ")?;
     write_end(err, line)
 }
 

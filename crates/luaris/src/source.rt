@@ -1,18 +1,36 @@
 // From a source to what running it writes.
 ghost use Rattle.luaris.specs.Outcomes.{SourceAnswers};
 
+use crate::compile::compile;
+use crate::crowd::first_crowded;
 use crate::fault::SourceFault;
+use crate::form::first_outside;
 use crate::machine::run;
-use crate::script::compile;
 use lua_lex::tokens;
+use lua_parse::parse;
 use std::alloc::Global;
+
+/// The number of the rule on values that are held at once.
+const HELD_VALUES: u8 = 11;
 
 /// What a straight script writes: each printed value in a line, and the report that it returned.
 pub fn output(alloc: Global, source: &[u8]) -> Result<Vec<u8>, SourceFault>
     ensures { SourceAnswers source.now result }
 {
     let tokens = tokens(alloc, source)?;
-    let chunk = compile(alloc, &tokens)?;
+    let block = parse(alloc, &tokens)?;
+    let outside = first_outside(alloc, &block)?;
+    if let Some(line) = outside {
+        return Err(SourceFault::Refused { line });
+    }
+    let crowded = first_crowded(alloc, &block)?;
+    if let Some(line) = crowded {
+        return Err(SourceFault::Rule {
+            rule: HELD_VALUES,
+            line,
+        });
+    }
+    let chunk = compile(alloc, &block)?;
     let mut printed = Vec::new(alloc);
     run(&chunk, &mut printed)?;
     printed.extend_from_slice(b"return\n")?;

@@ -92,94 +92,140 @@ fn straight_scripts_print(rt: HostRuntime) -> Result<(), Fail> {
     Ok(())
 }
 
+/// Sources, and what standard error is told of each.
+static REFUSALS: [(&str, &str); 33] = [
+    // A place that begins no token.
+    ("print(9223372036854775808)", "at line 1"),
+    ("print(1/2)", "at line 1"),
+    ("print(1)\n\n  $", "at line 3"),
+    ("print(1) local = 2\n$", "at line 2"),
+    // A token that cannot stand where it does, or the end of the source.
+    ("print(1) local = 2", "at line 1"),
+    ("print(1", "at line 1"),
+    ("print(1\n\n", "at line 3"),
+    ("local x = 1\nx = = 2", "at line 2"),
+    ("for\ni\n=\n1 do end", "at line 4"),
+    ("print(1 +\n)", "at line 2"),
+    ("x = 1\n2\n3", "at line 2"),
+    ("goto\nx y", "at line 2"),
+    // A form that is not built: the first one in the text.
+    ("print(x)", "at line 1"),
+    ("print(1,\n2)", "at line 1"),
+    ("print(1)\nprint\n()", "at line 2"),
+    ("print(\n\"x\")", "at line 2"),
+    ("print(\nprint)", "at line 2"),
+    ("print(y)\nlocal y = 1", "at line 1"),
+    ("local y = 1\nprint(y)\n;", "at line 3"),
+    ("local x = 1\nx = 2", "at line 2"),
+    ("local\nx, y = 1, 2", "at line 1"),
+    ("local\nx <const> = 1", "at line 1"),
+    ("local\nprint = x", "at line 2"),
+    ("local x\n= x", "at line 2"),
+    ("print(1 + 2\n< 3)", "at line 2"),
+    ("print(#x\n< 3)", "at line 1"),
+    ("print(1 and\nx)", "at line 1"),
+    ("print(1 + (\n2 // 3))", "at line 2"),
+    ("print((1)\n.x)", "at line 2"),
+    ("(print)(1)", "at line 1"),
+    ("print(-1)", "at line 1"),
+    ("do end", "at line 1"),
+    ("print(1)\nreturn", "at line 2"),
+];
+
 #[test]
 fn other_sources_are_refused(rt: HostRuntime) -> Result<(), Fail> {
-    let cases = [
-        ("print(1) local = 2", "luaris: source refused at line 1\n"),
-        (
-            "print(9223372036854775808)",
-            "luaris: source refused at line 1\n",
-        ),
-        ("print(1/2)", "luaris: source refused at line 1\n"),
-        ("print(1)\n\n  $", "luaris: source refused at line 3\n"),
-        ("print(x)", "luaris: source refused at line 1\n"),
-        ("local print = 1", "luaris: source refused at line 1\n"),
-        ("local x = 1 x = 2", "luaris: source refused at line 1\n"),
-        ("print(1", "luaris: source refused at line 1\n"),
-    ];
-    for (source, line) in cases {
+    for (source, place) in REFUSALS.iter().copied() {
         let outcome = run(rt.alloc(), source.as_bytes())?;
-        check(&rt, &outcome, 5, "", line);
+        let mut told = String::from_str(rt.alloc(), "luaris: source refused ")?;
+        told.push_str(place)?;
+        told.push_str("\n")?;
+        check(&rt, &outcome, 5, "", told.as_str());
     }
     Ok(())
 }
 
-/// A script with so many opening brackets round a numeral, and as many closing ones.
+/// So many lines `local x = 1`, and then a print of an expression with so many numerals, each sum within the one before.
+fn nested(alloc: Global, locals: usize, sums: usize) -> Result<Vec<u8>, AllocError> {
+    let mut source = Vec::new(alloc);
+    for _ in 0..locals {
+        source.extend_from_slice(b"local x = 1\n")?;
+    }
+    source.extend_from_slice(b"print(")?;
+    for _ in 0..sums {
+        source.extend_from_slice(b"1+(")?;
+    }
+    source.extend_from_slice(b"1")?;
+    source.extend_from_slice(vec![in alloc; b')'; sums + 1]?.as_slice())?;
+    Ok(source)
+}
+
+/// A print of a numeral in so many brackets.
 fn bracketed(alloc: Global, depth: usize) -> Result<Vec<u8>, AllocError> {
     let mut source = Vec::from_slice(alloc, b"print(")?;
     source.extend_from_slice(vec![in alloc; b'('; depth]?.as_slice())?;
     source.extend_from_slice(b"1")?;
-    source.extend_from_slice(vec![in alloc; b')'; depth]?.as_slice())?;
-    source.extend_from_slice(b")")?;
+    source.extend_from_slice(vec![in alloc; b')'; depth + 1]?.as_slice())?;
     Ok(source)
 }
 
 #[test]
 fn limits_are_where_they_are_said_to_be(rt: HostRuntime) -> Result<(), Fail> {
     let alloc = rt.alloc();
-    let longest = vec![in alloc; b' '; 1_048_576]?;
-    check(&rt, &run(alloc, longest.as_slice())?, 0, "return\n", "");
-    let too_long = vec![in alloc; b' '; 1_048_577]?;
-    check(
-        &rt,
-        &run(alloc, too_long.as_slice())?,
-        5,
-        "",
-        "luaris: source refused by rule 13 at line 1\n",
-    );
-    check(
-        &rt,
-        &run(alloc, bracketed(alloc, 40)?.as_slice())?,
-        0,
-        "1\nreturn\n",
-        "",
-    );
-    check(
-        &rt,
-        &run(alloc, bracketed(alloc, 41)?.as_slice())?,
-        5,
-        "",
-        "luaris: source refused at line 1\n",
-    );
-    let mut most = Vec::new(alloc);
-    for _ in 0..100 {
-        most.extend_from_slice(b"local x = 1\n")?;
+    let cases = [
+        (vec![in alloc; b' '; 1_048_576]?, 0, "return\n", ""),
+        (
+            vec![in alloc; b' '; 1_048_577]?,
+            5,
+            "",
+            "by rule 13 at line 1",
+        ),
+        (bracketed(alloc, 399)?, 0, "1\nreturn\n", ""),
+        (bracketed(alloc, 400)?, 5, "", "at line 1"),
+        (nested(alloc, 0, 199)?, 0, "200\nreturn\n", ""),
+        (nested(alloc, 0, 200)?, 5, "", "at line 1"),
+        (nested(alloc, 49, 199)?, 0, "200\nreturn\n", ""),
+        (nested(alloc, 50, 199)?, 5, "", "by rule 11 at line 51"),
+        (nested(alloc, 200, 48)?, 0, "49\nreturn\n", ""),
+        (nested(alloc, 201, 48)?, 5, "", "by rule 11 at line 202"),
+    ];
+    for (source, status, printed, place) in &cases {
+        let mut told = String::new(alloc);
+        if *status == 5 {
+            told.push_str("luaris: source refused ")?;
+            told.push_str(place)?;
+            told.push_str("\n")?;
+        }
+        check(
+            &rt,
+            &run(alloc, source.as_slice())?,
+            *status,
+            printed,
+            told.as_str(),
+        );
     }
-    check(&rt, &run(alloc, most.as_slice())?, 0, "return\n", "");
-    most.extend_from_slice(b"local x = 1\n")?;
-    check(
-        &rt,
-        &run(alloc, most.as_slice())?,
-        5,
-        "",
-        "luaris: source refused at line 101\n",
-    );
     Ok(())
 }
 
 #[test]
 fn many_numerals_have_constants_of_their_own(rt: HostRuntime) -> Result<(), Fail> {
     let alloc = rt.alloc();
-    let mut source = Vec::from_slice(alloc, b"print(0")?;
-    for _ in 0..140_000 {
-        source.extend_from_slice(b"+1")?;
+    let mut source = Vec::new(alloc);
+    let mut printed = String::new(alloc);
+    for _ in 0..470 {
+        source.extend_from_slice(b"print(0")?;
+        for _ in 0..300 {
+            source.extend_from_slice(b"+1")?;
+        }
+        source.extend_from_slice(b")\n")?;
+        printed.push_str("300\n")?;
     }
-    source.extend_from_slice(b"+5)")?;
+    source.extend_from_slice(b"print(5)")?;
+    printed.push_str("5\nreturn\n")?;
     check(
         &rt,
         &run(alloc, source.as_slice())?,
         0,
-        "140005\nreturn\n",
+        printed.as_str(),
         "",
     );
     Ok(())

@@ -8,3 +8,15 @@ returns-in-Memory-clause-written g c = rw c.in-Memory.is c.write_all-in-Memory.e
 
 pub returns-in-Absent-clause-written : goal.returns-in-Absent-clause-written
 returns-in-Absent-clause-written g c = rw c.in-Absent.is c.write_all-in-Absent.ensures.written
+
+pub returns-in-Rule-clause-written : goal.returns-in-Rule-clause-written
+returns-in-Rule-clause-written g c = rw c.in-Rule.is c.report_violation.ensures.written
+
+pub returns-in-Limit-clause-written : goal.returns-in-Limit-clause-written
+returns-in-Limit-clause-written g c = rw c.in-Limit.is c.write_all-in-Limit.ensures.written
+
+pub returns-in-Device-clause-written : goal.returns-in-Device-clause-written
+returns-in-Device-clause-written g c = rw c.in-Device.is c.write_all-in-Device.ensures.written
+
+pub returns-in-NoChunk-clause-written : goal.returns-in-NoChunk-clause-written
+returns-in-NoChunk-clause-written g c = rw c.in-NoChunk.is c.report_kind.ensures.written

@@ -1,9 +1,56 @@
-use Rattle.std.proofs.Common.{ℕ, List, ◌≡◌, ◌≤◌, ◌^◌, ◌++◌, length, ap, ◌∙◌, inl, inr}
+use Rattle.std.proofs.Common.{rules, ℕ, List, ◌≡◌, ◌⊎◌, ◌≤◌, ◌^◌, ◌++◌, None, Err, length, sym, ap, ◌∙◌, inl, inr}
 use Rattle.std.specs.Prelude.{codes}
+use Rattle.std.specs.Result.{result_err}
 use Rattle.std.proofs.lemmas.Bool.{cases_lt}
+use Rattle.lua_lex.specs.declared.source.LexFault.TheVariants as lexer
+use Rattle.tree_core.specs.Plain.{plain_block}
+use Rattle.luaris.specs.Script.{script_of}
+use Rattle.luaris.specs.Holding.{crowded}
 use Rattle.luaris.specs.Code.{output_from, first_word, empty_registers}
-use Rattle.luaris.proofs.OutputLemmas.{output_is}
+use Rattle.luaris.specs.Faults.{fault_of_lexer, fault_of_parser}
+use Rattle.luaris.proofs.CrowdLemmas.{block_holds_few}
+use Rattle.luaris.proofs.OutputLemmas.{IsRead, lexer_fault, parser_fault, refused_form, refused_crowd, output_is}
 use Rattle.luaris.proofs.source.output.Goals as goal
+
+pub returns-in_err-tokens : goal.returns-in_err-tokens
+returns-in_err-tokens c =
+    let is : c.from_residual.result ≡ Err (fault_of_lexer c.in_err-tokens.field-0.0) = search rules in
+    let short : (length c.args.source.now ≤ 2 ^ 20) ⊎ (c.in_err-tokens.field-0.0 ≡ lexer.Limit) = elim (cases_lt (2 ^ 20) (length c.args.source.now)) [
+      | inl over ↦ inr (let same = c.in_err-tokens.ensures.limit.1 over in cc)
+      | inr short ↦ inl short
+    ] in
+    rw is (lexer_fault c.args.source.now c.in_err-tokens.field-0.0 short (λ same. c.in_err-tokens.ensures.limit.0 (ap Err same)) c.in_err-tokens.ensures.refused c.in_err-tokens.ensures.no_tokens)
+
+pub returns-in_err-block : goal.returns-in_err-block
+returns-in_err-block c =
+    let short : length c.args.source.now ≤ 2 ^ 20 = elim (cases_lt (2 ^ 20) (length c.args.source.now)) [
+      | inl over ↦ absurd (let bad = c.in_ok-tokens.ensures.limit.1 over in cc)
+      | inr short ↦ short
+    ] in
+    let is : c.from_residual-in_err-block.result ≡ Err (fault_of_parser c.in_err-block.field-0.0) = search rules in
+    rw is (parser_fault c.args.source.now c.in_ok-tokens.tokens c.in_err-block.field-0.0 short c.in_ok-tokens.ensures.found c.in_ok-tokens.ensures.only c.in_err-block.ensures.refused)
+
+pub returns-in-Some : goal.returns-in-Some
+returns-in-Some c =
+    let short : length c.args.source.now ≤ 2 ^ 20 = elim (cases_lt (2 ^ 20) (length c.args.source.now)) [
+      | inl over ↦ absurd (let bad = c.in_ok-tokens.ensures.limit.1 over in cc)
+      | inr short ↦ short
+    ] in
+    let read : IsRead c.args.source.now c.in_ok-tokens.tokens (plain_block c.in_ok-block.block) = record { short = short; tokens_are = c.in_ok-tokens.ensures.found; tokens_only = c.in_ok-tokens.ensures.only; derives = c.in_ok-block.ensures.found; tree_only = c.in_ok-block.ensures.only } in
+    refused_form c.args.source.now c.in_ok-tokens.tokens (plain_block c.in_ok-block.block) c.in-Some.line read (sym c.in-Some.is ∙ c.in_ok-outside.ensures)
+
+pub returns-in-Some-crowded : goal.returns-in-Some-crowded
+returns-in-Some-crowded c =
+    let short : length c.args.source.now ≤ 2 ^ 20 = elim (cases_lt (2 ^ 20) (length c.args.source.now)) [
+      | inl over ↦ absurd (let bad = c.in_ok-tokens.ensures.limit.1 over in cc)
+      | inr short ↦ short
+    ] in
+    let read : IsRead c.args.source.now c.in_ok-tokens.tokens (plain_block c.in_ok-block.block) = record { short = short; tokens_are = c.in_ok-tokens.ensures.found; tokens_only = c.in_ok-tokens.ensures.only; derives = c.in_ok-block.ensures.found; tree_only = c.in_ok-block.ensures.only } in
+    let built : None ≡ result_err (script_of (plain_block c.in_ok-block.block)) = sym c.in_default.is ∙ c.in_ok-outside.ensures in
+    refused_crowd c.args.source.now c.in_ok-tokens.tokens (plain_block c.in_ok-block.block) c.in-Some-crowded.line read built (sym c.in-Some-crowded.is ∙ c.in_ok-crowded.ensures)
+
+pub compile-requires : goal.compile-requires
+compile-requires c = block_holds_few (plain_block c.in_ok-block.block) (sym c.in_default-crowded.is ∙ c.in_ok-crowded.ensures)
 
 pub returns : goal.returns
 returns c =
@@ -11,7 +58,10 @@ returns c =
       | inl over ↦ absurd (let bad = c.in_ok-tokens.ensures.limit.1 over in cc)
       | inr short ↦ short
     ] in
+    let read : IsRead c.args.source.now c.in_ok-tokens.tokens (plain_block c.in_ok-block.block) = record { short = short; tokens_are = c.in_ok-tokens.ensures.found; tokens_only = c.in_ok-tokens.ensures.only; derives = c.in_ok-block.ensures.found; tree_only = c.in_ok-block.ensures.only } in
+    let built : None ≡ result_err (script_of (plain_block c.in_ok-block.block)) = sym c.in_default.is ∙ c.in_ok-outside.ensures in
+    let uncrowded : None ≡ crowded (plain_block c.in_ok-block.block) = sym c.in_default-crowded.is ∙ c.in_ok-crowded.ensures in
     let code : List ℕ = output_from c.in_ok-chunk.chunk.constants.items first_word c.in_ok-chunk.chunk.code.items empty_registers in
     let text : c.extend_from_slice.new.self.items ≡ code ++ codes "return\n" =
     c.in_ok-extend_from_slice.ensures.items ∙ ap (λ (l : List ℕ). l ++ codes "return\n") (c.in_ok-run.ensures ∙ ap (λ (l : List ℕ). l ++ code) c.new-printed.ensures.items) in
-    output_is c.args.source.now c.in_ok-tokens.tokens c.in_ok-chunk.chunk c.extend_from_slice.new.self.items short c.in_ok-tokens.ensures.count c.in_ok-tokens.ensures.found c.in_ok-tokens.ensures.only c.in_ok-chunk.ensures text
+    output_is c.args.source.now c.in_ok-tokens.tokens (plain_block c.in_ok-block.block) c.in_ok-chunk.chunk c.extend_from_slice.new.self.items read built uncrowded c.in_ok-chunk.ensures text
