@@ -1,5 +1,6 @@
 -- Functions: the locals that one captures get cells, and then it is made.
 use Rattle.std.proofs.Common.{◌≡◌, ℕ, ◌+◌, ◌<◌, ◌≤◌, ◌^◌, Bool, true, false, cond, List, [], ◌∷◌, ◌++◌, length, map, Option, Some, None, slice_get, refl, sym, ap, ap₂, ◌∙◌, subst, arith}
+use borrow.Author.Tests.{lt-ltb}
 use Rattle.int_core.specs.Value.{Value, bind}
 use Rattle.int_core.specs.Ask.{CellName, of_local, of_upvalue, makes_function, values_in, Captured, Next, goes_on, stuck, cell_held}
 use Rattle.tree_core.specs.declared.name.UpName.{UpName}
@@ -7,7 +8,7 @@ use Rattle.tree_core.specs.Tree.{Body}
 use Rattle.tree_activation.specs.Work.{Control, capture, make, give, Work, Pending}
 use Rattle.tree_activation.specs.Work as tree
 use Rattle.tree_activation.specs.Activation.{step}
-use Rattle.tree_activation.specs.Asking.{captured_locals, cell_names, line_of_body, upvalues_of}
+use Rattle.tree_activation.specs.Asking.{captures_one, captures, captured_locals, cell_names, line_of_body, upvalues_of}
 use Rattle.tree_activation.specs.Expressions.{give_first, makes_with}
 use Rattle.code_core.specs.declared.opcode.Opcode.TheVariants.{Closure}
 use Rattle.code_core.specs.declared.proto.UpDesc.{UpDesc}
@@ -48,6 +49,12 @@ closure_step p q t j us a c here inner ups fits near =
     ∙ ap (λ l. talk p (opens l (make_text t j)) [] a c) (ap (λ o. elim o as (λ _. List UpDesc) [ None ↦ [] | Some r ↦ r.own.upvalues ]) inner ∙ ups)
 
 module _ (S : Setting) (pending : List Pending) where
+  -- a captured local is in scope
+  captures_in_scope : (line place : ℕ) (places : List ℕ) (next_of : Control) (env : List Value) (c : Captured) (k : List Work) → place < length env
+      → captures line (place ∷ places) next_of (of_tree S pending env c) k ≡ captures_one (cell_held place c.held) line place places next_of (of_tree S pending env c) k
+  captures_in_scope line place places next_of env c k below =
+      ap (λ b. cond b (captures_one (cell_held place c.held) line place places next_of (of_tree S pending env c) k) stuck) (lt-ltb place (length env) below)
+
   -- the locals that a function captures get cells
   captures_goes : (us : List UpName) (n line pc opened u : ℕ) (s : tree.State) (t : code.State) (next_of : Control) (env regs had : List Value) (c : Captured) (k : List Work) (rest : Text)
       → s ≡ tree.at (capture line (captured_locals us) next_of) (of_tree S pending env c) k → talk_step S.code t ≡ talk S.code (opens (map upvalue us) rest) had (of_code S pending pc regs opened) c
@@ -68,7 +75,8 @@ module _ (S : Setting) (pending : List Pending) where
           → ((env1 regs1 : List Value) (c1 : Captured) (t1 : code.State) → After S.code.own.stack pending env regs u env1 regs1 c1 → talk_step S.code t1 ≡ talk S.code (opens (map upvalue us) rest) had (of_code S pending pc regs1 opened) c1
           → Agree S n (tree.at (capture line (captured_locals us) next_of) (of_tree S pending env1 c1) k) t1)
           → Agree S n s t
-      by true is d below goes = opens_alike S pending n s t line x.index pc opened u (captured_locals us) next_of env regs had c k (opens (map upvalue us) rest) (ap step is) d (below refl) le rel here goes
+      by true is d below goes = opens_alike S pending n s t line x.index pc opened u (captured_locals us) next_of env regs had c k (opens (map upvalue us) rest)
+          (ap step is ∙ captures_in_scope line x.index (captured_locals us) next_of env c k (below refl)) d (below refl) le rel here goes
       by false is d below goes = subst (λ z. Agree S n z t) (sym is) (goes env regs c t (after_none S.code.own.stack pending env regs c u rel) d)
 
   -- the function is made
