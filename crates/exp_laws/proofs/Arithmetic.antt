@@ -70,7 +70,7 @@ integer_same (is_known (primitive n)) = refl
 integer_same (is_object kind) = refl
 
 module _ (p : Prototype) where
-  front_of : (pc : ℕ) → in_front p (pc + 1) ≡ at p pc
+  pub front_of : (pc : ℕ) → in_front p (pc + 1) ≡ at p pc
   front_of pc = let e : pc + 1 ≡ suc pc = omega arith in ap (in_front p) e
 
   -- MMBIN on the registers t and t + 1 asks

@@ -1,96 +1,37 @@
 -- The code of an expression talks as the expression does. The work below is any work, and code goes on by a hypothesis.
-use Rattle.std.proofs.Common.{◌⊎◌, inl, inr, ◌≡◌, ℕ, ◌+◌, ◌<◌, ◌≤◌, ◌^◌, max, Bool, true, false, cond, not, ℤ, List, [], ◌∷◌, ◌++◌, length, get_or, Option, Some, None, refl, sym, ap, ap₂, ◌∙◌, subst, arith, length-append, pos}
-use borrow.Author.Tests.{lt-ltb}
-use Rattle.std.proofs.lemmas.Option.{slice_get-get_or}
-use Rattle.int_core.specs.Value.{Value, same_truth, known, nil, integer, boolean, string, nth, write, shape, holds}
-use Rattle.int_core.specs.Operations.{arithmetic, computed, by_zero}
-use Rattle.int_core.specs.Ask.{operates, Captured, goes_on}
-use Rattle.tree_core.specs.declared.name.Place.{Place}
-use Rattle.tree_core.specs.declared.name.Place.TheVariants.{Unset, Upvalue, GlobalIn, GlobalOf}
-use Rattle.tree_core.specs.declared.name.Place.TheVariants.{Local as LocalPlace}
-use Rattle.tree_core.specs.declared.operator.UnOp.{UnOp}
-use Rattle.tree_core.specs.declared.operator.UnOp.TheVariants.{Neg, BitNot, Not as Negation, Len as Length}
-use Rattle.tree_core.specs.declared.operator.BinOp.{BinOp}
-use Rattle.tree_core.specs.Tree.{Exp, Nil, True, False, Int, Str, Var, Unary, Binary, And, Or, Paren}
-use Rattle.tree_activation.specs.Work.{Control, evaluate, give, Work, operand_of, right_of, left_of, and_right, or_right, first_only}
+use Rattle.std.proofs.Common.{◌≡◌, ℕ, ◌+◌, ◌<◌, ◌≤◌, ◌^◌, lit<, max, Bool, true, false, zero, suc, Option, Some, None, List, [], ◌∷◌, ◌++◌, length, cond, refl, ap, sym, ◌∙◌, subst, arith, length-append}
+use Rattle.int_core.specs.Value.{Value, same_truth, known, nil, boolean, string, nth, write, shape, holds}
+use Rattle.machine_join.proofs.Lists.{nth_write_same, nth_write_other}
+use Rattle.int_core.specs.Ask.{Captured, goes_on}
+use Rattle.tree_core.specs.Tree.{Exp, Nil, True, False, Int, Str, Vararg, Function, Var, Index, Call, Method, Unary, Binary, And, Or, Paren, Table, Exps, EndExps, MoreExps}
+use Rattle.tree_activation.specs.Work.{Purpose, for_call, evaluate, give, collect, callee_of, method_of, listed, Work, Pending, key_of, object_of, operand_of, right_of, left_of, and_right, or_right, first_only}
 use Rattle.tree_activation.specs.Work as tree
-use Rattle.tree_activation.specs.Activation.{step}
+use Rattle.tree_activation.specs.Activation.{takes_all}
 use Rattle.tree_activation.specs.Asking.{first}
-use Rattle.tree_activation.specs.Expressions.{gives, give_first, gives_integer, integer_in, by_integers, reads_variable, truth_of}
-use Rattle.code_core.specs.declared.instruction.Instruction.{Instruction}
-use Rattle.code_core.specs.declared.opcode.Opcode.TheVariants.{Jmp, Test, LoadI, LoadK, LoadKx, LoadNil, MmBin, ExtraArg, LoadTrue, LFalseSkip}
+use Rattle.code_core.specs.declared.opcode.Opcode.TheVariants.{LoadNil, LoadTrue, LoadFalse, GetTable, Test, OpSelf}
+use Rattle.code_core.specs.declared.opcode.Opcode.TheVariants.{Call as CallCode}
 use Rattle.code_core.specs.declared.proto.Const.{Const}
-use Rattle.code_core.specs.declared.proto.Const.TheVariants.{Int as IntConst, Str as StrConst}
-use Rattle.code_core.specs.Instruction.{abc, op_ax}
-use Rattle.code_core.specs.Prototype.{Prototype}
-use Rattle.code_core.specs.Check.{at}
-use Rattle.machine_core.specs.Text.{read, written, go_by}
-use Rattle.machine_core.specs.InstructionRows.{fast, integer_of_shape, rest_at}
-use Rattle.machine_core.specs.World.{for_value, for_truth}
-use Rattle.machine_core.specs.Talk.{before, amid, talk, talk_step, says_so, heard}
-use Rattle.code_means.specs.Means.{Same}
-use Rattle.code_of.specs.Coded.{Coded, with_abc, with_abx, jump_over}
-use Rattle.code_of.specs.Constants.{is_small, small_field, number_in, loads, loads_integer}
-use Rattle.code_of.specs.Operators.{name_code, prefix_code, operator_code, arithmetic_code, truth_code}
-use Rattle.code_of.specs.Expressions.{made_by, exp_code}
-use Rattle.exp_laws.proofs.Comparisons.{pick, Comparison, IsComparison, comparison_by, told_truth, truth_same, compare_step, compare_rest, skip_step}
-use Rattle.exp_laws.proofs.Registers.{Rel, After, after_then, after_put, nth_write_same}
-use Rattle.exp_laws.proofs.Talking.{go_left, go_right, of_tree, of_code, FaultsAlike, LeavesAlike, asks_alike}
+use Rattle.code_core.specs.declared.proto.Const.TheVariants.{Str as StrConst}
+use Rattle.code_core.specs.Instruction.{abc}
+use Rattle.code_core.specs.Check.{fixed, open_from}
+use Rattle.machine_core.specs.Talk.{before}
+use Rattle.code_of.specs.Coded.{with_abc, jump_over}
+use Rattle.code_of.specs.Constants.{is_small, loads}
+use Rattle.code_of.specs.Operators.{prefix_code, operator_code}
+use Rattle.code_of.specs.Expressions.{made_by, count, is_open, ends_open, Wanted, results_field, one_less, field_of, wanted_after, list_field, exp_code, exps_code}
+use Rattle.exp_laws.proofs.Registers.{Rel, After, after_then, lower, after_put}
+use Rattle.exp_laws.proofs.Talking.{Setting, Agree, go_left, of_tree, of_code}
 use Rattle.exp_laws.proofs.Placing.{HasAt, has_front, has_back}
-use Rattle.exp_laws.proofs.Steps.{go_step, put_step, to_register_step, move_step, true_step, false_step, not_step, operands_step}
-use Rattle.exp_laws.proofs.Loads.{Found, nil_step, integer_step, constant_step}
-use Rattle.exp_laws.proofs.Prefixes.{given, Prefix, prefix_by, prefix_step, prefix_rest}
-use Rattle.exp_laws.proofs.Tests.{test_on, test_past, jump_step}
-use Rattle.exp_laws.proofs.Arithmetic.{Arithmetic, IsArithmetic, arithmetic_by, integer_same, event_step, event_rest}
-
--- the forms that are proved, where `size` locals are in scope
-
-abbrev pub IsLocal : Place → ℕ → Type 0
-IsLocal (LocalPlace n) size = n < size
-IsLocal _ size = ⊥
-
--- a great integer is among the constants
-abbrev pub IsLoaded : List Const → ℤ → Type 0
-IsLoaded cs z = is_small z ≡ false → Found cs (IntConst z)
-
--- all operators between two operands but `..`
-abbrev pub IsSettled : BinOp → Type 0
-IsSettled op = IsArithmetic op ⊎ IsComparison op
-
-abbrev pub IsCovered : List Const → Exp → (size : ℕ) → Type 0
-IsCovered cs (Nil line) size = Unit {0}
-IsCovered cs (True line) size = Unit {0}
-IsCovered cs (False line) size = Unit {0}
-IsCovered cs (Int line z) size = IsLoaded cs z
-IsCovered cs (Str line bytes) size = Found cs (StrConst bytes)
-IsCovered cs (Var line name) size = IsLocal name.place size
-IsCovered cs (Unary line op e) size = IsCovered cs e size
-IsCovered cs (Binary line op e d) size = IsSettled op × (IsCovered cs e size × IsCovered cs d size)
-IsCovered cs (And line e d) size = IsCovered cs e size × IsCovered cs d size
-IsCovered cs (Or line e d) size = IsCovered cs e size × IsCovered cs d size
-IsCovered cs (Paren line e) size = IsCovered cs e size
-IsCovered cs _ size = ⊥
-
--- how many registers from its own on an expression takes
-abbrev pub need : Exp → ℕ
-need (Unary line op e) = need e
-need (Binary line op e d) = max (need e) (1 + need d)
-need (And line e d) = max (need e) (need d)
-need (Or line e d) = max (need e) (need d)
-need (Paren line e) = need e
-need _ = 1
-
-need_some : (e : Exp) → 1 ≤ need e
-need_some (Unary line op e) = need_some e
-need_some (Binary line op e d) = let h = need_some e in omega (arith, h)
-need_some (And line e d) = let h = need_some e in omega (arith, h)
-need_some (Or line e d) = let h = need_some e in omega (arith, h)
-need_some (Paren line e) = need_some e
-need_some _ = omega arith
-
--- what stands up to a register stands up to a lower one
-lower : (stack : ℕ) (env regs env' regs' : List Value) (c : Captured) (t r : ℕ) → r ≤ t → After stack env regs t env' regs' c → After stack env regs r env' regs' c
-lower stack env regs env' regs' c t r le a = record { size = a.size; rel = a.rel; keeps = λ q lo hi. a.keeps q lo (omega arith) }
+use Rattle.exp_laws.proofs.Steps.{true_step, false_step}
+use Rattle.exp_laws.proofs.Lists.{Holds, held_first}
+use Rattle.exp_laws.proofs.CallForms.{varargs_goes, call_goes, method_goes}
+use Rattle.exp_laws.proofs.ListForms.{GoesListed, Listed, total, listed_at, listed_after, listed_less, passed, nils_goes, held_both}
+use Rattle.exp_laws.proofs.FunctionForms.{function_goes}
+use Rattle.exp_laws.proofs.Loads.{nil_step}
+use Rattle.exp_laws.proofs.Placed.{IsPlaced, ArePlaced, room_of, room_of_list, room_of_values, name_room}
+use Rattle.exp_laws.proofs.Going.{Given, Filled, Goes, GoesFilled, at_place, goes_at, goes_after, one_goes}
+use Rattle.exp_laws.proofs.NameForms.{load_right, constant_goes, integer_goes, index_goes, name_goes}
+use Rattle.exp_laws.proofs.OperatorForms.{unary_goes, binary_goes, decides_goes}
 
 and_decides : {A : Type 0} (x y : A) (b : Bool) → same_truth b false ≡ true → cond b x y ≡ y
 and_decides x y false e = refl
@@ -108,384 +49,455 @@ or_goes_on : {A : Type 0} (x y : A) (b : Bool) → same_truth b true ≡ false �
 or_goes_on x y false e = refl
 or_goes_on x y true e = absurd (cc)
 
-module _ (lines : Bool) (p : Prototype) (varargs : List Value) (pending : List tree.Pending) (marked : List ℕ)
-    (at_fault : (n : ℕ) → FaultsAlike lines p varargs pending marked n) (as_left : (n : ℕ) → LeavesAlike lines p varargs pending marked n)
-    (small : p.own.stack ≤ 2 ^ 8) (short : length p.own.code ≤ 2 ^ 24) where
-  -- what the code goes on with where an expression's first value is in register t
-  abbrev pub Goes : ℕ → ℕ → List Value → List Value → ℕ → ℕ → List Work → Type 0
-  Goes n t env regs pc opened k =
-      (vs env' regs' : List Value) (c' : Captured) → After p.own.stack env regs t env' regs' c' → nth regs' t ≡ first vs
-      → Same lines n p (tree.at (give vs) (of_tree lines p varargs pending marked env' c') k) (before (of_code lines p varargs pending marked pc regs' opened) c')
+-- each expression names a register
+pub room_some : (cs : List Const) (e : Exp) → 1 ≤ room_of cs e 2
+room_some cs (Nil line) = omega arith
+room_some cs (True line) = omega arith
+room_some cs (False line) = omega arith
+room_some cs (Int line z) = omega arith
+room_some cs (Str line bytes) = omega arith
+room_some cs (Vararg line) = omega arith
+room_some cs (Function line body) = omega arith
+room_some cs (Var line name) = name_room cs name.place name.text
+room_some cs (Index line object key) = let h = room_some cs object in omega (arith, h)
+room_some cs (Call line f es) = let h = room_some cs f in omega (arith, h)
+room_some cs (Method line object name es) = let h = room_some cs object in omega (arith, h)
+room_some cs (Unary line op e) = room_some cs e
+room_some cs (Binary line op e d) = let h = room_some cs e in omega (arith, h)
+room_some cs (And line e d) = let h = room_some cs e in omega (arith, h)
+room_some cs (Or line e d) = let h = room_some cs e in omega (arith, h)
+room_some cs (Paren line e) = room_some cs e
+room_some cs (Table line fs) = omega arith
 
-  put_goes : (n t pc opened : ℕ) (v : Value) (env regs : List Value) (c : Captured) (k : List Work) → length env ≤ t → Rel p.own.stack env c regs → Goes n t env regs pc opened k
-      → Same lines n p (tree.at (give (v ∷ [])) (of_tree lines p varargs pending marked env c) k) (before (of_code lines p varargs pending marked pc (write t v regs) opened) c)
-  put_goes n t pc opened v env regs c k le rel goes = goes (v ∷ []) env (write t v regs) c (after_put p.own.stack env regs c t v le rel) (nth_write_same t v regs)
+-- all forms but constructors
+abbrev mutual
+  pub IsCovered : Exp → Type 0
+  IsCovered (Index line object key) = IsCovered object × IsCovered key
+  IsCovered (Call line f es) = IsCovered f × AreCovered es
+  IsCovered (Method line object name es) = IsCovered object × AreCovered es
+  IsCovered (Unary line op e) = IsCovered e
+  IsCovered (Binary line op e d) = IsCovered e × IsCovered d
+  IsCovered (And line e d) = IsCovered e × IsCovered d
+  IsCovered (Or line e d) = IsCovered e × IsCovered d
+  IsCovered (Paren line e) = IsCovered e
+  IsCovered (Table line fs) = ⊥
+  IsCovered _ = Unit {0}
 
-  next_there : (pc : ℕ) → pc < length p.own.code → (w : Instruction) × (at p pc ≡ Some w)
-  next_there pc h = (get_or p.own.code pc (record { 0 = 0 }), slice_get-get_or p.own.code pc (record { 0 = 0 }) h)
+  pub AreCovered : Exps → Type 0
+  AreCovered EndExps = Unit {0}
+  AreCovered (MoreExps e es) = IsCovered e × AreCovered es
 
-  at_place : (n pc pc' opened : ℕ) (s : tree.State) (regs : List Value) (c : Captured) → pc ≡ pc' → Same lines n p s (before (of_code lines p varargs pending marked pc' regs opened) c) → Same lines n p s (before (of_code lines p varargs pending marked pc regs opened) c)
-  at_place n pc pc' opened s regs c e h = subst (λ q. Same lines n p s (before (of_code lines p varargs pending marked q regs opened) c)) (sym e) h
+-- each value of a list that is not open has its register
+room_count : (cs : List Const) (above : ℕ) (es : Exps) → ends_open es ≡ false → above + count es ≤ max above (room_of_list cs above es None)
+room_count cs above EndExps e = omega arith
+room_count cs above (MoreExps d EndExps) e =
+    let some = room_some cs d in
+    let same : room_of cs d (field_of d EndExps None) ≡ room_of cs d 2 = ap (λ b. room_of cs d (cond b 0 2)) e in
+    omega (arith, some, same)
+room_count cs above (MoreExps d (MoreExps f es)) e =
+    let some = room_some cs d in
+    let rest = room_count cs (above + 1) (MoreExps f es) e in
+    omega (arith, some, rest)
 
-  goes_at : (n t pc pc' opened : ℕ) (env regs : List Value) (k : List Work) → pc ≡ pc' → Goes n t env regs pc' opened k → Goes n t env regs pc opened k
-  goes_at n t pc pc' opened env regs k e h = λ vs env' regs' c' af eq. at_place n pc pc' opened _ regs' c' e (h vs env' regs' c' af eq)
+-- a list that ends by a call or `...` has one
+open_some : (es : Exps) → ends_open es ≡ true → 1 ≤ count es
+open_some EndExps e = absurd (cc)
+open_some (MoreExps d es) e = omega arith
 
-  -- the value of a local
-  local_goes : (place : Place) (text : List ℕ) (cs : List Const) (line t n pc opened : ℕ) (s : tree.State) (env regs : List Value) (c : Captured) (k : List Work)
-      → step s ≡ reads_variable line text place (of_tree lines p varargs pending marked env c) k → HasAt lines p pc (name_code cs place text t line) → IsLocal place (length env)
-      → pc + length (name_code cs place text t line) < length p.own.code → length env ≤ t → t < p.own.stack → Rel p.own.stack env c regs
-      → Goes n t env regs (pc + length (name_code cs place text t line)) opened k → Same lines n p s (before (of_code lines p varargs pending marked pc regs opened) c)
-  local_goes (LocalPlace m) text cs line t n pc opened s env regs c k e has ok inside le room rel goes =
-      let there = next_there (pc + 1) inside in
-      go_left lines p n s (tree.at (give (nth env m ∷ [])) (of_tree lines p varargs pending marked env c) k) _ e
-      (go_right lines p n _ _ (before (of_code lines p varargs pending marked (pc + 1) (write t (nth env m) regs) opened) c)
-      (move_step p (of_code lines p varargs pending marked pc regs opened) c there.0 there.1 t m has.0 (omega (arith, small)) (omega (arith, small)) (omega (arith, rel.room)) (omega (arith, rel.room))
-      ∙ ap (λ v. goes_on (before (of_code lines p varargs pending marked (pc + 1) (write t v regs) opened) c)) (sym (rel.agree m ok)))
-      (put_goes n t (pc + 1) opened (nth env m) env regs c k le rel goes))
-  local_goes Unset text cs line t n pc opened s env regs c k e has ok inside le room rel goes = absurd ok
-  local_goes (Upvalue u) text cs line t n pc opened s env regs c k e has ok inside le room rel goes = absurd ok
-  local_goes (GlobalIn u) text cs line t n pc opened s env regs c k e has ok inside le room rel goes = absurd ok
-  local_goes (GlobalOf u) text cs line t n pc opened s env regs c k e has ok inside le room rel goes = absurd ok
+-- what is wanted of a list has a field of 8 bits
+abbrev pub WantedFits : Wanted → Type 0
+WantedFits None = Unit {0}
+WantedFits (Some n) = n + 1 < 2 ^ 8
 
-  -- an instruction that writes a value to register t
-  one_goes : (i : Coded) (code : List Coded) (v : Value) (t n pc opened : ℕ) (s : tree.State) (env regs : List Value) (c : Captured) (k : List Work)
-      → code ≡ i ∷ [] → step s ≡ gives v (of_tree lines p varargs pending marked env c) k → HasAt lines p pc code → pc + length code < length p.own.code → length env ≤ t → Rel p.own.stack env c regs
-      → (at p pc ≡ Some i.0 → (w : Instruction) → at p (pc + 1) ≡ Some w
-      → talk_step p (before (of_code lines p varargs pending marked pc regs opened) c) ≡ goes_on (before (of_code lines p varargs pending marked (pc + 1) (write t v regs) opened) c))
-      → Goes n t env regs (pc + length code) opened k → Same lines n p s (before (of_code lines p varargs pending marked pc regs opened) c)
-  one_goes i code v t n pc opened s env regs c k is e has inside le rel moves goes =
-      let size = ap length is in
-      let here = subst (HasAt lines p pc) is has in
-      let there = next_there (pc + 1) (omega (arith, size)) in
-      go_left lines p n s (tree.at (give (v ∷ [])) (of_tree lines p varargs pending marked env c) k) _ e
-      (go_right lines p n _ _ (before (of_code lines p varargs pending marked (pc + 1) (write t v regs) opened) c) (moves here.0 there.0 there.1)
-      (put_goes n t (pc + 1) opened v env regs c k le rel (goes_at n t (pc + 1) (pc + length code) opened env regs k (omega (arith, size)) goes)))
+module _ (S : Setting) (pending : List Pending) where
+  placed : (e : Exp) (m n j : ℕ) → m ≡ n → IsPlaced S e n j → IsPlaced S e m j
+  placed e m n j same h = subst (λ z. IsPlaced S e z j) (sym same) h
 
-  loads_one : (x : Const) (t line : ℕ) → Found p.own.constants x → loads p.own.constants x t line ≡ with_abx LoadK t (number_in p.own.constants x) line ∷ []
-  loads_one x t line found =
-      ap (λ b. cond b (with_abx LoadK t (number_in p.own.constants x) line ∷ []) (with_abx LoadKx t 0 line ∷ (op_ax ExtraArg (number_in p.own.constants x), line) ∷ []))
-      (lt-ltb (number_in p.own.constants x) 131072 found.near)
+  placed_all : (es : Exps) (m n j : ℕ) → m ≡ n → ArePlaced S es n j → ArePlaced S es m j
+  placed_all es m n j same h = subst (λ z. ArePlaced S es z j) (sym same) h
 
-  integer_goes : (z : ℤ) (b : Bool) (line t n pc opened : ℕ) (s : tree.State) (env regs : List Value) (c : Captured) (k : List Work)
-      → is_small z ≡ b → step s ≡ gives (known (integer z)) (of_tree lines p varargs pending marked env c) k → HasAt lines p pc (loads_integer p.own.constants z t line) → IsLoaded p.own.constants z
-      → pc + length (loads_integer p.own.constants z t line) < length p.own.code → length env ≤ t → t < p.own.stack → Rel p.own.stack env c regs
-      → Goes n t env regs (pc + length (loads_integer p.own.constants z t line)) opened k → Same lines n p s (before (of_code lines p varargs pending marked pc regs opened) c)
-  integer_goes z true line t n pc opened s env regs c k small_is e has ok inside le room rel goes =
-      one_goes (with_abx LoadI t (small_field z) line) (loads_integer p.own.constants z t line) (known (integer z)) t n pc opened s env regs c k
-      (ap (λ b. cond b (with_abx LoadI t (small_field z) line ∷ []) (loads p.own.constants (IntConst z) t line)) small_is) e has inside le rel
-      (λ here w there. integer_step p (of_code lines p varargs pending marked pc regs opened) c w there t z here small_is (omega (arith, small)) (omega (arith, rel.room))) goes
-  integer_goes z false line t n pc opened s env regs c k small_is e has ok inside le room rel goes =
-      one_goes (with_abx LoadK t (number_in p.own.constants (IntConst z)) line) (loads_integer p.own.constants z t line) (known (integer z)) t n pc opened s env regs c k
-      (ap (λ b. cond b (with_abx LoadI t (small_field z) line ∷ []) (loads p.own.constants (IntConst z) t line)) small_is ∙ loads_one (IntConst z) t line (ok small_is)) e has inside le rel
-      (λ here w there. constant_step p (of_code lines p varargs pending marked pc regs opened) c w there t (IntConst z) here (ok small_is) (omega (arith, small)) (omega (arith, rel.room))) goes
+  -- an expression goes on with as many values as its field C says, if it is a call or `...`, and else with one
+  abbrev GoesBy : (n : ℕ) → Exp → (field t : ℕ) → (env regs : List Value) → (pc : ℕ) → (k : List Work) → Type 0
+  GoesBy n (Vararg line) field t env regs pc k = GoesFilled S pending n field t env regs pc k
+  GoesBy n (Call line f es) field t env regs pc k = GoesFilled S pending n field t env regs pc k
+  GoesBy n (Method line object name es) field t env regs pc k = GoesFilled S pending n field t env regs pc k
+  GoesBy n e field t env regs pc k = Goes S pending n false t env regs pc k
 
-  -- an operator before the value in register t that the world settles
-  prefix_goes : (op : UnOp) (f : Prefix op) (line t n pc opened : ℕ) (vs env regs : List Value) (c : Captured) (k : List Work)
-      → HasAt lines p pc (prefix_code op t line) → pc + 1 < length p.own.code → length env ≤ t → t < p.own.stack
-      → Rel p.own.stack env c regs → nth regs t ≡ first vs → Goes n t env regs (pc + 1) opened k
-      → Same lines n p (tree.at (give vs) (of_tree lines p varargs pending marked env c) (operand_of line op ∷ k)) (before (of_code lines p varargs pending marked pc regs opened) c)
-  prefix_goes op f line t n pc opened vs env regs c k has inside le room rel eq goes =
-      let there = next_there (pc + 1) inside in
-      let fits : t < 2 ^ 8 = omega (arith, small) in
-      asks_alike lines p varargs pending marked at_fault as_left n for_value (λ reply. refl) _ _ f.operation (given f.twice (first vs)) line pc opened t env regs c k give_first (f.means line (first vs) (of_tree lines p varargs pending marked env c) k)
-      (prefix_step p op f t fits (of_code lines p varargs pending marked pc regs opened) c has.0 (omega (arith, rel.room))
-      ∙ ap (λ x. says_so (operates f.operation (given f.twice x)) p (of_code lines p varargs pending marked pc regs opened) c (λ x b d. heard for_value p x b d)) eq)
-      rel has.1.0
-      (λ ws env1 regs1 c1 af. go_right lines p n _ _ (before (of_code lines p varargs pending marked (pc + 1) (write t (first ws) regs1) opened) c1)
-      (ap (λ x. talk p x ws (of_code lines p varargs pending marked pc regs1 opened) c1) (prefix_rest p op f t fits pc has.0)
-      ∙ to_register_step p t (read 0) there.0 ws (of_code lines p varargs pending marked pc regs1 opened) c1 (omega (arith, room, af.rel.room)) there.1)
-      (put_goes n t (pc + 1) opened (first ws) env1 regs1 c1 k (omega (arith, le, af.size)) af.rel
-      (λ us env2 regs2 c2 af2 eq2. goes us env2 regs2 c2 (after_then p.own.stack env regs env1 regs1 env2 regs2 c1 c2 t t (omega arith) af af2) eq2)))
+  goes_by : (n : ℕ) (e : Exp) (field t : ℕ) (env regs : List Value) (pc : ℕ) (k : List Work) → (is_open e ≡ true → GoesFilled S pending n field t env regs pc k) → (is_open e ≡ false → Goes S pending n false t env regs pc k) → GoesBy n e field t env regs pc k
+  goes_by n (Nil line) field t env regs pc k many one = one refl
+  goes_by n (True line) field t env regs pc k many one = one refl
+  goes_by n (False line) field t env regs pc k many one = one refl
+  goes_by n (Int line z) field t env regs pc k many one = one refl
+  goes_by n (Str line bytes) field t env regs pc k many one = one refl
+  goes_by n (Vararg line) field t env regs pc k many one = many refl
+  goes_by n (Function line body) field t env regs pc k many one = one refl
+  goes_by n (Var line name) field t env regs pc k many one = one refl
+  goes_by n (Index line object key) field t env regs pc k many one = one refl
+  goes_by n (Call line f es) field t env regs pc k many one = many refl
+  goes_by n (Method line object name es) field t env regs pc k many one = many refl
+  goes_by n (Unary line op e) field t env regs pc k many one = one refl
+  goes_by n (Binary line op e d) field t env regs pc k many one = one refl
+  goes_by n (And line e d) field t env regs pc k many one = one refl
+  goes_by n (Or line e d) field t env regs pc k many one = one refl
+  goes_by n (Paren line e) field t env regs pc k many one = one refl
+  goes_by n (Table line fs) field t env regs pc k many one = one refl
 
-  -- an operator before the value in register t
-  unary_goes : (op : UnOp) (line t n pc opened : ℕ) (vs env regs : List Value) (c : Captured) (k : List Work)
-      → HasAt lines p pc (prefix_code op t line) → pc + length (prefix_code op t line) < length p.own.code → length env ≤ t → t < p.own.stack
-      → Rel p.own.stack env c regs → nth regs t ≡ first vs → Goes n t env regs (pc + length (prefix_code op t line)) opened k
-      → Same lines n p (tree.at (give vs) (of_tree lines p varargs pending marked env c) (operand_of line op ∷ k)) (before (of_code lines p varargs pending marked pc regs opened) c)
-  unary_goes Negation line t n pc opened vs env regs c k has inside le room rel eq goes =
-      let there = next_there (pc + 1) inside in
-      let v = known (boolean (not (holds (shape (first vs))))) in
-      go_left lines p n _ (tree.at (give (v ∷ [])) (of_tree lines p varargs pending marked env c) k) _ refl
-      (go_right lines p n _ _ (before (of_code lines p varargs pending marked (pc + 1) (write t v regs) opened) c)
-      (not_step p (of_code lines p varargs pending marked pc regs opened) c there.0 there.1 t has.0 (omega (arith, small)) (omega (arith, rel.room))
-      ∙ ap (λ x. goes_on (before (of_code lines p varargs pending marked (pc + 1) (write t (known (boolean (not (holds (shape x))))) regs) opened) c)) eq)
-      (put_goes n t (pc + 1) opened v env regs c k le rel goes))
-  unary_goes Neg line t n pc opened vs env regs c k has inside le room rel eq goes = prefix_goes Neg (prefix_by Neg tt) line t n pc opened vs env regs c k has inside le room rel eq goes
-  unary_goes BitNot line t n pc opened vs env regs c k has inside le room rel eq goes = prefix_goes BitNot (prefix_by BitNot tt) line t n pc opened vs env regs c k has inside le room rel eq goes
-  unary_goes Length line t n pc opened vs env regs c k has inside le room rel eq goes = prefix_goes Length (prefix_by Length tt) line t n pc opened vs env regs c k has inside le room rel eq goes
+  -- one value is wanted
+  first_by : (n : ℕ) (e : Exp) (t : ℕ) (env regs : List Value) (pc : ℕ) (k : List Work) → Goes S pending n (is_open e) t env regs pc k → GoesBy n e 2 t env regs pc k
+  first_by n e t env regs pc k goes =
+      goes_by n e 2 t env regs pc k
+      (λ many vs env1 regs1 c1 o1 af filled. goes vs env1 regs1 c1 o1 af (held_first t 0 vs regs1 filled) (subst (λ b. Given b vs) (sym many) tt))
+      (λ one. subst (λ b. Goes S pending n b t env regs pc k) one goes)
 
-  -- arithmetic on the values v and w in the registers t and t + 1
-  module _ (op : BinOp) (f : Arithmetic op) (line t pc opened : ℕ) (v w : Value) (env regs : List Value) (c : Captured) (k : List Work) (s : tree.State)
-      (has : HasAt lines p pc (arithmetic_code f.opcode f.number t line)) (inside : pc + 2 < length p.own.code) (le : length env ≤ t) (room : t + 1 < p.own.stack)
-      (rel : Rel p.own.stack env c regs) (left_is : nth regs t ≡ v) (right_is : nth regs (t + 1) ≡ w)
-      (begins : step s ≡ by_integers f.event (integer_in (shape v)) (integer_in (shape w)) line v w (of_tree lines p varargs pending marked env c) k) where
-    fits : t + 1 < 2 ^ 8
-    fits = omega (arith, small)
+  abbrev AllSame : Exp → Type 0
+  AllSame e =
+      (field t j n pc opened : ℕ) (env regs : List Value) (c : Captured) (k : List Work)
+      → n ≤ S.bound → HasAt S pc (exp_code S.code.own.constants e t j field) → field < 2 ^ 8 → IsCovered e → IsPlaced S e (length env) j → pc + length (exp_code S.code.own.constants e t j field) < length S.code.own.code
+      → length env ≤ t → t + room_of S.code.own.constants e field ≤ S.code.own.stack → Rel S.code.own.stack pending env c regs
+      → GoesBy n e field t env regs (pc + length (exp_code S.code.own.constants e t j field)) k
+      → Agree S n (tree.at (evaluate e) (of_tree S pending env c) k) (before (of_code S pending pc regs opened) c)
 
-    width : t + 1 < length regs
-    width = omega (arith, rel.room)
+  abbrev pub ExpSame : Exp → Type 0
+  ExpSame e =
+      (t j n pc opened : ℕ) (env regs : List Value) (c : Captured) (k : List Work)
+      → n ≤ S.bound → HasAt S pc (exp_code S.code.own.constants e t j 2) → IsCovered e → IsPlaced S e (length env) j → pc + length (exp_code S.code.own.constants e t j 2) < length S.code.own.code
+      → length env ≤ t → t + room_of S.code.own.constants e 2 ≤ S.code.own.stack → Rel S.code.own.stack pending env c regs
+      → Goes S pending n (is_open e) t env regs (pc + length (exp_code S.code.own.constants e t j 2)) k
+      → Agree S n (tree.at (evaluate e) (of_tree S pending env c) k) (before (of_code S pending pc regs opened) c)
 
-    two : pc + 1 + 1 ≡ pc + 2
-    two = omega arith
+  one_same : (e : Exp) → AllSame e → ExpSame e
+  one_same e all t j n pc opened env regs c k bound has cov ok inside le room rel goes =
+      all 2 t j n pc opened env regs c k bound has (lit< tt) cov ok inside le room rel
+      (first_by n e t env regs (pc + length (exp_code S.code.own.constants e t j 2)) k goes)
 
-    there : (i : Instruction) × (at p (pc + 2) ≡ Some i)
-    there = next_there (pc + 2) inside
+  abbrev pub ListSame : Exps → Type 0
+  ListSame es =
+      (purpose : Purpose) (wanted : Wanted) (base above j line n pc opened : ℕ) (have env regs : List Value) (c : Captured) (k : List Work)
+      → n ≤ S.bound → takes_all purpose ≡ true → HasAt S pc (exps_code S.code.own.constants es wanted (base + above) j line) → WantedFits wanted → AreCovered es → ArePlaced S es (length env) j
+      → pc + length (exps_code S.code.own.constants es wanted (base + above) j line) < length S.code.own.code → length have ≡ above → Holds base above have regs
+      → length env ≤ base → base + above ≤ S.code.own.stack → base + room_of_list S.code.own.constants above es wanted ≤ S.code.own.stack → Rel S.code.own.stack pending env c regs
+      → GoesListed S pending n (total wanted above) (ends_open es) (above + count es) purpose base env regs (pc + length (exps_code S.code.own.constants es wanted (base + above) j line)) k
+      → Agree S n (tree.at (collect purpose have es) (of_tree S pending env c) k) (before (of_code S pending pc regs opened) c)
 
-    -- the first instruction has read both
-    read_both : talk_step p (before (of_code lines p varargs pending marked pc regs opened) c) ≡ talk p (fast f.event t (integer_in (shape v)) (integer_in (shape w))) (v ∷ w ∷ []) (of_code lines p varargs pending marked pc regs opened) c
-    read_both =
-        operands_step p f.opcode f.event t (of_code lines p varargs pending marked pc regs opened) c has.0 (f.row p pc) fits width
-        ∙ ap₂ (λ x y. talk p (fast f.event t (integer_of_shape (shape x)) (integer_of_shape (shape y))) (x ∷ y ∷ []) (of_code lines p varargs pending marked pc regs opened) c) left_is right_is
-        ∙ ap₂ (λ x y. talk p (fast f.event t x y) (v ∷ w ∷ []) (of_code lines p varargs pending marked pc regs opened) c) (integer_same (shape v)) (integer_same (shape w))
+  less_fits : (wanted : Wanted) → WantedFits wanted → WantedFits (one_less wanted)
+  less_fits None h = tt
+  less_fits (Some m) h = omega (arith, h)
 
-    -- one operand is no integer
-    asked : (n : ℕ) → Goes n t env regs (pc + 2) opened k
-        → step s ≡ Rattle.tree_activation.specs.Asking.asks (operates (arithmetic f.event) (v ∷ w ∷ [])) line (of_tree lines p varargs pending marked env c) k give_first
-        → talk_step p (before (of_code lines p varargs pending marked pc regs opened) c) ≡ goes_on (before (of_code lines p varargs pending marked (pc + 1) regs opened) c)
-        → Same lines n p s (before (of_code lines p varargs pending marked pc regs opened) c)
-    asked n goes e d =
-        go_right lines p n s _ (before (of_code lines p varargs pending marked (pc + 1) regs opened) c) d
-        (asks_alike lines p varargs pending marked at_fault as_left n for_value (λ reply. refl) s _ (arithmetic f.event) (v ∷ w ∷ []) line (pc + 1) opened t env regs c k give_first e
-        (event_step p t f.number f.event (of_code lines p varargs pending marked (pc + 1) regs opened) c has.1.1.0 f.numbered f.small fits width
-        ∙ ap₂ (λ x y. says_so (operates (arithmetic f.event) (x ∷ y ∷ [])) p (of_code lines p varargs pending marked (pc + 1) regs opened) c (λ x b d. heard for_value p x b d)) left_is right_is)
-        rel has.1.1.1.0
-        (λ ws env' regs' c' af. answered ws env' regs' c' af))
-      where
-        answered : (ws env' regs' : List Value) (c' : Captured) → After p.own.stack env regs t env' regs' c'
-            → Same lines n p (tree.at (give_first ws) (of_tree lines p varargs pending marked env' c') k) (amid (Rattle.machine_core.specs.InstructionRows.rest_at {V = Value} for_value p (pc + 1)) ws (of_code lines p varargs pending marked (pc + 1) regs' opened) c')
-        answered ws env' regs' c' af =
-            let last = subst (λ q. at p q ≡ Some there.0) (sym two) there.1 in
-            go_right lines p n _ _ (before (of_code lines p varargs pending marked (pc + 1 + 1) (write t (first ws) regs') opened) c')
-            (ap (λ x. talk p x ws (of_code lines p varargs pending marked (pc + 1) regs' opened) c') (event_rest p t f.number pc f.opcode has.0 has.1.1.0 (omega (arith, fits)))
-            ∙ to_register_step p t (read 0) there.0 ws (of_code lines p varargs pending marked (pc + 1) regs' opened) c' (omega (arith, room, af.rel.room)) last)
-            (at_place n (pc + 1 + 1) (pc + 2) opened _ (write t (first ws) regs') c' two
-            (put_goes n t (pc + 2) opened (first ws) env' regs' c' k (omega (arith, le, af.size)) af.rel
-            (λ us env2 regs2 c2 af2 eq. goes us env2 regs2 c2 (after_then p.own.stack env regs env' regs' env2 regs2 c' c2 t t (omega arith) af af2) eq)))
+  results_fit : (wanted : Wanted) → WantedFits wanted → results_field wanted < 2 ^ 8
+  results_fit None h = lit< tt
+  results_fit (Some m) h = h
 
-    pub arithmetic_goes : (n : ℕ) → Goes n t env regs (pc + 2) opened k → Same lines n p s (before (of_code lines p varargs pending marked pc regs opened) c)
-    arithmetic_goes n goes = by (integer_in (shape v)) (integer_in (shape w)) begins read_both
-      where
-        slow : (o q : Option ℤ) → step s ≡ Rattle.tree_activation.specs.Asking.asks (operates (arithmetic f.event) (v ∷ w ∷ [])) line (of_tree lines p varargs pending marked env c) k give_first
-            → talk_step p (before (of_code lines p varargs pending marked pc regs opened) c) ≡ talk p (Rattle.machine_core.specs.InstructionRows.next) (v ∷ w ∷ []) (of_code lines p varargs pending marked pc regs opened) c
-            → Same lines n p s (before (of_code lines p varargs pending marked pc regs opened) c)
-        slow o q e d = asked n goes e (d ∙ go_step p 1 (abc MmBin t (t + 1) f.number false) (v ∷ w ∷ []) (of_code lines p varargs pending marked pc regs opened) c has.1.1.0)
+  -- an expression has given a value, which joins the list; the rest follows
+  one_more : (es : Exps) → ListSame es → (purpose : Purpose) (wanted : Wanted) (base above j line n pc opened : ℕ) (have vs env regs env1 regs1 : List Value) (c1 : Captured) (k : List Work)
+      → n ≤ S.bound → takes_all purpose ≡ true → HasAt S pc (exps_code S.code.own.constants es (one_less wanted) (base + above + 1) j line) → WantedFits wanted → AreCovered es → ArePlaced S es (length env) j
+      → pc + length (exps_code S.code.own.constants es (one_less wanted) (base + above + 1) j line) < length S.code.own.code → length have ≡ above → Holds base above have regs
+      → length env ≤ base → base + above + 1 ≤ S.code.own.stack → base + room_of_list S.code.own.constants (above + 1) es (one_less wanted) ≤ S.code.own.stack
+      → After S.code.own.stack pending env regs (base + above) env1 regs1 c1 → nth regs1 (base + above) ≡ first vs
+      → GoesListed S pending n (total wanted above) (ends_open es) (above + suc (count es)) purpose base env regs (pc + length (exps_code S.code.own.constants es (one_less wanted) (base + above + 1) j line)) k
+      → Agree S n (tree.at (collect purpose (have ++ first vs ∷ []) es) (of_tree S pending env1 c1) k) (before (of_code S pending pc regs1 opened) c1)
+  one_more es rest purpose wanted base above j line n pc opened have vs env regs env1 regs1 c1 k bound all has wf cov ok inside size held le below room af eq goes =
+      let at : base + above + 1 ≡ base + (above + 1) = omega arith in
+      let sum = length-append have (first vs ∷ []) in
+      rest purpose (one_less wanted) base (above + 1) j line n pc opened (have ++ first vs ∷ []) env1 regs1 c1 k bound all
+      (subst (λ r. HasAt S pc (exps_code S.code.own.constants es (one_less wanted) r j line)) at has) (less_fits wanted wf) cov (placed_all es _ _ _ af.size ok)
+      (subst (λ r. pc + length (exps_code S.code.own.constants es (one_less wanted) r j line) < length S.code.own.code) at inside) (omega (arith, sum, size))
+      (held_both base above 1 have (first vs ∷ []) regs1 size (λ i lt. af.keeps (base + i) (omega (arith, le)) (omega (arith, lt)) ∙ held i lt) (λ i lt. only i lt))
+      (omega (arith, le, af.size)) (omega (arith, below)) room af.rel
+      (listed_less S pending n wanted (ends_open es) (above + suc (count es)) (above + 1 + count es) purpose base above _ env1 regs1 k (omega arith)
+      (subst (λ r. GoesListed S pending n (total wanted above) (ends_open es) (above + suc (count es)) purpose base env1 regs1 (pc + length (exps_code S.code.own.constants es (one_less wanted) r j line)) k) at
+      (listed_after S pending n (total wanted above) (ends_open es) (above + suc (count es)) purpose base _ env regs env1 regs1 c1 k
+      (lower S.code.own.stack pending env regs env1 regs1 c1 (base + above) base (omega arith) af) goes)))
+    where
+      only : (i : ℕ) → i < 1 → nth regs1 (base + above + i) ≡ nth (first vs ∷ []) i
+      only zero lt = let here : base + above + 0 ≡ base + above = omega arith in ap (nth regs1) here ∙ eq
+      only (suc i) lt = absurd (omega arith)
 
-        both : (o : Option ℤ) → step s ≡ gives_integer o f.event line (of_tree lines p varargs pending marked env c) k
-            → talk_step p (before (of_code lines p varargs pending marked pc regs opened) c) ≡ talk p (elim o as (λ _. Rattle.machine_core.specs.Text.Text) [ None ↦ Rattle.machine_core.specs.Text.raise (by_zero f.event) | Some z ↦ Rattle.machine_core.specs.InstructionRows.then (Rattle.machine_core.specs.Text.write_register t (written (integer z))) Rattle.machine_core.specs.InstructionRows.skip ]) (v ∷ w ∷ []) (of_code lines p varargs pending marked pc regs opened) c
-            → Same lines n p s (before (of_code lines p varargs pending marked pc regs opened) c)
-        both None e d = go_left lines p n s _ _ e (at_fault n _ _ line pc opened env regs c (by_zero f.event) refl d rel has.1.0)
-        both (Some z) e d =
-            go_left lines p n s _ _ e
-            (go_right lines p n _ _ (before (of_code lines p varargs pending marked (pc + 2) (write t (known (integer z)) regs) opened) c)
-            (d ∙ put_step p t 2 (written (integer z)) there.0 (v ∷ w ∷ []) (of_code lines p varargs pending marked pc regs opened) c (omega (arith, width)) there.1)
-            (put_goes n t (pc + 2) opened (known (integer z)) env regs c k le rel goes))
+  -- all values of the last expression join the list
+  all_more : (purpose : Purpose) (wanted : Wanted) (base above n pc opened : ℕ) (have vs env regs env1 regs1 : List Value) (c1 : Captured) (k : List Work)
+      → length have ≡ above → Holds base above have regs → length env ≤ base → After S.code.own.stack pending env regs (base + above) env1 regs1 c1 → Filled S (results_field wanted) pc (base + above) vs regs1 opened
+      → GoesListed S pending n (total wanted above) true (above + 1) purpose base env regs pc k
+      → Agree S n (tree.at (collect purpose (have ++ vs) EndExps) (of_tree S pending env1 c1) k) (before (of_code S pending pc regs1 opened) c1)
+  all_more purpose None base above n pc opened have vs env regs env1 regs1 c1 k size held le af filled goes =
+      let sum = length-append have vs in
+      let wide : length (have ++ vs) ≡ above + length vs = omega (arith, sum, size) in
+      let end : base + above + opened ≡ base + length (have ++ vs) = (let o = filled.1.0 in omega (arith, wide, o)) in
+      goes (have ++ vs) env1 regs1 c1 opened (lower S.code.own.stack pending env regs env1 regs1 c1 (base + above) base (omega arith) af) (
+        omega (arith, wide),
+        (
+          ap (λ m. elim m as (λ _. Option ℕ) [ fixed ↦ None | open_from r ↦ Some (r + opened) ]) filled.0 ∙ ap Some end,
+          subst (λ m. Holds base m (have ++ vs) regs1) (sym wide) (held_both base above (length vs) have vs regs1 size (λ i lt. af.keeps (base + i) (omega (arith, le)) (omega (arith, lt)) ∙ held i lt) filled.1.1),
+        ),
+      )
+  all_more purpose (Some m) base above n pc opened have vs env regs env1 regs1 c1 k size held le af filled goes =
+      let one : m + 1 ≡ suc m = omega arith in
+      goes (have ++ vs) env1 regs1 c1 opened (lower S.code.own.stack pending env regs env1 regs1 c1 (base + above) base (omega arith) af)
+      (held_both base above m have vs regs1 size (λ i lt. af.keeps (base + i) (omega (arith, le)) (omega (arith, lt)) ∙ held i lt) (subst (λ z. Filled S z pc (base + above) vs regs1 opened) one filled))
 
-        by : (o q : Option ℤ) → step s ≡ by_integers f.event o q line v w (of_tree lines p varargs pending marked env c) k
-            → talk_step p (before (of_code lines p varargs pending marked pc regs opened) c) ≡ talk p (fast f.event t o q) (v ∷ w ∷ []) (of_code lines p varargs pending marked pc regs opened) c
-            → Same lines n p s (before (of_code lines p varargs pending marked pc regs opened) c)
-        by (Some x) (Some y) e d = both (computed f.event x y) e d
-        by None q e d = slow None q e d
-        by (Some x) None e d = slow (Some x) None e d
+  field_fits : (many : Bool) (wanted : Wanted) → WantedFits wanted → cond many (results_field wanted) 2 < 2 ^ 8
+  field_fits true wanted h = results_fit wanted h
+  field_fits false wanted h = lit< tt
 
-  -- a comparison of the values v and w in the registers t and t + 1
-  module _ (op : BinOp) (f : Comparison op) (line t pc opened : ℕ) (v w : Value) (env regs : List Value) (c : Captured) (k : List Work) (s : tree.State)
-      (has : HasAt lines p pc (truth_code f.opcode (pick f.swapped t (t + 1)) (pick f.swapped (t + 1) t) f.wanted t line)) (inside : pc + 4 < length p.own.code) (le : length env ≤ t) (room : t + 1 < p.own.stack)
-      (rel : Rel p.own.stack env c regs) (left_is : nth regs t ≡ v) (right_is : nth regs (t + 1) ≡ w)
-      (begins : step s ≡ truth_of f.operation f.wanted (pick f.swapped v w) (pick f.swapped w v) line (of_tree lines p varargs pending marked env c) k) where
-    abbrev x : ℕ
-    x = pick f.swapped t (t + 1)
+  held_one : (t : ℕ) (v : Value) (regs : List Value) → nth regs t ≡ v → Holds t 1 (v ∷ []) regs
+  held_one t v regs e zero lt = let here : t + 0 ≡ t = omega arith in ap (nth regs) here ∙ e
+  held_one t v regs e (suc i) lt = absurd (omega arith)
 
-    abbrev y : ℕ
-    y = pick f.swapped (t + 1) t
+  held_two : (t : ℕ) (v w : Value) (regs : List Value) → nth regs t ≡ v → nth regs (t + 1) ≡ w → Holds t 2 (v ∷ w ∷ []) regs
+  held_two t v w regs e d zero lt = let here : t + 0 ≡ t = omega arith in ap (nth regs) here ∙ e
+  held_two t v w regs e d (suc zero) lt = d
+  held_two t v w regs e d (suc (suc i)) lt = absurd (omega arith)
 
-    one_of : (b : Bool) (limit : ℕ) → t + 1 < limit → (pick b t (t + 1) < limit) × (pick b (t + 1) t < limit)
-    one_of true limit h = (h, omega arith)
-    one_of false limit h = (omega arith, h)
+  filled_at : (n field t pc pc' : ℕ) (env regs : List Value) (k : List Work) → pc ≡ pc' → GoesFilled S pending n field t env regs pc' k → GoesFilled S pending n field t env regs pc k
+  filled_at n field t pc pc' env regs k e goes = subst (λ q. GoesFilled S pending n field t env regs q k) (sym e) goes
 
-    picked : (b : Bool) → (nth regs (pick b t (t + 1)) ≡ pick b v w) × (nth regs (pick b (t + 1) t) ≡ pick b w v)
-    picked true = (right_is, left_is)
-    picked false = (left_is, right_is)
+  filled_after : (n field t pc : ℕ) (env regs env1 regs1 : List Value) (c1 : Captured) (k : List Work) → After S.code.own.stack pending env regs t env1 regs1 c1 → GoesFilled S pending n field t env regs pc k → GoesFilled S pending n field t env1 regs1 pc k
+  filled_after n field t pc env regs env1 regs1 c1 k af goes = λ vs env2 regs2 c2 o2 af2 filled. goes vs env2 regs2 c2 o2 (after_then S.code.own.stack pending env regs env1 regs1 env2 regs2 c1 c2 t t (omega arith) af af2) filled
 
-    places : (pc + 1 + 1 ≡ pc + 2) × (pc + 1 + (1 + 1) ≡ pc + 1 + 1 + 1)
-    places = (omega arith, omega arith)
+  -- the arguments are there, behind the function and `more` others: the call
+  called : (es : Exps) (more field : ℕ) (args : List Value) (n line t pc opened : ℕ) (env regs : List Value) (c : Captured) (k : List Work) → HasAt S pc (with_abc CallCode t (list_field more es) field line ∷ []) → pc + 1 < length S.code.own.code
+      → length env ≤ t → t + (more + 1) ≤ S.code.own.stack → t + room_of_list S.code.own.constants (more + 1) es None ≤ S.code.own.stack → t + room_of_values field ≤ S.code.own.stack → field < 2 ^ 8 → Rel S.code.own.stack pending env c regs
+      → Listed S pending None (ends_open es) (more + 1 + count es) pc t args regs opened → GoesFilled S pending n field t env regs (pc + 1) k
+      → Agree S n (tree.at (collect (for_call line false) args EndExps) (of_tree S pending env c) k) (before (of_code S pending pc regs opened) c)
+  called es more field [] n line t pc opened env regs c k has inside le below room wide fits rel l goes = absurd (none (ends_open es) refl l)
+    where
+      none : (b : Bool) → ends_open es ≡ b → Listed S pending None b (more + 1 + count es) pc t [] regs opened → ⊥
+      none true is l = let some = open_some es is in let h = l.0 in omega (arith, some, h)
+      none false is l = let h = l.0 in omega (arith, h)
+  called es more field (f ∷ args) n line t pc opened env regs c k has inside le below room wide fits rel l goes = by (ends_open es) refl l
+    where
+      width : ends_open es ≡ false → t + (more + 1 + count es) ≤ S.code.own.stack
+      width one = let all = room_count S.code.own.constants (more + 1) es one in omega (arith, all, below, room)
 
-    ends : (pc + 1 + 1 + 2 ≡ pc + 4) × (pc + 1 + 1 + 1 + 1 ≡ pc + 4)
-    ends = (omega arith, omega arith)
+      is_field : (b : Bool) → ends_open es ≡ b → list_field more es ≡ cond b 0 (more + 1 + count es)
+      is_field true is = ap (λ b. cond b 0 (more + count es + 1)) is
+      is_field false is = ap (λ b. cond b 0 (more + count es + 1)) is ∙ omega arith
 
-    last : (i : Instruction) × (at p (pc + 4) ≡ Some i)
-    last = next_there (pc + 4) inside
+      small_field : (b : Bool) → ends_open es ≡ b → list_field more es < 2 ^ 8
+      small_field true is = let e = is_field true is in omega (arith, e)
+      small_field false is = let e = is_field false is in let w = width is in omega (arith, e, w, S.small)
 
-    -- the truth b goes to register t
-    written_so : (n : ℕ) (b : Bool) (ws env1 regs1 : List Value) (c1 : Captured) → After p.own.stack env regs t env1 regs1 c1 → same_truth (holds (shape (first ws))) f.wanted ≡ b
-        → Goes n t env regs (pc + 4) opened k
-        → Same lines n p (tree.at (give (known (boolean b) ∷ [])) (of_tree lines p varargs pending marked env1 c1) k) (amid (rest_at {V = Value} for_truth p pc) ws (of_code lines p varargs pending marked pc regs1 opened) c1)
-    written_so n true ws env1 regs1 c1 af e goes =
-        go_right lines p n _ _ (before (of_code lines p varargs pending marked (pc + 1) regs1 opened) c1)
-        (compare_rest p f.opcode x y f.wanted ws (of_code lines p varargs pending marked pc regs1 opened) c1 has.0 (one_of f.swapped (2 ^ 8) (omega (arith, small))).0
-        ∙ ap (λ b. talk p (go_by (cond b (pos 1) (pos 2))) (ws ++ []) (of_code lines p varargs pending marked pc regs1 opened) c1) e
-        ∙ go_step p 1 (op_ax Jmp (16777215 + 1)) (ws ++ []) (of_code lines p varargs pending marked pc regs1 opened) c1 has.1.1.0)
-        (go_right lines p n _ _ (before (of_code lines p varargs pending marked (pc + 1 + (1 + 1)) regs1 opened) c1)
-        (jump_step p (of_code lines p varargs pending marked (pc + 1) regs1 opened) c1 1 (abc LoadTrue t 0 0 false) has.1.1.0 (omega arith) (subst (λ q. at p q ≡ Some (abc LoadTrue t 0 0 false)) (sym places.1) has.1.1.1.1.1.1.0))
-        (at_place n (pc + 1 + (1 + 1)) (pc + 1 + 1 + 1) opened _ regs1 c1 places.1
-        (go_right lines p n _ _ (before (of_code lines p varargs pending marked (pc + 1 + 1 + 1 + 1) (write t (known (boolean true)) regs1) opened) c1)
-        (true_step p (of_code lines p varargs pending marked (pc + 1 + 1 + 1) regs1 opened) c1 last.0 (subst (λ q. at p q ≡ Some last.0) (sym ends.1) last.1) t has.1.1.1.1.1.1.0 (omega (arith, small)) (omega (arith, room, af.rel.room)))
-        (at_place n (pc + 1 + 1 + 1 + 1) (pc + 4) opened _ (write t (known (boolean true)) regs1) c1 ends.1
-        (put_goes n t (pc + 4) opened (known (boolean true)) env1 regs1 c1 k (omega (arith, le, af.size)) af.rel
-        (λ us env2 regs2 c2 af2 eq2. goes us env2 regs2 c2 (after_then p.own.stack env regs env1 regs1 env2 regs2 c1 c2 t t (omega arith) af af2) eq2))))))
-    written_so n false ws env1 regs1 c1 af e goes =
-        go_right lines p n _ _ (before (of_code lines p varargs pending marked (pc + 2) regs1 opened) c1)
-        (compare_rest p f.opcode x y f.wanted ws (of_code lines p varargs pending marked pc regs1 opened) c1 has.0 (one_of f.swapped (2 ^ 8) (omega (arith, small))).0
-        ∙ ap (λ b. talk p (go_by (cond b (pos 1) (pos 2))) (ws ++ []) (of_code lines p varargs pending marked pc regs1 opened) c1) e
-        ∙ go_step p 2 (abc LFalseSkip t 0 0 false) (ws ++ []) (of_code lines p varargs pending marked pc regs1 opened) c1 (subst (λ q. at p q ≡ Some (abc LFalseSkip t 0 0 false)) places.0 has.1.1.1.1.0))
-        (at_place n (pc + 2) (pc + 1 + 1) opened _ regs1 c1 (sym places.0)
-        (go_right lines p n _ _ (before (of_code lines p varargs pending marked (pc + 1 + 1 + 2) (write t (known (boolean false)) regs1) opened) c1)
-        (skip_step p t last.0 (of_code lines p varargs pending marked (pc + 1 + 1) regs1 opened) c1 has.1.1.1.1.0 (omega (arith, small)) (omega (arith, room, af.rel.room)) (subst (λ q. at p q ≡ Some last.0) (sym ends.0) last.1))
-        (at_place n (pc + 1 + 1 + 2) (pc + 4) opened _ (write t (known (boolean false)) regs1) c1 ends.0
-        (put_goes n t (pc + 4) opened (known (boolean false)) env1 regs1 c1 k (omega (arith, le, af.size)) af.rel
-        (λ us env2 regs2 c2 af2 eq2. goes us env2 regs2 c2 (after_then p.own.stack env regs env1 regs1 env2 regs2 c1 c2 t t (omega arith) af af2) eq2)))))
+      first_held : (b : Bool) → Listed S pending None b (more + 1 + count es) pc t (f ∷ args) regs opened → nth regs t ≡ f
+      first_held true l = held_first t (length args) (f ∷ args) regs l.1.1
+      first_held false l = held_first t (length args) (f ∷ args) regs l.1
 
-    pub comparison_goes : (n : ℕ) → Goes n t env regs (pc + 4) opened k → Same lines n p s (before (of_code lines p varargs pending marked pc regs opened) c)
-    comparison_goes n goes =
-        asks_alike lines p varargs pending marked at_fault as_left n for_truth told_truth s _ f.operation (pick f.swapped v w ∷ pick f.swapped w v ∷ []) line pc opened t env regs c k
-        (λ vs. give (known (boolean (cond f.wanted (holds (shape (first vs))) (not (holds (shape (first vs)))))) ∷ [])) begins
-        (compare_step p f.opcode f.operation x y f.wanted (of_code lines p varargs pending marked pc regs opened) c has.0 (f.row p pc)
-        (one_of f.swapped (2 ^ 8) (omega (arith, small))).0 (one_of f.swapped (2 ^ 8) (omega (arith, small))).1 (one_of f.swapped (length regs) (omega (arith, rel.room))).0 (one_of f.swapped (length regs) (omega (arith, rel.room))).1
-        ∙ ap₂ (λ u z. says_so (operates f.operation (u ∷ z ∷ [])) p (of_code lines p varargs pending marked pc regs opened) c (λ q b d. heard for_truth p q b d)) (picked f.swapped).0 (picked f.swapped).1)
-        rel has.1.0
-        (λ ws env1 regs1 c1 af. subst (λ b. Same lines n p (tree.at (give (known (boolean b) ∷ [])) (of_tree lines p varargs pending marked env1 c1) k) (amid (rest_at {V = Value} for_truth p pc) ws (of_code lines p varargs pending marked pc regs1 opened) c1))
-        (truth_same (holds (shape (first ws))) f.wanted) (written_so n (same_truth (holds (shape (first ws))) f.wanted) ws env1 regs1 c1 af refl goes))
+      by : (b : Bool) → ends_open es ≡ b → Listed S pending None b (more + 1 + count es) pc t (f ∷ args) regs opened → Agree S n (tree.at (collect (for_call line false) (f ∷ args) EndExps) (of_tree S pending env c) k) (before (of_code S pending pc regs opened) c)
+      by b is l =
+          call_goes S pending field (list_field more es) n line t pc opened f args _ env regs c k refl has inside le (omega (arith, below)) wide fits (small_field b is) rel (first_held b l)
+          (passed S pending b (more + 1 + count es) (list_field more es) pc t opened f args regs (is_field b is) (λ one. let w = width (is ∙ one) in omega (arith, w, rel.room)) l) goes
 
-  -- an operator between the values in the registers t and t + 1
-  binary_goes : (op : BinOp) (line t n pc opened : ℕ) (v : Value) (ws env regs : List Value) (c : Captured) (k : List Work)
-      → IsSettled op → HasAt lines p pc (operator_code op t line) → pc + length (operator_code op t line) < length p.own.code → length env ≤ t → t + 1 < p.own.stack
-      → Rel p.own.stack env c regs → nth regs t ≡ v → nth regs (t + 1) ≡ first ws → Goes n t env regs (pc + length (operator_code op t line)) opened k
-      → Same lines n p (tree.at (give ws) (of_tree lines p varargs pending marked env c) (left_of line op v ∷ k)) (before (of_code lines p varargs pending marked pc regs opened) c)
-  binary_goes op line t n pc opened v ws env regs c k (inl is) has inside le room rel e1 e2 goes =
-      let f = arithmetic_by op is in
-      let size = ap length (f.emits t line) in
-      arithmetic_goes op f line t pc opened v (first ws) env regs c k _ (subst (HasAt lines p pc) (f.emits t line) has) (omega (arith, size)) le room rel e1 e2
-      (f.means line v (first ws) (of_tree lines p varargs pending marked env c) k) n
-      (goes_at n t (pc + 2) (pc + length (operator_code op t line)) opened env regs k (omega (arith, size)) goes)
-  binary_goes op line t n pc opened v ws env regs c k (inr is) has inside le room rel e1 e2 goes =
-      let f = comparison_by op is in
-      let size = ap length (f.emits t line) in
-      comparison_goes op f line t pc opened v (first ws) env regs c k _ (subst (HasAt lines p pc) (f.emits t line) has) (omega (arith, size)) le room rel e1 e2
-      (f.means line v (first ws) (of_tree lines p varargs pending marked env c) k) n
-      (goes_at n t (pc + 4) (pc + length (operator_code op t line)) opened env regs k (omega (arith, size)) goes)
+  mutual
+    all_same : (e : Exp) → AllSame e
+    all_same (Nil line) field t j n pc opened env regs c k bound has fits cov ok inside le room rel goes =
+        one_goes S pending (with_abc LoadNil t 0 0 line) (with_abc LoadNil t 0 0 line ∷ []) (known nil) n false t pc opened _ env regs c k refl refl has inside le rel
+        (λ here w there. nil_step S.code (of_code S pending pc regs opened) c w there t here (omega (arith, S.small)) (omega (arith, rel.room))) goes
+    all_same (True line) field t j n pc opened env regs c k bound has fits cov ok inside le room rel goes =
+        one_goes S pending (with_abc LoadTrue t 0 0 line) (with_abc LoadTrue t 0 0 line ∷ []) (known (boolean true)) n false t pc opened _ env regs c k refl refl has inside le rel
+        (λ here w there. true_step S.code (of_code S pending pc regs opened) c w there t here (omega (arith, S.small)) (omega (arith, rel.room))) goes
+    all_same (False line) field t j n pc opened env regs c k bound has fits cov ok inside le room rel goes =
+        one_goes S pending (with_abc LoadFalse t 0 0 line) (with_abc LoadFalse t 0 0 line ∷ []) (known (boolean false)) n false t pc opened _ env regs c k refl refl has inside le rel
+        (λ here w there. false_step S.code (of_code S pending pc regs opened) c w there t here (omega (arith, S.small)) (omega (arith, rel.room))) goes
+    all_same (Int line z) field t j n pc opened env regs c k bound has fits cov ok inside le room rel goes =
+        integer_goes S pending z (is_small z) n false line t pc opened _ env regs c k refl refl ok _ refl has inside le (omega arith) rel goes
+    all_same (Str line bytes) field t j n pc opened env regs c k bound has fits cov ok inside le room rel goes =
+        constant_goes S pending (StrConst bytes) n false t line pc opened _ env regs c k ok refl has inside le (omega arith) rel goes
+    all_same (Var line name) field t j n pc opened env regs c k bound has fits cov ok inside le room rel goes =
+        name_goes S pending name.place name.text n false line t pc opened _ env regs c k refl has ok inside le room rel goes
+    all_same (Index line object key) field t j n pc opened env regs c k bound has fits cov ok inside le room rel goes =
+        let first_code = exp_code S.code.own.constants object t j 2 in
+        let second_code = exp_code S.code.own.constants key (t + 1) (j + made_by object) 2 in
+        let last_code = with_abc GetTable t t (t + 1) line ∷ [] in
+        let behind = has_back S pc first_code (second_code ++ last_code) has in
+        let whole = length-append first_code (second_code ++ last_code) in
+        let rest = length-append second_code last_code in
+        let some = room_some S.code.own.constants key in
+        go_left S n _ (tree.at (evaluate object) (of_tree S pending env c) (key_of line key ∷ k)) _ refl
+        (one_same object (all_same object) t j n pc opened env regs c (key_of line key ∷ k) bound (has_front S pc first_code (second_code ++ last_code) has) cov.0 ok.0 (omega (arith, inside, whole)) le (omega arith) rel
+        (λ vs env1 regs1 c1 o1 af eq one. go_left S n _ (tree.at (evaluate key) (of_tree S pending env1 c1) (object_of line (first vs) ∷ k)) _ refl
+        (one_same key (all_same key) (t + 1) (j + made_by object) n (pc + length first_code) o1 env1 regs1 c1 (object_of line (first vs) ∷ k) bound (has_front S (pc + length first_code) second_code last_code behind) cov.1
+        (placed key _ _ _ af.size ok.1) (omega (arith, inside, whole, rest)) (omega (arith, le, af.size)) (omega arith) af.rel
+        (λ ws env2 regs2 c2 o2 af2 eq2 one2. index_goes S pending t (t + 1) (first vs) (first ws) n false t line (pc + length first_code + length second_code) o2 _ env2 regs2 c2 k refl
+        (has_back S (pc + length first_code) second_code last_code behind) (omega (arith, inside, whole, rest)) (omega (arith, le, af.size, af2.size)) (omega (arith, some)) (omega (arith, some)) (omega (arith, some)) af2.rel
+        (af2.keeps t (omega (arith, le, af.size)) (omega arith) ∙ eq) eq2
+        (goes_at S pending n false t _ (pc + length (first_code ++ (second_code ++ last_code))) env2 regs2 k (omega (arith, whole, rest))
+        (goes_after S pending n false t _ env regs env2 regs2 c2 k
+        (after_then S.code.own.stack pending env regs env1 regs1 env2 regs2 c1 c2 t (t + 1) (omega arith) af af2) goes))))))
+    all_same (Paren line e) field t j n pc opened env regs c k bound has fits cov ok inside le room rel goes =
+        go_left S n _ (tree.at (evaluate e) (of_tree S pending env c) (first_only ∷ k)) _ refl
+        (one_same e (all_same e) t j n pc opened env regs c (first_only ∷ k) bound has cov ok inside le room rel
+        (λ vs env1 regs1 c1 o1 af eq one. go_left S n _ (tree.at (give (first vs ∷ [])) (of_tree S pending env1 c1) k) _ refl (goes (first vs ∷ []) env1 regs1 c1 o1 af eq refl)))
+    all_same (Unary line op e) field t j n pc opened env regs c k bound has fits cov ok inside le room rel goes =
+        let code = exp_code S.code.own.constants e t j 2 in
+        let last_code = prefix_code op t line in
+        let sum = length-append code last_code in
+        let some = room_some S.code.own.constants e in
+        go_left S n _ (tree.at (evaluate e) (of_tree S pending env c) (operand_of line op ∷ k)) _ refl
+        (one_same e (all_same e) t j n pc opened env regs c (operand_of line op ∷ k) bound (has_front S pc code last_code has) cov ok (omega (arith, inside, sum)) le room rel
+        (λ vs env1 regs1 c1 o1 af eq one. unary_goes S pending op n false line t (pc + length code) o1 vs env1 regs1 c1 k (has_back S pc code last_code has) (omega (arith, inside, sum)) (omega (arith, le, af.size)) (omega (arith, room, some)) af.rel eq
+        (goes_at S pending n false t _ (pc + length (code ++ last_code)) env1 regs1 k (omega (arith, sum)) (goes_after S pending n false t _ env regs env1 regs1 c1 k af goes))))
+    all_same (Binary line op e d) field t j n pc opened env regs c k bound has fits cov ok inside le room rel goes =
+        let first_code = exp_code S.code.own.constants e t j 2 in
+        let second_code = exp_code S.code.own.constants d (t + 1) (j + made_by e) 2 in
+        let last_code = operator_code op t line in
+        let behind = has_back S pc first_code (second_code ++ last_code) has in
+        let whole = length-append first_code (second_code ++ last_code) in
+        let rest = length-append second_code last_code in
+        let some = room_some S.code.own.constants d in
+        go_left S n _ (tree.at (evaluate e) (of_tree S pending env c) (right_of line op d ∷ k)) _ refl
+        (one_same e (all_same e) t j n pc opened env regs c (right_of line op d ∷ k) bound (has_front S pc first_code (second_code ++ last_code) has) cov.0 ok.0 (omega (arith, inside, whole)) le (omega arith) rel
+        (λ vs env1 regs1 c1 o1 af eq one. go_left S n _ (tree.at (evaluate d) (of_tree S pending env1 c1) (left_of line op (first vs) ∷ k)) _ refl
+        (one_same d (all_same d) (t + 1) (j + made_by e) n (pc + length first_code) o1 env1 regs1 c1 (left_of line op (first vs) ∷ k) bound (has_front S (pc + length first_code) second_code last_code behind) cov.1
+        (placed d _ _ _ af.size ok.1) (omega (arith, inside, whole, rest)) (omega (arith, le, af.size)) (omega arith) af.rel
+        (λ ws env2 regs2 c2 o2 af2 eq2 one2. binary_goes S pending op n false line t (pc + length first_code + length second_code) o2 (first vs) ws env2 regs2 c2 k
+        (has_back S (pc + length first_code) second_code last_code behind) (omega (arith, inside, whole, rest)) (omega (arith, le, af.size, af2.size)) (omega (arith, some)) af2.rel
+        (af2.keeps t (omega (arith, le, af.size)) (omega arith) ∙ eq) eq2
+        (goes_at S pending n false t _ (pc + length (first_code ++ (second_code ++ last_code))) env2 regs2 k (omega (arith, whole, rest))
+        (goes_after S pending n false t _ env regs env2 regs2 c2 k
+        (after_then S.code.own.stack pending env regs env1 regs1 env2 regs2 c1 c2 t (t + 1) (omega arith) af af2) goes))))))
+    all_same (And line e d) field t j n pc opened env regs c k bound has fits cov ok inside le room rel goes =
+        let first_code = exp_code S.code.own.constants e t j 2 in
+        let second_code = exp_code S.code.own.constants d t (j + made_by e) 2 in
+        let test_code = (abc Test t 0 0 false, line) ∷ jump_over (length second_code) line ∷ second_code in
+        let whole = length-append first_code test_code in
+        let behind = has_back S pc first_code test_code has in
+        let some = room_some S.code.own.constants d in
+        let two : pc + length first_code + 1 + 1 ≡ pc + length first_code + 2 = omega arith in
+        go_left S n _ (tree.at (evaluate e) (of_tree S pending env c) (and_right d ∷ k)) _ refl
+        (one_same e (all_same e) t j n pc opened env regs c (and_right d ∷ k) bound (has_front S pc first_code test_code has) cov.0 ok.0 (omega (arith, inside, whole)) le (omega arith) rel
+        (λ vs env1 regs1 c1 o1 af eq one. decides_goes S pending false (same_truth (holds (shape (first vs))) false) line t n (pc + length first_code) o1 second_code (first vs) _ env1 regs1 c1 behind (omega (arith, inside, whole)) (omega (arith, some)) af.rel eq refl
+        (λ e1. go_left S n _ (tree.at (give (first vs ∷ [])) (of_tree S pending env1 c1) k) _ (and_decides _ _ (holds (shape (first vs))) e1)
+        (at_place S pending n (pc + length first_code + (2 + length second_code)) (pc + length (first_code ++ test_code)) o1 _ regs1 c1 (omega (arith, whole)) (goes (first vs ∷ []) env1 regs1 c1 o1 af eq refl)))
+        (λ e1. go_left S n _ (tree.at (evaluate d) (of_tree S pending env1 c1) (first_only ∷ k)) _ (and_goes_on _ _ (holds (shape (first vs))) e1)
+        (one_same d (all_same d) t (j + made_by e) n (pc + length first_code + 2) o1 env1 regs1 c1 (first_only ∷ k) bound (subst (λ q. HasAt S q second_code) two behind.1.1.1.1) cov.1 (placed d _ _ _ af.size ok.1) (omega (arith, inside, whole)) (omega (arith, le, af.size)) (omega arith) af.rel
+        (λ ws env2 regs2 c2 o2 af2 eq2 one2. go_left S n _ (tree.at (give (first ws ∷ [])) (of_tree S pending env2 c2) k) _ refl
+        (at_place S pending n (pc + length first_code + 2 + length second_code) (pc + length (first_code ++ test_code)) o2 _ regs2 c2 (omega (arith, whole))
+        (goes (first ws ∷ []) env2 regs2 c2 o2 (after_then S.code.own.stack pending env regs env1 regs1 env2 regs2 c1 c2 t t (omega arith) af af2) eq2 refl)))))))
+    all_same (Or line e d) field t j n pc opened env regs c k bound has fits cov ok inside le room rel goes =
+        let first_code = exp_code S.code.own.constants e t j 2 in
+        let second_code = exp_code S.code.own.constants d t (j + made_by e) 2 in
+        let test_code = (abc Test t 0 0 true, line) ∷ jump_over (length second_code) line ∷ second_code in
+        let whole = length-append first_code test_code in
+        let behind = has_back S pc first_code test_code has in
+        let some = room_some S.code.own.constants d in
+        let two : pc + length first_code + 1 + 1 ≡ pc + length first_code + 2 = omega arith in
+        go_left S n _ (tree.at (evaluate e) (of_tree S pending env c) (or_right d ∷ k)) _ refl
+        (one_same e (all_same e) t j n pc opened env regs c (or_right d ∷ k) bound (has_front S pc first_code test_code has) cov.0 ok.0 (omega (arith, inside, whole)) le (omega arith) rel
+        (λ vs env1 regs1 c1 o1 af eq one. decides_goes S pending true (same_truth (holds (shape (first vs))) true) line t n (pc + length first_code) o1 second_code (first vs) _ env1 regs1 c1 behind (omega (arith, inside, whole)) (omega (arith, some)) af.rel eq refl
+        (λ e1. go_left S n _ (tree.at (give (first vs ∷ [])) (of_tree S pending env1 c1) k) _ (or_decides _ _ (holds (shape (first vs))) e1)
+        (at_place S pending n (pc + length first_code + (2 + length second_code)) (pc + length (first_code ++ test_code)) o1 _ regs1 c1 (omega (arith, whole)) (goes (first vs ∷ []) env1 regs1 c1 o1 af eq refl)))
+        (λ e1. go_left S n _ (tree.at (evaluate d) (of_tree S pending env1 c1) (first_only ∷ k)) _ (or_goes_on _ _ (holds (shape (first vs))) e1)
+        (one_same d (all_same d) t (j + made_by e) n (pc + length first_code + 2) o1 env1 regs1 c1 (first_only ∷ k) bound (subst (λ q. HasAt S q second_code) two behind.1.1.1.1) cov.1 (placed d _ _ _ af.size ok.1) (omega (arith, inside, whole)) (omega (arith, le, af.size)) (omega arith) af.rel
+        (λ ws env2 regs2 c2 o2 af2 eq2 one2. go_left S n _ (tree.at (give (first ws ∷ [])) (of_tree S pending env2 c2) k) _ refl
+        (at_place S pending n (pc + length first_code + 2 + length second_code) (pc + length (first_code ++ test_code)) o2 _ regs2 c2 (omega (arith, whole))
+        (goes (first ws ∷ []) env2 regs2 c2 o2 (after_then S.code.own.stack pending env regs env1 regs1 env2 regs2 c1 c2 t t (omega arith) af af2) eq2 refl)))))))
+    all_same (Table line fs) field t j n pc opened env regs c k bound has fits cov ok inside le room rel goes = absurd cov
+    all_same (Function line body) field t j n pc opened env regs c k bound has fits cov ok inside le room rel goes =
+        function_goes S pending n false t j pc opened body _ env regs c k refl has bound ok.0 ok.1 inside le (omega arith) rel goes
+    all_same (Vararg line) field t j n pc opened env regs c k bound has fits cov ok inside le room rel goes =
+        varargs_goes S pending field n line t pc opened _ env regs c k refl has inside le room fits rel goes
+    all_same (Call line f es) field t j n pc opened env regs c k bound has fits cov ok inside le room rel goes =
+        let first_code = exp_code S.code.own.constants f t j 2 in
+        let args_code = exps_code S.code.own.constants es None (t + 1) (j + made_by f) line in
+        let last_code = with_abc CallCode t (list_field 0 es) field line ∷ [] in
+        let behind = has_back S pc first_code (args_code ++ last_code) has in
+        let whole = length-append first_code (args_code ++ last_code) in
+        let rest = length-append args_code last_code in
+        let some = room_some S.code.own.constants f in
+        go_left S n _ (tree.at (evaluate f) (of_tree S pending env c) (callee_of line false es ∷ k)) _ refl
+        (one_same f (all_same f) t j n pc opened env regs c (callee_of line false es ∷ k) bound (has_front S pc first_code (args_code ++ last_code) has) cov.0 ok.0 (omega (arith, inside, whole)) le (omega (arith, room)) rel
+        (λ vs env1 regs1 c1 o1 af eq one. go_left S n _ (tree.at (collect (for_call line false) (first vs ∷ []) es) (of_tree S pending env1 c1) k) _ refl
+        (lists_same es (for_call line false) None t 1 (j + made_by f) line n (pc + length first_code) o1 (first vs ∷ []) env1 regs1 c1 k bound refl (has_front S (pc + length first_code) args_code last_code behind) tt cov.1 (placed_all es _ _ _ af.size ok.1)
+        (omega (arith, inside, whole, rest)) refl (held_one t (first vs) regs1 eq) (omega (arith, le, af.size)) (omega (arith, room, some)) (omega (arith, room)) af.rel
+        (λ args env2 regs2 c2 o2 af2 l. called es 0 field args n line t (pc + length first_code + length args_code) o2 env2 regs2 c2 k (has_back S (pc + length first_code) args_code last_code behind)
+        (omega (arith, inside, whole, rest)) (omega (arith, le, af.size, af2.size)) (omega (arith, room, some)) (omega (arith, room)) (omega (arith, room)) fits af2.rel l
+        (filled_at n field t _ (pc + length (first_code ++ (args_code ++ last_code))) env2 regs2 k (omega (arith, whole, rest))
+        (filled_after n field t _ env regs env2 regs2 c2 k (after_then S.code.own.stack pending env regs env1 regs1 env2 regs2 c1 c2 t t (omega arith) af af2) goes))))))
+    all_same (Method line object name es) field t j n pc opened env regs c k bound has fits cov ok inside le room rel goes =
+        let first_code = exp_code S.code.own.constants object t j 2 in
+        let name_code = loads S.code.own.constants (StrConst name.text) (t + 1) line in
+        let self_code = with_abc OpSelf t t (t + 1) line in
+        let args_code = exps_code S.code.own.constants es None (t + 2) (j + made_by object) line in
+        let last_code = with_abc CallCode t (list_field 1 es) field line ∷ [] in
+        let key = known (string name.text) in
+        let behind = has_back S pc first_code (name_code ++ (self_code ∷ (args_code ++ last_code))) has in
+        let beyond = has_back S (pc + length first_code) name_code (self_code ∷ (args_code ++ last_code)) behind in
+        let whole = length-append first_code (name_code ++ (self_code ∷ (args_code ++ last_code))) in
+        let middle = length-append name_code (self_code ∷ (args_code ++ last_code)) in
+        let rest = length-append args_code last_code in
+        let q = pc + length first_code + length name_code in
+        go_left S n _ (tree.at (evaluate object) (of_tree S pending env c) (method_of line false name.text es ∷ k)) _ refl
+        (one_same object (all_same object) t j n pc opened env regs c (method_of line false name.text es ∷ k) bound (has_front S pc first_code (name_code ++ (self_code ∷ (args_code ++ last_code))) has) cov.0 ok.0 (omega (arith, inside, whole)) le (omega (arith, room)) rel
+        (λ vs env1 regs1 c1 o1 af eq one. let put = after_put S.code.own.stack pending env1 regs1 c1 (t + 1) key (omega (arith, le, af.size)) af.rel in
+        load_right S pending (StrConst name.text) (t + 1) line n (pc + length first_code) o1 _ regs1 c1 ok.1.0 (has_front S (pc + length first_code) name_code (self_code ∷ (args_code ++ last_code)) behind) (omega (arith, inside, whole, middle)) (omega (arith, room, S.small)) (omega (arith, room, af.rel.room))
+        (method_goes S pending n line t q o1 (first vs) key _ env1 (write (t + 1) key regs1) c1 k (λ ws. collect (for_call line false) (first ws ∷ first vs ∷ []) es) refl (beyond.0, (beyond.1.0, tt)) (omega (arith, inside, whole, middle, rest)) (omega (arith, le, af.size)) (omega (arith, room)) put.rel
+        (nth_write_other (t + 1) key regs1 t (λ same. absurd (omega (arith, same))) ∙ eq) (nth_write_same (t + 1) key regs1)
+        (λ ws env2 regs2 c2 af2 method_is self_is. lists_same es (for_call line false) None t 2 (j + made_by object) line n (q + 1) o1 (first ws ∷ first vs ∷ []) env2 regs2 c2 k bound refl (has_front S (q + 1) args_code last_code beyond.1.1) tt cov.1
+        (placed_all es _ _ _ (af2.size ∙ af.size) ok.1.1) (omega (arith, inside, whole, middle, rest)) refl (held_two t (first ws) (first vs) regs2 method_is self_is) (omega (arith, le, af.size, af2.size)) (omega (arith, room)) (omega (arith, room)) af2.rel
+        (λ args env3 regs3 c3 o3 af3 l. called es 1 field args n line t (q + 1 + length args_code) o3 env3 regs3 c3 k (has_back S (q + 1) args_code last_code beyond.1.1)
+        (omega (arith, inside, whole, middle, rest)) (omega (arith, le, af.size, af2.size, af3.size)) (omega (arith, room)) (omega (arith, room)) (omega (arith, room)) fits af3.rel l
+        (filled_at n field t _ (pc + length (first_code ++ (name_code ++ (self_code ∷ (args_code ++ last_code))))) env3 regs3 k (omega (arith, whole, middle, rest))
+        (filled_after n field t _ env regs env3 regs3 c3 k
+        (after_then S.code.own.stack pending env regs env1 regs1 env3 regs3 c1 c3 t t (omega arith) af
+        (after_then S.code.own.stack pending env1 regs1 env2 regs2 env3 regs3 c2 c3 t t (omega arith)
+        (after_then S.code.own.stack pending env1 regs1 env1 (write (t + 1) key regs1) env2 regs2 c1 c2 t t (omega arith) (lower S.code.own.stack pending env1 regs1 env1 (write (t + 1) key regs1) c1 (t + 1) t (omega arith) put) af2) af3)) goes)))))))
 
-  -- a test of the value in register t, and what follows where it decides and where it does not
-  decides_goes : (decides b : Bool) (line t n pc opened : ℕ) (second : List Coded) (v : Value) (s : tree.State) (env regs : List Value) (c : Captured)
-      → HasAt lines p pc ((abc Test t 0 0 decides, line) ∷ jump_over (length second) line ∷ second) → pc + (2 + length second) < length p.own.code → t < p.own.stack
-      → Rel p.own.stack env c regs → nth regs t ≡ v → same_truth (holds (shape v)) decides ≡ b
-      → (b ≡ true → Same lines n p s (before (of_code lines p varargs pending marked (pc + (2 + length second)) regs opened) c))
-      → (b ≡ false → Same lines n p s (before (of_code lines p varargs pending marked (pc + 2) regs opened) c))
-      → Same lines n p s (before (of_code lines p varargs pending marked pc regs opened) c)
-  decides_goes decides true line t n pc opened second v s env regs c has inside room rel eq e past on =
-      let far : pc + 1 + (length second + 1) ≡ pc + (2 + length second) = omega arith in
-      let there = next_there (pc + 1 + (length second + 1)) (omega arith) in
-      go_right lines p n s _ (before (of_code lines p varargs pending marked (pc + 1) regs opened) c)
-      (test_on p (of_code lines p varargs pending marked pc regs opened) c t decides (op_ax Jmp (16777215 + length second)) has.0 (omega (arith, small)) (omega (arith, rel.room)) (ap (λ x. same_truth (holds (shape x)) decides) eq ∙ e) has.1.1.0)
-      (go_right lines p n s _ (before (of_code lines p varargs pending marked (pc + 1 + (length second + 1)) regs opened) c)
-      (jump_step p (of_code lines p varargs pending marked (pc + 1) regs opened) c (length second) there.0 has.1.1.0 (omega (arith, short)) there.1)
-      (at_place n (pc + 1 + (length second + 1)) (pc + (2 + length second)) opened s regs c far (past refl)))
-  decides_goes decides false line t n pc opened second v s env regs c has inside room rel eq e past on =
-      let there = next_there (pc + 2) (omega arith) in
-      go_right lines p n s _ (before (of_code lines p varargs pending marked (pc + 2) regs opened) c)
-      (test_past p (of_code lines p varargs pending marked pc regs opened) c t decides there.0 has.0 (omega (arith, small)) (omega (arith, rel.room)) (ap (λ x. same_truth (holds (shape x)) decides) eq ∙ e) there.1)
-      (on refl)
+    lists_same : (es : Exps) → ListSame es
+    lists_same EndExps purpose wanted base above j line n pc opened have env regs c k bound all has wf cov ok inside size held le below room rel goes =
+        let none : above + 0 ≡ above = omega arith in
+        nils_goes S pending wanted n purpose base above line pc opened have env regs c k has inside size held le below room rel
+        (subst (λ z. GoesListed S pending n (total wanted above) false z purpose base env regs (pc + length (exps_code S.code.own.constants EndExps wanted (base + above) j line)) k) none goes)
+    lists_same (MoreExps e EndExps) purpose wanted base above j line n pc opened have env regs c k bound all has wf cov ok inside size held le below room rel goes =
+        let field = field_of e EndExps wanted in
+        let after = wanted_after e EndExps wanted in
+        let first_code = exp_code S.code.own.constants e (base + above) j field in
+        let rest_code = exps_code S.code.own.constants EndExps after (base + above + 1) (j + made_by e) line in
+        let sum = length-append first_code rest_code in
+        let some = room_some S.code.own.constants e in
+        go_left S n _ (tree.at (evaluate e) (of_tree S pending env c) (listed purpose have EndExps ∷ k)) _ refl
+        (all_same e field (base + above) j n pc opened env regs c (listed purpose have EndExps ∷ k) bound (has_front S pc first_code rest_code has) (field_fits (is_open e) wanted wf) cov.0 ok.0 (omega (arith, inside, sum)) (omega (arith, le)) (omega (arith, room)) rel
+        (goes_by n e field (base + above) env regs (pc + length first_code) (listed purpose have EndExps ∷ k)
+        (λ many vs env1 regs1 c1 o1 af filled. go_left S n _ (tree.at (collect purpose (have ++ vs) EndExps) (of_tree S pending env1 c1) k) _ (ap (λ b. goes_on (tree.at (collect purpose (cond b (have ++ vs) (have ++ first vs ∷ [])) EndExps) (of_tree S pending env1 c1) k)) all)
+        (all_more purpose wanted base above n (pc + length first_code) o1 have vs env regs env1 regs1 c1 k size held le af
+        (subst (λ z. Filled S z (pc + length first_code) (base + above) vs regs1 o1) (ap (λ b. cond b (results_field wanted) 2) many) filled)
+        (listed_at S pending n (total wanted above) true (above + 1) purpose base (pc + length first_code) (pc + length (first_code ++ rest_code)) env regs k
+        (let none : length rest_code ≡ 0 = ap (λ b. length (exps_code S.code.own.constants EndExps (cond b None (one_less wanted)) (base + above + 1) (j + made_by e) line)) many in omega (arith, sum, none))
+        (subst (λ b. GoesListed S pending n (total wanted above) b (above + 1) purpose base env regs (pc + length (first_code ++ rest_code)) k) many goes))))
+        (λ one vs env1 regs1 c1 o1 af eq given. go_left S n _ (tree.at (collect purpose (have ++ vs) EndExps) (of_tree S pending env1 c1) k) _ (ap (λ b. goes_on (tree.at (collect purpose (cond b (have ++ vs) (have ++ first vs ∷ [])) EndExps) (of_tree S pending env1 c1) k)) all)
+        (subst (λ l. Agree S n (tree.at (collect purpose (have ++ l) EndExps) (of_tree S pending env1 c1) k) (before (of_code S pending (pc + length first_code) regs1 o1) c1)) (sym given)
+        (let fewer : after ≡ one_less wanted = ap (λ b. cond b None (one_less wanted)) one in
+        let two : room_of S.code.own.constants e field ≡ room_of S.code.own.constants e 2 = ap (λ b. room_of S.code.own.constants e (cond b (results_field wanted) 2)) one in
+        let same : exps_code S.code.own.constants EndExps after (base + above + 1) (j + made_by e) line ≡ exps_code S.code.own.constants EndExps (one_less wanted) (base + above + 1) (j + made_by e) line = ap (λ w. exps_code S.code.own.constants EndExps w (base + above + 1) (j + made_by e) line) fewer in
+        let rooms : room_of_list S.code.own.constants (above + 1) EndExps after ≡ room_of_list S.code.own.constants (above + 1) EndExps (one_less wanted) = ap (room_of_list S.code.own.constants (above + 1) EndExps) fewer in
+        let sizes = ap length same in
+        one_more EndExps (lists_same EndExps) purpose wanted base above (j + made_by e) line n (pc + length first_code) o1 have vs env regs env1 regs1 c1 k bound all
+        (subst (HasAt S (pc + length first_code)) same (has_back S pc first_code rest_code has)) wf cov.1 ok.1
+        (omega (arith, inside, sum, sizes)) size held le (omega (arith, room, some, two)) (omega (arith, room, rooms)) af eq
+        (listed_at S pending n (total wanted above) false _ purpose base _ (pc + length (first_code ++ rest_code)) env regs k (omega (arith, sum, sizes))
+        (subst (λ b. GoesListed S pending n (total wanted above) b (above + 1) purpose base env regs (pc + length (first_code ++ rest_code)) k) one goes)))))))
+    lists_same (MoreExps e (MoreExps d es)) purpose wanted base above j line n pc opened have env regs c k bound all has wf cov ok inside size held le below room rel goes =
+        let first_code = exp_code S.code.own.constants e (base + above) j 2 in
+        let rest_code = exps_code S.code.own.constants (MoreExps d es) (one_less wanted) (base + above + 1) (j + made_by e) line in
+        let sum = length-append first_code rest_code in
+        let some = room_some S.code.own.constants e in
+        go_left S n _ (tree.at (evaluate e) (of_tree S pending env c) (listed purpose have (MoreExps d es) ∷ k)) _ refl
+        (one_same e (all_same e) (base + above) j n pc opened env regs c (listed purpose have (MoreExps d es) ∷ k) bound (has_front S pc first_code rest_code has) cov.0 ok.0 (omega (arith, inside, sum)) (omega (arith, le)) (omega (arith, room)) rel
+        (λ vs env1 regs1 c1 o1 af eq one. go_left S n _ (tree.at (collect purpose (have ++ first vs ∷ []) (MoreExps d es)) (of_tree S pending env1 c1) k) _ refl
+        (one_more (MoreExps d es) (lists_same (MoreExps d es)) purpose wanted base above (j + made_by e) line n (pc + length first_code) o1 have vs env regs env1 regs1 c1 k bound all (has_back S pc first_code rest_code has) wf cov.1 ok.1
+        (omega (arith, inside, sum)) size held le (omega (arith, room, some)) (omega (arith, room)) af eq
+        (listed_at S pending n (total wanted above) (ends_open (MoreExps d es)) _ purpose base _ (pc + length (first_code ++ rest_code)) env regs k (omega (arith, sum)) goes))))
 
-  pub exp_same : (e : Exp) (t j n pc opened : ℕ) (env regs : List Value) (c : Captured) (k : List Work)
-      → HasAt lines p pc (exp_code p.own.constants e t j 2) → IsCovered p.own.constants e (length env) → pc + length (exp_code p.own.constants e t j 2) < length p.own.code
-      → length env ≤ t → t + need e ≤ p.own.stack → Rel p.own.stack env c regs
-      → Goes n t env regs (pc + length (exp_code p.own.constants e t j 2)) opened k
-      → Same lines n p (tree.at (evaluate e) (of_tree lines p varargs pending marked env c) k) (before (of_code lines p varargs pending marked pc regs opened) c)
-  exp_same (True line) t j n pc opened env regs c k has ok inside le room rel goes =
-      let there = next_there (pc + 1) inside in
-      go_left lines p n _ (tree.at (give (known (boolean true) ∷ [])) (of_tree lines p varargs pending marked env c) k) _ refl
-      (go_right lines p n _ _ (before (of_code lines p varargs pending marked (pc + 1) (write t (known (boolean true)) regs) opened) c)
-      (true_step p (of_code lines p varargs pending marked pc regs opened) c there.0 there.1 t has.0 (omega (arith, small)) (omega (arith, rel.room)))
-      (put_goes n t (pc + 1) opened (known (boolean true)) env regs c k le rel goes))
-  exp_same (False line) t j n pc opened env regs c k has ok inside le room rel goes =
-      let there = next_there (pc + 1) inside in
-      go_left lines p n _ (tree.at (give (known (boolean false) ∷ [])) (of_tree lines p varargs pending marked env c) k) _ refl
-      (go_right lines p n _ _ (before (of_code lines p varargs pending marked (pc + 1) (write t (known (boolean false)) regs) opened) c)
-      (false_step p (of_code lines p varargs pending marked pc regs opened) c there.0 there.1 t has.0 (omega (arith, small)) (omega (arith, rel.room)))
-      (put_goes n t (pc + 1) opened (known (boolean false)) env regs c k le rel goes))
-  exp_same (Nil line) t j n pc opened env regs c k has ok inside le room rel goes =
-      one_goes (with_abc LoadNil t 0 0 line) (with_abc LoadNil t 0 0 line ∷ []) (known nil) t n pc opened _ env regs c k refl refl has inside le rel
-      (λ here w there. nil_step p (of_code lines p varargs pending marked pc regs opened) c w there t here (omega (arith, small)) (omega (arith, rel.room))) goes
-  exp_same (Int line z) t j n pc opened env regs c k has ok inside le room rel goes =
-      integer_goes z (is_small z) line t n pc opened _ env regs c k refl refl has ok inside le (omega arith) rel goes
-  exp_same (Str line bytes) t j n pc opened env regs c k has ok inside le room rel goes =
-      one_goes (with_abx LoadK t (number_in p.own.constants (StrConst bytes)) line) (loads p.own.constants (StrConst bytes) t line) (known (string bytes)) t n pc opened _ env regs c k
-      (loads_one (StrConst bytes) t line ok) refl has inside le rel
-      (λ here w there. constant_step p (of_code lines p varargs pending marked pc regs opened) c w there t (StrConst bytes) here ok (omega (arith, small)) (omega (arith, rel.room))) goes
-  exp_same (Var line name) t j n pc opened env regs c k has ok inside le room rel goes =
-      local_goes name.place name.text p.own.constants line t n pc opened _ env regs c k refl has ok inside le (omega arith) rel goes
-  exp_same (Paren line e) t j n pc opened env regs c k has ok inside le room rel goes =
-      go_left lines p n _ (tree.at (evaluate e) (of_tree lines p varargs pending marked env c) (first_only ∷ k)) _ refl
-      (exp_same e t j n pc opened env regs c (first_only ∷ k) has ok inside le room rel
-      (λ vs env1 regs1 c1 af eq. go_left lines p n _ (tree.at (give (first vs ∷ [])) (of_tree lines p varargs pending marked env1 c1) k) _ refl (goes (first vs ∷ []) env1 regs1 c1 af eq)))
-  exp_same (Unary line op e) t j n pc opened env regs c k has ok inside le room rel goes =
-      let code = exp_code p.own.constants e t j 2 in
-      let sum = length-append code (prefix_code op t line) in
-      let some = need_some e in
-      go_left lines p n _ (tree.at (evaluate e) (of_tree lines p varargs pending marked env c) (operand_of line op ∷ k)) _ refl
-      (exp_same e t j n pc opened env regs c (operand_of line op ∷ k) (has_front lines p pc code (prefix_code op t line) has) ok (omega (arith, sum)) le room rel
-      (λ vs env1 regs1 c1 af eq. unary_goes op line t n (pc + length code) opened vs env1 regs1 c1 k (has_back lines p pc code (prefix_code op t line) has) (omega (arith, sum)) (omega (arith, af.size)) (omega (arith, some)) af.rel eq
-      (goes_at n t (pc + length code + length (prefix_code op t line)) (pc + length (code ++ prefix_code op t line)) opened env1 regs1 k (omega (arith, sum)) (λ us env2 regs2 c2 af2 eq2. goes us env2 regs2 c2 (after_then p.own.stack env regs env1 regs1 env2 regs2 c1 c2 t t (omega arith) af af2) eq2))))
-  exp_same (Binary line op e d) t j n pc opened env regs c k has ok inside le room rel goes =
-      let first_code = exp_code p.own.constants e t j 2 in
-      let second_code = exp_code p.own.constants d (t + 1) (j + made_by e) 2 in
-      let last_code = operator_code op t line in
-      let behind = has_back lines p pc first_code (second_code ++ last_code) has in
-      let whole = length-append first_code (second_code ++ last_code) in
-      let rest = length-append second_code last_code in
-      let some = need_some d in
-      go_left lines p n _ (tree.at (evaluate e) (of_tree lines p varargs pending marked env c) (right_of line op d ∷ k)) _ refl
-      (exp_same e t j n pc opened env regs c (right_of line op d ∷ k) (has_front lines p pc first_code (second_code ++ last_code) has) ok.1.0 (omega (arith, whole)) le (omega arith) rel
-      (λ vs env1 regs1 c1 af eq. go_left lines p n _ (tree.at (evaluate d) (of_tree lines p varargs pending marked env1 c1) (left_of line op (first vs) ∷ k)) _ refl
-      (exp_same d (t + 1) (j + made_by e) n (pc + length first_code) opened env1 regs1 c1 (left_of line op (first vs) ∷ k) (has_front lines p (pc + length first_code) second_code last_code behind)
-      (subst (IsCovered p.own.constants d) (sym af.size) ok.1.1) (omega (arith, whole, rest)) (omega (arith, af.size)) (omega arith) af.rel
-      (λ ws env2 regs2 c2 af2 eq2. binary_goes op line t n (pc + length first_code + length second_code) opened (first vs) ws env2 regs2 c2 k ok.0
-      (has_back lines p (pc + length first_code) second_code last_code behind) (omega (arith, whole, rest)) (omega (arith, af.size, af2.size)) (omega (arith, some)) af2.rel
-      (af2.keeps t (omega (arith, af.size)) (omega arith) ∙ eq) eq2
-      (goes_at n t (pc + length first_code + length second_code + length last_code) (pc + length (first_code ++ (second_code ++ last_code))) opened env2 regs2 k (omega (arith, whole, rest))
-      (λ us env3 regs3 c3 af3 eq3. goes us env3 regs3 c3 (after_then p.own.stack env regs env1 regs1 env3 regs3 c1 c3 t t (omega arith) af (after_then p.own.stack env1 regs1 env2 regs2 env3 regs3 c2 c3 t t (omega arith) (lower p.own.stack env1 regs1 env2 regs2 c2 (t + 1) t (omega arith) af2) af3)) eq3))))))
-  exp_same (And line e d) t j n pc opened env regs c k has ok inside le room rel goes =
-      let first_code = exp_code p.own.constants e t j 2 in
-      let second_code = exp_code p.own.constants d t (j + made_by e) 2 in
-      let test_code = (abc Test t 0 0 false, line) ∷ jump_over (length second_code) line ∷ second_code in
-      let whole = length-append first_code test_code in
-      let behind = has_back lines p pc first_code test_code has in
-      let some = need_some d in
-      let two : pc + length first_code + 1 + 1 ≡ pc + length first_code + 2 = omega arith in
-      go_left lines p n _ (tree.at (evaluate e) (of_tree lines p varargs pending marked env c) (and_right d ∷ k)) _ refl
-      (exp_same e t j n pc opened env regs c (and_right d ∷ k) (has_front lines p pc first_code test_code has) ok.0 (omega (arith, whole)) le (omega arith) rel
-      (λ vs env1 regs1 c1 af eq. decides_goes false (same_truth (holds (shape (first vs))) false) line t n (pc + length first_code) opened second_code (first vs) _ env1 regs1 c1 behind (omega (arith, whole)) (omega (arith, some)) af.rel eq refl
-      (λ e1. go_left lines p n _ (tree.at (give (first vs ∷ [])) (of_tree lines p varargs pending marked env1 c1) k) _ (and_decides _ _ (holds (shape (first vs))) e1)
-      (at_place n (pc + length first_code + (2 + length second_code)) (pc + length (first_code ++ test_code)) opened _ regs1 c1 (omega (arith, whole)) (goes (first vs ∷ []) env1 regs1 c1 af eq)))
-      (λ e1. go_left lines p n _ (tree.at (evaluate d) (of_tree lines p varargs pending marked env1 c1) (first_only ∷ k)) _ (and_goes_on _ _ (holds (shape (first vs))) e1)
-      (exp_same d t (j + made_by e) n (pc + length first_code + 2) opened env1 regs1 c1 (first_only ∷ k) (subst (λ q. HasAt lines p q second_code) two behind.1.1.1.1) (subst (IsCovered p.own.constants d) (sym af.size) ok.1) (omega (arith, whole)) (omega (arith, af.size)) (omega arith) af.rel
-      (λ ws env2 regs2 c2 af2 eq2. go_left lines p n _ (tree.at (give (first ws ∷ [])) (of_tree lines p varargs pending marked env2 c2) k) _ refl
-      (at_place n (pc + length first_code + 2 + length second_code) (pc + length (first_code ++ test_code)) opened _ regs2 c2 (omega (arith, whole))
-      (goes (first ws ∷ []) env2 regs2 c2 (after_then p.own.stack env regs env1 regs1 env2 regs2 c1 c2 t t (omega arith) af af2) eq2)))))))
-  exp_same (Or line e d) t j n pc opened env regs c k has ok inside le room rel goes =
-      let first_code = exp_code p.own.constants e t j 2 in
-      let second_code = exp_code p.own.constants d t (j + made_by e) 2 in
-      let test_code = (abc Test t 0 0 true, line) ∷ jump_over (length second_code) line ∷ second_code in
-      let whole = length-append first_code test_code in
-      let behind = has_back lines p pc first_code test_code has in
-      let some = need_some d in
-      let two : pc + length first_code + 1 + 1 ≡ pc + length first_code + 2 = omega arith in
-      go_left lines p n _ (tree.at (evaluate e) (of_tree lines p varargs pending marked env c) (or_right d ∷ k)) _ refl
-      (exp_same e t j n pc opened env regs c (or_right d ∷ k) (has_front lines p pc first_code test_code has) ok.0 (omega (arith, whole)) le (omega arith) rel
-      (λ vs env1 regs1 c1 af eq. decides_goes true (same_truth (holds (shape (first vs))) true) line t n (pc + length first_code) opened second_code (first vs) _ env1 regs1 c1 behind (omega (arith, whole)) (omega (arith, some)) af.rel eq refl
-      (λ e1. go_left lines p n _ (tree.at (give (first vs ∷ [])) (of_tree lines p varargs pending marked env1 c1) k) _ (or_decides _ _ (holds (shape (first vs))) e1)
-      (at_place n (pc + length first_code + (2 + length second_code)) (pc + length (first_code ++ test_code)) opened _ regs1 c1 (omega (arith, whole)) (goes (first vs ∷ []) env1 regs1 c1 af eq)))
-      (λ e1. go_left lines p n _ (tree.at (evaluate d) (of_tree lines p varargs pending marked env1 c1) (first_only ∷ k)) _ (or_goes_on _ _ (holds (shape (first vs))) e1)
-      (exp_same d t (j + made_by e) n (pc + length first_code + 2) opened env1 regs1 c1 (first_only ∷ k) (subst (λ q. HasAt lines p q second_code) two behind.1.1.1.1) (subst (IsCovered p.own.constants d) (sym af.size) ok.1) (omega (arith, whole)) (omega (arith, af.size)) (omega arith) af.rel
-      (λ ws env2 regs2 c2 af2 eq2. go_left lines p n _ (tree.at (give (first ws ∷ [])) (of_tree lines p varargs pending marked env2 c2) k) _ refl
-      (at_place n (pc + length first_code + 2 + length second_code) (pc + length (first_code ++ test_code)) opened _ regs2 c2 (omega (arith, whole))
-      (goes (first ws ∷ []) env2 regs2 c2 (after_then p.own.stack env regs env1 regs1 env2 regs2 c1 c2 t t (omega arith) af af2) eq2)))))))
-  exp_same _ t j n pc opened env regs c k has ok inside le room rel goes = absurd ok
+  -- the code of an expression of which one value is wanted
+  pub exp_same : (e : Exp) → ExpSame e
+  exp_same e = one_same e (all_same e)
+
+  -- the code of a call or of `...` with any field C
+  pub open_same : (e : Exp) → is_open e ≡ true → (field t j n pc opened : ℕ) (env regs : List Value) (c : Captured) (k : List Work)
+      → n ≤ S.bound → HasAt S pc (exp_code S.code.own.constants e t j field) → field < 2 ^ 8 → IsCovered e → IsPlaced S e (length env) j → pc + length (exp_code S.code.own.constants e t j field) < length S.code.own.code
+      → length env ≤ t → t + room_of S.code.own.constants e field ≤ S.code.own.stack → Rel S.code.own.stack pending env c regs
+      → GoesFilled S pending n field t env regs (pc + length (exp_code S.code.own.constants e t j field)) k
+      → Agree S n (tree.at (evaluate e) (of_tree S pending env c) k) (before (of_code S pending pc regs opened) c)
+  open_same e many field t j n pc opened env regs c k bound has fits cov ok inside le room rel goes =
+      all_same e field t j n pc opened env regs c k bound has fits cov ok inside le room rel
+      (goes_by n e field t env regs (pc + length (exp_code S.code.own.constants e t j field)) k (λ is. goes) (λ is. absurd (cc)))
+
+  -- the code of a list of expressions
+  pub exps_same : (es : Exps) → ListSame es
+  exps_same es = lists_same es

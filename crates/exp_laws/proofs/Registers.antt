@@ -1,23 +1,9 @@
 -- Locals and registers side by side: what holds of both while an expression is evaluated.
-use Rattle.std.proofs.Common.{◌≡◌, ◌≢◌, ℕ, zero, suc, ◌<◌, ◌≤◌, List, [], ◌∷◌, ◌++◌, length, refl, sym, ap, subst, ◌∙◌, arith}
+use Rattle.std.proofs.Common.{◌≡◌, ℕ, zero, suc, ◌<◌, ◌≤◌, cond, List, [], ◌∷◌, ◌++◌, length, refl, sym, ap, subst, ◌∙◌, arith}
 use Rattle.int_core.specs.Value.{Value, nth, write}
 use Rattle.int_core.specs.Ask.{Captured, shared_by, brought}
-
-pub nth_write_same : (s : ℕ) (v : Value) (xs : List Value) → nth (write s v xs) s ≡ v
-nth_write_same zero v [] = refl
-nth_write_same zero v (x ∷ xs) = refl
-nth_write_same (suc s) v [] = nth_write_same s v []
-nth_write_same (suc s) v (x ∷ xs) = nth_write_same s v xs
-
-pub nth_write_other : (s : ℕ) (v : Value) (xs : List Value) (r : ℕ) → r ≢ s → nth (write s v xs) r ≡ nth xs r
-nth_write_other zero v [] zero n = absurd (n refl)
-nth_write_other zero v [] (suc r) n = refl
-nth_write_other zero v (x ∷ xs) zero n = absurd (n refl)
-nth_write_other zero v (x ∷ xs) (suc r) n = refl
-nth_write_other (suc s) v [] zero n = refl
-nth_write_other (suc s) v [] (suc r) n = nth_write_other s v [] r (λ e. n (ap suc e))
-nth_write_other (suc s) v (x ∷ xs) zero n = refl
-nth_write_other (suc s) v (x ∷ xs) (suc r) n = nth_write_other s v xs r (λ e. n (ap suc e))
+use Rattle.tree_activation.specs.Work.{Pending}
+use Rattle.machine_join.proofs.Lists.{nth_write_other, length_write, write_more}
 
 write_alike : (s : ℕ) (v : Value) (xs ys : List Value) (r : ℕ) → nth xs r ≡ nth ys r → nth (write s v xs) r ≡ nth (write s v ys) r
 write_alike zero v [] [] zero e = refl
@@ -37,53 +23,63 @@ write_alike (suc s) v [] (y ∷ ys) (suc r) e = write_alike s v [] ys r e
 write_alike (suc s) v (x ∷ xs) [] (suc r) e = write_alike s v xs [] r e
 write_alike (suc s) v (x ∷ xs) (y ∷ ys) (suc r) e = write_alike s v xs ys r e
 
-pub length_write : (s : ℕ) (v : Value) (xs : List Value) → s < length xs → length (write s v xs) ≡ length xs
-length_write zero v [] h = absurd (omega arith)
-length_write zero v (x ∷ xs) h = refl
-length_write (suc s) v [] h = absurd (omega arith)
-length_write (suc s) v (x ∷ xs) h = ap suc (length_write s v xs (omega arith))
-
-pub write_more : (s : ℕ) (v : Value) (xs : List Value) → length xs ≤ length (write s v xs)
-write_more zero v [] = omega arith
-write_more zero v (x ∷ xs) = omega arith
-write_more (suc s) v [] = omega arith
-write_more (suc s) v (x ∷ xs) = let i = write_more s v xs in omega (arith, i)
-
 abbrev pub HeldBelow : List (ℕ × ℕ) → ℕ → Type 0
 HeldBelow [] n = Unit {0}
 HeldBelow (h ∷ held) n = (h.0 < n) × HeldBelow held n
 
--- the locals are the registers of their numbers, captured ones are locals, and there are at least so many registers
-pub record Rel (stack : ℕ) (env : List Value) (c : Captured) (regs : List Value) : Type 0 where
+-- variables to be closed, the last one last; code marks just those that need closing
+
+abbrev pub marked_in : List Pending → List ℕ
+marked_in [] = []
+marked_in (p ∷ ps) = cond p.needed (p.number ∷ marked_in ps) (marked_in ps)
+
+-- each is a local from a number on and below another, and they stand in the order of their declarations
+abbrev pub Ascends : (from : ℕ) → List Pending → (to : ℕ) → Type 0
+Ascends from [] to = Unit {0}
+Ascends from (p ∷ ps) to = (from ≤ p.number) × ((p.number < to) × Ascends (suc p.number) ps to)
+
+-- the locals are the registers of their numbers, captured ones and those to be closed are locals, and there are at least so many registers
+pub record Rel (stack : ℕ) (pending : List Pending) (env : List Value) (c : Captured) (regs : List Value) : Type 0 where
   pub agree : (r : ℕ) → r < length env → nth env r ≡ nth regs r
   pub held : HeldBelow c.held (length env)
+  pub ascends : Ascends 0 pending (length env)
+  pub fits : length env ≤ stack
   pub room : stack ≤ length regs
 
 -- what stands after an expression whose value goes to register t
-pub record After (stack : ℕ) (env regs : List Value) (t : ℕ) (env' regs' : List Value) (c' : Captured) : Type 0 where
+pub record After (stack : ℕ) (pending : List Pending) (env regs : List Value) (t : ℕ) (env' regs' : List Value) (c' : Captured) : Type 0 where
   pub size : length env' ≡ length env
-  pub rel : Rel stack env' c' regs'
+  pub rel : Rel stack pending env' c' regs'
   pub keeps : (r : ℕ) → length env ≤ r → r < t → nth regs' r ≡ nth regs r
 
-module _ (stack : ℕ) where
-  pub after_then : (env regs env1 regs1 env2 regs2 : List Value) (c1 c2 : Captured) (t t1 : ℕ) → t ≤ t1 → After stack env regs t env1 regs1 c1 → After stack env1 regs1 t1 env2 regs2 c2 → After stack env regs t env2 regs2 c2
+module _ (stack : ℕ) (pending : List Pending) where
+  pub after_none : (env regs : List Value) (c : Captured) (t : ℕ) → Rel stack pending env c regs → After stack pending env regs t env regs c
+  after_none env regs c t h = record { size = refl; rel = h; keeps = λ r lo hi. refl }
+
+  pub after_then : (env regs env1 regs1 env2 regs2 : List Value) (c1 c2 : Captured) (t t1 : ℕ) → t ≤ t1 → After stack pending env regs t env1 regs1 c1 → After stack pending env1 regs1 t1 env2 regs2 c2 → After stack pending env regs t env2 regs2 c2
   after_then env regs env1 regs1 env2 regs2 c1 c2 t t1 le a b = record {
     size = b.size ∙ a.size;
     rel = b.rel;
     keeps = λ r lo hi. b.keeps r (omega (arith, a.size)) (omega arith) ∙ a.keeps r lo hi;
   }
 
-  -- a write above the locals
-  pub after_put : (env regs : List Value) (c : Captured) (t : ℕ) (v : Value) → length env ≤ t → Rel stack env c regs → After stack env regs t env (write t v regs) c
-  after_put env regs c t v le h = record {
+  -- what stands up to a register stands up to a lower one
+  pub lower : (env regs env' regs' : List Value) (c : Captured) (t r : ℕ) → r ≤ t → After stack pending env regs t env' regs' c → After stack pending env regs r env' regs' c
+  lower env regs env' regs' c t r le a = record { size = a.size; rel = a.rel; keeps = λ q lo hi. a.keeps q lo (omega arith) }
+
+  -- registers that agree with the old ones below t, and are enough
+  pub after_above : (env regs regs' : List Value) (c : Captured) (t : ℕ) → length env ≤ t → Rel stack pending env c regs → ((r : ℕ) → r < t → nth regs' r ≡ nth regs r) → stack ≤ length regs' → After stack pending env regs t env regs' c
+  after_above env regs regs' c t le h same room = record {
     size = refl;
-    rel = record {
-      agree = λ r lr. h.agree r lr ∙ sym (nth_write_other t v regs r (λ e. absurd (omega arith)));
-      held = h.held;
-      room = let more = write_more t v regs in omega (arith, more, h.room);
-    };
-    keeps = λ r lo hi. nth_write_other t v regs r (λ e. absurd (omega arith));
+    rel = record { agree = λ r lr. h.agree r lr ∙ sym (same r (omega arith)); held = h.held; ascends = h.ascends; fits = h.fits; room = room };
+    keeps = λ r lo hi. same r hi;
   }
+
+  -- a write above the locals
+  pub after_put : (env regs : List Value) (c : Captured) (t : ℕ) (v : Value) → length env ≤ t → Rel stack pending env c regs → After stack pending env regs t env (write t v regs) c
+  after_put env regs c t v le h =
+      let more = write_more t v regs in
+      after_above env regs (write t v regs) c t le h (λ r lr. nth_write_other t v regs r (λ e. absurd (omega arith))) (omega (arith, more, h.room))
 
 held_length : (held : List (ℕ × ℕ)) (m n : ℕ) → m ≡ n → HeldBelow held m → HeldBelow held n
 held_length held m n e h = subst (HeldBelow held) e h
@@ -120,22 +116,40 @@ brought_keeps (s ∷ held) (v ∷ vs) size regs h r le =
     let lt = h.0 in
     brought_keeps held vs size (write s.0 v regs) h.1 r le ∙ nth_write_other s.0 v regs r (λ e. absurd (omega (arith, lt)))
 
-pub share_same : (stack : ℕ) (env : List Value) (c : Captured) (regs : List Value) → Rel stack env c regs → shared_by c.held env ++ c.gone ≡ shared_by c.held regs ++ c.gone
-share_same stack env c regs rel = ap (λ l. l ++ c.gone) (shared_same c.held (length env) env regs rel.held rel.agree)
-
 abbrev pub told : Captured → Captured
 told c = record { held = c.held; gone = [] }
 
-pub after_share : (stack : ℕ) (env regs vs : List Value) (c : Captured) (t : ℕ) → Rel stack env c regs → After stack env regs t (brought c.held vs env) (brought c.held vs regs) (told c)
-after_share stack env regs vs c t h =
-    let e = brought_length c.held vs env h.held in
-    let more = brought_more c.held vs regs in
-    record {
-      size = e;
-      rel = record {
-        agree = λ r l. brought_agree c.held vs (length env) env regs h.agree r (omega (arith, e));
-        held = held_length c.held _ _ (sym e) h.held;
-        room = omega (arith, more, h.room);
-      };
-      keeps = λ r lo hi. brought_keeps c.held vs (length env) regs h.held r lo;
-    }
+module _ (stack : ℕ) (pending : List Pending) where
+  pub held_same : (env : List Value) (c : Captured) (regs : List Value) → Rel stack pending env c regs → shared_by c.held env ≡ shared_by c.held regs
+  held_same env c regs rel = shared_same c.held (length env) env regs rel.held rel.agree
+
+  pub share_same : (env : List Value) (c : Captured) (regs : List Value) → Rel stack pending env c regs → shared_by c.held env ++ c.gone ≡ shared_by c.held regs ++ c.gone
+  share_same env c regs rel = ap (λ l. l ++ c.gone) (held_same env c regs rel)
+
+  pub after_share : (env regs vs : List Value) (c : Captured) (t : ℕ) → Rel stack pending env c regs → After stack pending env regs t (brought c.held vs env) (brought c.held vs regs) (told c)
+  after_share env regs vs c t h =
+      let e = brought_length c.held vs env h.held in
+      let more = brought_more c.held vs regs in
+      record {
+        size = e;
+        rel = record {
+          agree = λ r l. brought_agree c.held vs (length env) env regs h.agree r (omega (arith, e));
+          held = held_length c.held _ _ (sym e) h.held;
+          ascends = subst (Ascends 0 pending) (sym e) h.ascends;
+          fits = omega (arith, e, h.fits);
+          room = omega (arith, more, h.room);
+        };
+        keeps = λ r lo hi. brought_keeps c.held vs (length env) regs h.held r lo;
+      }
+
+  -- and a local gets a cell besides
+  pub after_hold : (env regs vs : List Value) (c : Captured) (t place cell : ℕ) → place < length env → Rel stack pending env c regs
+      → After stack pending env regs t (brought c.held vs env) (brought c.held vs regs) (record { held = (place, cell) ∷ c.held; gone = [] })
+  after_hold env regs vs c t place cell below h =
+      let e = brought_length c.held vs env h.held in
+      let a = after_share env regs vs c t h in
+      record {
+        size = a.size;
+        rel = record { agree = a.rel.agree; held = (omega (arith, e), a.rel.held); ascends = a.rel.ascends; fits = a.rel.fits; room = a.rel.room };
+        keeps = a.keeps;
+      }

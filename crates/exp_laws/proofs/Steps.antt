@@ -1,21 +1,30 @@
 -- What the machine does alone at some instructions, as one equation each.
-use Rattle.std.proofs.Common.{◌≡◌, ℕ, ◌+◌, ◌<◌, ◌^◌, true, false, cond, not, pos, List, [], ◌∷◌, ◌++◌, length, Some, None, refl, ap, ap₂, ◌∙◌, arith}
+use Rattle.std.proofs.Common.{◌≡◌, ℕ, zero, suc, lit<, ◌+◌, ◌<◌, ◌^◌, Bool, true, false, cond, not, pos, List, [], ◌∷◌, ◌++◌, length, slice_get, Some, None, ⊎_elim, refl, sym, ap, ap₂, ◌∙◌, arith}
 use borrow.Author.Tests.{lt-ltb}
 use Rattle.int_core.specs.Value.{Value, Shape, known, boolean, nth, write, shape, holds, bind}
-use Rattle.int_core.specs.Operations.{Event}
-use Rattle.int_core.specs.Ask.{Captured, Next, goes_on, stuck}
+use Rattle.int_core.specs.Operations.{Event, index, concat}
+use Rattle.int_core.specs.Ask.{reads_upvalue, operates, values_in, Captured, Next, goes_on, stuck}
 use Rattle.code_core.specs.declared.opcode.Opcode.{Opcode}
-use Rattle.code_core.specs.declared.opcode.Opcode.TheVariants.{Move, LoadFalse, LoadTrue, Not}
+use Rattle.code_core.specs.declared.opcode.Opcode.TheVariants.{Move, LoadFalse, LoadTrue, Not, GetTable, GetUpval, GetTabUp, Concat}
 use Rattle.code_core.specs.declared.instruction.Instruction.{Instruction}
+use Rattle.code_core.specs.declared.proto.Const.{Const}
+use Rattle.std.proofs.lemmas.Option.{slice_get_cases}
 use Rattle.code_core.specs.Instruction.{abc, opcode_of, a_of}
 use Rattle.code_core.specs.Prototype.{Prototype}
 use Rattle.code_core.specs.Check.{at}
 use Rattle.code_core.proofs.FieldLemmas.{opcode_of-abc, a_of-abc, b_of-abc, c_of-abc}
-use Rattle.machine_core.specs.World.{Activation}
-use Rattle.machine_core.specs.Text.{Arg, read, written, Own, read_register, write_register, arg, reads, tells, effect, fits, Text, go_by, own, trap}
-use Rattle.machine_core.specs.InstructionRows.{then, to_register, row_of, text_by, text_at, fast, integer_of_shape, with_register}
+use Rattle.machine_core.specs.World.{Activation, for_value, for_concat}
+use Rattle.machine_core.specs.Text.{Arg, read, written, Own, read_register, read_constant, constant, write_register, arg, reads, tells, effect, fits, Text, go_by, own, quick, operate, read_upvalue, trap}
+use Rattle.machine_core.specs.InstructionRows.{next, joins, then, to_register, gets, rest, rest_by, rest_at, row_of, text_by, text_at, fast, integer_of_shape, with_register}
 use Rattle.machine_core.specs.Moves.{place_from}
-use Rattle.machine_core.specs.Talk.{State, before, talk, talk_step, captured_after}
+use Rattle.machine_core.specs.Talk.{State, before, amid, talk, talk_step, says_so, heard, captured_after}
+
+pub found_below : (cs : List Const) (i : ℕ) (x : Const) → slice_get cs i ≡ Some x → i < length cs
+found_below cs i x e = ⊎_elim (λ h. h.1) (λ h. let no : None ≡ Some x = sym h.1 ∙ e in absurd (cc)) (slice_get_cases cs i).1
+
+-- the field that a constant names, of the table that was read
+abbrev pub key_text : (number t : ℕ) → Text
+key_text number t = own (read_constant number) (λ key _. gets (read 0) (read key) [] t)
 
 module _ (p : Prototype) where
   text_here : (pc : ℕ) (w : Instruction) (op : Opcode) → at p pc ≡ Some w → opcode_of w ≡ Some op → text_at p pc ≡ row_of p pc op w
@@ -97,3 +106,61 @@ module _ (p : Prototype) where
       ∙ ap (λ d. own (read_register t) (λ _ s. own (read_register (t + 1)) (λ _ u. fast event d (integer_of_shape s) (integer_of_shape u)))) (a_of-abc op t t (t + 1) false t_fits))
       ∙ own_step (read_register t) (λ _ s. second s) [] a c (lt-ltb t (length a.registers) (omega arith))
       ∙ own_step (read_register (t + 1)) (λ _ u. fast event t (integer_of_shape (shape (nth a.registers t))) (integer_of_shape u)) (nth a.registers t ∷ []) a c (lt-ltb (t + 1) (length a.registers) room)
+
+  -- reading a field of a table: the operation is asked for
+  pub get_step : (t x y : ℕ) (a : Activation) (c : Captured) → at p a.pc ≡ Some (abc GetTable t x y false) → t < 2 ^ 8 → x < 2 ^ 8 → y < 2 ^ 8 → x < length a.registers → y < length a.registers
+      → talk_step p (before a c) ≡ says_so (operates index (nth a.registers x ∷ nth a.registers y ∷ [])) p a c (λ z b d. heard for_value p z b d)
+  get_step t x y a c here t_fits x_fits y_fits x_room y_room =
+      let w = abc GetTable t x y false in
+      row_step w GetTable (own (read_register x) (λ o _. own (read_register y) (λ key _. gets (read o) (read key) [] t))) a c here (opcode_of-abc GetTable t x y false)
+      (ap₂ (λ b d. own (read_register b) (λ o _. own (read_register d) (λ key _. gets (read o) (read key) [] (a_of w)))) (b_of-abc GetTable t x y false t_fits x_fits) (c_of-abc GetTable t x y false t_fits x_fits y_fits)
+      ∙ ap (λ d. own (read_register x) (λ o _. own (read_register y) (λ key _. gets (read o) (read key) [] d))) (a_of-abc GetTable t x y false t_fits))
+      ∙ own_step (read_register x) (λ o _. own (read_register y) (λ key _. gets (read o) (read key) [] t)) [] a c (lt-ltb x (length a.registers) x_room)
+      ∙ own_step (read_register y) (λ key _. gets (read 0) (read key) [] t) (nth a.registers x ∷ []) a c (lt-ltb y (length a.registers) y_room)
+
+  pub upvalue_step : (t u : ℕ) (a : Activation) (c : Captured) → at p a.pc ≡ Some (abc GetUpval t u 0 false) → t < 2 ^ 8 → u < 2 ^ 8
+      → talk_step p (before a c) ≡ says_so (reads_upvalue u) p a c (λ x b d. amid (to_register t (read 0)) ([] ++ values_in x.reply) b d)
+  upvalue_step t u a c here t_fits u_fits =
+      row_step (abc GetUpval t u 0 false) GetUpval (quick (read_upvalue u) (λ v. to_register t (read v))) a c here (opcode_of-abc GetUpval t u 0 false)
+      (ap₂ (λ b d. quick (read_upvalue b) (λ v. to_register d (read v))) (b_of-abc GetUpval t u 0 false t_fits u_fits) (a_of-abc GetUpval t u 0 false t_fits))
+
+  -- what an instruction goes on with, where its value goes to its register A
+  pub value_rest : (op : Opcode) (t b d pc : ℕ) (k : Bool) → at p pc ≡ Some (abc op t b d k) → t < 2 ^ 8 → rest {V = Value} for_value p pc op (abc op t b d k) ≡ to_register (a_of (abc op t b d k)) (read 0)
+      → rest_at {V = Value} for_value p pc ≡ to_register t (read 0)
+  value_rest op t b d pc k here fits comes =
+      ap (λ o. elim o as (λ _. Text) [ None ↦ trap | Some i ↦ rest_by {V = Value} for_value p pc i (opcode_of i) ]) here
+      ∙ ap (rest_by {V = Value} for_value p pc (abc op t b d k)) (opcode_of-abc op t b d k)
+      ∙ comes ∙ ap (λ r. to_register r (read 0)) (a_of-abc op t b d k fits)
+
+  -- joining two strings: the operation is asked for
+  pub concat_step : (t : ℕ) (a : Activation) (c : Captured) → at p a.pc ≡ Some (abc Concat t 2 0 false) → t < 2 ^ 8 → t + 1 < length a.registers
+      → talk_step p (before a c) ≡ says_so (operates concat (nth a.registers t ∷ nth a.registers (t + 1) ∷ [])) p a c (λ z b d. heard (for_concat 0) p z b d)
+  concat_step t a c here fits room =
+      let w = abc Concat t 2 0 false in
+      let none : t + 0 ≡ t = omega arith in
+      row_step w Concat (own (read_register (t + 1)) (λ v _. joins t 1 (read v))) a c here (opcode_of-abc Concat t 2 0 false)
+      (ap₂ (λ b d. elim b as (λ _. Text) [ zero ↦ next | suc n ↦ own (read_register (d + n)) (λ v _. joins d n (read v)) ]) (b_of-abc Concat t 2 0 false fits (lit< tt)) (a_of-abc Concat t 2 0 false fits))
+      ∙ own_step (read_register (t + 1)) (λ v _. joins t 1 (read v)) [] a c (lt-ltb (t + 1) (length a.registers) room)
+      ∙ own_step (read_register (t + 0)) (λ u _. operate concat (read u ∷ read 0 ∷ []) (for_concat 0) [] (joins t 0 (read 0))) (nth a.registers (t + 1) ∷ []) a c (lt-ltb (t + 0) (length a.registers) (omega arith))
+      ∙ ap (λ q. says_so (operates concat (nth a.registers q ∷ nth a.registers (t + 1) ∷ [])) p a c (λ z b d. heard (for_concat 0) p z b d)) none
+
+  pub concat_rest : (t pc : ℕ) → at p pc ≡ Some (abc Concat t 2 0 false) → t < 2 ^ 8 → rest_at {V = Value} (for_concat 0) p pc ≡ to_register t (read 0)
+  concat_rest t pc here fits =
+      ap (λ o. elim o as (λ _. Text) [ None ↦ trap | Some i ↦ rest_by {V = Value} (for_concat 0) p pc i (opcode_of i) ]) here
+      ∙ ap (rest_by {V = Value} (for_concat 0) p pc (abc Concat t 2 0 false)) (opcode_of-abc Concat t 2 0 false)
+      ∙ ap (λ r. to_register r (read 0)) (a_of-abc Concat t 2 0 false fits)
+
+  -- a field of an upvalue's table, by a constant: the table is asked for, and then the field
+  pub table_step : (t u number : ℕ) (a : Activation) (c : Captured) → at p a.pc ≡ Some (abc GetTabUp t u number false) → t < 2 ^ 8 → u < 2 ^ 8 → number < 2 ^ 8
+      → talk_step p (before a c) ≡ says_so (reads_upvalue u) p a c (λ x b d. amid (key_text number t) ([] ++ values_in x.reply) b d)
+  table_step t u number a c here t_fits u_fits fits =
+      let w = abc GetTabUp t u number false in
+      row_step w GetTabUp (quick (read_upvalue u) (λ o. own (read_constant number) (λ key _. gets (read o) (read key) [] t))) a c here (opcode_of-abc GetTabUp t u number false)
+      (ap₂ (λ b d. quick (read_upvalue b) (λ o. own (read_constant d) (λ key _. gets (read o) (read key) [] (a_of w)))) (b_of-abc GetTabUp t u number false t_fits u_fits) (c_of-abc GetTabUp t u number false t_fits u_fits fits)
+      ∙ ap (λ d. quick (read_upvalue u) (λ o. own (read_constant number) (λ key _. gets (read o) (read key) [] d))) (a_of-abc GetTabUp t u number false t_fits))
+
+  pub key_step : (number t : ℕ) (x : Const) (v : Value) (a : Activation) (c : Captured) → slice_get p.own.constants number ≡ Some x
+      → talk_step p (amid (key_text number t) (v ∷ []) a c) ≡ says_so (operates index (v ∷ known (constant x) ∷ [])) p a c (λ z b d. heard for_value p z b d)
+  key_step number t x v a c there =
+      own_step (read_constant number) (λ key _. gets (read 0) (read key) [] t) (v ∷ []) a c (lt-ltb number (length p.own.constants) (found_below p.own.constants number x there))
+      ∙ ap (λ o. talk p (gets (read 0) (read 1) [] t) (v ∷ elim o as (λ _. List Value) [ None ↦ [] | Some k ↦ known (constant k) ∷ [] ]) a c) there

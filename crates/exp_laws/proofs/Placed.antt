@@ -1,0 +1,131 @@
+-- What is assumed of an expression where `size` locals are in scope and j functions of its function are made before it: names are in scope, fields
+-- are wide enough, constants and inner functions have their numbers. And how many registers from its own on its code names.
+use Rattle.std.proofs.Common.{◌≡◌, ℕ, zero, suc, ◌+◌, ◌<◌, ◌≤◌, ◌^◌, arith, max, Bool, true, false, cond, ℤ, List, [], ◌∷◌, map, Some, None}
+use Rattle.std.specs.Prelude.{nat_lt, slice_get}
+use Rattle.tree_core.specs.declared.name.Place.{Place}
+use Rattle.tree_core.specs.declared.name.Place.TheVariants.{Unset, Upvalue, GlobalIn, GlobalOf}
+use Rattle.tree_core.specs.declared.name.Place.TheVariants.{Local as LocalPlace}
+use Rattle.tree_core.specs.declared.name.UpName.{UpName}
+use Rattle.tree_core.specs.Tree.{Body, Exp, Nil, True, False, Int, Str, Vararg, Function, Var, Index, Call, Method, Unary, Binary, And, Or, Paren, Table, Exps, EndExps, MoreExps, Fields, EndFields, MoreFields, Item, Keyed}
+use Rattle.tree_activation.specs.Asking.{upvalues_of}
+use Rattle.code_core.specs.declared.proto.Const.{Const}
+use Rattle.code_core.specs.declared.proto.Const.TheVariants.{Int as IntConst, Str as StrConst}
+use Rattle.code_core.specs.Prototype.{Prototype, list_of}
+use Rattle.code_of.specs.Constants.{is_small, number_in}
+use Rattle.code_of.specs.Expressions.{made_by, Wanted, field_of, wanted_after, is_last_item}
+use Rattle.code_of.specs.CodeOf.{upvalue}
+use Rattle.exp_laws.proofs.Talking.{Setting, InnerAlike}
+
+-- a constant has its number in the table
+pub record Found (cs : List Const) (x : Const) : Type 0 where
+  pub near : number_in cs x < 2 ^ 25
+  pub there : slice_get cs (number_in cs x) ≡ Some x
+
+-- a great integer is among the constants
+abbrev pub IsLoaded : List Const → ℤ → Type 0
+IsLoaded cs z = is_small z ≡ false → Found cs (IntConst z)
+
+-- locals that a function captures are in scope
+abbrev pub Captures : List UpName → (size : ℕ) → Type 0
+Captures [] size = Unit {0}
+Captures (u ∷ us) size = (u.in_stack ≡ true → u.index < size) × Captures us size
+
+-- the inner function of a number has a body's upvalues, and means it
+pub record Inner (S : Setting) (j : ℕ) (body : Body) : Type 0 where
+  pub prototype : Prototype
+  pub there : slice_get (list_of S.code.inner) j ≡ Some prototype
+  pub near : j < 2 ^ 17
+  pub upvalues : prototype.own.upvalues ≡ map upvalue (upvalues_of body)
+  pub alike : (n : ℕ) → n < S.bound → InnerAlike S n body prototype
+
+module _ (S : Setting) where
+  abbrev pub NameIsPlaced : Place → List ℕ → (size : ℕ) → Type 0
+  NameIsPlaced Unset text size = ⊥
+  NameIsPlaced (LocalPlace n) text size = n < size
+  NameIsPlaced (Upvalue u) text size = u < 2 ^ 8
+  NameIsPlaced (GlobalIn n) text size = (n < size) × Found S.code.own.constants (StrConst text)
+  NameIsPlaced (GlobalOf u) text size = (u < 2 ^ 8) × Found S.code.own.constants (StrConst text)
+
+  abbrev mutual
+    pub IsPlaced : Exp → (size j : ℕ) → Type 0
+    IsPlaced (Nil line) size j = Unit {0}
+    IsPlaced (True line) size j = Unit {0}
+    IsPlaced (False line) size j = Unit {0}
+    IsPlaced (Int line z) size j = IsLoaded S.code.own.constants z
+    IsPlaced (Str line bytes) size j = Found S.code.own.constants (StrConst bytes)
+    IsPlaced (Vararg line) size j = Unit {0}
+    IsPlaced (Function line body) size j = Inner S j body × Captures (upvalues_of body) size
+    IsPlaced (Var line name) size j = NameIsPlaced name.place name.text size
+    IsPlaced (Index line object key) size j = IsPlaced object size j × IsPlaced key size (j + made_by object)
+    IsPlaced (Call line f es) size j = IsPlaced f size j × ArePlaced es size (j + made_by f)
+    IsPlaced (Method line object name es) size j = IsPlaced object size j × (Found S.code.own.constants (StrConst name.text) × ArePlaced es size (j + made_by object))
+    IsPlaced (Unary line op e) size j = IsPlaced e size j
+    IsPlaced (Binary line op e d) size j = IsPlaced e size j × IsPlaced d size (j + made_by e)
+    IsPlaced (And line e d) size j = IsPlaced e size j × IsPlaced d size (j + made_by e)
+    IsPlaced (Or line e d) size j = IsPlaced e size j × IsPlaced d size (j + made_by e)
+    IsPlaced (Paren line e) size j = IsPlaced e size j
+    IsPlaced (Table line fs) size j = FieldsArePlaced fs 0 size j
+
+    pub ArePlaced : Exps → (size j : ℕ) → Type 0
+    ArePlaced EndExps size j = Unit {0}
+    ArePlaced (MoreExps e es) size j = IsPlaced e size j × ArePlaced es size (j + made_by e)
+
+    -- the number of the items before is a field of 8 bits, and of 25 more behind
+    pub FieldsArePlaced : Fields → (items size j : ℕ) → Type 0
+    FieldsArePlaced EndFields items size j = Unit {0}
+    FieldsArePlaced (MoreFields (Item e) fs) items size j = IsPlaced e size j × ((items < 2 ^ 33) × FieldsArePlaced fs (items + 1) size (j + made_by e))
+    FieldsArePlaced (MoreFields (Keyed line e d) fs) items size j =
+        IsPlaced e size j × (IsPlaced d size (j + made_by e) × FieldsArePlaced fs items size (j + made_by e + made_by d))
+
+-- registers that the code names
+
+abbrev pub room_of_values : (field : ℕ) → ℕ
+room_of_values zero = 1
+room_of_values (suc count) = count
+
+abbrev pub room_of_nils : (above : ℕ) → Wanted → ℕ
+room_of_nils above None = 0
+room_of_nils above (Some zero) = 0
+room_of_nils above (Some (suc n)) = above + suc n
+
+module _ (cs : List Const) where
+  abbrev pub room_of_name : Place → List ℕ → ℕ
+  room_of_name (GlobalOf u) text = cond (nat_lt (number_in cs (StrConst text)) 256) 1 2
+  room_of_name _ text = 1
+
+  abbrev mutual
+    pub room_of : Exp → (field : ℕ) → ℕ
+    room_of (Vararg line) field = room_of_values field
+    room_of (Var line name) field = room_of_name name.place name.text
+    room_of (Index line object key) field = max (room_of object 2) (1 + room_of key 2)
+    room_of (Call line f es) field = max (room_of f 2) (max (room_of_list 1 es None) (room_of_values field))
+    room_of (Method line object name es) field = max (room_of object 2) (max (max 2 (room_of_list 2 es None)) (room_of_values field))
+    room_of (Unary line op e) field = room_of e 2
+    room_of (Binary line op e d) field = max (room_of e 2) (1 + room_of d 2)
+    room_of (And line e d) field = max (room_of e 2) (room_of d 2)
+    room_of (Or line e d) field = max (room_of e 2) (room_of d 2)
+    room_of (Paren line e) field = room_of e 2
+    room_of (Table line fs) field = max 1 (1 + room_of_fields fs)
+    room_of _ field = 1
+
+    -- a list that stands `above` registers higher
+    pub room_of_list : (above : ℕ) → Exps → Wanted → ℕ
+    room_of_list above EndExps wanted = room_of_nils above wanted
+    room_of_list above (MoreExps e es) wanted = max (above + room_of e (field_of e es wanted)) (room_of_list (above + 1) es (wanted_after e es wanted))
+
+    -- above the table's own register
+    pub room_of_fields : Fields → ℕ
+    room_of_fields EndFields = 0
+    room_of_fields (MoreFields (Item e) fs) = max (room_of e (cond (is_last_item e fs) 0 2)) (room_of_fields fs)
+    room_of_fields (MoreFields (Keyed line e d) fs) = max (max (room_of e 2) (1 + room_of d 2)) (room_of_fields fs)
+
+either_some : (b : Bool) → 1 ≤ cond b 1 2
+either_some true = omega arith
+either_some false = omega arith
+
+pub name_room : (cs : List Const) (place : Place) (text : List ℕ) → 1 ≤ room_of_name cs place text
+name_room cs Unset text = omega arith
+name_room cs (LocalPlace n) text = omega arith
+name_room cs (Upvalue u) text = omega arith
+name_room cs (GlobalIn n) text = omega arith
+name_room cs (GlobalOf u) text = either_some (nat_lt (number_in cs (StrConst text)) 256)
