@@ -1,0 +1,11 @@
+mod Sizes
+mod Scoped
+mod Closing
+mod Standing
+mod Labels
+mod Blocks
+mod Forms
+mod Loops
+mod Returns
+mod Values
+mod Statements

@@ -1,0 +1,90 @@
+-- What is assumed of a statement where t locals are in scope and j functions of its function are made before it: names and labels are in scope, and
+-- there are registers enough. It also says which forms are proved: for the others nothing is assumed that holds.
+use Rattle.std.proofs.Common.{◌≡◌, ℕ, ◌+◌, ◌<◌, ◌≤◌, ◌^◌, Bool, true, false, cond, ◌&&◌, ◌||◌, List, [], ◌∷◌, ◌++◌, length, Some, None}
+use Rattle.std.specs.Prelude.{nat_le, bytes_eq}
+use Rattle.tree_core.specs.Tree.{Block, Falls, Returns, Stats, EndStats, MoreStats, Stat, Empty, Local, LocalFunction, Assign, CallStat, Do, While, Repeat, If, IfElse, NumFor, NumForStep, GenFor, Label, Goto, Break, Arms, EndArms, MoreArms, Exp, Call, Method, Exps, EndExps, MoreExps}
+use Rattle.tree_activation.specs.Jumps.{are_void}
+use Rattle.code_of.specs.Expressions.{made_by, count, is_open, ends_open}
+use Rattle.code_of.specs.Levels.{made_by_stat, made_in_arms, made_in_stats, made_in_block, level_after, levels_after, levels_in, has_closed, closing_after, closings_after}
+use Rattle.exp_laws.proofs.Talking.{Setting}
+use Rattle.exp_laws.proofs.Placed.{IsPlaced, ArePlaced, room_of, room_of_list}
+use Rattle.exp_laws.proofs.Exps.{IsCovered, AreCovered}
+
+-- names that a `goto` may have: those of the labels around it, and whether it may go there without entering the scope of a local
+
+abbrev pub Named : Type 0
+Named = List ℕ × Bool
+
+abbrev pub legal : List ℕ → List Named → Bool
+legal name [] = false
+legal name (x ∷ xs) = cond (bytes_eq x.0 name) x.1 (legal name xs)
+
+-- of the labels further on, from a statement before which t locals are in scope
+abbrev pub names_ahead : Stats → (falls : Bool) → (t level : ℕ) → List Named
+names_ahead EndStats falls t level = []
+names_ahead (MoreStats (Label line name) ss) falls t level = (name.text, (falls && are_void ss) || nat_le level t) ∷ names_ahead ss falls t level
+names_ahead (MoreStats s ss) falls t level = names_ahead ss falls t (level_after s level)
+
+abbrev pub names_passed : Stat → List Named → List Named
+names_passed (Label line name) named = (name.text, true) ∷ named
+names_passed _ named = named
+
+-- one call behind `return` is in the function's place
+abbrev pub IsList : Exps → Type 0
+IsList (MoreExps (Call line f es) EndExps) = ⊥
+IsList (MoreExps (Method line object name es) EndExps) = ⊥
+IsList _ = Unit {0}
+
+module _ (S : Setting) where
+  abbrev pub IsFine : Exp → (t j : ℕ) → Type 0
+  IsFine e t j = IsCovered e × IsPlaced S e t j
+
+  abbrev pub AreFine : Exps → (t j : ℕ) → Type 0
+  AreFine es t j = AreCovered es × ArePlaced S es t j
+
+  abbrev pub ReturnIsPlaced : Exps → (closing : Bool) → (t j : ℕ) → Type 0
+  ReturnIsPlaced es closing t j = (closing ≡ false) × ((IsList es × (ends_open es ≡ false)) × (AreFine es t j × ((t + room_of_list S.code.own.constants 0 es None ≤ S.code.own.stack) × (count es + 1 < 2 ^ 8))))
+
+  abbrev mutual
+    pub StatIsPlaced : Stat → (closing : Bool) → (t j : ℕ) → List Named → (loops : Bool) → Type 0
+    StatIsPlaced (Empty line) closing t j named loops = Unit {0}
+    StatIsPlaced (Local line names es) closing t j named loops =
+        AreFine es t j × ((t + room_of_list S.code.own.constants 0 es (Some (length names)) ≤ S.code.own.stack) × ((t + length names ≤ S.code.own.stack) × ((length names + 1 < 2 ^ 8) × (has_closed names ≡ false))))
+    StatIsPlaced (LocalFunction line name body) closing t j named loops = ⊥
+    StatIsPlaced (Assign line targets es) closing t j named loops = ⊥
+    StatIsPlaced (CallStat line e) closing t j named loops = (is_open e ≡ true) × (IsFine e t j × (t + room_of S.code.own.constants e 1 ≤ S.code.own.stack))
+    StatIsPlaced (Do line block) closing t j named loops = BlockIsPlaced block closing t j named loops
+    StatIsPlaced (While line e block) closing t j named loops =
+        IsFine e t j × ((t + room_of S.code.own.constants e 2 ≤ S.code.own.stack) × BlockIsPlaced block closing t (j + made_by e) named true)
+    StatIsPlaced (Repeat line block e) closing t j named loops =
+        OpenIsPlaced block closing t j named true × (IsFine e (levels_in block t) (j + made_in_block block) × (levels_in block t + room_of S.code.own.constants e 2 ≤ S.code.own.stack))
+    StatIsPlaced (If line arms) closing t j named loops = ArmsArePlaced arms closing t j named loops
+    StatIsPlaced (IfElse line arms block) closing t j named loops = ArmsArePlaced arms closing t j named loops × BlockIsPlaced block closing t (j + made_in_arms arms) named loops
+    StatIsPlaced (NumFor line name from limit block) closing t j named loops = ⊥
+    StatIsPlaced (NumForStep line name from limit step block) closing t j named loops = ⊥
+    StatIsPlaced (GenFor line names es block) closing t j named loops = ⊥
+    StatIsPlaced (Label line name) closing t j named loops = Unit {0}
+    StatIsPlaced (Goto line name) closing t j named loops = legal name.text named ≡ true
+    StatIsPlaced (Break line) closing t j named loops = loops ≡ true
+
+    pub ArmsArePlaced : Arms → (closing : Bool) → (t j : ℕ) → List Named → (loops : Bool) → Type 0
+    ArmsArePlaced EndArms closing t j named loops = Unit {0}
+    ArmsArePlaced (MoreArms e block arms) closing t j named loops =
+        IsFine e t j × ((t + room_of S.code.own.constants e 2 ≤ S.code.own.stack)
+        × (BlockIsPlaced block closing t (j + made_by e) named loops × ArmsArePlaced arms closing t (j + made_by e + made_in_block block) named loops))
+
+    pub StatsArePlaced : Stats → (falls closing : Bool) → (t j : ℕ) → (names named : List Named) → (loops : Bool) → Type 0
+    StatsArePlaced EndStats falls closing t j names named loops = Unit {0}
+    StatsArePlaced (MoreStats s ss) falls closing t j names named loops =
+        StatIsPlaced s closing t j (names_ahead ss falls t (level_after s t) ++ (names ++ named)) loops
+        × StatsArePlaced ss falls (closing_after s closing) (level_after s t) (j + made_by_stat s) (names_passed s names) named loops
+
+    pub BlockIsPlaced : Block → (closing : Bool) → (t j : ℕ) → List Named → (loops : Bool) → Type 0
+    BlockIsPlaced (Falls ss tokens line) closing t j named loops = StatsArePlaced ss true closing t j [] named loops
+    BlockIsPlaced (Returns ss es tokens line) closing t j named loops =
+        StatsArePlaced ss false closing t j [] named loops × ReturnIsPlaced es (closings_after ss closing) (levels_after ss t) (j + made_in_stats ss)
+
+    -- the block of a `repeat`, whose labels stand in the scope of its locals
+    pub OpenIsPlaced : Block → (closing : Bool) → (t j : ℕ) → List Named → (loops : Bool) → Type 0
+    OpenIsPlaced (Falls ss tokens line) closing t j named loops = StatsArePlaced ss false closing t j [] named loops
+    OpenIsPlaced (Returns ss es tokens line) closing t j named loops = ⊥
