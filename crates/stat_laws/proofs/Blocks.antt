@@ -22,7 +22,7 @@ use Rattle.exp_laws.proofs.Placing.{HasAt, has_front, has_back}
 use Rattle.stat_laws.proofs.Closing.{AllBelow, ends_goes}
 use Rattle.stat_laws.proofs.Standing.{strong, numbers, AllFrom, from_lower, from_more, below_higher, Standing, GoesOn, goes_fewer, goes_from, part, ascends_under}
 use Rattle.stat_laws.proofs.Sizes.{stat_sized, stats_sized}
-use Rattle.stat_laws.proofs.Scoped.{Named, names_ahead, names_passed, StatIsPlaced, StatsArePlaced}
+use Rattle.stat_laws.specs.Scoped.{Named, names_ahead, names_passed, StatIsPlaced, StatsArePlaced}
 use Rattle.stat_laws.proofs.Labels.{closed_numbers, closed_after, IsNoLabel, level_rises, level_still, runs_stat, passed_other, named_other, Jumps, jumps_within, point, RunGoes, AllAhead, all_other, OnePassed, AllPassed, passed_within, rest_jumps}
 
 -- variables to be closed, behind some statements

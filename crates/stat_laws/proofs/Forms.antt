@@ -35,7 +35,7 @@ use Rattle.exp_laws.proofs.Going.{Goes, next_there}
 use Rattle.exp_laws.proofs.Tests.{test_on, test_past, jump_step}
 use Rattle.stat_laws.proofs.Closing.{AllBelow, ends_goes}
 use Rattle.stat_laws.proofs.Standing.{strong, numbers, AllFrom, from_lower, from_more, Parted, part, ascends_under, Standing, GoesOn, goes_fewer, goes_from, back_goes, lands_ahead}
-use Rattle.stat_laws.proofs.Scoped.{Named, IsFine, ArmsArePlaced, BlockIsPlaced}
+use Rattle.stat_laws.specs.Scoped.{Named, IsFine, ArmsArePlaced, BlockIsPlaced}
 use Rattle.stat_laws.proofs.Sizes.{past_sized, block_sized, arms_sized, stats_sized}
 use Rattle.stat_laws.proofs.Labels.{Jumps, jumps_within, JumpGoes}
 use Rattle.stat_laws.proofs.Blocks.{Added, added_all, added_none, levels_rise, closeds_after, StatLaw, StatsLaw, Within, Ends}

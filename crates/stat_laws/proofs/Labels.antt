@@ -23,7 +23,7 @@ use Rattle.exp_laws.proofs.Registers.{Rel}
 use Rattle.exp_laws.proofs.Talking.{Setting, Agree, go_left, of_tree, of_code}
 use Rattle.exp_laws.proofs.Placing.{HasAt}
 use Rattle.stat_laws.proofs.Closing.{AllBelow, as_tree}
-use Rattle.stat_laws.proofs.Scoped.{Named, legal, names_ahead, names_passed}
+use Rattle.stat_laws.specs.Scoped.{Named, legal, names_ahead, names_passed}
 use Rattle.stat_laws.proofs.Standing.{numbers, AllFrom, from_lower, from_more, Standing, GoesOn, lands_ahead, lands_back}
 
 -- the numbers of those variables of a declaration that are to be closed

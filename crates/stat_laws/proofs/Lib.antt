@@ -1,5 +1,4 @@
 mod Sizes
-mod Scoped
 mod Closing
 mod Standing
 mod Labels
@@ -9,3 +8,7 @@ mod Loops
 mod Returns
 mod Values
 mod Statements
+mod Lines
+mod Raised
+mod Whole
+mod Example

@@ -24,7 +24,7 @@ use Rattle.exp_laws.proofs.Talking.{Setting, Agree, go_left, of_tree, of_code}
 use Rattle.exp_laws.proofs.Placing.{HasAt, has_front, has_back}
 use Rattle.stat_laws.proofs.Closing.{AllBelow, GoesLeft, ends_goes}
 use Rattle.stat_laws.proofs.Standing.{strong, numbers, AllFrom, from_lower, Parted, part, ascends_under, Standing, GoesOn, goes_fewer, back_goes}
-use Rattle.stat_laws.proofs.Scoped.{IsFine}
+use Rattle.stat_laws.specs.Scoped.{IsFine}
 use Rattle.stat_laws.proofs.Sizes.{close_sized, stats_sized}
 use Rattle.stat_laws.proofs.Labels.{Jumps, jumps_within}
 use Rattle.stat_laws.proofs.Blocks.{Added, added_all, added_none, levels_rise, closeds_after, StatLaw, StatsLaw}

@@ -10,7 +10,7 @@ use Rattle.tree_activation.specs.Work as tree
 use Rattle.tree_activation.specs.Asking.{go}
 use Rattle.tree_activation.specs.Activation.{step}
 use Rattle.tree_activation.specs.Statements.{begins_return}
-use Rattle.code_core.specs.declared.opcode.Opcode.TheVariants.{Return}
+use Rattle.code_core.specs.declared.opcode.Opcode.TheVariants.{OpSelf, TailCall, Return}
 use Rattle.code_core.specs.Instruction.{abc, a_of, b_of}
 use Rattle.code_core.specs.Check.{at}
 use Rattle.code_core.specs.declared.proto.Const.{Const}
@@ -25,7 +25,9 @@ use Rattle.machine_core.specs.Talk as code
 use Rattle.machine_core.specs.Talk.{talk, talk_step, says_so, before, amid}
 use Rattle.machine_join.proofs.Lists.{append_nil, eq_not, lt_not}
 use Rattle.code_of.specs.Coded.{Coded, with_abc}
-use Rattle.code_of.specs.Expressions.{count, is_last_open, ends_open, list_field, one_less, exps_code}
+use Rattle.code_of.specs.Expressions.{made_by, count, is_last_open, ends_open, list_field, one_less, exp_code, exps_code}
+use Rattle.code_of.specs.Constants.{loads}
+use Rattle.code_core.specs.declared.proto.Const.TheVariants.{Str as StrConst}
 use Rattle.code_of.specs.Jumps.{Reach}
 use Rattle.code_of.specs.Levels.{level_after, levels_after, closing_after, closings_after, made_in_stats}
 use Rattle.code_of.specs.Parts.{values_last, return_code}
@@ -42,7 +44,7 @@ use Rattle.exp_laws.proofs.Exps.{AreCovered, exps_same}
 use Rattle.exp_laws.proofs.Steps.{row_step, own_step}
 use Rattle.stat_laws.proofs.Closing.{AllBelow}
 use Rattle.stat_laws.proofs.Standing.{numbers, Standing, GoesOn}
-use Rattle.stat_laws.proofs.Scoped.{IsList, AreFine, ReturnIsPlaced}
+use Rattle.stat_laws.specs.Scoped.{IsList, AreFine, ReturnIsPlaced}
 use Rattle.stat_laws.proofs.Sizes.{stats_sized}
 use Rattle.stat_laws.proofs.Labels.{closed_after}
 use Rattle.stat_laws.proofs.Blocks.{closeds_after, known_after, added_none, StatsLaw}
@@ -61,7 +63,7 @@ drop_front : (xs ys : List Value) → drop (length xs) (xs ++ ys) ≡ ys
 drop_front [] ys = refl
 drop_front (x ∷ xs) ys = drop_front xs ys
 
-no_numbers : (ps : List Pending) → numbers ps ≡ [] → ps ≡ []
+pub no_numbers : (ps : List Pending) → numbers ps ≡ [] → ps ≡ []
 no_numbers [] e = refl
 no_numbers (p ∷ ps) e = absurd (cc)
 
@@ -108,7 +110,7 @@ begins_list (MoreExps (Table l fs) (MoreExps d es)) line a k is = refl
 begins_list (MoreExps (Call l f args) (MoreExps d es)) line a k is = refl
 begins_list (MoreExps (Method l o name args) (MoreExps d es)) line a k is = refl
 
-code_list : (cs : List Const) (es : Exps) (t j line back : ℕ) → IsList es → return_code cs false es t j line back ≡ values_last cs es t j line back
+pub code_list : (cs : List Const) (es : Exps) (t j line back : ℕ) → IsList es → return_code cs false es t j line back ≡ values_last cs es t j line back
 code_list cs EndExps t j line back is = refl
 code_list cs (MoreExps (Nil l) EndExps) t j line back is = refl
 code_list cs (MoreExps (True l) EndExps) t j line back is = refl
@@ -145,6 +147,60 @@ code_list cs (MoreExps (Table l fs) (MoreExps d es)) t j line back is = refl
 code_list cs (MoreExps (Call l f args) (MoreExps d es)) t j line back is = refl
 code_list cs (MoreExps (Method l o name args) (MoreExps d es)) t j line back is = refl
 
+last_some : (cs : List Const) (es : Exps) (t j line back : ℕ) → 1 ≤ length (values_last cs es t j line back)
+last_some cs es t j line back = let sum = length-append (exps_code cs es None t j line) (with_abc Return t (list_field 0 es) back line ∷ []) in omega (arith, sum)
+
+-- a `return` has an instruction at least
+pub return_some : (cs : List Const) (closing : Bool) (es : Exps) (t j line back : ℕ) → 1 ≤ length (return_code cs closing es t j line back)
+return_some cs false (MoreExps (Call l f es) EndExps) t j line back =
+    let a = exp_code cs f t j 2 in
+    let b = exps_code cs es None (t + 1) (j + made_by f) l in
+    let last = with_abc TailCall t (list_field 0 es) 0 l ∷ with_abc Return t 0 back l ∷ [] in
+    let one = length-append a (b ++ last) in
+    let two = length-append b last in
+    omega (arith, one, two)
+return_some cs false (MoreExps (Method l o name es) EndExps) t j line back =
+    let a = exp_code cs o t j 2 in
+    let b = loads cs (StrConst name.text) (t + 1) l in
+    let rest = with_abc OpSelf t t (t + 1) l ∷ (exps_code cs es None (t + 2) (j + made_by o) l ++ (with_abc TailCall t (list_field 1 es) 0 l ∷ with_abc Return t 0 back l ∷ [])) in
+    let one = length-append a (b ++ rest) in
+    let two = length-append b rest in
+    omega (arith, one, two)
+return_some cs false EndExps t j line back = last_some cs EndExps t j line back
+return_some cs false (MoreExps (Nil l) EndExps) t j line back = last_some cs (MoreExps (Nil l) EndExps) t j line back
+return_some cs false (MoreExps (True l) EndExps) t j line back = last_some cs (MoreExps (True l) EndExps) t j line back
+return_some cs false (MoreExps (False l) EndExps) t j line back = last_some cs (MoreExps (False l) EndExps) t j line back
+return_some cs false (MoreExps (Int l z) EndExps) t j line back = last_some cs (MoreExps (Int l z) EndExps) t j line back
+return_some cs false (MoreExps (Str l bytes) EndExps) t j line back = last_some cs (MoreExps (Str l bytes) EndExps) t j line back
+return_some cs false (MoreExps (Vararg l) EndExps) t j line back = last_some cs (MoreExps (Vararg l) EndExps) t j line back
+return_some cs false (MoreExps (Function l body) EndExps) t j line back = last_some cs (MoreExps (Function l body) EndExps) t j line back
+return_some cs false (MoreExps (Var l name) EndExps) t j line back = last_some cs (MoreExps (Var l name) EndExps) t j line back
+return_some cs false (MoreExps (Index l o key) EndExps) t j line back = last_some cs (MoreExps (Index l o key) EndExps) t j line back
+return_some cs false (MoreExps (Unary l op x) EndExps) t j line back = last_some cs (MoreExps (Unary l op x) EndExps) t j line back
+return_some cs false (MoreExps (Binary l op x y) EndExps) t j line back = last_some cs (MoreExps (Binary l op x y) EndExps) t j line back
+return_some cs false (MoreExps (And l x y) EndExps) t j line back = last_some cs (MoreExps (And l x y) EndExps) t j line back
+return_some cs false (MoreExps (Or l x y) EndExps) t j line back = last_some cs (MoreExps (Or l x y) EndExps) t j line back
+return_some cs false (MoreExps (Paren l x) EndExps) t j line back = last_some cs (MoreExps (Paren l x) EndExps) t j line back
+return_some cs false (MoreExps (Table l fs) EndExps) t j line back = last_some cs (MoreExps (Table l fs) EndExps) t j line back
+return_some cs false (MoreExps (Nil l) (MoreExps d es)) t j line back = last_some cs (MoreExps (Nil l) (MoreExps d es)) t j line back
+return_some cs false (MoreExps (True l) (MoreExps d es)) t j line back = last_some cs (MoreExps (True l) (MoreExps d es)) t j line back
+return_some cs false (MoreExps (False l) (MoreExps d es)) t j line back = last_some cs (MoreExps (False l) (MoreExps d es)) t j line back
+return_some cs false (MoreExps (Int l z) (MoreExps d es)) t j line back = last_some cs (MoreExps (Int l z) (MoreExps d es)) t j line back
+return_some cs false (MoreExps (Str l bytes) (MoreExps d es)) t j line back = last_some cs (MoreExps (Str l bytes) (MoreExps d es)) t j line back
+return_some cs false (MoreExps (Vararg l) (MoreExps d es)) t j line back = last_some cs (MoreExps (Vararg l) (MoreExps d es)) t j line back
+return_some cs false (MoreExps (Function l body) (MoreExps d es)) t j line back = last_some cs (MoreExps (Function l body) (MoreExps d es)) t j line back
+return_some cs false (MoreExps (Var l name) (MoreExps d es)) t j line back = last_some cs (MoreExps (Var l name) (MoreExps d es)) t j line back
+return_some cs false (MoreExps (Index l o key) (MoreExps d es)) t j line back = last_some cs (MoreExps (Index l o key) (MoreExps d es)) t j line back
+return_some cs false (MoreExps (Unary l op x) (MoreExps d es)) t j line back = last_some cs (MoreExps (Unary l op x) (MoreExps d es)) t j line back
+return_some cs false (MoreExps (Binary l op x y) (MoreExps d es)) t j line back = last_some cs (MoreExps (Binary l op x y) (MoreExps d es)) t j line back
+return_some cs false (MoreExps (And l x y) (MoreExps d es)) t j line back = last_some cs (MoreExps (And l x y) (MoreExps d es)) t j line back
+return_some cs false (MoreExps (Or l x y) (MoreExps d es)) t j line back = last_some cs (MoreExps (Or l x y) (MoreExps d es)) t j line back
+return_some cs false (MoreExps (Paren l x) (MoreExps d es)) t j line back = last_some cs (MoreExps (Paren l x) (MoreExps d es)) t j line back
+return_some cs false (MoreExps (Table l fs) (MoreExps d es)) t j line back = last_some cs (MoreExps (Table l fs) (MoreExps d es)) t j line back
+return_some cs false (MoreExps (Call l f args) (MoreExps d es)) t j line back = last_some cs (MoreExps (Call l f args) (MoreExps d es)) t j line back
+return_some cs false (MoreExps (Method l o name args) (MoreExps d es)) t j line back = last_some cs (MoreExps (Method l o name args) (MoreExps d es)) t j line back
+return_some cs true es t j line back = last_some cs es t j line back
+
 behind_within : (from m size : ℕ) → from + m ≤ size → behind from m ≤ size
 behind_within from zero size h = omega arith
 behind_within from (suc m) size h = h
@@ -169,19 +225,25 @@ module _ (S : Setting) where
       let rest = subst (λ w. above + 1 + count es ≤ max (above + 1) (room_of_list S.code.own.constants (above + 1) es w)) (sym (wanted_none (is_last_open e es))) (count_room es (above + 1)) in
       omega (arith, some, rest)
 
+  -- an activation that has left its scopes ends with values
+  pub finishes_goes : (n line pc opened : ℕ) (vs env regs : List Value) (c : Captured) (k : List Work) (t : code.State) → Rel S.code.own.stack [] env c regs → line_of S.code pc ≡ cond S.lines (Some line) None
+      → talk_step S.code t ≡ says_so (leaves (returns vs)) S.code (of_code S [] pc regs opened) c (λ x b d. amid text.trap [] b d)
+      → Agree S n (tree.at (finish line (returns vs)) (of_tree S [] [] (record { held = held_below 0 c.held; gone = gone_from 0 c.held env ++ c.gone })) k) t
+  finishes_goes zero line pc opened vs env regs c k t rel lined e = tt
+  finishes_goes (suc n) line pc opened vs env regs c k t rel lined e =
+      both_ask S n _ t (leaves (returns vs)) (leaves (returns vs)) line _ _ _ _ _ refl e refl refl lined
+      (ap (λ h. shared_by h [] ++ (gone_from 0 c.held env ++ c.gone)) (held_zero c.held) ∙ ap (λ g. g ++ c.gone) (gone_zero c.held env ∙ held_same S.code.own.stack [] env c regs rel))
+      (λ x fits. absurd fits.reply)
+
   -- leaving with values, on both sides
   leaves_goes : (n line pc opened : ℕ) (vs env regs : List Value) (c : Captured) (k : List Work) (t : code.State) → Rel S.code.own.stack [] env c regs → line_of S.code pc ≡ cond S.lines (Some line) None
       → talk_step S.code t ≡ says_so (leaves (returns vs)) S.code (of_code S [] pc regs opened) c (λ x b d. amid text.trap [] b d)
       → Agree S n (tree.at (leave_scope 0 line (known nil) (finish line (returns vs))) (of_tree S [] env c) k) t
-  leaves_goes zero line pc opened vs env regs c k t rel lined e = tt
-  leaves_goes (suc n) line pc opened vs env regs c k t rel lined e =
-      go_left S (suc n) _ (tree.at (finish line (returns vs)) (record { celling = tree.when_captured; locals = []; varargs = S.varargs; pending = []; captured = record { held = held_below 0 c.held; gone = gone_from 0 c.held env ++ c.gone } }) k) _ refl
-      (both_ask S n _ t (leaves (returns vs)) (leaves (returns vs)) line _ _ _ _ _ refl e refl refl lined
-      (ap (λ h. shared_by h [] ++ (gone_from 0 c.held env ++ c.gone)) (held_zero c.held) ∙ ap (λ g. g ++ c.gone) (gone_zero c.held env ∙ held_same S.code.own.stack [] env c regs rel))
-      (λ x fits. absurd fits.reply))
+  leaves_goes n line pc opened vs env regs c k t rel lined e =
+      go_left S n _ (tree.at (finish line (returns vs)) (of_tree S [] [] (record { held = held_below 0 c.held; gone = gone_from 0 c.held env ++ c.gone })) k) _ refl (finishes_goes n line pc opened vs env regs c k t rel lined e)
 
   -- RETURN of so many registers
-  return_step : (t m back pc opened : ℕ) (vs regs : List Value) (c : Captured) → at S.code pc ≡ Some (abc Return t (suc m) back false) → t < 2 ^ 8 → suc m < 2 ^ 8 → length vs ≡ m → t + m ≤ length regs → Holds t (length vs) vs regs
+  pub return_step : (t m back pc opened : ℕ) (vs regs : List Value) (c : Captured) → at S.code pc ≡ Some (abc Return t (suc m) back false) → t < 2 ^ 8 → suc m < 2 ^ 8 → length vs ≡ m → t + m ≤ length regs → Holds t (length vs) vs regs
       → talk_step S.code (before (of_code S [] pc regs opened) c) ≡ says_so (leaves (returns vs)) S.code (of_code S [] pc regs opened) c (λ x b d. amid text.trap [] b d)
   return_step t m back pc opened vs regs c here small few size width held =
       let a = of_code S [] pc regs opened in
@@ -238,12 +300,42 @@ module _ (S : Setting) where
             (leaves_goes n line (pc + length code) opened1 vs env1 regs1 c1 [] _ rel1 at_last.1.0
             (return_step t (count es) back (pc + length code) opened1 vs regs1 c1 at_last.0 (omega (arith, size1, rel1.fits, S.small)) (omega (arith, few)) wide (omega (arith, size1, rel1.fits, rel1.room, count_fits, room)) h.1)))
 
+    -- the end of statements, where `return` stands
+    pub return_ends : (ss : Stats) (es : Exps) (line n : ℕ) (closing : Bool) (closed : List ℕ) (outer t j pc : ℕ) (reach : Reach) (k : List Work) → n ≤ S.bound
+        → HasAt S pc (stats_code S.code.own.constants back ss false closing outer t j pc [] reach ++ return_code S.code.own.constants (closings_after ss closing) es (levels_after ss t) (j + made_in_stats ss) line back)
+        → ReturnIsPlaced S es (closings_after ss closing) (levels_after ss t) (j + made_in_stats ss)
+        → pc + (stats_size S.code.own.constants back ss closing t j + length (return_code S.code.own.constants (closings_after ss closing) es (levels_after ss t) (j + made_in_stats ss) line back)) ≤ length S.code.own.code
+        → (closing ≡ false → closed ≡ []) → (labels : List Passed)
+        → GoesOn S n (levels_after ss t) (closeds_after ss t closed) (run (record { rest = EndStats; ending = returns_list line es; level = outer; labels = labels })) k (pc + stats_size S.code.own.constants back ss closing t j)
+    return_ends ss es line n closing closed outer t j pc reach k fewer has placed inside plain labels m le ps env regs c opened st =
+        let none = no_numbers ps (st.numbered ∙ known_all ss t closing closed plain placed.0) in
+        let wide = ap length last_is in
+        subst (λ qs. Agree S m (tree.at (run (record { rest = EndStats; ending = returns_list line es; level = outer; labels = labels })) (of_tree S qs env c) k) (before (of_code S qs (pc + size) regs opened) c)) (sym none)
+        (go_left S m _ (tree.at (collect (for_return line) [] es) (of_tree S [] env c) k) _ (begins_list es line (of_tree S [] env c) k placed.1.0.0)
+        (list_returns es m (levels_after ss t) (j + made_in_stats ss) line (pc + size) opened env regs c k (omega (arith, fewer, le)) at_last placed.1.0.1 placed.1.1.0 placed.1.1.1.0 placed.1.1.1.1 (omega (arith, inside, wide)) st.size
+        (subst (λ qs. Rel S.code.own.stack qs env c regs) none st.rel)))
+      where
+        code : List Coded
+        code = stats_code S.code.own.constants back ss false closing outer t j pc [] reach
+
+        last : List Coded
+        last = return_code S.code.own.constants (closings_after ss closing) es (levels_after ss t) (j + made_in_stats ss) line back
+
+        size : ℕ
+        size = stats_size S.code.own.constants back ss closing t j
+
+        last_is : return_code S.code.own.constants (closings_after ss closing) es (levels_after ss t) (j + made_in_stats ss) line back ≡ values_last S.code.own.constants es (levels_after ss t) (j + made_in_stats ss) line back
+        last_is = ap (λ b. return_code S.code.own.constants b es (levels_after ss t) (j + made_in_stats ss) line back) placed.0 ∙ code_list S.code.own.constants es (levels_after ss t) (j + made_in_stats ss) line back placed.1.0.0
+
+        at_last : HasAt S (pc + size) (values_last S.code.own.constants es (levels_after ss t) (j + made_in_stats ss) line back)
+        at_last = subst (HasAt S (pc + size)) last_is (subst (λ q. HasAt S (pc + q) last) (stats_sized S.code.own.constants back ss false closing outer t j pc [] reach) (has_back S pc code last has))
+
     -- a block that ends by `return`
     pub returns_goes : (ss : Stats) (es : Exps) (tokens line : ℕ) → ((outer : ℕ) (closed : List ℕ) (k : List Work) → StatsLaw S back (returns_list line es) false outer closed k (λ ss. refl) ss) → BlockLaw S back (Returns ss es tokens line)
     returns_goes ss es tokens line law n closing closed outer t j pc named loops reach k fewer has placed inside under outer_low plain jumps done =
         (law outer closed k n pc (pc + block_size S.code.own.constants back (Returns ss es tokens line) closing outer t j) closing closed t j pc [] [] [] named loops reach (record {
           fewer = fewer;
-          has = has_front S pc code last has;
+          has = has_front S pc (stats_code S.code.own.constants back ss false closing outer t j pc [] reach) (return_code S.code.own.constants (closings_after ss closing) es (levels_after ss t) (j + made_in_stats ss) line back) has;
           placed = placed.0;
           from = omega arith;
           to = omega arith;
@@ -255,35 +347,5 @@ module _ (S : Setting) where
           under = below_level S back closed outer t under outer_low;
           outer_low = outer_low;
           known = plain;
-          ends = record { full = full; low = λ is. absurd (cc) };
+          ends = record { full = return_ends ss es line n closing closed outer t j pc reach k fewer has placed.1 (omega (arith, inside)) plain; low = λ is. absurd (cc) };
         })).0
-      where
-        level : ℕ
-        level = levels_after ss t
-
-        i : ℕ
-        i = j + made_in_stats ss
-
-        code : List Coded
-        code = stats_code S.code.own.constants back ss false closing outer t j pc [] reach
-
-        last : List Coded
-        last = return_code S.code.own.constants (closings_after ss closing) es (levels_after ss t) (j + made_in_stats ss) line back
-
-        size : ℕ
-        size = stats_size S.code.own.constants back ss closing t j
-
-        last_is : return_code S.code.own.constants (closings_after ss closing) es (levels_after ss t) (j + made_in_stats ss) line back ≡ values_last S.code.own.constants es (levels_after ss t) (j + made_in_stats ss) line back
-        last_is = ap (λ b. return_code S.code.own.constants b es (levels_after ss t) (j + made_in_stats ss) line back) placed.1.0 ∙ code_list S.code.own.constants es (levels_after ss t) (j + made_in_stats ss) line back placed.1.1.0.0
-
-        at_last : HasAt S (pc + size) (values_last S.code.own.constants es (levels_after ss t) (j + made_in_stats ss) line back)
-        at_last = subst (HasAt S (pc + size)) last_is (subst (λ q. HasAt S (pc + q) last) (stats_sized S.code.own.constants back ss false closing outer t j pc [] reach) (has_back S pc code last has))
-
-        full : (labels : List Passed) → GoesOn S n (levels_after ss t) (closeds_after ss t closed) (run (record { rest = EndStats; ending = returns_list line es; level = outer; labels = labels })) k (pc + size)
-        full labels m le ps env regs c opened st =
-            let none = no_numbers ps (st.numbered ∙ known_all ss t closing closed plain placed.1.0) in
-            let wide = ap length last_is in
-            subst (λ qs. Agree S m (tree.at (run (record { rest = EndStats; ending = returns_list line es; level = outer; labels = labels })) (of_tree S qs env c) k) (before (of_code S qs (pc + size) regs opened) c)) (sym none)
-            (go_left S m _ (tree.at (collect (for_return line) [] es) (of_tree S [] env c) k) _ (begins_list es line (of_tree S [] env c) k placed.1.1.0.0)
-            (list_returns es m (levels_after ss t) (j + made_in_stats ss) line (pc + size) opened env regs c k (omega (arith, fewer, le)) at_last placed.1.1.0.1 placed.1.1.1.0 placed.1.1.1.1.0 placed.1.1.1.1.1 (omega (arith, inside, wide)) st.size
-            (subst (λ qs. Rel S.code.own.stack qs env c regs) none st.rel)))

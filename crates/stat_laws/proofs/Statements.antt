@@ -5,7 +5,7 @@ use Rattle.tree_activation.specs.Work.{Work, End}
 use Rattle.tree_activation.specs.Jumps.{are_void, is_at_end}
 use Rattle.exp_laws.proofs.Talking.{Setting}
 use Rattle.exp_laws.proofs.Exps.{exp_same}
-use Rattle.stat_laws.proofs.Scoped.{Named, StatIsPlaced}
+use Rattle.stat_laws.specs.Scoped.{Named, StatIsPlaced}
 use Rattle.stat_laws.proofs.Blocks.{StatLaw, StatsLaw, none_goes, label_goes, more_goes}
 use Rattle.stat_laws.proofs.Forms.{ExpLaw, BlockLaw, falls_goes, do_goes, goto_goes, break_goes, empty_stat_goes, label_stat_goes, while_goes, ArmsLaw, no_arms_goes, more_arms_goes, if_goes, if_else_goes}
 use Rattle.stat_laws.proofs.Loops.{repeat_goes}
