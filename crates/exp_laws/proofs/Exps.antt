@@ -1,10 +1,10 @@
 -- The code of an expression talks as the expression does. The work below is any work, and code goes on by a hypothesis.
-use Rattle.std.proofs.Common.{◌≡◌, ℕ, ◌+◌, ◌<◌, ◌≤◌, ◌^◌, lit<, max, Bool, true, false, zero, suc, Option, Some, None, List, [], ◌∷◌, ◌++◌, length, cond, refl, ap, sym, ◌∙◌, subst, arith, length-append}
+use Rattle.std.proofs.Common.{◌≡◌, ℕ, ◌+◌, ◌-◌, ◌<◌, ◌≤◌, ◌^◌, lit<, max, Bool, true, false, zero, suc, Option, Some, None, List, [], ◌∷◌, ◌++◌, length, cond, refl, ap, sym, ◌∙◌, subst, arith, length-append}
 use Rattle.int_core.specs.Value.{Value, same_truth, known, nil, boolean, string, nth, write, shape, holds}
 use Rattle.machine_join.proofs.Lists.{nth_write_same, nth_write_other}
 use Rattle.int_core.specs.Ask.{Captured, goes_on}
 use Rattle.tree_core.specs.Tree.{Exp, Nil, True, False, Int, Str, Vararg, Function, Var, Index, Call, Method, Unary, Binary, And, Or, Paren, Table, Exps, EndExps, MoreExps}
-use Rattle.tree_activation.specs.Work.{Purpose, for_call, evaluate, give, collect, callee_of, method_of, listed, Work, Pending, key_of, object_of, operand_of, right_of, left_of, and_right, or_right, first_only}
+use Rattle.tree_activation.specs.Work.{Purpose, for_call, evaluate, give, collect, construct, item_of, keyed_value, keyed_store, callee_of, method_of, listed, Work, Pending, key_of, object_of, operand_of, right_of, left_of, and_right, or_right, first_only}
 use Rattle.tree_activation.specs.Work as tree
 use Rattle.tree_activation.specs.Activation.{takes_all}
 use Rattle.tree_activation.specs.Asking.{first}
@@ -69,24 +69,6 @@ room_some cs (Or line e d) = let h = room_some cs e in omega (arith, h)
 room_some cs (Paren line e) = room_some cs e
 room_some cs (Table line fs) = omega arith
 
--- all forms but constructors
-abbrev mutual
-  pub IsCovered : Exp → Type 0
-  IsCovered (Index line object key) = IsCovered object × IsCovered key
-  IsCovered (Call line f es) = IsCovered f × AreCovered es
-  IsCovered (Method line object name es) = IsCovered object × AreCovered es
-  IsCovered (Unary line op e) = IsCovered e
-  IsCovered (Binary line op e d) = IsCovered e × IsCovered d
-  IsCovered (And line e d) = IsCovered e × IsCovered d
-  IsCovered (Or line e d) = IsCovered e × IsCovered d
-  IsCovered (Paren line e) = IsCovered e
-  IsCovered (Table line fs) = ⊥
-  IsCovered _ = Unit {0}
-
-  pub AreCovered : Exps → Type 0
-  AreCovered EndExps = Unit {0}
-  AreCovered (MoreExps e es) = IsCovered e × AreCovered es
-
 -- each value of a list that is not open has its register
 room_count : (cs : List Const) (above : ℕ) (es : Exps) → ends_open es ≡ false → above + count es ≤ max above (room_of_list cs above es None)
 room_count cs above EndExps e = omega arith
@@ -103,6 +85,19 @@ room_count cs above (MoreExps d (MoreExps f es)) e =
 open_some : (es : Exps) → ends_open es ≡ true → 1 ≤ count es
 open_some EndExps e = absurd (cc)
 open_some (MoreExps d es) e = omega arith
+
+-- all values of the last expression count, or each expression gives one and so many are wanted
+abbrev pub Counted : (all : Bool) → Wanted → Exps → Type 0
+Counted true wanted es = Unit {0}
+Counted false wanted es = wanted ≡ Some (count es)
+
+counted_less : (all : Bool) (wanted : Wanted) (e : Exp) (es : Exps) → Counted all wanted (MoreExps e es) → Counted all (one_less wanted) es
+counted_less true wanted e es h = tt
+counted_less false wanted e es h = let one : suc (count es) - 1 ≡ count es = omega arith in ap one_less h ∙ ap Some one
+
+one_added : (all : Bool) (have vs : List Value) → vs ≡ first vs ∷ [] → cond all (have ++ vs) (have ++ first vs ∷ []) ≡ have ++ first vs ∷ []
+one_added true have vs e = ap (λ l. have ++ l) e
+one_added false have vs e = refl
 
 -- what is wanted of a list has a field of 8 bits
 abbrev pub WantedFits : Wanted → Type 0
@@ -152,7 +147,7 @@ module _ (S : Setting) (pending : List Pending) where
   abbrev AllSame : Exp → Type 0
   AllSame e =
       (field t j n pc opened : ℕ) (env regs : List Value) (c : Captured) (k : List Work)
-      → n ≤ S.bound → HasAt S pc (exp_code S.code.own.constants e t j field) → field < 2 ^ 8 → IsCovered e → IsPlaced S e (length env) j → pc + length (exp_code S.code.own.constants e t j field) < length S.code.own.code
+      → n ≤ S.bound → HasAt S pc (exp_code S.code.own.constants e t j field) → field < 2 ^ 8 → IsPlaced S e (length env) j → pc + length (exp_code S.code.own.constants e t j field) < length S.code.own.code
       → length env ≤ t → t + room_of S.code.own.constants e field ≤ S.code.own.stack → Rel S.code.own.stack pending env c regs
       → GoesBy n e field t env regs (pc + length (exp_code S.code.own.constants e t j field)) k
       → Agree S n (tree.at (evaluate e) (of_tree S pending env c) k) (before (of_code S pending pc regs opened) c)
@@ -160,20 +155,20 @@ module _ (S : Setting) (pending : List Pending) where
   abbrev pub ExpSame : Exp → Type 0
   ExpSame e =
       (t j n pc opened : ℕ) (env regs : List Value) (c : Captured) (k : List Work)
-      → n ≤ S.bound → HasAt S pc (exp_code S.code.own.constants e t j 2) → IsCovered e → IsPlaced S e (length env) j → pc + length (exp_code S.code.own.constants e t j 2) < length S.code.own.code
+      → n ≤ S.bound → HasAt S pc (exp_code S.code.own.constants e t j 2) → IsPlaced S e (length env) j → pc + length (exp_code S.code.own.constants e t j 2) < length S.code.own.code
       → length env ≤ t → t + room_of S.code.own.constants e 2 ≤ S.code.own.stack → Rel S.code.own.stack pending env c regs
       → Goes S pending n (is_open e) t env regs (pc + length (exp_code S.code.own.constants e t j 2)) k
       → Agree S n (tree.at (evaluate e) (of_tree S pending env c) k) (before (of_code S pending pc regs opened) c)
 
   one_same : (e : Exp) → AllSame e → ExpSame e
-  one_same e all t j n pc opened env regs c k bound has cov ok inside le room rel goes =
-      all 2 t j n pc opened env regs c k bound has (lit< tt) cov ok inside le room rel
+  one_same e all t j n pc opened env regs c k bound has ok inside le room rel goes =
+      all 2 t j n pc opened env regs c k bound has (lit< tt) ok inside le room rel
       (first_by n e t env regs (pc + length (exp_code S.code.own.constants e t j 2)) k goes)
 
   abbrev pub ListSame : Exps → Type 0
   ListSame es =
       (purpose : Purpose) (wanted : Wanted) (base above j line n pc opened : ℕ) (have env regs : List Value) (c : Captured) (k : List Work)
-      → n ≤ S.bound → takes_all purpose ≡ true → HasAt S pc (exps_code S.code.own.constants es wanted (base + above) j line) → WantedFits wanted → AreCovered es → ArePlaced S es (length env) j
+      → n ≤ S.bound → Counted (takes_all purpose) wanted es → HasAt S pc (exps_code S.code.own.constants es wanted (base + above) j line) → WantedFits wanted → ArePlaced S es (length env) j
       → pc + length (exps_code S.code.own.constants es wanted (base + above) j line) < length S.code.own.code → length have ≡ above → Holds base above have regs
       → length env ≤ base → base + above ≤ S.code.own.stack → base + room_of_list S.code.own.constants above es wanted ≤ S.code.own.stack → Rel S.code.own.stack pending env c regs
       → GoesListed S pending n (total wanted above) (ends_open es) (above + count es) purpose base env regs (pc + length (exps_code S.code.own.constants es wanted (base + above) j line)) k
@@ -189,17 +184,17 @@ module _ (S : Setting) (pending : List Pending) where
 
   -- an expression has given a value, which joins the list; the rest follows
   one_more : (es : Exps) → ListSame es → (purpose : Purpose) (wanted : Wanted) (base above j line n pc opened : ℕ) (have vs env regs env1 regs1 : List Value) (c1 : Captured) (k : List Work)
-      → n ≤ S.bound → takes_all purpose ≡ true → HasAt S pc (exps_code S.code.own.constants es (one_less wanted) (base + above + 1) j line) → WantedFits wanted → AreCovered es → ArePlaced S es (length env) j
+      → n ≤ S.bound → Counted (takes_all purpose) (one_less wanted) es → HasAt S pc (exps_code S.code.own.constants es (one_less wanted) (base + above + 1) j line) → WantedFits wanted → ArePlaced S es (length env) j
       → pc + length (exps_code S.code.own.constants es (one_less wanted) (base + above + 1) j line) < length S.code.own.code → length have ≡ above → Holds base above have regs
       → length env ≤ base → base + above + 1 ≤ S.code.own.stack → base + room_of_list S.code.own.constants (above + 1) es (one_less wanted) ≤ S.code.own.stack
       → After S.code.own.stack pending env regs (base + above) env1 regs1 c1 → nth regs1 (base + above) ≡ first vs
       → GoesListed S pending n (total wanted above) (ends_open es) (above + suc (count es)) purpose base env regs (pc + length (exps_code S.code.own.constants es (one_less wanted) (base + above + 1) j line)) k
       → Agree S n (tree.at (collect purpose (have ++ first vs ∷ []) es) (of_tree S pending env1 c1) k) (before (of_code S pending pc regs1 opened) c1)
-  one_more es rest purpose wanted base above j line n pc opened have vs env regs env1 regs1 c1 k bound all has wf cov ok inside size held le below room af eq goes =
+  one_more es rest purpose wanted base above j line n pc opened have vs env regs env1 regs1 c1 k bound all has wf ok inside size held le below room af eq goes =
       let at : base + above + 1 ≡ base + (above + 1) = omega arith in
       let sum = length-append have (first vs ∷ []) in
       rest purpose (one_less wanted) base (above + 1) j line n pc opened (have ++ first vs ∷ []) env1 regs1 c1 k bound all
-      (subst (λ r. HasAt S pc (exps_code S.code.own.constants es (one_less wanted) r j line)) at has) (less_fits wanted wf) cov (placed_all es _ _ _ af.size ok)
+      (subst (λ r. HasAt S pc (exps_code S.code.own.constants es (one_less wanted) r j line)) at has) (less_fits wanted wf) (placed_all es _ _ _ af.size ok)
       (subst (λ r. pc + length (exps_code S.code.own.constants es (one_less wanted) r j line) < length S.code.own.code) at inside) (omega (arith, sum, size))
       (held_both base above 1 have (first vs ∷ []) regs1 size (λ i lt. af.keeps (base + i) (omega (arith, le)) (omega (arith, lt)) ∙ held i lt) (λ i lt. only i lt))
       (omega (arith, le, af.size)) (omega (arith, below)) room af.rel
@@ -233,13 +228,28 @@ module _ (S : Setting) (pending : List Pending) where
       goes (have ++ vs) env1 regs1 c1 opened (lower S.code.own.stack pending env regs env1 regs1 c1 (base + above) base (omega arith) af)
       (held_both base above m have vs regs1 size (λ i lt. af.keeps (base + i) (omega (arith, le)) (omega (arith, lt)) ∙ held i lt) (subst (λ z. Filled S z pc (base + above) vs regs1 opened) one filled))
 
-  field_fits : (many : Bool) (wanted : Wanted) → WantedFits wanted → cond many (results_field wanted) 2 < 2 ^ 8
-  field_fits true wanted h = results_fit wanted h
-  field_fits false wanted h = lit< tt
-
   held_one : (t : ℕ) (v : Value) (regs : List Value) → nth regs t ≡ v → Holds t 1 (v ∷ []) regs
   held_one t v regs e zero lt = let here : t + 0 ≡ t = omega arith in ap (nth regs) here ∙ e
   held_one t v regs e (suc i) lt = absurd (omega arith)
+
+  -- the last expression of a list is a call or `...`
+  open_last : (all : Bool) (e : Exp) (purpose : Purpose) (wanted : Wanted) (base above n pc opened : ℕ) (have vs env regs env1 regs1 : List Value) (c1 : Captured) (k : List Work) → takes_all purpose ≡ all → Counted all wanted (MoreExps e EndExps)
+      → length have ≡ above → Holds base above have regs → length env ≤ base → After S.code.own.stack pending env regs (base + above) env1 regs1 c1 → Filled S (results_field wanted) pc (base + above) vs regs1 opened
+      → GoesListed S pending n (total wanted above) true (above + 1) purpose base env regs pc k
+      → Agree S n (tree.at (give vs) (of_tree S pending env1 c1) (listed purpose have EndExps ∷ k)) (before (of_code S pending pc regs1 opened) c1)
+  open_last true e purpose wanted base above n pc opened have vs env regs env1 regs1 c1 k is counted size held le af filled goes =
+      go_left S n _ (tree.at (collect purpose (have ++ vs) EndExps) (of_tree S pending env1 c1) k) _ (ap (λ b. goes_on (tree.at (collect purpose (cond b (have ++ vs) (have ++ first vs ∷ [])) EndExps) (of_tree S pending env1 c1) k)) is)
+      (all_more purpose wanted base above n pc opened have vs env regs env1 regs1 c1 k size held le af filled goes)
+  open_last false e purpose wanted base above n pc opened have vs env regs env1 regs1 c1 k is counted size held le af filled goes =
+      let one : Holds (base + above) 1 vs regs1 = subst (λ w. Filled S (results_field w) pc (base + above) vs regs1 opened) counted filled in
+      let on = subst (λ w. GoesListed S pending n (total w above) true (above + 1) purpose base env regs pc k) counted goes in
+      go_left S n _ (tree.at (collect purpose (have ++ first vs ∷ []) EndExps) (of_tree S pending env1 c1) k) _ (ap (λ b. goes_on (tree.at (collect purpose (cond b (have ++ vs) (have ++ first vs ∷ [])) EndExps) (of_tree S pending env1 c1) k)) is)
+      (on (have ++ first vs ∷ []) env1 regs1 c1 opened (lower S.code.own.stack pending env regs env1 regs1 c1 (base + above) base (omega arith) af)
+      (held_both base above 1 have (first vs ∷ []) regs1 size (λ i lt. af.keeps (base + i) (omega (arith, le)) (omega (arith, lt)) ∙ held i lt) (held_one (base + above) (first vs) regs1 (held_first (base + above) 0 vs regs1 one))))
+
+  field_fits : (many : Bool) (wanted : Wanted) → WantedFits wanted → cond many (results_field wanted) 2 < 2 ^ 8
+  field_fits true wanted h = results_fit wanted h
+  field_fits false wanted h = lit< tt
 
   held_two : (t : ℕ) (v w : Value) (regs : List Value) → nth regs t ≡ v → nth regs (t + 1) ≡ w → Holds t 2 (v ∷ w ∷ []) regs
   held_two t v w regs e d zero lt = let here : t + 0 ≡ t = omega arith in ap (nth regs) here ∙ e
@@ -286,22 +296,22 @@ module _ (S : Setting) (pending : List Pending) where
 
   mutual
     all_same : (e : Exp) → AllSame e
-    all_same (Nil line) field t j n pc opened env regs c k bound has fits cov ok inside le room rel goes =
+    all_same (Nil line) field t j n pc opened env regs c k bound has fits ok inside le room rel goes =
         one_goes S pending (with_abc LoadNil t 0 0 line) (with_abc LoadNil t 0 0 line ∷ []) (known nil) n false t pc opened _ env regs c k refl refl has inside le rel
         (λ here w there. nil_step S.code (of_code S pending pc regs opened) c w there t here (omega (arith, S.small)) (omega (arith, rel.room))) goes
-    all_same (True line) field t j n pc opened env regs c k bound has fits cov ok inside le room rel goes =
+    all_same (True line) field t j n pc opened env regs c k bound has fits ok inside le room rel goes =
         one_goes S pending (with_abc LoadTrue t 0 0 line) (with_abc LoadTrue t 0 0 line ∷ []) (known (boolean true)) n false t pc opened _ env regs c k refl refl has inside le rel
         (λ here w there. true_step S.code (of_code S pending pc regs opened) c w there t here (omega (arith, S.small)) (omega (arith, rel.room))) goes
-    all_same (False line) field t j n pc opened env regs c k bound has fits cov ok inside le room rel goes =
+    all_same (False line) field t j n pc opened env regs c k bound has fits ok inside le room rel goes =
         one_goes S pending (with_abc LoadFalse t 0 0 line) (with_abc LoadFalse t 0 0 line ∷ []) (known (boolean false)) n false t pc opened _ env regs c k refl refl has inside le rel
         (λ here w there. false_step S.code (of_code S pending pc regs opened) c w there t here (omega (arith, S.small)) (omega (arith, rel.room))) goes
-    all_same (Int line z) field t j n pc opened env regs c k bound has fits cov ok inside le room rel goes =
+    all_same (Int line z) field t j n pc opened env regs c k bound has fits ok inside le room rel goes =
         integer_goes S pending z (is_small z) n false line t pc opened _ env regs c k refl refl ok _ refl has inside le (omega arith) rel goes
-    all_same (Str line bytes) field t j n pc opened env regs c k bound has fits cov ok inside le room rel goes =
+    all_same (Str line bytes) field t j n pc opened env regs c k bound has fits ok inside le room rel goes =
         constant_goes S pending (StrConst bytes) n false t line pc opened _ env regs c k ok refl has inside le (omega arith) rel goes
-    all_same (Var line name) field t j n pc opened env regs c k bound has fits cov ok inside le room rel goes =
+    all_same (Var line name) field t j n pc opened env regs c k bound has fits ok inside le room rel goes =
         name_goes S pending name.place name.text n false line t pc opened _ env regs c k refl has ok inside le room rel goes
-    all_same (Index line object key) field t j n pc opened env regs c k bound has fits cov ok inside le room rel goes =
+    all_same (Index line object key) field t j n pc opened env regs c k bound has fits ok inside le room rel goes =
         let first_code = exp_code S.code.own.constants object t j 2 in
         let second_code = exp_code S.code.own.constants key (t + 1) (j + made_by object) 2 in
         let last_code = with_abc GetTable t t (t + 1) line ∷ [] in
@@ -310,9 +320,9 @@ module _ (S : Setting) (pending : List Pending) where
         let rest = length-append second_code last_code in
         let some = room_some S.code.own.constants key in
         go_left S n _ (tree.at (evaluate object) (of_tree S pending env c) (key_of line key ∷ k)) _ refl
-        (one_same object (all_same object) t j n pc opened env regs c (key_of line key ∷ k) bound (has_front S pc first_code (second_code ++ last_code) has) cov.0 ok.0 (omega (arith, inside, whole)) le (omega arith) rel
+        (one_same object (all_same object) t j n pc opened env regs c (key_of line key ∷ k) bound (has_front S pc first_code (second_code ++ last_code) has) ok.0 (omega (arith, inside, whole)) le (omega arith) rel
         (λ vs env1 regs1 c1 o1 af eq one. go_left S n _ (tree.at (evaluate key) (of_tree S pending env1 c1) (object_of line (first vs) ∷ k)) _ refl
-        (one_same key (all_same key) (t + 1) (j + made_by object) n (pc + length first_code) o1 env1 regs1 c1 (object_of line (first vs) ∷ k) bound (has_front S (pc + length first_code) second_code last_code behind) cov.1
+        (one_same key (all_same key) (t + 1) (j + made_by object) n (pc + length first_code) o1 env1 regs1 c1 (object_of line (first vs) ∷ k) bound (has_front S (pc + length first_code) second_code last_code behind)
         (placed key _ _ _ af.size ok.1) (omega (arith, inside, whole, rest)) (omega (arith, le, af.size)) (omega arith) af.rel
         (λ ws env2 regs2 c2 o2 af2 eq2 one2. index_goes S pending t (t + 1) (first vs) (first ws) n false t line (pc + length first_code + length second_code) o2 _ env2 regs2 c2 k refl
         (has_back S (pc + length first_code) second_code last_code behind) (omega (arith, inside, whole, rest)) (omega (arith, le, af.size, af2.size)) (omega (arith, some)) (omega (arith, some)) (omega (arith, some)) af2.rel
@@ -320,20 +330,20 @@ module _ (S : Setting) (pending : List Pending) where
         (goes_at S pending n false t _ (pc + length (first_code ++ (second_code ++ last_code))) env2 regs2 k (omega (arith, whole, rest))
         (goes_after S pending n false t _ env regs env2 regs2 c2 k
         (after_then S.code.own.stack pending env regs env1 regs1 env2 regs2 c1 c2 t (t + 1) (omega arith) af af2) goes))))))
-    all_same (Paren line e) field t j n pc opened env regs c k bound has fits cov ok inside le room rel goes =
+    all_same (Paren line e) field t j n pc opened env regs c k bound has fits ok inside le room rel goes =
         go_left S n _ (tree.at (evaluate e) (of_tree S pending env c) (first_only ∷ k)) _ refl
-        (one_same e (all_same e) t j n pc opened env regs c (first_only ∷ k) bound has cov ok inside le room rel
+        (one_same e (all_same e) t j n pc opened env regs c (first_only ∷ k) bound has ok inside le room rel
         (λ vs env1 regs1 c1 o1 af eq one. go_left S n _ (tree.at (give (first vs ∷ [])) (of_tree S pending env1 c1) k) _ refl (goes (first vs ∷ []) env1 regs1 c1 o1 af eq refl)))
-    all_same (Unary line op e) field t j n pc opened env regs c k bound has fits cov ok inside le room rel goes =
+    all_same (Unary line op e) field t j n pc opened env regs c k bound has fits ok inside le room rel goes =
         let code = exp_code S.code.own.constants e t j 2 in
         let last_code = prefix_code op t line in
         let sum = length-append code last_code in
         let some = room_some S.code.own.constants e in
         go_left S n _ (tree.at (evaluate e) (of_tree S pending env c) (operand_of line op ∷ k)) _ refl
-        (one_same e (all_same e) t j n pc opened env regs c (operand_of line op ∷ k) bound (has_front S pc code last_code has) cov ok (omega (arith, inside, sum)) le room rel
+        (one_same e (all_same e) t j n pc opened env regs c (operand_of line op ∷ k) bound (has_front S pc code last_code has) ok (omega (arith, inside, sum)) le room rel
         (λ vs env1 regs1 c1 o1 af eq one. unary_goes S pending op n false line t (pc + length code) o1 vs env1 regs1 c1 k (has_back S pc code last_code has) (omega (arith, inside, sum)) (omega (arith, le, af.size)) (omega (arith, room, some)) af.rel eq
         (goes_at S pending n false t _ (pc + length (code ++ last_code)) env1 regs1 k (omega (arith, sum)) (goes_after S pending n false t _ env regs env1 regs1 c1 k af goes))))
-    all_same (Binary line op e d) field t j n pc opened env regs c k bound has fits cov ok inside le room rel goes =
+    all_same (Binary line op e d) field t j n pc opened env regs c k bound has fits ok inside le room rel goes =
         let first_code = exp_code S.code.own.constants e t j 2 in
         let second_code = exp_code S.code.own.constants d (t + 1) (j + made_by e) 2 in
         let last_code = operator_code op t line in
@@ -342,9 +352,9 @@ module _ (S : Setting) (pending : List Pending) where
         let rest = length-append second_code last_code in
         let some = room_some S.code.own.constants d in
         go_left S n _ (tree.at (evaluate e) (of_tree S pending env c) (right_of line op d ∷ k)) _ refl
-        (one_same e (all_same e) t j n pc opened env regs c (right_of line op d ∷ k) bound (has_front S pc first_code (second_code ++ last_code) has) cov.0 ok.0 (omega (arith, inside, whole)) le (omega arith) rel
+        (one_same e (all_same e) t j n pc opened env regs c (right_of line op d ∷ k) bound (has_front S pc first_code (second_code ++ last_code) has) ok.0 (omega (arith, inside, whole)) le (omega arith) rel
         (λ vs env1 regs1 c1 o1 af eq one. go_left S n _ (tree.at (evaluate d) (of_tree S pending env1 c1) (left_of line op (first vs) ∷ k)) _ refl
-        (one_same d (all_same d) (t + 1) (j + made_by e) n (pc + length first_code) o1 env1 regs1 c1 (left_of line op (first vs) ∷ k) bound (has_front S (pc + length first_code) second_code last_code behind) cov.1
+        (one_same d (all_same d) (t + 1) (j + made_by e) n (pc + length first_code) o1 env1 regs1 c1 (left_of line op (first vs) ∷ k) bound (has_front S (pc + length first_code) second_code last_code behind)
         (placed d _ _ _ af.size ok.1) (omega (arith, inside, whole, rest)) (omega (arith, le, af.size)) (omega arith) af.rel
         (λ ws env2 regs2 c2 o2 af2 eq2 one2. binary_goes S pending op n false line t (pc + length first_code + length second_code) o2 (first vs) ws env2 regs2 c2 k
         (has_back S (pc + length first_code) second_code last_code behind) (omega (arith, inside, whole, rest)) (omega (arith, le, af.size, af2.size)) (omega (arith, some)) af2.rel
@@ -352,7 +362,7 @@ module _ (S : Setting) (pending : List Pending) where
         (goes_at S pending n false t _ (pc + length (first_code ++ (second_code ++ last_code))) env2 regs2 k (omega (arith, whole, rest))
         (goes_after S pending n false t _ env regs env2 regs2 c2 k
         (after_then S.code.own.stack pending env regs env1 regs1 env2 regs2 c1 c2 t (t + 1) (omega arith) af af2) goes))))))
-    all_same (And line e d) field t j n pc opened env regs c k bound has fits cov ok inside le room rel goes =
+    all_same (And line e d) field t j n pc opened env regs c k bound has fits ok inside le room rel goes =
         let first_code = exp_code S.code.own.constants e t j 2 in
         let second_code = exp_code S.code.own.constants d t (j + made_by e) 2 in
         let test_code = (abc Test t 0 0 false, line) ∷ jump_over (length second_code) line ∷ second_code in
@@ -361,16 +371,16 @@ module _ (S : Setting) (pending : List Pending) where
         let some = room_some S.code.own.constants d in
         let two : pc + length first_code + 1 + 1 ≡ pc + length first_code + 2 = omega arith in
         go_left S n _ (tree.at (evaluate e) (of_tree S pending env c) (and_right d ∷ k)) _ refl
-        (one_same e (all_same e) t j n pc opened env regs c (and_right d ∷ k) bound (has_front S pc first_code test_code has) cov.0 ok.0 (omega (arith, inside, whole)) le (omega arith) rel
+        (one_same e (all_same e) t j n pc opened env regs c (and_right d ∷ k) bound (has_front S pc first_code test_code has) ok.0 (omega (arith, inside, whole)) le (omega arith) rel
         (λ vs env1 regs1 c1 o1 af eq one. decides_goes S pending false (same_truth (holds (shape (first vs))) false) line t n (pc + length first_code) o1 second_code (first vs) _ env1 regs1 c1 behind (omega (arith, inside, whole)) (omega (arith, some)) af.rel eq refl
         (λ e1. go_left S n _ (tree.at (give (first vs ∷ [])) (of_tree S pending env1 c1) k) _ (and_decides _ _ (holds (shape (first vs))) e1)
         (at_place S pending n (pc + length first_code + (2 + length second_code)) (pc + length (first_code ++ test_code)) o1 _ regs1 c1 (omega (arith, whole)) (goes (first vs ∷ []) env1 regs1 c1 o1 af eq refl)))
         (λ e1. go_left S n _ (tree.at (evaluate d) (of_tree S pending env1 c1) (first_only ∷ k)) _ (and_goes_on _ _ (holds (shape (first vs))) e1)
-        (one_same d (all_same d) t (j + made_by e) n (pc + length first_code + 2) o1 env1 regs1 c1 (first_only ∷ k) bound (subst (λ q. HasAt S q second_code) two behind.1.1.1.1) cov.1 (placed d _ _ _ af.size ok.1) (omega (arith, inside, whole)) (omega (arith, le, af.size)) (omega arith) af.rel
+        (one_same d (all_same d) t (j + made_by e) n (pc + length first_code + 2) o1 env1 regs1 c1 (first_only ∷ k) bound (subst (λ q. HasAt S q second_code) two behind.1.1.1.1) (placed d _ _ _ af.size ok.1) (omega (arith, inside, whole)) (omega (arith, le, af.size)) (omega arith) af.rel
         (λ ws env2 regs2 c2 o2 af2 eq2 one2. go_left S n _ (tree.at (give (first ws ∷ [])) (of_tree S pending env2 c2) k) _ refl
         (at_place S pending n (pc + length first_code + 2 + length second_code) (pc + length (first_code ++ test_code)) o2 _ regs2 c2 (omega (arith, whole))
         (goes (first ws ∷ []) env2 regs2 c2 o2 (after_then S.code.own.stack pending env regs env1 regs1 env2 regs2 c1 c2 t t (omega arith) af af2) eq2 refl)))))))
-    all_same (Or line e d) field t j n pc opened env regs c k bound has fits cov ok inside le room rel goes =
+    all_same (Or line e d) field t j n pc opened env regs c k bound has fits ok inside le room rel goes =
         let first_code = exp_code S.code.own.constants e t j 2 in
         let second_code = exp_code S.code.own.constants d t (j + made_by e) 2 in
         let test_code = (abc Test t 0 0 true, line) ∷ jump_over (length second_code) line ∷ second_code in
@@ -379,21 +389,21 @@ module _ (S : Setting) (pending : List Pending) where
         let some = room_some S.code.own.constants d in
         let two : pc + length first_code + 1 + 1 ≡ pc + length first_code + 2 = omega arith in
         go_left S n _ (tree.at (evaluate e) (of_tree S pending env c) (or_right d ∷ k)) _ refl
-        (one_same e (all_same e) t j n pc opened env regs c (or_right d ∷ k) bound (has_front S pc first_code test_code has) cov.0 ok.0 (omega (arith, inside, whole)) le (omega arith) rel
+        (one_same e (all_same e) t j n pc opened env regs c (or_right d ∷ k) bound (has_front S pc first_code test_code has) ok.0 (omega (arith, inside, whole)) le (omega arith) rel
         (λ vs env1 regs1 c1 o1 af eq one. decides_goes S pending true (same_truth (holds (shape (first vs))) true) line t n (pc + length first_code) o1 second_code (first vs) _ env1 regs1 c1 behind (omega (arith, inside, whole)) (omega (arith, some)) af.rel eq refl
         (λ e1. go_left S n _ (tree.at (give (first vs ∷ [])) (of_tree S pending env1 c1) k) _ (or_decides _ _ (holds (shape (first vs))) e1)
         (at_place S pending n (pc + length first_code + (2 + length second_code)) (pc + length (first_code ++ test_code)) o1 _ regs1 c1 (omega (arith, whole)) (goes (first vs ∷ []) env1 regs1 c1 o1 af eq refl)))
         (λ e1. go_left S n _ (tree.at (evaluate d) (of_tree S pending env1 c1) (first_only ∷ k)) _ (or_goes_on _ _ (holds (shape (first vs))) e1)
-        (one_same d (all_same d) t (j + made_by e) n (pc + length first_code + 2) o1 env1 regs1 c1 (first_only ∷ k) bound (subst (λ q. HasAt S q second_code) two behind.1.1.1.1) cov.1 (placed d _ _ _ af.size ok.1) (omega (arith, inside, whole)) (omega (arith, le, af.size)) (omega arith) af.rel
+        (one_same d (all_same d) t (j + made_by e) n (pc + length first_code + 2) o1 env1 regs1 c1 (first_only ∷ k) bound (subst (λ q. HasAt S q second_code) two behind.1.1.1.1) (placed d _ _ _ af.size ok.1) (omega (arith, inside, whole)) (omega (arith, le, af.size)) (omega arith) af.rel
         (λ ws env2 regs2 c2 o2 af2 eq2 one2. go_left S n _ (tree.at (give (first ws ∷ [])) (of_tree S pending env2 c2) k) _ refl
         (at_place S pending n (pc + length first_code + 2 + length second_code) (pc + length (first_code ++ test_code)) o2 _ regs2 c2 (omega (arith, whole))
         (goes (first ws ∷ []) env2 regs2 c2 o2 (after_then S.code.own.stack pending env regs env1 regs1 env2 regs2 c1 c2 t t (omega arith) af af2) eq2 refl)))))))
-    all_same (Table line fs) field t j n pc opened env regs c k bound has fits cov ok inside le room rel goes = absurd cov
-    all_same (Function line body) field t j n pc opened env regs c k bound has fits cov ok inside le room rel goes =
+    all_same (Table line fs) field t j n pc opened env regs c k bound has fits ok inside le room rel goes = absurd ok
+    all_same (Function line body) field t j n pc opened env regs c k bound has fits ok inside le room rel goes =
         function_goes S pending n false t j pc opened body _ env regs c k refl has bound ok.0 ok.1 inside le (omega arith) rel goes
-    all_same (Vararg line) field t j n pc opened env regs c k bound has fits cov ok inside le room rel goes =
+    all_same (Vararg line) field t j n pc opened env regs c k bound has fits ok inside le room rel goes =
         varargs_goes S pending field n line t pc opened _ env regs c k refl has inside le room fits rel goes
-    all_same (Call line f es) field t j n pc opened env regs c k bound has fits cov ok inside le room rel goes =
+    all_same (Call line f es) field t j n pc opened env regs c k bound has fits ok inside le room rel goes =
         let first_code = exp_code S.code.own.constants f t j 2 in
         let args_code = exps_code S.code.own.constants es None (t + 1) (j + made_by f) line in
         let last_code = with_abc CallCode t (list_field 0 es) field line ∷ [] in
@@ -402,15 +412,15 @@ module _ (S : Setting) (pending : List Pending) where
         let rest = length-append args_code last_code in
         let some = room_some S.code.own.constants f in
         go_left S n _ (tree.at (evaluate f) (of_tree S pending env c) (callee_of line false es ∷ k)) _ refl
-        (one_same f (all_same f) t j n pc opened env regs c (callee_of line false es ∷ k) bound (has_front S pc first_code (args_code ++ last_code) has) cov.0 ok.0 (omega (arith, inside, whole)) le (omega (arith, room)) rel
+        (one_same f (all_same f) t j n pc opened env regs c (callee_of line false es ∷ k) bound (has_front S pc first_code (args_code ++ last_code) has) ok.0 (omega (arith, inside, whole)) le (omega (arith, room)) rel
         (λ vs env1 regs1 c1 o1 af eq one. go_left S n _ (tree.at (collect (for_call line false) (first vs ∷ []) es) (of_tree S pending env1 c1) k) _ refl
-        (lists_same es (for_call line false) None t 1 (j + made_by f) line n (pc + length first_code) o1 (first vs ∷ []) env1 regs1 c1 k bound refl (has_front S (pc + length first_code) args_code last_code behind) tt cov.1 (placed_all es _ _ _ af.size ok.1)
+        (lists_same es (for_call line false) None t 1 (j + made_by f) line n (pc + length first_code) o1 (first vs ∷ []) env1 regs1 c1 k bound tt (has_front S (pc + length first_code) args_code last_code behind) tt (placed_all es _ _ _ af.size ok.1)
         (omega (arith, inside, whole, rest)) refl (held_one t (first vs) regs1 eq) (omega (arith, le, af.size)) (omega (arith, room, some)) (omega (arith, room)) af.rel
         (λ args env2 regs2 c2 o2 af2 l. called es 0 field args n line t (pc + length first_code + length args_code) o2 env2 regs2 c2 k (has_back S (pc + length first_code) args_code last_code behind)
         (omega (arith, inside, whole, rest)) (omega (arith, le, af.size, af2.size)) (omega (arith, room, some)) (omega (arith, room)) (omega (arith, room)) fits af2.rel l
         (filled_at n field t _ (pc + length (first_code ++ (args_code ++ last_code))) env2 regs2 k (omega (arith, whole, rest))
         (filled_after n field t _ env regs env2 regs2 c2 k (after_then S.code.own.stack pending env regs env1 regs1 env2 regs2 c1 c2 t t (omega arith) af af2) goes))))))
-    all_same (Method line object name es) field t j n pc opened env regs c k bound has fits cov ok inside le room rel goes =
+    all_same (Method line object name es) field t j n pc opened env regs c k bound has fits ok inside le room rel goes =
         let first_code = exp_code S.code.own.constants object t j 2 in
         let name_code = loads S.code.own.constants (StrConst name.text) (t + 1) line in
         let self_code = with_abc OpSelf t t (t + 1) line in
@@ -424,12 +434,12 @@ module _ (S : Setting) (pending : List Pending) where
         let rest = length-append args_code last_code in
         let q = pc + length first_code + length name_code in
         go_left S n _ (tree.at (evaluate object) (of_tree S pending env c) (method_of line false name.text es ∷ k)) _ refl
-        (one_same object (all_same object) t j n pc opened env regs c (method_of line false name.text es ∷ k) bound (has_front S pc first_code (name_code ++ (self_code ∷ (args_code ++ last_code))) has) cov.0 ok.0 (omega (arith, inside, whole)) le (omega (arith, room)) rel
+        (one_same object (all_same object) t j n pc opened env regs c (method_of line false name.text es ∷ k) bound (has_front S pc first_code (name_code ++ (self_code ∷ (args_code ++ last_code))) has) ok.0 (omega (arith, inside, whole)) le (omega (arith, room)) rel
         (λ vs env1 regs1 c1 o1 af eq one. let put = after_put S.code.own.stack pending env1 regs1 c1 (t + 1) key (omega (arith, le, af.size)) af.rel in
         load_right S pending (StrConst name.text) (t + 1) line n (pc + length first_code) o1 _ regs1 c1 ok.1.0 (has_front S (pc + length first_code) name_code (self_code ∷ (args_code ++ last_code)) behind) (omega (arith, inside, whole, middle)) (omega (arith, room, S.small)) (omega (arith, room, af.rel.room))
         (method_goes S pending n line t q o1 (first vs) key _ env1 (write (t + 1) key regs1) c1 k (λ ws. collect (for_call line false) (first ws ∷ first vs ∷ []) es) refl (beyond.0, (beyond.1.0, tt)) (omega (arith, inside, whole, middle, rest)) (omega (arith, le, af.size)) (omega (arith, room)) put.rel
         (nth_write_other (t + 1) key regs1 t (λ same. absurd (omega (arith, same))) ∙ eq) (nth_write_same (t + 1) key regs1)
-        (λ ws env2 regs2 c2 af2 method_is self_is. lists_same es (for_call line false) None t 2 (j + made_by object) line n (q + 1) o1 (first ws ∷ first vs ∷ []) env2 regs2 c2 k bound refl (has_front S (q + 1) args_code last_code beyond.1.1) tt cov.1
+        (λ ws env2 regs2 c2 af2 method_is self_is. lists_same es (for_call line false) None t 2 (j + made_by object) line n (q + 1) o1 (first ws ∷ first vs ∷ []) env2 regs2 c2 k bound tt (has_front S (q + 1) args_code last_code beyond.1.1) tt
         (placed_all es _ _ _ (af2.size ∙ af.size) ok.1.1) (omega (arith, inside, whole, middle, rest)) refl (held_two t (first ws) (first vs) regs2 method_is self_is) (omega (arith, le, af.size, af2.size)) (omega (arith, room)) (omega (arith, room)) af2.rel
         (λ args env3 regs3 c3 o3 af3 l. called es 1 field args n line t (q + 1 + length args_code) o3 env3 regs3 c3 k (has_back S (q + 1) args_code last_code beyond.1.1)
         (omega (arith, inside, whole, middle, rest)) (omega (arith, le, af.size, af2.size, af3.size)) (omega (arith, room)) (omega (arith, room)) (omega (arith, room)) fits af3.rel l
@@ -440,11 +450,11 @@ module _ (S : Setting) (pending : List Pending) where
         (after_then S.code.own.stack pending env1 regs1 env1 (write (t + 1) key regs1) env2 regs2 c1 c2 t t (omega arith) (lower S.code.own.stack pending env1 regs1 env1 (write (t + 1) key regs1) c1 (t + 1) t (omega arith) put) af2) af3)) goes)))))))
 
     lists_same : (es : Exps) → ListSame es
-    lists_same EndExps purpose wanted base above j line n pc opened have env regs c k bound all has wf cov ok inside size held le below room rel goes =
+    lists_same EndExps purpose wanted base above j line n pc opened have env regs c k bound all has wf ok inside size held le below room rel goes =
         let none : above + 0 ≡ above = omega arith in
         nils_goes S pending wanted n purpose base above line pc opened have env regs c k has inside size held le below room rel
         (subst (λ z. GoesListed S pending n (total wanted above) false z purpose base env regs (pc + length (exps_code S.code.own.constants EndExps wanted (base + above) j line)) k) none goes)
-    lists_same (MoreExps e EndExps) purpose wanted base above j line n pc opened have env regs c k bound all has wf cov ok inside size held le below room rel goes =
+    lists_same (MoreExps e EndExps) purpose wanted base above j line n pc opened have env regs c k bound all has wf ok inside size held le below room rel goes =
         let field = field_of e EndExps wanted in
         let after = wanted_after e EndExps wanted in
         let first_code = exp_code S.code.own.constants e (base + above) j field in
@@ -452,35 +462,33 @@ module _ (S : Setting) (pending : List Pending) where
         let sum = length-append first_code rest_code in
         let some = room_some S.code.own.constants e in
         go_left S n _ (tree.at (evaluate e) (of_tree S pending env c) (listed purpose have EndExps ∷ k)) _ refl
-        (all_same e field (base + above) j n pc opened env regs c (listed purpose have EndExps ∷ k) bound (has_front S pc first_code rest_code has) (field_fits (is_open e) wanted wf) cov.0 ok.0 (omega (arith, inside, sum)) (omega (arith, le)) (omega (arith, room)) rel
+        (all_same e field (base + above) j n pc opened env regs c (listed purpose have EndExps ∷ k) bound (has_front S pc first_code rest_code has) (field_fits (is_open e) wanted wf) ok.0 (omega (arith, inside, sum)) (omega (arith, le)) (omega (arith, room)) rel
         (goes_by n e field (base + above) env regs (pc + length first_code) (listed purpose have EndExps ∷ k)
-        (λ many vs env1 regs1 c1 o1 af filled. go_left S n _ (tree.at (collect purpose (have ++ vs) EndExps) (of_tree S pending env1 c1) k) _ (ap (λ b. goes_on (tree.at (collect purpose (cond b (have ++ vs) (have ++ first vs ∷ [])) EndExps) (of_tree S pending env1 c1) k)) all)
-        (all_more purpose wanted base above n (pc + length first_code) o1 have vs env regs env1 regs1 c1 k size held le af
+        (λ many vs env1 regs1 c1 o1 af filled. open_last (takes_all purpose) e purpose wanted base above n (pc + length first_code) o1 have vs env regs env1 regs1 c1 k refl all size held le af
         (subst (λ z. Filled S z (pc + length first_code) (base + above) vs regs1 o1) (ap (λ b. cond b (results_field wanted) 2) many) filled)
         (listed_at S pending n (total wanted above) true (above + 1) purpose base (pc + length first_code) (pc + length (first_code ++ rest_code)) env regs k
         (let none : length rest_code ≡ 0 = ap (λ b. length (exps_code S.code.own.constants EndExps (cond b None (one_less wanted)) (base + above + 1) (j + made_by e) line)) many in omega (arith, sum, none))
-        (subst (λ b. GoesListed S pending n (total wanted above) b (above + 1) purpose base env regs (pc + length (first_code ++ rest_code)) k) many goes))))
-        (λ one vs env1 regs1 c1 o1 af eq given. go_left S n _ (tree.at (collect purpose (have ++ vs) EndExps) (of_tree S pending env1 c1) k) _ (ap (λ b. goes_on (tree.at (collect purpose (cond b (have ++ vs) (have ++ first vs ∷ [])) EndExps) (of_tree S pending env1 c1) k)) all)
-        (subst (λ l. Agree S n (tree.at (collect purpose (have ++ l) EndExps) (of_tree S pending env1 c1) k) (before (of_code S pending (pc + length first_code) regs1 o1) c1)) (sym given)
+        (subst (λ b. GoesListed S pending n (total wanted above) b (above + 1) purpose base env regs (pc + length (first_code ++ rest_code)) k) many goes)))
+        (λ one vs env1 regs1 c1 o1 af eq given. go_left S n _ (tree.at (collect purpose (have ++ first vs ∷ []) EndExps) (of_tree S pending env1 c1) k) _ (ap (λ l. goes_on (tree.at (collect purpose l EndExps) (of_tree S pending env1 c1) k)) (one_added (takes_all purpose) have vs given))
         (let fewer : after ≡ one_less wanted = ap (λ b. cond b None (one_less wanted)) one in
         let two : room_of S.code.own.constants e field ≡ room_of S.code.own.constants e 2 = ap (λ b. room_of S.code.own.constants e (cond b (results_field wanted) 2)) one in
         let same : exps_code S.code.own.constants EndExps after (base + above + 1) (j + made_by e) line ≡ exps_code S.code.own.constants EndExps (one_less wanted) (base + above + 1) (j + made_by e) line = ap (λ w. exps_code S.code.own.constants EndExps w (base + above + 1) (j + made_by e) line) fewer in
         let rooms : room_of_list S.code.own.constants (above + 1) EndExps after ≡ room_of_list S.code.own.constants (above + 1) EndExps (one_less wanted) = ap (room_of_list S.code.own.constants (above + 1) EndExps) fewer in
         let sizes = ap length same in
-        one_more EndExps (lists_same EndExps) purpose wanted base above (j + made_by e) line n (pc + length first_code) o1 have vs env regs env1 regs1 c1 k bound all
-        (subst (HasAt S (pc + length first_code)) same (has_back S pc first_code rest_code has)) wf cov.1 ok.1
+        one_more EndExps (lists_same EndExps) purpose wanted base above (j + made_by e) line n (pc + length first_code) o1 have vs env regs env1 regs1 c1 k bound (counted_less (takes_all purpose) wanted e EndExps all)
+        (subst (HasAt S (pc + length first_code)) same (has_back S pc first_code rest_code has)) wf ok.1
         (omega (arith, inside, sum, sizes)) size held le (omega (arith, room, some, two)) (omega (arith, room, rooms)) af eq
         (listed_at S pending n (total wanted above) false _ purpose base _ (pc + length (first_code ++ rest_code)) env regs k (omega (arith, sum, sizes))
-        (subst (λ b. GoesListed S pending n (total wanted above) b (above + 1) purpose base env regs (pc + length (first_code ++ rest_code)) k) one goes)))))))
-    lists_same (MoreExps e (MoreExps d es)) purpose wanted base above j line n pc opened have env regs c k bound all has wf cov ok inside size held le below room rel goes =
+        (subst (λ b. GoesListed S pending n (total wanted above) b (above + 1) purpose base env regs (pc + length (first_code ++ rest_code)) k) one goes))))))
+    lists_same (MoreExps e (MoreExps d es)) purpose wanted base above j line n pc opened have env regs c k bound all has wf ok inside size held le below room rel goes =
         let first_code = exp_code S.code.own.constants e (base + above) j 2 in
         let rest_code = exps_code S.code.own.constants (MoreExps d es) (one_less wanted) (base + above + 1) (j + made_by e) line in
         let sum = length-append first_code rest_code in
         let some = room_some S.code.own.constants e in
         go_left S n _ (tree.at (evaluate e) (of_tree S pending env c) (listed purpose have (MoreExps d es) ∷ k)) _ refl
-        (one_same e (all_same e) (base + above) j n pc opened env regs c (listed purpose have (MoreExps d es) ∷ k) bound (has_front S pc first_code rest_code has) cov.0 ok.0 (omega (arith, inside, sum)) (omega (arith, le)) (omega (arith, room)) rel
+        (one_same e (all_same e) (base + above) j n pc opened env regs c (listed purpose have (MoreExps d es) ∷ k) bound (has_front S pc first_code rest_code has) ok.0 (omega (arith, inside, sum)) (omega (arith, le)) (omega (arith, room)) rel
         (λ vs env1 regs1 c1 o1 af eq one. go_left S n _ (tree.at (collect purpose (have ++ first vs ∷ []) (MoreExps d es)) (of_tree S pending env1 c1) k) _ refl
-        (one_more (MoreExps d es) (lists_same (MoreExps d es)) purpose wanted base above (j + made_by e) line n (pc + length first_code) o1 have vs env regs env1 regs1 c1 k bound all (has_back S pc first_code rest_code has) wf cov.1 ok.1
+        (one_more (MoreExps d es) (lists_same (MoreExps d es)) purpose wanted base above (j + made_by e) line n (pc + length first_code) o1 have vs env regs env1 regs1 c1 k bound (counted_less (takes_all purpose) wanted e (MoreExps d es) all) (has_back S pc first_code rest_code has) wf ok.1
         (omega (arith, inside, sum)) size held le (omega (arith, room, some)) (omega (arith, room)) af eq
         (listed_at S pending n (total wanted above) (ends_open (MoreExps d es)) _ purpose base _ (pc + length (first_code ++ rest_code)) env regs k (omega (arith, sum)) goes))))
 
@@ -490,12 +498,12 @@ module _ (S : Setting) (pending : List Pending) where
 
   -- the code of a call or of `...` with any field C
   pub open_same : (e : Exp) → is_open e ≡ true → (field t j n pc opened : ℕ) (env regs : List Value) (c : Captured) (k : List Work)
-      → n ≤ S.bound → HasAt S pc (exp_code S.code.own.constants e t j field) → field < 2 ^ 8 → IsCovered e → IsPlaced S e (length env) j → pc + length (exp_code S.code.own.constants e t j field) < length S.code.own.code
+      → n ≤ S.bound → HasAt S pc (exp_code S.code.own.constants e t j field) → field < 2 ^ 8 → IsPlaced S e (length env) j → pc + length (exp_code S.code.own.constants e t j field) < length S.code.own.code
       → length env ≤ t → t + room_of S.code.own.constants e field ≤ S.code.own.stack → Rel S.code.own.stack pending env c regs
       → GoesFilled S pending n field t env regs (pc + length (exp_code S.code.own.constants e t j field)) k
       → Agree S n (tree.at (evaluate e) (of_tree S pending env c) k) (before (of_code S pending pc regs opened) c)
-  open_same e many field t j n pc opened env regs c k bound has fits cov ok inside le room rel goes =
-      all_same e field t j n pc opened env regs c k bound has fits cov ok inside le room rel
+  open_same e many field t j n pc opened env regs c k bound has fits ok inside le room rel goes =
+      all_same e field t j n pc opened env regs c k bound has fits ok inside le room rel
       (goes_by n e field t env regs (pc + length (exp_code S.code.own.constants e t j field)) k (λ is. goes) (λ is. absurd (cc)))
 
   -- the code of a list of expressions

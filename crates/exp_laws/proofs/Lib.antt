@@ -11,9 +11,11 @@ pub mod OperatorForms
 pub mod CallForms
 pub mod ListForms
 pub mod FunctionForms
+pub mod TableForms
 pub mod Exps
 pub mod Steps
 pub mod Calls
+pub mod Tables
 pub mod Arithmetic
 pub mod Loads
 pub mod Prefixes

@@ -1,0 +1,109 @@
+-- Tables: made, filled with items and written by keys.
+use Rattle.std.proofs.Common.{◌≡◌, ℕ, zero, suc, ◌+◌, ◌*◌, ◌/◌, ◌%◌, ◌<◌, ◌≤◌, ◌^◌, Bool, true, false, cond, pos, List, [], ◌∷◌, ◌++◌, length, take, refl, sym, ap, ap₂, ◌∙◌, arith}
+use Rattle.std.specs.Prelude.{nat_lt}
+use borrow.Author.Tests.{ltb-true}
+use Rattle.int_core.specs.Value.{Value, a_table, object, nth}
+use Rattle.int_core.specs.Operations.{store}
+use Rattle.int_core.specs.Ask.{fills_table, operates, Reply, values, faulted, left, values_in, Captured}
+use Rattle.tree_activation.specs.Work.{Control, Work, Pending}
+use Rattle.tree_activation.specs.Work as tree
+use Rattle.tree_activation.specs.Activation.{step}
+use Rattle.tree_activation.specs.Asking.{asks, asks_quickly}
+use Rattle.code_core.specs.declared.opcode.Opcode.TheVariants.{SetTable, SetList, ExtraArg}
+use Rattle.code_core.specs.Instruction.{abc, op_ax}
+use Rattle.machine_core.specs.World.{for_value, dropped}
+use Rattle.machine_core.specs.InstructionRows.{told_values}
+use Rattle.machine_core.specs.Talk.{before, amid, talk, says_so, heard}
+use Rattle.code_of.specs.Coded.{Coded, with_abc}
+use Rattle.code_of.specs.Expressions.{set_list}
+use Rattle.exp_laws.proofs.Registers.{Rel, After, after_then, after_above}
+use Rattle.exp_laws.proofs.Talking.{Setting, Agree, go_right, of_tree, of_code}
+use Rattle.exp_laws.proofs.Placing.{HasAt, here_abc}
+use Rattle.exp_laws.proofs.Asking.{asks_alike, quick_alike}
+use Rattle.exp_laws.proofs.Going.{next_there}
+use Rattle.exp_laws.proofs.Steps.{go_step}
+use Rattle.exp_laws.proofs.Calls.{Passed}
+use Rattle.exp_laws.proofs.Tables.{items_count, items_field, filled_text, fill_near, fill_far, filled_step, set_step, set_rest}
+
+nth_take : (n : ℕ) (xs : List Value) (r : ℕ) → r < n → nth (take n xs) r ≡ nth xs r
+nth_take zero xs r lt = absurd (omega arith)
+nth_take (suc n) [] r lt = refl
+nth_take (suc n) (x ∷ xs) zero lt = refl
+nth_take (suc n) (x ∷ xs) (suc r) lt = nth_take n xs r (omega arith)
+
+length_take : (n : ℕ) (xs : List Value) → n ≤ length xs → length (take n xs) ≡ n
+length_take zero xs h = refl
+length_take (suc n) [] h = absurd (omega arith)
+length_take (suc n) (x ∷ xs) h = ap suc (length_take n xs (omega arith))
+
+told_dropped : (reply : Reply) → told_values dropped reply ≡ told_values for_value reply
+told_dropped (values vs) = refl
+told_dropped (faulted words) = refl
+told_dropped (left e) = refl
+
+module _ (S : Setting) (pending : List Pending) where
+  -- the table in register t is filled with the values behind it
+  pub fill_goes : (many : Bool) (items m n line t pc opened : ℕ) (args : List Value) (s : tree.State) (env regs : List Value) (c : Captured) (k : List Work) (next_of : Control)
+      → step s ≡ asks_quickly (fills_table (object a_table m) items args) line (of_tree S pending env c) k (λ _. next_of) → HasAt S pc (set_list t (items_count many) items line)
+      → pc + length (set_list t (items_count many) items line) < length S.code.own.code → items < 2 ^ 33 → length env ≤ t → t < S.code.own.stack → Rel S.code.own.stack pending env c regs
+      → nth regs t ≡ object a_table m → Passed S.code (items_field many) (t + 1) args (of_code S pending pc regs opened)
+      → ((env1 regs1 : List Value) (c1 : Captured) → After S.code.own.stack pending env regs (t + 1) env1 regs1 c1
+      → Agree S n (tree.at next_of (of_tree S pending env1 c1) k) (before (of_code S pending (pc + length (set_list t (items_count many) items line)) regs1 0) c1))
+      → Agree S n s (before (of_code S pending pc regs opened) c)
+  fill_goes many items m n line t pc opened args s env regs c k next_of e has inside wide le room rel is passed next = by (nat_lt items 256) refl has inside next
+    where
+      fits : t < 2 ^ 8
+      fits = omega (arith, room, S.small)
+
+      width : t < length regs
+      width = omega (arith, room, rel.room)
+
+      code_by : Bool → List Coded
+      code_by b = cond b (with_abc SetList t (items_count many) items line ∷ []) ((abc SetList t (items_count many) (items % 256) true, line) ∷ (op_ax ExtraArg (items / 256), line) ∷ [])
+
+      split : items % 256 + 256 * (items / 256) ≡ items
+      split = omega arith
+
+      -- the list of values is gone once they are stored
+      dropped_goes : (past : ℕ) (env1 regs1 had : List Value) (c1 : Captured) → pc + past < length S.code.own.code → After S.code.own.stack pending env regs (t + 1) env1 regs1 c1
+          → ((env2 regs2 : List Value) (c2 : Captured) → After S.code.own.stack pending env regs (t + 1) env2 regs2 c2 → Agree S n (tree.at next_of (of_tree S pending env2 c2) k) (before (of_code S pending (pc + past) regs2 0) c2))
+          → Agree S n (tree.at next_of (of_tree S pending env1 c1) k) (amid (filled_text (pos past)) had (of_code S pending pc regs1 opened) c1)
+      dropped_goes past env1 regs1 had c1 inside af next =
+          let there = next_there S (pc + past) inside in
+          let size = length_take S.code.own.stack regs1 af.rel.room in
+          go_right S n _ _ (before (of_code S pending (pc + past) (take S.code.own.stack regs1) 0) c1)
+          (filled_step S.code past there.0 had (of_code S pending pc regs1 opened) c1 there.1)
+          (next env1 (take S.code.own.stack regs1) c1
+          (after_then S.code.own.stack pending env regs env1 regs1 env1 (take S.code.own.stack regs1) c1 c1 (t + 1) (t + 1) (omega arith) af
+          (after_above S.code.own.stack pending env1 regs1 (take S.code.own.stack regs1) c1 (t + 1) (omega (arith, le, af.size)) af.rel (λ r lt. nth_take S.code.own.stack regs1 r (omega (arith, lt, room))) (omega (arith, size)))))
+
+      by : (b : Bool) → nat_lt items 256 ≡ b → HasAt S pc (code_by b) → pc + length (code_by b) < length S.code.own.code
+          → ((env1 regs1 : List Value) (c1 : Captured) → After S.code.own.stack pending env regs (t + 1) env1 regs1 c1 → Agree S n (tree.at next_of (of_tree S pending env1 c1) k) (before (of_code S pending (pc + length (code_by b)) regs1 0) c1))
+          → Agree S n s (before (of_code S pending pc regs opened) c)
+      by true near has inside next =
+          quick_alike S pending n s _ (fills_table (object a_table m) items args) (fills_table (object a_table m) items args) line pc opened (t + 1) env regs c k (λ _. next_of) (filled_text (pos 1)) (object a_table m ∷ args) e
+          (fill_near S.code t items m many args (of_code S pending pc regs opened) c has.0 (ltb-true items 256 near) fits width is passed) (λ q lt. (refl, (refl, refl))) refl rel
+          (here_abc S SetList t (items_count many) items false line pc [] has)
+          (λ reply ok env1 regs1 c1 af. dropped_goes 1 env1 regs1 (object a_table m ∷ args ++ values_in reply) c1 inside af next)
+      by false far has inside next =
+          quick_alike S pending n s _ (fills_table (object a_table m) items args) (fills_table (object a_table m) (items % 256 + 256 * (items / 256)) args) line pc opened (t + 1) env regs c k (λ _. next_of) (filled_text (pos 2)) (object a_table m ∷ args) e
+          (fill_far S.code t (items % 256) (items / 256) m many args (of_code S pending pc regs opened) c has.0 has.1.1.0 (omega arith) (omega (arith, wide)) fits width is passed) (λ q lt. (refl, (sym split, refl))) refl rel
+          (here_abc S SetList t (items_count many) (items % 256) true line pc ((op_ax ExtraArg (items / 256), line) ∷ []) has)
+          (λ reply ok env1 regs1 c1 af. dropped_goes 2 env1 regs1 (object a_table m ∷ args ++ values_in reply) c1 inside af next)
+
+  -- a value goes to a field of a table; registers below u are kept
+  pub store_goes : (x y z u n line pc opened : ℕ) (o key v : Value) (s : tree.State) (env regs : List Value) (c : Captured) (k : List Work) (goes : List Value → Control)
+      → step s ≡ asks (operates store (o ∷ key ∷ v ∷ [])) line (of_tree S pending env c) k goes → HasAt S pc (with_abc SetTable x y z line ∷ []) → pc + 1 < length S.code.own.code
+      → x < S.code.own.stack → y < S.code.own.stack → z < S.code.own.stack → Rel S.code.own.stack pending env c regs → nth regs x ≡ o → nth regs y ≡ key → nth regs z ≡ v
+      → ((ws env1 regs1 : List Value) (c1 : Captured) → After S.code.own.stack pending env regs u env1 regs1 c1 → Agree S n (tree.at (goes ws) (of_tree S pending env1 c1) k) (before (of_code S pending (pc + 1) regs1 opened) c1))
+      → Agree S n s (before (of_code S pending pc regs opened) c)
+  store_goes x y z u n line pc opened o key v s env regs c k goes e has inside x_room y_room z_room rel o_is key_is v_is next =
+      let there = next_there S (pc + 1) inside in
+      asks_alike S pending n dropped told_dropped s _ (operates store (o ∷ key ∷ v ∷ [])) (operates store (o ∷ key ∷ v ∷ [])) line pc opened u env regs c k goes e
+      (set_step S.code x y z (of_code S pending pc regs opened) c has.0 (omega (arith, x_room, S.small)) (omega (arith, y_room, S.small)) (omega (arith, z_room, S.small)) (omega (arith, x_room, rel.room)) (omega (arith, y_room, rel.room)) (omega (arith, z_room, rel.room))
+      ∙ ap₂ (λ a b. says_so (operates store (a ∷ b ∷ nth regs z ∷ [])) S.code (of_code S pending pc regs opened) c (λ q b d. heard dropped S.code q b d)) o_is key_is
+      ∙ ap (λ a. says_so (operates store (o ∷ key ∷ a ∷ [])) S.code (of_code S pending pc regs opened) c (λ q b d. heard dropped S.code q b d)) v_is)
+      (λ m. (refl, refl)) refl rel (here_abc S SetTable x y z false line pc [] has)
+      (λ ws env1 regs1 c1 af. go_right S n _ _ (before (of_code S pending (pc + 1) regs1 opened) c1)
+      (ap (λ q. talk S.code q ws (of_code S pending pc regs1 opened) c1) (set_rest S.code x y z pc has.0) ∙ go_step S.code 1 there.0 ws (of_code S pending pc regs1 opened) c1 there.1)
+      (next ws env1 regs1 c1 af))

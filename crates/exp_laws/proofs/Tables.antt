@@ -1,0 +1,113 @@
+-- What the machine does as a table is made, filled and written, as one equation each.
+use Rattle.std.proofs.Common.{◌≡◌, ℕ, ◌+◌, ◌*◌, ◌<◌, ◌^◌, lit<, Bool, true, false, cond, pos, ℤ, List, [], ◌∷◌, ◌++◌, length, take, Some, None, refl, ap, ap₂, ◌∙◌}
+use Rattle.std.specs.Prelude.{◌==◌}
+use borrow.Author.Tests.{lt-ltb}
+use Rattle.int_core.specs.Value.{Value, a_table, object, Shape, nth, shape}
+use Rattle.int_core.specs.Operations.{store}
+use Rattle.int_core.specs.Ask.{makes_table, fills_table, operates, values_in, Captured, goes_on}
+use Rattle.code_core.specs.declared.opcode.Opcode.TheVariants.{NewTable, SetTable, SetList, ExtraArg}
+use Rattle.code_core.specs.declared.instruction.Instruction.{Instruction}
+use Rattle.code_core.specs.Instruction.{abc, op_ax, opcode_of, a_of, c_of}
+use Rattle.code_core.specs.Prototype.{Prototype}
+use Rattle.code_core.specs.Check.{at}
+use Rattle.code_core.proofs.FieldLemmas.{opcode_of-abc, a_of-abc, b_of-abc, c_of-abc}
+use Rattle.machine_core.specs.World.{Activation, dropped}
+use Rattle.machine_core.specs.Text.{read, read_register, read_constant, write_register, end_list, Text, own, quick, make_table, fill_table, go_by, trap}
+use Rattle.machine_core.specs.InstructionRows.{next, skip, then, sets, fills, fills_by, read_values, register_or_constant, rest_at, rest_by, with_extra}
+use Rattle.machine_core.specs.Talk.{before, amid, talk, talk_step, says_so, heard}
+use Rattle.exp_laws.proofs.Steps.{row_step, own_step, go_step}
+use Rattle.exp_laws.proofs.Loads.{extra_is}
+use Rattle.exp_laws.proofs.Tests.{k_of-abc}
+use Rattle.exp_laws.proofs.Calls.{Passed, read_values_step}
+
+-- how a row that fills a table ends, once the table is filled
+abbrev pub filled_text : ℤ → Text
+filled_text behind = then end_list (go_by behind)
+
+-- all values of an open list are stored, or one
+abbrev pub items_count : (many : Bool) → ℕ
+items_count many = cond many 0 1
+
+abbrev pub items_field : (many : Bool) → ℕ
+items_field many = cond many 0 2
+
+count_field : (many : Bool) → cond (items_count many == 0) 0 (items_count many + 1) ≡ items_field many
+count_field true = refl
+count_field false = refl
+
+pub count_small : (many : Bool) → items_count many < 2 ^ 8
+count_small true = lit< tt
+count_small false = lit< tt
+
+module _ (p : Prototype) where
+  pub new_step : (t : ℕ) (a : Activation) (c : Captured) → at p a.pc ≡ Some (abc NewTable t 0 0 false) → at p (a.pc + 1) ≡ Some (op_ax ExtraArg 0) → t < 2 ^ 8
+      → talk_step p (before a c) ≡ says_so makes_table p a c (λ x b d. amid (then (write_register t (read 0)) skip) ([] ++ values_in x.reply) b d)
+  new_step t a c here extra fits =
+      let w = abc NewTable t 0 0 false in
+      row_step p w NewTable (quick make_table (λ v. then (write_register t (read v)) skip)) a c here (opcode_of-abc NewTable t 0 0 false)
+      (ap (λ o. elim o as (λ _. Text) [ None ↦ trap | Some ax ↦ quick make_table (λ v. then (write_register (a_of w) (read v)) skip) ]) (extra_is p a.pc 0 extra (lit< tt))
+      ∙ ap (λ d. quick make_table (λ v. then (write_register d (read v)) skip)) (a_of-abc NewTable t 0 0 false fits))
+
+  -- the table in register t is filled behind an index with the values behind it
+  fill_text_step : (t last m : ℕ) (many k : Bool) (behind : ℤ) (args : List Value) (a : Activation) (c : Captured) → t < 2 ^ 8 → t < length a.registers → nth a.registers t ≡ object a_table m → (field : ℕ) → field < 2 ^ 8
+      → Passed p (items_field many) (t + 1) args a
+      → talk p (fills (abc SetList t (items_count many) field k) last behind) [] a c
+      ≡ says_so (fills_table (object a_table m) last args) p a c (λ x b d. amid (filled_text behind) (object a_table m ∷ args ++ values_in x.reply) b d)
+  fill_text_step t last m many k behind args a c fits room is field field_fits passed =
+      let b = items_count many in
+      let w = abc SetList t b field k in
+      let fill = λ (v : ℕ) (_ : Shape). quick (fill_table (read 0) last v) (λ _. filled_text behind) in
+      ap (λ d. talk p (own (read_register d) (λ o s. fills_by s o w last behind)) [] a c) (a_of-abc SetList t b field k fits)
+      ∙ own_step p (read_register t) (λ o s. fills_by s o w last behind) [] a c (lt-ltb t (length a.registers) room)
+      ∙ ap (λ v. talk p (fills_by (shape v) 0 w last behind) (v ∷ []) a c) is
+      ∙ ap₂ (λ d e. talk p (read_values (d + 1) (cond (e == 0) 0 (e + 1)) fill) (object a_table m ∷ []) a c) (a_of-abc SetList t b field k fits) (b_of-abc SetList t b field k fits (count_small many))
+      ∙ ap (λ f. talk p (read_values (t + 1) f fill) (object a_table m ∷ []) a c) (count_field many)
+      ∙ read_values_step p (t + 1) (items_field many) fill (object a_table m ∷ []) args a c passed
+
+  pub fill_near : (t items m : ℕ) (many : Bool) (args : List Value) (a : Activation) (c : Captured) → at p a.pc ≡ Some (abc SetList t (items_count many) items false) → items < 2 ^ 8 → t < 2 ^ 8 → t < length a.registers
+      → nth a.registers t ≡ object a_table m → Passed p (items_field many) (t + 1) args a
+      → talk_step p (before a c) ≡ says_so (fills_table (object a_table m) items args) p a c (λ x b d. amid (filled_text (pos 1)) (object a_table m ∷ args ++ values_in x.reply) b d)
+  fill_near t items m many args a c here near fits room is passed =
+      let b = items_count many in
+      let w = abc SetList t b items false in
+      row_step p w SetList (fills w items (pos 1)) a c here (opcode_of-abc SetList t b items false)
+      (ap (λ k. cond k (with_extra p a.pc (λ ax. fills w (c_of w + 256 * ax) (pos 2))) (fills w (c_of w) (pos 1))) (k_of-abc SetList t b items false fits)
+      ∙ ap (λ n. fills w n (pos 1)) (c_of-abc SetList t b items false fits (count_small many) near))
+      ∙ fill_text_step t items m many false (pos 1) args a c fits room is items near passed
+
+  pub fill_far : (t low high m : ℕ) (many : Bool) (args : List Value) (a : Activation) (c : Captured) → at p a.pc ≡ Some (abc SetList t (items_count many) low true) → at p (a.pc + 1) ≡ Some (op_ax ExtraArg high)
+      → low < 2 ^ 8 → high < 2 ^ 25 → t < 2 ^ 8 → t < length a.registers → nth a.registers t ≡ object a_table m → Passed p (items_field many) (t + 1) args a
+      → talk_step p (before a c) ≡ says_so (fills_table (object a_table m) (low + 256 * high) args) p a c (λ x b d. amid (filled_text (pos 2)) (object a_table m ∷ args ++ values_in x.reply) b d)
+  fill_far t low high m many args a c here extra near far fits room is passed =
+      let b = items_count many in
+      let w = abc SetList t b low true in
+      row_step p w SetList (fills w (low + 256 * high) (pos 2)) a c here (opcode_of-abc SetList t b low true)
+      (ap (λ k. cond k (with_extra p a.pc (λ ax. fills w (c_of w + 256 * ax) (pos 2))) (fills w (c_of w) (pos 1))) (k_of-abc SetList t b low true fits)
+      ∙ ap (λ o. elim o as (λ _. Text) [ None ↦ trap | Some ax ↦ fills w (c_of w + 256 * ax) (pos 2) ]) (extra_is p a.pc high extra far)
+      ∙ ap (λ n. fills w (n + 256 * high) (pos 2)) (c_of-abc SetList t b low true fits (count_small many) near))
+      ∙ fill_text_step t (low + 256 * high) m many true (pos 2) args a c fits room is low near passed
+
+  -- the list is gone, and code goes on
+  pub filled_step : (n : ℕ) (w : Instruction) (env : List Value) (a : Activation) (c : Captured) → at p (a.pc + n) ≡ Some w
+      → talk p (filled_text (pos n)) env a c ≡ goes_on (before (record a { registers = take p.own.stack a.registers; opened = 0; pc = a.pc + n }) c)
+  filled_step n w env a c there =
+      own_step p end_list (λ _ _. go_by (pos n)) env a c refl
+      ∙ go_step p n w (env ++ []) (record a { registers = take p.own.stack a.registers; opened = 0 }) c there
+
+  -- a value goes to a field of a table: the operation is asked for
+  pub set_step : (x y z : ℕ) (a : Activation) (c : Captured) → at p a.pc ≡ Some (abc SetTable x y z false) → x < 2 ^ 8 → y < 2 ^ 8 → z < 2 ^ 8 → x < length a.registers → y < length a.registers → z < length a.registers
+      → talk_step p (before a c) ≡ says_so (operates store (nth a.registers x ∷ nth a.registers y ∷ nth a.registers z ∷ [])) p a c (λ q b d. heard dropped p q b d)
+  set_step x y z a c here x_fits y_fits z_fits x_room y_room z_room =
+      let w = abc SetTable x y z false in
+      row_step p w SetTable (own (read_register x) (λ o _. own (read_register y) (λ key _. own (read_register z) (λ v _. sets (read o) (read key) (read v))))) a c here (opcode_of-abc SetTable x y z false)
+      (ap₂ (λ d e. own (read_register d) (λ o _. own (read_register e) (λ key _. register_or_constant w (λ v _. sets (read o) (read key) (read v))))) (a_of-abc SetTable x y z false x_fits) (b_of-abc SetTable x y z false x_fits y_fits)
+      ∙ ap (λ k. own (read_register x) (λ o _. own (read_register y) (λ key _. cond k (own (read_constant (c_of w)) (λ v _. sets (read o) (read key) (read v))) (own (read_register (c_of w)) (λ v _. sets (read o) (read key) (read v)))))) (k_of-abc SetTable x y z false x_fits)
+      ∙ ap (λ e. own (read_register x) (λ o _. own (read_register y) (λ key _. own (read_register e) (λ v _. sets (read o) (read key) (read v))))) (c_of-abc SetTable x y z false x_fits y_fits z_fits))
+      ∙ own_step p (read_register x) (λ o _. own (read_register y) (λ key _. own (read_register z) (λ v _. sets (read o) (read key) (read v)))) [] a c (lt-ltb x (length a.registers) x_room)
+      ∙ own_step p (read_register y) (λ key _. own (read_register z) (λ v _. sets (read 0) (read key) (read v))) (nth a.registers x ∷ []) a c (lt-ltb y (length a.registers) y_room)
+      ∙ own_step p (read_register z) (λ v _. sets (read 0) (read 1) (read v)) (nth a.registers x ∷ nth a.registers y ∷ []) a c (lt-ltb z (length a.registers) z_room)
+
+  pub set_rest : (x y z pc : ℕ) → at p pc ≡ Some (abc SetTable x y z false) → rest_at {V = Value} dropped p pc ≡ next
+  set_rest x y z pc here =
+      ap (λ o. elim o as (λ _. Text) [ None ↦ trap | Some i ↦ rest_by {V = Value} dropped p pc i (opcode_of i) ]) here
+      ∙ ap (rest_by {V = Value} dropped p pc (abc SetTable x y z false)) (opcode_of-abc SetTable x y z false)
