@@ -25,9 +25,9 @@ it_fits = (record {
   short = lit≤ tt;
   room = lit≤ tt;
   placed = (
-    (((((tt, tt), ((λ e. absurd (cc)), tt)), (lit≤ tt, (lit≤ tt, (lit< tt, refl)))),
-    ((((tt, (tt, tt)), (lit< tt, (lit< tt, tt))), (lit≤ tt, ((((tt, (tt, tt)), (lit< tt, ((λ e. absurd (cc)), tt))), (lit≤ tt, ((refl, tt), tt))), tt))), tt))),
-    (refl, ((tt, refl), (((tt, (tt, tt)), (lit< tt, (lit< tt, tt))), (lit≤ tt, lit< tt))))
+    ((((λ e. absurd (cc)), tt), (lit≤ tt, (lit≤ tt, (lit< tt, refl)))),
+    (((lit< tt, (lit< tt, tt)), (lit≤ tt, (((lit< tt, ((λ e. absurd (cc)), tt)), (lit≤ tt, ((refl, tt), tt))), tt))), tt)),
+    (refl, ((tt, refl), ((lit< tt, (lit< tt, tt)), (lit≤ tt, lit< tt))))
   );
 }, (((tt, tt), (((tt, (tt, tt)), ((((tt, (tt, tt)), ((tt, tt), tt))), tt)), tt)), (tt, (tt, tt))))
 

@@ -30,12 +30,12 @@ use Rattle.machine_join.proofs.Lists.{append_nil}
 use Rattle.exp_laws.proofs.Registers.{Rel, Ascends}
 use Rattle.exp_laws.proofs.Talking.{Setting, Agree, go_left, go_right, of_tree, of_code}
 use Rattle.exp_laws.proofs.Placing.{HasAt, has_front, has_back}
-use Rattle.exp_laws.proofs.Placed.{room_of, room_of_name, room_of_list, room_of_values}
+use Rattle.exp_laws.proofs.Placed.{IsPlaced, room_of, room_of_name, room_of_list, room_of_values}
 use Rattle.exp_laws.proofs.Going.{Goes, next_there}
 use Rattle.exp_laws.proofs.Tests.{test_on, test_past, jump_step}
 use Rattle.stat_laws.proofs.Closing.{AllBelow, ends_goes}
 use Rattle.stat_laws.proofs.Standing.{strong, numbers, AllFrom, from_lower, from_more, Parted, part, ascends_under, Standing, GoesOn, goes_fewer, goes_from, back_goes, lands_ahead}
-use Rattle.stat_laws.specs.Scoped.{Named, IsFine, ArmsArePlaced, BlockIsPlaced}
+use Rattle.stat_laws.specs.Scoped.{Named, ArmsArePlaced, BlockIsPlaced}
 use Rattle.stat_laws.proofs.Sizes.{past_sized, block_sized, arms_sized, stats_sized}
 use Rattle.stat_laws.proofs.Labels.{Jumps, jumps_within, JumpGoes}
 use Rattle.stat_laws.proofs.Blocks.{Added, added_all, added_none, levels_rise, closeds_after, StatLaw, StatsLaw, Within, Ends}
@@ -44,7 +44,7 @@ module _ (S : Setting) where
   -- the law of expressions
   abbrev pub ExpLaw : Type 0
   ExpLaw =
-      (pending : List Pending) (e : Exp) (t j n pc opened : ℕ) (env regs : List Value) (c : Captured) (k : List Work) → n ≤ S.bound → HasAt S pc (exp_code S.code.own.constants e t j 2) → IsFine S e (length env) j
+      (pending : List Pending) (e : Exp) (t j n pc opened : ℕ) (env regs : List Value) (c : Captured) (k : List Work) → n ≤ S.bound → HasAt S pc (exp_code S.code.own.constants e t j 2) → IsPlaced S e (length env) j
       → pc + length (exp_code S.code.own.constants e t j 2) < length S.code.own.code → length env ≤ t → t + room_of S.code.own.constants e 2 ≤ S.code.own.stack → Rel S.code.own.stack pending env c regs
       → Goes S pending n (is_open e) t env regs (pc + length (exp_code S.code.own.constants e t j 2)) k
       → Agree S n (tree.at (evaluate e) (of_tree S pending env c) k) (before (of_code S pending pc regs opened) c)
@@ -337,7 +337,7 @@ module _ (S : Setting) where
               let size = st.size in
               let room = room_some e in
               exps ps e t j m pc opened env regs c (while_test line e block ∷ k) (omega (arith, fewer, le)) (has_front S pc test (with_abc Test t 0 0 line ∷ jump_over (length inner + 1) line ∷ (inner ++ ends)) has)
-              (subst (λ u. IsFine S e u j) (sym st.size) placed.0) (omega (arith, inside)) (omega arith) placed.1.0 st.rel
+              (subst (λ u. IsPlaced S e u j) (sym st.size) placed.0) (omega (arith, inside)) (omega arith) placed.1.0 st.rel
               (λ vs env1 regs1 c1 opened1 af eq one. turn m le loop (holds (shape (first vs))) vs ps env1 regs1 c1 opened1 (record { numbered = st.numbered; size = af.size ∙ size; rel = af.rel }) eq (omega (arith, placed.1.0, room)) refl)
 
       -- `if`: the arms one after another, and then what stands behind them
@@ -370,7 +370,7 @@ module _ (S : Setting) where
           let room = room_some e in
           go_left S m _ (tree.at (evaluate e) (of_tree S ps env c) (if_test block arms otherwise ∷ k)) _ refl
           (exps ps e t j m pc opened env regs c (if_test block arms otherwise ∷ k) (omega (arith, fewer, le)) (has_front S pc test behind_test has)
-          (subst (λ u. IsFine S e u j) (sym st.size) placed.0) (omega (arith, inside)) (omega arith) placed.1.0 st.rel
+          (subst (λ u. IsPlaced S e u j) (sym st.size) placed.0) (omega (arith, inside)) (omega arith) placed.1.0 st.rel
           (λ vs env1 regs1 c1 opened1 af eq one. turn m le (holds (shape (first vs))) vs ps env1 regs1 c1 opened1 (record { numbered = st.numbered; size = af.size ∙ size; rel = af.rel }) eq (omega (arith, placed.1.0, room)) refl))
         where
           i : ℕ

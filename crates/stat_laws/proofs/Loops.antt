@@ -22,9 +22,9 @@ use Rattle.code_of.specs.Statements.{in_loop, stats_code}
 use Rattle.exp_laws.proofs.Registers.{Rel, Ascends}
 use Rattle.exp_laws.proofs.Talking.{Setting, Agree, go_left, of_tree, of_code}
 use Rattle.exp_laws.proofs.Placing.{HasAt, has_front, has_back}
+use Rattle.exp_laws.proofs.Placed.{IsPlaced}
 use Rattle.stat_laws.proofs.Closing.{AllBelow, GoesLeft, ends_goes}
 use Rattle.stat_laws.proofs.Standing.{strong, numbers, AllFrom, from_lower, Parted, part, ascends_under, Standing, GoesOn, goes_fewer, back_goes}
-use Rattle.stat_laws.specs.Scoped.{IsFine}
 use Rattle.stat_laws.proofs.Sizes.{close_sized, stats_sized}
 use Rattle.stat_laws.proofs.Labels.{Jumps, jumps_within}
 use Rattle.stat_laws.proofs.Blocks.{Added, added_all, added_none, levels_rise, closeds_after, StatLaw, StatsLaw}
@@ -172,7 +172,7 @@ module _ (S : Setting) (back : ℕ) (exps : ExpLaw S) where
           let size = st.size in
           go_left S l _ (tree.at (evaluate e) (of_tree S ps env c) (until_test last t ∷ w ∷ k)) _ refl
           (exps ps e (levels_after ss t) (j + made_in_stats ss) l (pc + li) opened env regs c (until_test last t ∷ w ∷ k) (omega (arith, fewer, le, less)) at_test
-          (subst (λ u. IsFine S e u (j + made_in_stats ss)) (sym st.size) placed.1.0) (omega (arith, inside)) (omega (arith, size)) placed.1.1 st.rel
+          (subst (λ u. IsPlaced S e u (j + made_in_stats ss)) (sym st.size) placed.1.0) (omega (arith, inside)) (omega (arith, size)) placed.1.1 st.rel
           (λ vs env1 regs1 c1 opened1 af eq one. turn l (omega arith) (λ i lower. loop i (omega arith)) (holds (shape (first vs))) vs ps env1 regs1 c1 opened1 (record { numbered = st.numbered; size = af.size ∙ size; rel = af.rel }) eq (omega (arith, placed.1.1, room)) refl))
 
       round : (m : ℕ) → ((l : ℕ) → l < m → Loop l) → Loop m

@@ -45,7 +45,7 @@ module _ (source : Option (List ℕ)) (p : Prototype) (bound : ℕ) (varargs : L
     exp_up (And l e d) t j h g = (exp_up e t j h.0 g.0, exp_up d t (j + made_by e) h.1 g.1)
     exp_up (Or l e d) t j h g = (exp_up e t j h.0 g.0, exp_up d t (j + made_by e) h.1 g.1)
     exp_up (Paren l e) t j h g = exp_up e t j h g
-    exp_up (Table l fs) t j h g = fields_up fs 0 t j h g
+    exp_up (Table l fs) t j h g = h
 
     exps_up : (es : Exps) (t j : ℕ) → ArePlaced low es t j → InExps source p es j → ArePlaced high es t j
     exps_up EndExps t j h g = tt
@@ -59,16 +59,16 @@ module _ (source : Option (List ℕ)) (p : Prototype) (bound : ℕ) (varargs : L
         (exp_up e t j h.0 g.0.0, (exp_up d t (j + made_by e) h.1.0 g.0.1, fields_up fs items t (j + made_by e + made_by d) h.1.1 (subst (InFields source p fs) same g.1)))
 
   pub return_up : (es : Exps) (closing : Bool) (t j : ℕ) → ReturnIsPlaced low es closing t j → InExps source p es j → ReturnIsPlaced high es closing t j
-  return_up es closing t j h g = (h.0, (h.1.0, ((h.1.1.0.0, exps_up es t j h.1.1.0.1 g), h.1.1.1)))
+  return_up es closing t j h g = (h.0, (h.1.0, (exps_up es t j h.1.1.0 g, h.1.1.1)))
 
   mutual
     stat_up : (s : Stat) (closing : Bool) (t j : ℕ) (named : List Named) (loops : Bool) → StatIsPlaced low s closing t j named loops → InStat source p s j → StatIsPlaced high s closing t j named loops
     stat_up (Empty l) closing t j named loops h g = h
-    stat_up (Local l names es) closing t j named loops h g = ((h.0.0, exps_up es t j h.0.1 g), h.1)
-    stat_up (CallStat l e) closing t j named loops h g = (h.0, ((h.1.0.0, exp_up e t j h.1.0.1 g), h.1.1))
+    stat_up (Local l names es) closing t j named loops h g = (exps_up es t j h.0 g, h.1)
+    stat_up (CallStat l e) closing t j named loops h g = (h.0, (exp_up e t j h.1.0 g, h.1.1))
     stat_up (Do l block) closing t j named loops h g = block_up block closing t j named loops h g
-    stat_up (While l e block) closing t j named loops h g = ((h.0.0, exp_up e t j h.0.1 g.0), (h.1.0, block_up block closing t (j + made_by e) named true h.1.1 g.1))
-    stat_up (Repeat l block e) closing t j named loops h g = (open_up block closing t j named true h.0 g.0, ((h.1.0.0, exp_up e (levels_in block t) (j + made_in_block block) h.1.0.1 g.1), h.1.1))
+    stat_up (While l e block) closing t j named loops h g = (exp_up e t j h.0 g.0, (h.1.0, block_up block closing t (j + made_by e) named true h.1.1 g.1))
+    stat_up (Repeat l block e) closing t j named loops h g = (open_up block closing t j named true h.0 g.0, (exp_up e (levels_in block t) (j + made_in_block block) h.1.0 g.1, h.1.1))
     stat_up (If l arms) closing t j named loops h g = arms_up arms closing t j named loops h g
     stat_up (IfElse l arms block) closing t j named loops h g = (arms_up arms closing t j named loops h.0 g.0, block_up block closing t (j + made_in_arms arms) named loops h.1 g.1)
     stat_up (Label l name) closing t j named loops h g = h
@@ -83,7 +83,7 @@ module _ (source : Option (List ℕ)) (p : Prototype) (bound : ℕ) (varargs : L
     arms_up : (arms : Arms) (closing : Bool) (t j : ℕ) (named : List Named) (loops : Bool) → ArmsArePlaced low arms closing t j named loops → InArms source p arms j → ArmsArePlaced high arms closing t j named loops
     arms_up EndArms closing t j named loops h g = tt
     arms_up (MoreArms e block arms) closing t j named loops h g =
-        ((h.0.0, exp_up e t j h.0.1 g.0), (h.1.0, (block_up block closing t (j + made_by e) named loops h.1.1.0 g.1.0, arms_up arms closing t (j + made_by e + made_in_block block) named loops h.1.1.1 g.1.1)))
+        (exp_up e t j h.0 g.0, (h.1.0, (block_up block closing t (j + made_by e) named loops h.1.1.0 g.1.0, arms_up arms closing t (j + made_by e + made_in_block block) named loops h.1.1.1 g.1.1)))
 
     pub stats_up : (ss : Stats) (falls closing : Bool) (t j : ℕ) (names named : List Named) (loops : Bool) → StatsArePlaced low ss falls closing t j names named loops → InStats source p ss j → StatsArePlaced high ss falls closing t j names named loops
     stats_up EndStats falls closing t j names named loops h g = tt

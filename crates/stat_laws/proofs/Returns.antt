@@ -40,11 +40,11 @@ use Rattle.exp_laws.proofs.Lists.{Holds, range_held}
 use Rattle.exp_laws.proofs.Calls.{read_values_step}
 use Rattle.exp_laws.proofs.Placed.{room_of, room_of_list, room_of_values, ArePlaced}
 use Rattle.exp_laws.proofs.ListForms.{Listed}
-use Rattle.exp_laws.proofs.Exps.{AreCovered, exps_same}
+use Rattle.exp_laws.proofs.Exps.{exps_same}
 use Rattle.exp_laws.proofs.Steps.{row_step, own_step}
 use Rattle.stat_laws.proofs.Closing.{AllBelow}
 use Rattle.stat_laws.proofs.Standing.{numbers, Standing, GoesOn}
-use Rattle.stat_laws.specs.Scoped.{IsList, AreFine, ReturnIsPlaced}
+use Rattle.stat_laws.specs.Scoped.{IsList, ReturnIsPlaced}
 use Rattle.stat_laws.proofs.Sizes.{stats_sized}
 use Rattle.stat_laws.proofs.Labels.{closed_after}
 use Rattle.stat_laws.proofs.Blocks.{closeds_after, known_after, added_none, StatsLaw}
@@ -259,12 +259,12 @@ module _ (S : Setting) where
 
   module _ (back : ℕ) where
     -- the values of a list
-    list_returns : (es : Exps) (n t j line pc opened : ℕ) (env regs : List Value) (c : Captured) (k : List Work) → n ≤ S.bound → HasAt S pc (values_last S.code.own.constants es t j line back) → ends_open es ≡ false → AreFine S es t j
+    list_returns : (es : Exps) (n t j line pc opened : ℕ) (env regs : List Value) (c : Captured) (k : List Work) → n ≤ S.bound → HasAt S pc (values_last S.code.own.constants es t j line back) → ends_open es ≡ false → ArePlaced S es t j
         → t + room_of_list S.code.own.constants 0 es None ≤ S.code.own.stack → count es + 1 < 2 ^ 8 → pc + length (values_last S.code.own.constants es t j line back) ≤ length S.code.own.code → length env ≡ t → Rel S.code.own.stack [] env c regs
         → Agree S n (tree.at (collect (for_return line) [] es) (of_tree S [] env c) k) (before (of_code S [] pc regs opened) c)
     list_returns es n t j line pc opened env regs c k fewer has shut fine room few inside size rel =
-        exps_same S [] es (for_return line) None t 0 j line n pc opened [] env regs c k fewer refl
-        (subst (λ r. HasAt S pc (exps_code S.code.own.constants es None r j line)) (sym flat) (has_front S pc code last has)) tt fine.0 (subst (λ u. ArePlaced S es u j) (sym size) fine.1)
+        exps_same S [] es (for_return line) None t 0 j line n pc opened [] env regs c k fewer tt
+        (subst (λ r. HasAt S pc (exps_code S.code.own.constants es None r j line)) (sym flat) (has_front S pc code last has)) tt (subst (λ u. ArePlaced S es u j) (sym size) fine)
         (subst (λ r. pc + length (exps_code S.code.own.constants es None r j line) < length S.code.own.code) (sym flat) (omega (arith, inside, sum))) refl (λ i lt. absurd (omega arith)) (omega (arith, size)) (omega (arith, size, rel.fits)) room rel
         (λ vs env1 regs1 c1 opened1 af listed.
         by vs env1 regs1 c1 opened1 (subst (λ b. Listed S [] None b (0 + count es) (pc + length (exps_code S.code.own.constants es None (t + 0) j line)) t vs regs1 opened1) shut listed) (af.size ∙ size) af.rel)

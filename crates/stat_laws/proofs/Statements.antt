@@ -13,7 +13,7 @@ use Rattle.stat_laws.proofs.Returns.{returns_goes}
 use Rattle.stat_laws.proofs.Values.{local_goes, call_goes}
 
 abbrev pub exps : (S : Setting) → ExpLaw S
-exps S pending e t j n pc opened env regs c k fewer has fine inside le room rel goes = exp_same S pending e t j n pc opened env regs c k fewer has fine.0 fine.1 inside le room rel goes
+exps S pending e t j n pc opened env regs c k fewer has fine inside le room rel goes = exp_same S pending e t j n pc opened env regs c k fewer has fine inside le room rel goes
 
 module _ (S : Setting) (back : ℕ) where
   -- a form of which nothing is assumed that holds

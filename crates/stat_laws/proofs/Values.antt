@@ -86,8 +86,8 @@ module _ (S : Setting) (back : ℕ) where
   pub local_goes : (line : ℕ) (names : List Declared) (es : Exps) → StatLaw S back (Local line names es)
   local_goes line names es n closing closed t j pc named loops reach k fewer has placed inside under plain jumps done ps env regs c opened s st standing =
       go_left S n s (tree.at (collect (for_declaration line names) [] es) (of_tree S ps env c) k) _ st
-      (exps_same S ps es (for_declaration line names) (Some (length names)) t 0 j line n pc opened [] env regs c k fewer refl
-      (subst (λ r. HasAt S pc (exps_code S.code.own.constants es (Some (length names)) r j line)) (sym flat) (has_front S pc code (marks_code names t) has)) placed.1.1.1.0 placed.0.0 (subst (λ u. ArePlaced S es u j) (sym standing.size) placed.0.1)
+      (exps_same S ps es (for_declaration line names) (Some (length names)) t 0 j line n pc opened [] env regs c k fewer tt
+      (subst (λ r. HasAt S pc (exps_code S.code.own.constants es (Some (length names)) r j line)) (sym flat) (has_front S pc code (marks_code names t) has)) placed.1.1.1.0 (subst (λ u. ArePlaced S es u j) (sym standing.size) placed.0)
       (subst (λ r. pc + length (exps_code S.code.own.constants es (Some (length names)) r j line) < length S.code.own.code) (sym flat) (omega (arith, inside))) refl (λ i lt. absurd (omega arith))
       (let size = standing.size in omega (arith, size)) (let size = standing.size in omega (arith, size, standing.rel.fits)) placed.1.0 standing.rel
       (λ vs env1 regs1 c1 opened1 af listed. declared vs env1 regs1 c1 opened1 (af.size ∙ standing.size) af.rel listed))
@@ -125,6 +125,6 @@ module _ (S : Setting) (back : ℕ) where
   call_goes line e n closing closed t j pc named loops reach k fewer has placed inside under plain jumps done ps env regs c opened s st standing =
       let size = standing.size in
       go_left S n s (tree.at (evaluate e) (of_tree S ps env c) (dropped ∷ k)) _ st
-      (open_same S ps e placed.0 1 t j n pc opened env regs c (dropped ∷ k) fewer has (lit< tt) placed.1.0.0 (subst (λ u. IsPlaced S e u j) (sym standing.size) placed.1.0.1) inside (omega (arith, size)) placed.1.1 standing.rel
+      (open_same S ps e placed.0 1 t j n pc opened env regs c (dropped ∷ k) fewer has (lit< tt) (subst (λ u. IsPlaced S e u j) (sym standing.size) placed.1.0) inside (omega (arith, size)) placed.1.1 standing.rel
       (λ vs env1 regs1 c1 opened1 af filled. go_left S n _ (tree.at complete (of_tree S ps env1 c1) k) _ refl
       (done n (omega arith) ps env1 regs1 c1 opened1 (record { numbered = standing.numbered; size = af.size ∙ standing.size; rel = af.rel }))))

@@ -7,7 +7,6 @@ use Rattle.code_of.specs.Expressions.{made_by, count, is_open, ends_open}
 use Rattle.code_of.specs.Levels.{made_by_stat, made_in_arms, made_in_stats, made_in_block, level_after, levels_after, levels_in, has_closed, closing_after, closings_after}
 use Rattle.exp_laws.proofs.Talking.{Setting}
 use Rattle.exp_laws.proofs.Placed.{IsPlaced, ArePlaced, room_of, room_of_list}
-use Rattle.exp_laws.proofs.Exps.{IsCovered, AreCovered}
 
 -- names that a `goto` may have: those of the labels around it, and whether it may go there without entering the scope of a local
 
@@ -35,28 +34,22 @@ IsList (MoreExps (Method line object name es) EndExps) = ⊥
 IsList _ = Unit {0}
 
 module _ (S : Setting) where
-  abbrev pub IsFine : Exp → (t j : ℕ) → Type 0
-  IsFine e t j = IsCovered e × IsPlaced S e t j
-
-  abbrev pub AreFine : Exps → (t j : ℕ) → Type 0
-  AreFine es t j = AreCovered es × ArePlaced S es t j
-
   abbrev pub ReturnIsPlaced : Exps → (closing : Bool) → (t j : ℕ) → Type 0
-  ReturnIsPlaced es closing t j = (closing ≡ false) × ((IsList es × (ends_open es ≡ false)) × (AreFine es t j × ((t + room_of_list S.code.own.constants 0 es None ≤ S.code.own.stack) × (count es + 1 < 2 ^ 8))))
+  ReturnIsPlaced es closing t j = (closing ≡ false) × ((IsList es × (ends_open es ≡ false)) × (ArePlaced S es t j × ((t + room_of_list S.code.own.constants 0 es None ≤ S.code.own.stack) × (count es + 1 < 2 ^ 8))))
 
   abbrev mutual
     pub StatIsPlaced : Stat → (closing : Bool) → (t j : ℕ) → List Named → (loops : Bool) → Type 0
     StatIsPlaced (Empty line) closing t j named loops = Unit {0}
     StatIsPlaced (Local line names es) closing t j named loops =
-        AreFine es t j × ((t + room_of_list S.code.own.constants 0 es (Some (length names)) ≤ S.code.own.stack) × ((t + length names ≤ S.code.own.stack) × ((length names + 1 < 2 ^ 8) × (has_closed names ≡ false))))
+        ArePlaced S es t j × ((t + room_of_list S.code.own.constants 0 es (Some (length names)) ≤ S.code.own.stack) × ((t + length names ≤ S.code.own.stack) × ((length names + 1 < 2 ^ 8) × (has_closed names ≡ false))))
     StatIsPlaced (LocalFunction line name body) closing t j named loops = ⊥
     StatIsPlaced (Assign line targets es) closing t j named loops = ⊥
-    StatIsPlaced (CallStat line e) closing t j named loops = (is_open e ≡ true) × (IsFine e t j × (t + room_of S.code.own.constants e 1 ≤ S.code.own.stack))
+    StatIsPlaced (CallStat line e) closing t j named loops = (is_open e ≡ true) × (IsPlaced S e t j × (t + room_of S.code.own.constants e 1 ≤ S.code.own.stack))
     StatIsPlaced (Do line block) closing t j named loops = BlockIsPlaced block closing t j named loops
     StatIsPlaced (While line e block) closing t j named loops =
-        IsFine e t j × ((t + room_of S.code.own.constants e 2 ≤ S.code.own.stack) × BlockIsPlaced block closing t (j + made_by e) named true)
+        IsPlaced S e t j × ((t + room_of S.code.own.constants e 2 ≤ S.code.own.stack) × BlockIsPlaced block closing t (j + made_by e) named true)
     StatIsPlaced (Repeat line block e) closing t j named loops =
-        OpenIsPlaced block closing t j named true × (IsFine e (levels_in block t) (j + made_in_block block) × (levels_in block t + room_of S.code.own.constants e 2 ≤ S.code.own.stack))
+        OpenIsPlaced block closing t j named true × (IsPlaced S e (levels_in block t) (j + made_in_block block) × (levels_in block t + room_of S.code.own.constants e 2 ≤ S.code.own.stack))
     StatIsPlaced (If line arms) closing t j named loops = ArmsArePlaced arms closing t j named loops
     StatIsPlaced (IfElse line arms block) closing t j named loops = ArmsArePlaced arms closing t j named loops × BlockIsPlaced block closing t (j + made_in_arms arms) named loops
     StatIsPlaced (NumFor line name from limit block) closing t j named loops = ⊥
@@ -69,7 +62,7 @@ module _ (S : Setting) where
     pub ArmsArePlaced : Arms → (closing : Bool) → (t j : ℕ) → List Named → (loops : Bool) → Type 0
     ArmsArePlaced EndArms closing t j named loops = Unit {0}
     ArmsArePlaced (MoreArms e block arms) closing t j named loops =
-        IsFine e t j × ((t + room_of S.code.own.constants e 2 ≤ S.code.own.stack)
+        IsPlaced S e t j × ((t + room_of S.code.own.constants e 2 ≤ S.code.own.stack)
         × (BlockIsPlaced block closing t (j + made_by e) named loops × ArmsArePlaced arms closing t (j + made_by e + made_in_block block) named loops))
 
     pub StatsArePlaced : Stats → (falls closing : Bool) → (t j : ℕ) → (names named : List Named) → (loops : Bool) → Type 0
