@@ -7,6 +7,7 @@ mod Forms
 mod Loops
 mod Returns
 mod Values
+mod Assigning
 mod Statements
 mod Lines
 mod Raised

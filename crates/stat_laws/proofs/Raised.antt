@@ -75,7 +75,7 @@ module _ (source : Option (List ℕ)) (p : Prototype) (bound : ℕ) (varargs : L
     stat_up (Goto l name) closing t j named loops h g = h
     stat_up (Break l) closing t j named loops h g = h
     stat_up (LocalFunction l name body) closing t j named loops h g = h
-    stat_up (Assign l targets es) closing t j named loops h g = h
+    stat_up (Assign l targets es) closing t j named loops h g = (h.0, (exps_up es t (j + made_in targets) h.1.0 g.1, h.1.1))
     stat_up (NumFor l name from limit block) closing t j named loops h g = h
     stat_up (NumForStep l name from limit step block) closing t j named loops h g = h
     stat_up (GenFor l names es block) closing t j named loops h g = h

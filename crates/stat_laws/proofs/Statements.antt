@@ -10,6 +10,7 @@ use Rattle.stat_laws.proofs.Blocks.{StatLaw, StatsLaw, none_goes, label_goes, mo
 use Rattle.stat_laws.proofs.Forms.{ExpLaw, BlockLaw, falls_goes, do_goes, goto_goes, break_goes, empty_stat_goes, label_stat_goes, while_goes, ArmsLaw, no_arms_goes, more_arms_goes, if_goes, if_else_goes}
 use Rattle.stat_laws.proofs.Loops.{repeat_goes}
 use Rattle.stat_laws.proofs.Returns.{returns_goes}
+use Rattle.stat_laws.proofs.Assigning.{assign_goes}
 use Rattle.stat_laws.proofs.Values.{local_goes, call_goes}
 
 abbrev pub exps : (S : Setting) → ExpLaw S
@@ -25,7 +26,7 @@ module _ (S : Setting) (back : ℕ) where
     stat_goes (Empty l) = empty_stat_goes S back l
     stat_goes (Local l names es) = local_goes S back l names es
     stat_goes (LocalFunction l name body) = never (LocalFunction l name body) (λ closing t j named loops placed. placed)
-    stat_goes (Assign l targets es) = never (Assign l targets es) (λ closing t j named loops placed. placed)
+    stat_goes (Assign l targets es) = assign_goes S back l targets es
     stat_goes (CallStat l e) = call_goes S back l e
     stat_goes (Do l block) = do_goes S back l block (block_goes block)
     stat_goes (While l e block) = while_goes S back (exps S) l e block (block_goes block)

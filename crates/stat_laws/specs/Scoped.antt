@@ -1,9 +1,12 @@
 -- What is assumed of a statement where t locals are in scope and j functions of its function are made before it: names and labels are in scope, and
 -- there are registers enough. It also says which forms are proved: for the others nothing is assumed that holds.
-use Rattle.std.specs.Prelude.{◌≡◌, ℕ, ◌+◌, ◌<◌, ◌≤◌, ◌^◌, Bool, true, false, cond, ◌&&◌, ◌||◌, List, [], ◌∷◌, ◌++◌, length, Some, None, nat_le, bytes_eq}
-use Rattle.tree_core.specs.Tree.{Block, Falls, Returns, Stats, EndStats, MoreStats, Stat, Empty, Local, LocalFunction, Assign, CallStat, Do, While, Repeat, If, IfElse, NumFor, NumForStep, GenFor, Label, Goto, Break, Arms, EndArms, MoreArms, Exp, Call, Method, Exps, EndExps, MoreExps}
+use Rattle.std.specs.Prelude.{◌≡◌, ℕ, ◌+◌, ◌*◌, ◌<◌, ◌≤◌, ◌^◌, Bool, true, false, cond, ◌&&◌, ◌||◌, List, [], ◌∷◌, ◌++◌, length, Some, None, nat_le, bytes_eq}
+use Rattle.tree_core.specs.declared.name.Place.{Place}
+use Rattle.tree_core.specs.declared.name.Place.TheVariants.{Upvalue}
+use Rattle.tree_core.specs.declared.name.Place.TheVariants.{Local as LocalPlace}
+use Rattle.tree_core.specs.Tree.{Block, Falls, Returns, Stats, EndStats, MoreStats, Stat, Empty, Local, LocalFunction, Assign, CallStat, Do, While, Repeat, If, IfElse, NumFor, NumForStep, GenFor, Label, Goto, Break, Arms, EndArms, MoreArms, Exp, Var, Call, Method, Exps, EndExps, MoreExps}
 use Rattle.tree_activation.specs.Jumps.{are_void}
-use Rattle.code_of.specs.Expressions.{made_by, count, is_open, ends_open}
+use Rattle.code_of.specs.Expressions.{made_by, made_in, count, is_open, ends_open}
 use Rattle.code_of.specs.Levels.{made_by_stat, made_in_arms, made_in_stats, made_in_block, level_after, levels_after, levels_in, has_closed, closing_after, closings_after}
 use Rattle.exp_laws.proofs.Talking.{Setting}
 use Rattle.exp_laws.proofs.Placed.{IsPlaced, ArePlaced, room_of, room_of_list}
@@ -33,6 +36,17 @@ IsList (MoreExps (Call line f es) EndExps) = ⊥
 IsList (MoreExps (Method line object name es) EndExps) = ⊥
 IsList _ = Unit {0}
 
+-- a name that is assigned: a local in scope, or an upvalue
+abbrev pub NameIsStored : Place → (t : ℕ) → Type 0
+NameIsStored (LocalPlace n) t = n < t
+NameIsStored (Upvalue u) t = u < 2 ^ 8
+NameIsStored _ t = ⊥
+
+abbrev pub TargetsArePlaced : Exps → (t : ℕ) → Type 0
+TargetsArePlaced EndExps t = Unit {0}
+TargetsArePlaced (MoreExps (Var line name) targets) t = NameIsStored name.place t × TargetsArePlaced targets t
+TargetsArePlaced (MoreExps _ targets) t = ⊥
+
 module _ (S : Setting) where
   abbrev pub ReturnIsPlaced : Exps → (closing : Bool) → (t j : ℕ) → Type 0
   ReturnIsPlaced es closing t j = (closing ≡ false) × ((IsList es × (ends_open es ≡ false)) × (ArePlaced S es t j × ((t + room_of_list S.code.own.constants 0 es None ≤ S.code.own.stack) × (count es + 1 < 2 ^ 8))))
@@ -43,7 +57,9 @@ module _ (S : Setting) where
     StatIsPlaced (Local line names es) closing t j named loops =
         ArePlaced S es t j × ((t + room_of_list S.code.own.constants 0 es (Some (length names)) ≤ S.code.own.stack) × ((t + length names ≤ S.code.own.stack) × ((length names + 1 < 2 ^ 8) × (has_closed names ≡ false))))
     StatIsPlaced (LocalFunction line name body) closing t j named loops = ⊥
-    StatIsPlaced (Assign line targets es) closing t j named loops = ⊥
+    StatIsPlaced (Assign line targets es) closing t j named loops =
+        TargetsArePlaced targets t × (ArePlaced S es t (j + made_in targets)
+        × ((t + 2 * count targets + room_of_list S.code.own.constants 0 es (Some (count targets)) ≤ S.code.own.stack) × ((t + 2 * count targets + count targets ≤ S.code.own.stack) × (count targets + 1 < 2 ^ 8))))
     StatIsPlaced (CallStat line e) closing t j named loops = (is_open e ≡ true) × (IsPlaced S e t j × (t + room_of S.code.own.constants e 1 ≤ S.code.own.stack))
     StatIsPlaced (Do line block) closing t j named loops = BlockIsPlaced block closing t j named loops
     StatIsPlaced (While line e block) closing t j named loops =
