@@ -4,9 +4,9 @@ use Rattle.std.specs.Prelude.{filter, nat_lt, ◌==◌, if◌then◌else◌, opt
 use borrow.Author.Tests.{lt-ltb, le-leb}
 use Rattle.int_core.specs.Value.{Value, Shape, is_known, nil, integer, nth, range, write, write_all}
 use Rattle.int_core.specs.Operations.{index}
-use Rattle.int_core.specs.Ask.{operates, calls, Captured, goes_on}
+use Rattle.int_core.specs.Ask.{operates, calls, calls_last, Captured, goes_on}
 use Rattle.code_core.specs.declared.opcode.Opcode.{Opcode}
-use Rattle.code_core.specs.declared.opcode.Opcode.TheVariants.{OpSelf, VarArg, LoadNil}
+use Rattle.code_core.specs.declared.opcode.Opcode.TheVariants.{OpSelf, VarArg, LoadNil, TailCall}
 use Rattle.code_core.specs.declared.opcode.Opcode.TheVariants.{Call as CallCode}
 use Rattle.code_core.specs.declared.instruction.Instruction.{Instruction}
 use Rattle.code_core.specs.Instruction.{abc, opcode_of, a_of, c_of}
@@ -16,9 +16,9 @@ use Rattle.code_core.specs.Check.{at, mark, left_by, open_from}
 use Rattle.code_core.specs.Check.{opened as opened_mark}
 use Rattle.code_core.proofs.FieldLemmas.{opcode_of-abc, a_of-abc, b_of-abc, c_of-abc}
 use Rattle.machine_core.specs.World.{Activation, for_call, for_value}
-use Rattle.machine_core.specs.Text.{read, read_register, read_constant, read_registers, read_list, read_varargs, write_register, write_registers, write_list, write_nils, drop_pending, cut_from, Text, own, call, trap, list_end, list_values, nils, blanked, behind, is_there}
+use Rattle.machine_core.specs.Text.{read, read_register, read_constant, read_registers, read_list, read_varargs, write_register, write_registers, write_list, write_nils, drop_pending, cut_from, Text, own, call, tail_call, trap, list_end, list_values, nils, blanked, behind, is_there}
 use Rattle.machine_core.specs.InstructionRows.{next, gets, read_values, write_values, rest_at, rest_by, register_or_constant}
-use Rattle.machine_core.specs.Talk.{before, talk, talk_step, says_so, heard}
+use Rattle.machine_core.specs.Talk.{before, amid, talk, talk_step, says_so, heard, marked}
 use Rattle.exp_laws.proofs.Lists.{Holds, range_held}
 use Rattle.exp_laws.proofs.Steps.{row_step, own_step, go_step}
 use Rattle.exp_laws.proofs.Arithmetic.{front_of}
@@ -128,3 +128,13 @@ module _ (p : Prototype) where
       (ap₂ (λ d b. own (write_nils d (b + 1)) (λ _ _. next)) (a_of-abc LoadNil t n 0 false fits) (b_of-abc LoadNil t n 0 false fits n_fits))
       ∙ own_step p (write_nils t (n + 1)) (λ _ _. next) [] a c (le-leb (t + (n + 1)) (length a.registers) room)
       ∙ go_step p 1 w [] (record a { registers = write_all t (nils (n + 1)) a.registers }) c there
+
+  -- a call in the function's place
+  pub tail_step : (t b field : ℕ) (args : List Value) (a : Activation) (c : Captured) → at p a.pc ≡ Some (abc TailCall t b field false) → t < 2 ^ 8 → b < 2 ^ 8 → t < length a.registers → Passed p b (t + 1) args a
+      → talk_step p (before a c) ≡ says_so (calls_last (nth a.registers t) args) p a c (λ x b d. amid (marked trap p b.pc x.reply) [] b d)
+  tail_step t b field args a c here t_fits b_fits room passed =
+      let w = abc TailCall t b field false in
+      row_step p w TailCall (own (read_register t) (λ f _. read_values (t + 1) b (λ v _. tail_call (read f) v))) a c here (opcode_of-abc TailCall t b field false)
+      (ap₂ (λ d e. own (read_register d) (λ f _. read_values (d + 1) e (λ v _. tail_call (read f) v))) (a_of-abc TailCall t b field false t_fits) (b_of-abc TailCall t b field false t_fits b_fits))
+      ∙ own_step p (read_register t) (λ f _. read_values (t + 1) b (λ v _. tail_call (read f) v)) [] a c (lt-ltb t (length a.registers) room)
+      ∙ read_values_step (t + 1) b (λ v _. tail_call (read 0) v) (nth a.registers t ∷ []) args a c passed

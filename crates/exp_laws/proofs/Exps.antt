@@ -6,7 +6,7 @@ use Rattle.int_core.specs.Ask.{Captured, goes_on}
 use Rattle.tree_core.specs.Tree.{Exp, Nil, True, False, Int, Str, Vararg, Function, Var, Index, Call, Method, Unary, Binary, And, Or, Paren, Table, Exps, EndExps, MoreExps}
 use Rattle.tree_activation.specs.Work.{Purpose, for_call, evaluate, give, collect, construct, item_of, keyed_value, keyed_store, callee_of, method_of, listed, Work, Pending, key_of, object_of, operand_of, right_of, left_of, and_right, or_right, first_only}
 use Rattle.tree_activation.specs.Work as tree
-use Rattle.tree_activation.specs.Activation.{takes_all}
+use Rattle.tree_activation.specs.Activation.{takes_all, step}
 use Rattle.tree_activation.specs.Asking.{first}
 use Rattle.code_core.specs.declared.opcode.Opcode.TheVariants.{LoadNil, LoadTrue, LoadFalse, GetTable, Test, OpSelf}
 use Rattle.code_core.specs.declared.opcode.Opcode.TheVariants.{Call as CallCode}
@@ -24,6 +24,7 @@ use Rattle.exp_laws.proofs.Talking.{Setting, Agree, go_left, of_tree, of_code}
 use Rattle.exp_laws.proofs.Placing.{HasAt, has_front, has_back}
 use Rattle.exp_laws.proofs.Steps.{true_step, false_step}
 use Rattle.exp_laws.proofs.Lists.{Holds, held_first}
+use Rattle.exp_laws.proofs.Calls.{Passed}
 use Rattle.exp_laws.proofs.CallForms.{varargs_goes, call_goes, method_goes}
 use Rattle.exp_laws.proofs.ListForms.{GoesListed, Listed, total, listed_at, listed_after, listed_less, passed, nils_goes, held_both}
 use Rattle.exp_laws.proofs.FunctionForms.{function_goes}
@@ -108,7 +109,7 @@ module _ (S : Setting) (pending : List Pending) where
   placed : (e : Exp) (m n j : ℕ) → m ≡ n → IsPlaced S e n j → IsPlaced S e m j
   placed e m n j same h = subst (λ z. IsPlaced S e z j) (sym same) h
 
-  placed_all : (es : Exps) (m n j : ℕ) → m ≡ n → ArePlaced S es n j → ArePlaced S es m j
+  pub placed_all : (es : Exps) (m n j : ℕ) → m ≡ n → ArePlaced S es n j → ArePlaced S es m j
   placed_all es m n j same h = subst (λ z. ArePlaced S es z j) (sym same) h
 
   -- an expression goes on with as many values as its field C says, if it is a call or `...`, and else with one
@@ -228,7 +229,7 @@ module _ (S : Setting) (pending : List Pending) where
       goes (have ++ vs) env1 regs1 c1 opened (lower S.code.own.stack pending env regs env1 regs1 c1 (base + above) base (omega arith) af)
       (held_both base above m have vs regs1 size (λ i lt. af.keeps (base + i) (omega (arith, le)) (omega (arith, lt)) ∙ held i lt) (subst (λ z. Filled S z pc (base + above) vs regs1 opened) one filled))
 
-  held_one : (t : ℕ) (v : Value) (regs : List Value) → nth regs t ≡ v → Holds t 1 (v ∷ []) regs
+  pub held_one : (t : ℕ) (v : Value) (regs : List Value) → nth regs t ≡ v → Holds t 1 (v ∷ []) regs
   held_one t v regs e zero lt = let here : t + 0 ≡ t = omega arith in ap (nth regs) here ∙ e
   held_one t v regs e (suc i) lt = absurd (omega arith)
 
@@ -251,7 +252,7 @@ module _ (S : Setting) (pending : List Pending) where
   field_fits true wanted h = results_fit wanted h
   field_fits false wanted h = lit< tt
 
-  held_two : (t : ℕ) (v w : Value) (regs : List Value) → nth regs t ≡ v → nth regs (t + 1) ≡ w → Holds t 2 (v ∷ w ∷ []) regs
+  pub held_two : (t : ℕ) (v w : Value) (regs : List Value) → nth regs t ≡ v → nth regs (t + 1) ≡ w → Holds t 2 (v ∷ w ∷ []) regs
   held_two t v w regs e d zero lt = let here : t + 0 ≡ t = omega arith in ap (nth regs) here ∙ e
   held_two t v w regs e d (suc zero) lt = d
   held_two t v w regs e d (suc (suc i)) lt = absurd (omega arith)
@@ -262,17 +263,19 @@ module _ (S : Setting) (pending : List Pending) where
   filled_after : (n field t pc : ℕ) (env regs env1 regs1 : List Value) (c1 : Captured) (k : List Work) → After S.code.own.stack pending env regs t env1 regs1 c1 → GoesFilled S pending n field t env regs pc k → GoesFilled S pending n field t env1 regs1 pc k
   filled_after n field t pc env regs env1 regs1 c1 k af goes = λ vs env2 regs2 c2 o2 af2 filled. goes vs env2 regs2 c2 o2 (after_then S.code.own.stack pending env regs env1 regs1 env2 regs2 c1 c2 t t (omega arith) af af2) filled
 
-  -- the arguments are there, behind the function and `more` others: the call
-  called : (es : Exps) (more field : ℕ) (args : List Value) (n line t pc opened : ℕ) (env regs : List Value) (c : Captured) (k : List Work) → HasAt S pc (with_abc CallCode t (list_field more es) field line ∷ []) → pc + 1 < length S.code.own.code
-      → length env ≤ t → t + (more + 1) ≤ S.code.own.stack → t + room_of_list S.code.own.constants (more + 1) es None ≤ S.code.own.stack → t + room_of_values field ≤ S.code.own.stack → field < 2 ^ 8 → Rel S.code.own.stack pending env c regs
-      → Listed S pending None (ends_open es) (more + 1 + count es) pc t args regs opened → GoesFilled S pending n field t env regs (pc + 1) k
-      → Agree S n (tree.at (collect (for_call line false) args EndExps) (of_tree S pending env c) k) (before (of_code S pending pc regs opened) c)
-  called es more field [] n line t pc opened env regs c k has inside le below room wide fits rel l goes = absurd (none (ends_open es) refl l)
+  -- the arguments are there, behind the function and `more` others: a call takes them
+  pub args_ready : {X : Type 0} (es : Exps) (more : ℕ) (args : List Value) (t pc opened : ℕ) (env regs : List Value) (c : Captured) → t + (more + 1) ≤ S.code.own.stack → t + room_of_list S.code.own.constants (more + 1) es None ≤ S.code.own.stack
+      → Rel S.code.own.stack pending env c regs → Listed S pending None (ends_open es) (more + 1 + count es) pc t args regs opened
+      → ((f : Value) (rest : List Value) → args ≡ f ∷ rest → nth regs t ≡ f → Passed S.code (list_field more es) (t + 1) rest (of_code S pending pc regs opened) → list_field more es < 2 ^ 8 → X) → X
+  args_ready es more [] t pc opened env regs c below room rel l goes = absurd (none (ends_open es) refl l)
     where
       none : (b : Bool) → ends_open es ≡ b → Listed S pending None b (more + 1 + count es) pc t [] regs opened → ⊥
       none true is l = let some = open_some es is in let h = l.0 in omega (arith, some, h)
       none false is l = let h = l.0 in omega (arith, h)
-  called es more field (f ∷ args) n line t pc opened env regs c k has inside le below room wide fits rel l goes = by (ends_open es) refl l
+  args_ready es more (f ∷ args) t pc opened env regs c below room rel l goes =
+      goes f args refl (first_held (ends_open es) l)
+      (passed S pending (ends_open es) (more + 1 + count es) (list_field more es) pc t opened f args regs (is_field (ends_open es) refl) (λ one. let w = width one in omega (arith, w, rel.room)) l)
+      (small_field (ends_open es) refl)
     where
       width : ends_open es ≡ false → t + (more + 1 + count es) ≤ S.code.own.stack
       width one = let all = room_count S.code.own.constants (more + 1) es one in omega (arith, all, below, room)
@@ -289,10 +292,13 @@ module _ (S : Setting) (pending : List Pending) where
       first_held true l = held_first t (length args) (f ∷ args) regs l.1.1
       first_held false l = held_first t (length args) (f ∷ args) regs l.1
 
-      by : (b : Bool) → ends_open es ≡ b → Listed S pending None b (more + 1 + count es) pc t (f ∷ args) regs opened → Agree S n (tree.at (collect (for_call line false) (f ∷ args) EndExps) (of_tree S pending env c) k) (before (of_code S pending pc regs opened) c)
-      by b is l =
-          call_goes S pending field (list_field more es) n line t pc opened f args _ env regs c k refl has inside le (omega (arith, below)) wide fits (small_field b is) rel (first_held b l)
-          (passed S pending b (more + 1 + count es) (list_field more es) pc t opened f args regs (is_field b is) (λ one. let w = width (is ∙ one) in omega (arith, w, rel.room)) l) goes
+  called : (es : Exps) (more field : ℕ) (args : List Value) (n line t pc opened : ℕ) (env regs : List Value) (c : Captured) (k : List Work) → HasAt S pc (with_abc CallCode t (list_field more es) field line ∷ []) → pc + 1 < length S.code.own.code
+      → length env ≤ t → t + (more + 1) ≤ S.code.own.stack → t + room_of_list S.code.own.constants (more + 1) es None ≤ S.code.own.stack → t + room_of_values field ≤ S.code.own.stack → field < 2 ^ 8 → Rel S.code.own.stack pending env c regs
+      → Listed S pending None (ends_open es) (more + 1 + count es) pc t args regs opened → GoesFilled S pending n field t env regs (pc + 1) k
+      → Agree S n (tree.at (collect (for_call line false) args EndExps) (of_tree S pending env c) k) (before (of_code S pending pc regs opened) c)
+  called es more field args n line t pc opened env regs c k has inside le below room wide fits rel l goes =
+      args_ready es more args t pc opened env regs c below room rel l
+      (λ f rest is f_is passes small. call_goes S pending field (list_field more es) n line t pc opened f rest _ env regs c k (ap (λ vs. step (tree.at (collect (for_call line false) vs EndExps) (of_tree S pending env c) k)) is) has inside le (omega (arith, below)) wide fits small rel f_is passes goes)
 
   mutual
     all_same : (e : Exp) → AllSame e

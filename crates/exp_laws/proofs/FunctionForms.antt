@@ -1,15 +1,16 @@
 -- Functions: the locals that one captures get cells, and then it is made.
-use Rattle.std.proofs.Common.{◌≡◌, ℕ, ◌+◌, ◌<◌, ◌≤◌, ◌^◌, Bool, true, false, cond, List, [], ◌∷◌, ◌++◌, length, map, Option, Some, None, slice_get, refl, sym, ap, ap₂, ◌∙◌, subst, arith}
-use Rattle.int_core.specs.Value.{Value, bind}
+use Rattle.std.proofs.Common.{◌≡◌, ℕ, ◌+◌, ◌<◌, ◌≤◌, ◌^◌, Bool, true, false, cond, List, [], ◌∷◌, ◌++◌, length, map, Option, Some, None, slice_get, refl, sym, ap, ap₂, ◌∙◌, subst, arith, length-append}
+use Rattle.int_core.specs.Value.{Value, known, nil, write, bind}
 use Rattle.int_core.specs.Ask.{CellName, of_local, of_upvalue, makes_function, values_in, Captured, Next, goes_on, stuck, cell_held}
 use Rattle.tree_core.specs.declared.name.UpName.{UpName}
 use Rattle.tree_core.specs.Tree.{Body}
-use Rattle.tree_activation.specs.Work.{Control, capture, make, give, Work, Pending}
+use Rattle.tree_activation.specs.Work.{Control, complete, capture, make, give, function_to, Work, Pending}
 use Rattle.tree_activation.specs.Work as tree
 use Rattle.tree_activation.specs.Activation.{step}
 use Rattle.tree_activation.specs.Asking.{captured_locals, cell_names, line_of_body, upvalues_of}
 use Rattle.tree_activation.specs.Expressions.{give_first, makes_with}
-use Rattle.code_core.specs.declared.opcode.Opcode.TheVariants.{Closure}
+use Rattle.tree_activation.specs.Statements.{declares_function}
+use Rattle.code_core.specs.declared.opcode.Opcode.TheVariants.{LoadNil, Closure}
 use Rattle.code_core.specs.declared.proto.UpDesc.{UpDesc}
 use Rattle.code_core.specs.Instruction.{abx}
 use Rattle.code_core.specs.Prototype.{Prototype, list_of}
@@ -20,15 +21,17 @@ use Rattle.machine_core.specs.Text.{read, Text, open_cell, quick, make_function}
 use Rattle.machine_core.specs.InstructionRows.{to_register, opens, upvalues_of_inner}
 use Rattle.machine_core.specs.Talk as code
 use Rattle.machine_core.specs.Talk.{before, amid, talk, talk_step, says_so, names_of}
-use Rattle.code_of.specs.Coded.{with_abx}
+use Rattle.code_of.specs.Coded.{with_abc, with_abx}
 use Rattle.code_of.specs.CodeOf.{upvalue}
-use Rattle.exp_laws.proofs.Registers.{Rel, After, after_none, after_then}
-use Rattle.exp_laws.proofs.Talking.{Setting, Here, Agree, InnerAlike, go_left, both_stuck, of_tree, of_code}
+use Rattle.exp_laws.proofs.Registers.{Rel, After, after_none, after_then, rel_more, rel_write}
+use Rattle.exp_laws.proofs.Talking.{Setting, Here, Agree, InnerAlike, go_left, go_right, both_stuck, of_tree, of_code}
 use Rattle.exp_laws.proofs.Placing.{HasAt, here_abx}
 use Rattle.exp_laws.proofs.Asking.{one_alike, opens_alike}
 use Rattle.exp_laws.proofs.Placed.{Captures, Inner}
-use Rattle.exp_laws.proofs.Going.{Goes, answer_goes}
-use Rattle.exp_laws.proofs.Steps.{row_step}
+use Rattle.exp_laws.proofs.Going.{next_there, at_place, Goes, answer_goes}
+use Rattle.exp_laws.proofs.Steps.{row_step, to_register_step}
+use Rattle.exp_laws.proofs.Loads.{nil_step}
+use Rattle.machine_join.proofs.Lists.{length_write}
 
 -- both sides name the same cells
 names_same : (us : List UpName) (held : List (ℕ × ℕ)) → names_of (map upvalue us) held ≡ cell_names us held
@@ -72,30 +75,78 @@ module _ (S : Setting) (pending : List Pending) where
       by false is d below goes = subst (λ z. Agree S n z t) (sym is) (goes env regs c t (after_none S.code.own.stack pending env regs c u rel) d)
 
   -- the function is made
-  make_goes : (o : Option (List CellName)) (n : ℕ) (many : Bool) (t j pc opened : ℕ) (body : Body) (q : Prototype) (s : tree.State) (r : code.State) (env regs env1 regs1 : List Value) (c1 : Captured) (k : List Work)
-      → n ≤ S.bound → Inner S j body → slice_get (list_of S.code.inner) j ≡ Some q → ((m : ℕ) → m < n → InnerAlike S m body q)
-      → step s ≡ makes_with o body (of_tree S pending env1 c1) k
-      → talk_step S.code r ≡ elim (bind o (λ names. Some (makes_function q names))) as (λ _. Next Prototype code.State) [ None ↦ stuck | Some ask ↦ says_so ask S.code (of_code S pending pc regs1 opened) c1 (λ x b d. amid (to_register t (read 0)) ([] ++ values_in x.reply) b d) ]
-      → Here S pc (line_of_body body) → pc + 1 < length S.code.own.code → length env ≤ t → t < S.code.own.stack → After S.code.own.stack pending env regs t env1 regs1 c1 → Goes S pending n many t env regs (pc + 1) k → Agree S n s r
-  make_goes None n many t j pc opened body q s r env regs env1 regs1 c1 k bound inner there alike e d here inside le room af goes = both_stuck S n s r e d
-  make_goes (Some names) n many t j pc opened body q s r env regs env1 regs1 c1 k bound inner there alike e d here inside le room af goes =
-      one_alike S pending n s r (makes_function body names) (makes_function q names) (line_of_body body) pc opened t env1 regs1 c1 k give_first (to_register t (read 0)) [] e d
-      (λ m lt. (alike m lt, refl)) refl (λ reply fits. fits) af.rel here
-      (λ v env2 regs2 c2 af2. answer_goes S pending n many t pc opened (v ∷ []) env regs env2 regs2 c2 k inside le room (after_then S.code.own.stack pending env regs env1 regs1 env2 regs2 c1 c2 t t (omega arith) af af2) goes)
+  make_goes : (o : Option (List CellName)) (n t j pc opened u : ℕ) (body : Body) (q : Prototype) (s : tree.State) (r : code.State) (env regs : List Value) (c : Captured) (k : List Work)
+      → ((m : ℕ) → m < n → InnerAlike S m body q) → step s ≡ makes_with o body (of_tree S pending env c) k
+      → talk_step S.code r ≡ elim (bind o (λ names. Some (makes_function q names))) as (λ _. Next Prototype code.State) [
+        | None ↦ stuck
+        | Some ask ↦ says_so ask S.code (of_code S pending pc regs opened) c (λ x b d. amid (to_register t (read 0)) ([] ++ values_in x.reply) b d)
+      ] → Here S pc (line_of_body body) → Rel S.code.own.stack pending env c regs
+      → ((v : Value) (env1 regs1 : List Value) (c1 : Captured) → After S.code.own.stack pending env regs u env1 regs1 c1 → Agree S n (tree.at (give (v ∷ [])) (of_tree S pending env1 c1) k) (amid (to_register t (read 0)) (v ∷ []) (of_code S pending pc regs1 opened) c1))
+      → Agree S n s r
+  make_goes None n t j pc opened u body q s r env regs c k alike e d here rel next = both_stuck S n s r e d
+  make_goes (Some names) n t j pc opened u body q s r env regs c k alike e d here rel next =
+      one_alike S pending n s r (makes_function body names) (makes_function q names) (line_of_body body) pc opened u env regs c k give_first (to_register t (read 0)) [] e d
+      (λ m lt. (alike m lt, refl)) refl (λ reply fits. fits) rel here next
 
+  -- cells and then the function, which is for register t
+  closure_goes : (n t j pc opened u : ℕ) (body : Body) (s : tree.State) (env regs : List Value) (c : Captured) (k : List Work) → s ≡ tree.at (capture (line_of_body body) (captured_locals (upvalues_of body)) (make body)) (of_tree S pending env c) k
+      → HasAt S pc (with_abx Closure t j (line_of_body body) ∷ []) → n ≤ S.bound → Inner S j body → Captures (upvalues_of body) (length env) → length env ≤ u → t < S.code.own.stack → Rel S.code.own.stack pending env c regs
+      → ((v : Value) (env1 regs1 : List Value) (c1 : Captured) → After S.code.own.stack pending env regs u env1 regs1 c1 → Agree S n (tree.at (give (v ∷ [])) (of_tree S pending env1 c1) k) (amid (to_register t (read 0)) (v ∷ []) (of_code S pending pc regs1 opened) c1))
+      → Agree S n s (before (of_code S pending pc regs opened) c)
+  closure_goes n t j pc opened u body s env regs c k is has bound inner ok le room rel next =
+      let q = inner.prototype in
+      let ups = upvalues_of body in
+      let here = here_abx S Closure t j (line_of_body body) pc [] has in
+      captures_goes ups n (line_of_body body) pc opened u s _ (make body) env regs [] c k (make_text t j) is
+      (closure_step S.code q t j ups (of_code S pending pc regs opened) c has.0 inner.there inner.upvalues (omega (arith, room, S.small)) inner.near) ok le rel here
+      (λ env1 regs1 c1 t1 af d1. make_goes (cell_names ups c1.held) n t j pc opened u body q _ t1 env1 regs1 c1 k (λ m lt. inner.alike m (omega (arith, lt, bound))) refl
+      (d1
+      ∙ ap (λ o. elim (bind {A = Prototype} o (λ r. bind (names_of r.own.upvalues c1.held) (λ names. Some (makes_function r names)))) as (λ _. Next Prototype code.State) [
+        | None ↦ stuck
+        | Some ask ↦ says_so ask S.code (of_code S pending pc regs1 opened) c1 (λ x b d. amid (to_register t (read 0)) ([] ++ values_in x.reply) b d)
+      ]) inner.there
+      ∙ ap (λ o. elim (bind {A = List CellName} o (λ names. Some (makes_function q names))) as (λ _. Next Prototype code.State) [
+        | None ↦ stuck
+        | Some ask ↦ says_so ask S.code (of_code S pending pc regs1 opened) c1 (λ x b d. amid (to_register t (read 0)) ([] ++ values_in x.reply) b d)
+      ]) (ap (λ l. names_of l c1.held) inner.upvalues ∙ names_same ups c1.held))
+      here af.rel
+      (λ v env2 regs2 c2 af2. next v env2 regs2 c2 (after_then S.code.own.stack pending env regs env1 regs1 env2 regs2 c1 c2 u u (omega arith) af af2)))
+
+  -- a function is an expression
   pub function_goes : (n : ℕ) (many : Bool) (t j pc opened : ℕ) (body : Body) (s : tree.State) (env regs : List Value) (c : Captured) (k : List Work)
       → step s ≡ goes_on (tree.at (capture (line_of_body body) (captured_locals (upvalues_of body)) (make body)) (of_tree S pending env c) k) → HasAt S pc (with_abx Closure t j (line_of_body body) ∷ []) → n ≤ S.bound
       → Inner S j body → Captures (upvalues_of body) (length env) → pc + 1 < length S.code.own.code → length env ≤ t → t < S.code.own.stack → Rel S.code.own.stack pending env c regs
       → Goes S pending n many t env regs (pc + 1) k → Agree S n s (before (of_code S pending pc regs opened) c)
   function_goes n many t j pc opened body s env regs c k e has bound inner ok inside le room rel goes =
-      let q = inner.prototype in
+      go_left S n s (tree.at (capture (line_of_body body) (captured_locals (upvalues_of body)) (make body)) (of_tree S pending env c) k) _ e
+      (closure_goes n t j pc opened t body _ env regs c k refl has bound inner ok le room rel
+      (λ v env1 regs1 c1 af. answer_goes S pending n many t pc opened (v ∷ []) env regs env1 regs1 c1 k inside le room af goes))
+
+  -- a local function is in scope in its own body: its variable is nil, and then the function
+  pub local_function_goes : (n t j pc opened : ℕ) (body : Body) (s : tree.State) (env regs : List Value) (c : Captured) (k : List Work) → step s ≡ declares_function body (of_tree S pending env c) k
+      → HasAt S pc (with_abc LoadNil t 0 0 (line_of_body body) ∷ with_abx Closure t j (line_of_body body) ∷ []) → n ≤ S.bound → Inner S j body → Captures (upvalues_of body) (t + 1) → pc + 2 < length S.code.own.code
+      → length env ≡ t → t < S.code.own.stack → Rel S.code.own.stack pending env c regs
+      → ((env1 regs1 : List Value) (c1 : Captured) → length env1 ≡ t + 1 → Rel S.code.own.stack pending env1 c1 regs1 → Agree S n (tree.at complete (of_tree S pending env1 c1) k) (before (of_code S pending (pc + 2) regs1 opened) c1))
+      → Agree S n s (before (of_code S pending pc regs opened) c)
+  local_function_goes n t j pc opened body s env regs c k e has bound inner ok inside size room rel next =
+      let near = next_there S (pc + 1) (omega (arith, inside)) in
+      let there = next_there S (pc + 2) inside in
+      let two : pc + 1 + 1 ≡ pc + 2 = omega arith in
+      let wide = length-append env (known nil ∷ []) in
+      let env0 = env ++ known nil ∷ [] in
+      let regs0 = write t (known nil) regs in
+      let fresh = rel_more S.code.own.stack pending env regs c (known nil) t size room rel in
       let ups = upvalues_of body in
-      let here = here_abx S Closure t j (line_of_body body) pc [] has in
-      go_left S n s (tree.at (capture (line_of_body body) (captured_locals ups) (make body)) (of_tree S pending env c) k) _ e
-      (captures_goes ups n (line_of_body body) pc opened t _ _ (make body) env regs [] c k (make_text t j) refl
-      (closure_step S.code q t j ups (of_code S pending pc regs opened) c has.0 inner.there inner.upvalues (omega (arith, S.small)) inner.near) ok le rel here
-      (λ env1 regs1 c1 t1 af d1. make_goes (cell_names ups c1.held) n many t j pc opened body q _ t1 env regs env1 regs1 c1 k bound inner inner.there (λ m lt. inner.alike m (omega arith)) refl
-      (d1
-      ∙ ap (λ o. elim (bind {A = Prototype} o (λ r. bind (names_of r.own.upvalues c1.held) (λ names. Some (makes_function r names)))) as (λ _. Next Prototype code.State) [ None ↦ stuck | Some ask ↦ says_so ask S.code (of_code S pending pc regs1 opened) c1 (λ x b d. amid (to_register t (read 0)) ([] ++ values_in x.reply) b d) ]) inner.there
-      ∙ ap (λ o. elim (bind {A = List CellName} o (λ names. Some (makes_function q names))) as (λ _. Next Prototype code.State) [ None ↦ stuck | Some ask ↦ says_so ask S.code (of_code S pending pc regs1 opened) c1 (λ x b d. amid (to_register t (read 0)) ([] ++ values_in x.reply) b d) ]) (ap (λ l. names_of l c1.held) inner.upvalues ∙ names_same ups c1.held))
-      here inside le room af goes))
+      go_left S n s (tree.at (capture (line_of_body body) (captured_locals ups) (make body)) (of_tree S pending env0 c) (function_to (length env) ∷ k)) _ e
+      (go_right S n _ _ (before (of_code S pending (pc + 1) regs0 opened) c)
+      (nil_step S.code (of_code S pending pc regs opened) c near.0 near.1 t has.0 (omega (arith, room, S.small)) (omega (arith, room, rel.room)))
+      (closure_goes n t j (pc + 1) opened (t + 1) body _ env0 regs0 c (function_to (length env) ∷ k) refl (has.1.1.0, (has.1.1.1.0, tt)) bound inner
+      (let places : t + 1 ≡ length env0 = omega (arith, wide, size) in subst (Captures ups) places ok) (omega (arith, wide, size)) room fresh
+      (λ v env1 regs1 c1 af. go_left S n _ (tree.at complete (of_tree S pending (write (length env) v env1) c1) k) _ refl
+      (go_right S n _ _ (before (of_code S pending (pc + 1 + 1) (write t v regs1) opened) c1)
+      (to_register_step S.code t (read 0) there.0 (v ∷ []) (of_code S pending (pc + 1) regs1 opened) c1 (omega (arith, room, af.rel.room)) (subst (λ q. at S.code q ≡ Some there.0) (sym two) there.1))
+      (at_place S pending n (pc + 1 + 1) (pc + 2) opened _ (write t v regs1) c1 two
+      (let inside_env : length env < length env1 = omega (arith, wide, af.size) in
+      let kept = length_write (length env) v env1 inside_env in
+      let made = rel_write S.code.own.stack pending env1 regs1 c1 v (length env) inside_env af.rel in
+      next (write (length env) v env1) (write t v regs1) c1 (omega (arith, kept, wide, size, af.size)) (subst (λ r. Rel S.code.own.stack pending (write (length env) v env1) c1 (write r v regs1)) size made)))))))

@@ -13,6 +13,7 @@ pub mod ListForms
 pub mod FunctionForms
 pub mod TableForms
 pub mod Exps
+pub mod LastCalls
 pub mod Steps
 pub mod Calls
 pub mod Tables

@@ -1,5 +1,5 @@
 -- Lists of expressions, with as many values as are wanted.
-use Rattle.std.proofs.Common.{◌≡◌, ℕ, zero, suc, ◌+◌, ◌-◌, ◌<◌, ◌≤◌, Bool, true, false, cond, List, [], ◌∷◌, ◌++◌, length, Some, None, refl, sym, ap, ◌∙◌, subst, ⊎_elim, inl, inr, ◌⊎◌, arith}
+use Rattle.std.proofs.Common.{◌≡◌, ℕ, zero, suc, ◌+◌, ◌-◌, ◌<◌, ◌≤◌, Bool, true, false, cond, List, [], ◌∷◌, ◌++◌, length, Some, None, refl, sym, ap, ◌∙◌, subst, ⊎_elim, arith}
 use Rattle.int_core.specs.Value.{Value, known, nil, nth, write_all}
 use Rattle.int_core.specs.Ask.{Captured}
 use Rattle.tree_core.specs.Tree.{EndExps}
@@ -9,19 +9,13 @@ use Rattle.machine_core.specs.Text.{list_end, nils}
 use Rattle.machine_core.specs.Talk.{before}
 use Rattle.machine_join.proofs.Lists.{nth_old}
 use Rattle.code_of.specs.Expressions.{Wanted, one_less, nils_code}
-use Rattle.exp_laws.proofs.Registers.{Rel, After, after_none, after_then, after_above}
+use Rattle.exp_laws.proofs.Registers.{split, Rel, After, after_none, after_then, after_above}
 use Rattle.exp_laws.proofs.Talking.{Setting, Agree, go_right, of_tree, of_code}
 use Rattle.exp_laws.proofs.Placing.{HasAt}
 use Rattle.exp_laws.proofs.Lists.{Holds, held_rest, write_all_more, write_all_below, write_all_holds}
 use Rattle.exp_laws.proofs.Placed.{room_of_nils}
 use Rattle.exp_laws.proofs.Going.{next_there, at_place}
 use Rattle.exp_laws.proofs.Calls.{Passed, nils_step}
-
-split : (i count : ℕ) → (i < count) ⊎ (count ≤ i)
-split zero zero = inr (omega arith)
-split zero (suc count) = inl (omega arith)
-split (suc i) zero = inr (omega arith)
-split (suc i) (suc count) = ⊎_elim (λ h. inl (omega arith)) (λ h. inr (omega arith)) (split i count)
 
 -- values behind the end of a list are nil
 nth_past : (vs : List Value) (i : ℕ) → length vs ≤ i → nth vs i ≡ known nil

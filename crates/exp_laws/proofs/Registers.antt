@@ -1,9 +1,9 @@
 -- Locals and registers side by side: what holds of both while an expression is evaluated.
-use Rattle.std.proofs.Common.{◌≡◌, ℕ, zero, suc, ◌<◌, ◌≤◌, cond, List, [], ◌∷◌, ◌++◌, length, refl, sym, ap, subst, ◌∙◌, arith}
+use Rattle.std.proofs.Common.{◌⊎◌, inl, inr, ⊎_elim, length-append, ◌≡◌, ℕ, zero, suc, ◌<◌, ◌≤◌, cond, List, [], ◌∷◌, ◌++◌, length, refl, sym, ap, subst, ◌∙◌, arith}
 use Rattle.int_core.specs.Value.{Value, nth, write}
 use Rattle.int_core.specs.Ask.{Captured, shared_by, brought}
 use Rattle.tree_activation.specs.Work.{Pending}
-use Rattle.machine_join.proofs.Lists.{nth_write_other, length_write, write_more}
+use Rattle.machine_join.proofs.Lists.{nth_old, nth_write_same, nth_write_other, length_write, write_more}
 
 write_alike : (s : ℕ) (v : Value) (xs ys : List Value) (r : ℕ) → nth xs r ≡ nth ys r → nth (write s v xs) r ≡ nth (write s v ys) r
 write_alike zero v [] [] zero e = refl
@@ -81,6 +81,16 @@ module _ (stack : ℕ) (pending : List Pending) where
       let more = write_more t v regs in
       after_above env regs (write t v regs) c t le h (λ r lr. nth_write_other t v regs r (λ e. absurd (omega arith))) (omega (arith, more, h.room))
 
+last_nth : (xs : List Value) (v : Value) → nth (xs ++ v ∷ []) (length xs) ≡ v
+last_nth [] v = refl
+last_nth (x ∷ xs) v = last_nth xs v
+
+pub split : (i count : ℕ) → (i < count) ⊎ (count ≤ i)
+split zero zero = inr (omega arith)
+split zero (suc count) = inl (omega arith)
+split (suc i) zero = inr (omega arith)
+split (suc i) (suc count) = ⊎_elim (λ h. inl (omega arith)) (λ h. inr (omega arith)) (split i count)
+
 held_length : (held : List (ℕ × ℕ)) (m n : ℕ) → m ≡ n → HeldBelow held m → HeldBelow held n
 held_length held m n e h = subst (HeldBelow held) e h
 
@@ -152,4 +162,41 @@ module _ (stack : ℕ) (pending : List Pending) where
         size = a.size;
         rel = record { agree = a.rel.agree; held = (omega (arith, e), a.rel.held); ascends = a.rel.ascends; fits = a.rel.fits; room = a.rel.room };
         keeps = a.keeps;
+      }
+
+  held_higher : (held : List (ℕ × ℕ)) (m n : ℕ) → m ≤ n → HeldBelow held m → HeldBelow held n
+  held_higher [] m n le h = tt
+  held_higher (x ∷ held) m n le h = let f = h.0 in (omega (arith, f), held_higher held m n le h.1)
+
+  ascends_higher : (from to high : ℕ) (ps : List Pending) → to ≤ high → Ascends from ps to → Ascends from ps high
+  ascends_higher from to high [] le h = tt
+  ascends_higher from to high (p ∷ ps) le h = let f = h.1.0 in (h.0, (omega (arith, f), ascends_higher (suc p.number) to high ps le h.1.1))
+
+  -- a local is declared, whose value goes to the register behind those of the others
+  pub rel_more : (env regs : List Value) (c : Captured) (v : Value) (t : ℕ) → length env ≡ t → t < stack → Rel stack pending env c regs → Rel stack pending (env ++ v ∷ []) c (write t v regs)
+  rel_more env regs c v t size room h =
+      let sum = length-append env (v ∷ []) in
+      let more = write_more t v regs in
+      record {
+        agree = λ r lr. ⊎_elim
+            (λ below. nth_old env (v ∷ []) r below ∙ h.agree r below ∙ sym (nth_write_other t v regs r (λ e. absurd (omega (arith, size, below, e)))))
+            (λ last. let is : r ≡ t = omega (arith, sum, size, lr, last) in ap (nth (env ++ v ∷ [])) (is ∙ sym size) ∙ last_nth env v ∙ sym (nth_write_same t v regs) ∙ ap (nth (write t v regs)) (sym is))
+            (split r (length env));
+        held = held_higher c.held (length env) (length (env ++ v ∷ [])) (omega (arith, sum)) h.held;
+        ascends = ascends_higher 0 (length env) (length (env ++ v ∷ [])) pending (omega (arith, sum)) h.ascends;
+        fits = omega (arith, sum, size, room);
+        room = omega (arith, more, h.room);
+      }
+
+  -- a local and its register get a value
+  pub rel_write : (env regs : List Value) (c : Captured) (v : Value) (r : ℕ) → r < length env → Rel stack pending env c regs → Rel stack pending (write r v env) c (write r v regs)
+  rel_write env regs c v r lt h =
+      let same = length_write r v env lt in
+      let more = write_more r v regs in
+      record {
+        agree = λ q lq. write_alike r v env regs q (h.agree q (omega (arith, same, lq)));
+        held = held_length c.held _ _ (sym same) h.held;
+        ascends = subst (Ascends 0 pending) (sym same) h.ascends;
+        fits = omega (arith, same, h.fits);
+        room = omega (arith, more, h.room);
       }
