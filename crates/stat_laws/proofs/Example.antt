@@ -27,7 +27,7 @@ it_fits = (record {
   placed = (
     ((((λ e. absurd (cc)), tt), (lit≤ tt, (lit≤ tt, (lit< tt, refl)))),
     (((lit< tt, (lit< tt, tt)), (lit≤ tt, (((lit< tt, ((λ e. absurd (cc)), tt)), (lit≤ tt, ((refl, tt), tt))), tt))), tt)),
-    (refl, ((tt, refl), ((lit< tt, (lit< tt, tt)), (lit≤ tt, lit< tt))))
+    (refl, (refl, ((lit< tt, (lit< tt, tt)), (lit≤ tt, lit< tt))))
   );
 }, (((tt, tt), (((tt, (tt, tt)), ((((tt, (tt, tt)), ((tt, tt), tt))), tt)), tt)), (tt, (tt, tt))))
 

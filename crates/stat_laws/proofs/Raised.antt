@@ -10,7 +10,7 @@ use Rattle.code_of.specs.Expressions.{made_by, made_in, made_by_field}
 use Rattle.code_of.specs.Levels.{made_by_stat, made_in_arms, made_in_stats, made_in_block, level_after, levels_after, levels_in, closing_after, closings_after}
 use Rattle.exp_laws.proofs.Talking.{Setting, Alike}
 use Rattle.exp_laws.proofs.Placed.{Inner, IsPlaced, ArePlaced, FieldsArePlaced}
-use Rattle.stat_laws.specs.Scoped.{Named, names_ahead, names_passed, ReturnIsPlaced, StatIsPlaced, ArmsArePlaced, StatsArePlaced, BlockIsPlaced, OpenIsPlaced}
+use Rattle.stat_laws.specs.Scoped.{Named, names_ahead, names_passed, LastIsPlaced, ReturnIsPlaced, StatIsPlaced, ArmsArePlaced, StatsArePlaced, BlockIsPlaced, OpenIsPlaced}
 use Rattle.stat_laws.specs.Fits.{is_known, setting, BodyFits, InExp, InExps, InFields, InField, InStat, InArms, InStats, InBlock}
 
 upvalues_same : (source : Option (List ℕ)) (body : Body) → (code_of source body).own.upvalues ≡ map upvalue (upvalues_of body)
@@ -58,8 +58,45 @@ module _ (source : Option (List ℕ)) (p : Prototype) (bound : ℕ) (varargs : L
         let same : j + (made_by e + made_by d) ≡ j + made_by e + made_by d = omega arith in
         (exp_up e t j h.0 g.0.0, (exp_up d t (j + made_by e) h.1.0 g.0.1, fields_up fs items t (j + made_by e + made_by d) h.1.1 (subst (InFields source p fs) same g.1)))
 
+  last_up : (es : Exps) (t j : ℕ) → LastIsPlaced low es t j → InExps source p es j → LastIsPlaced high es t j
+  last_up EndExps t j h g = h
+  last_up (MoreExps (Call l f es) EndExps) t j h g = (exp_up f t j h.0 g.0.0, (exps_up es t (j + made_by f) h.1.0 g.0.1, h.1.1))
+  last_up (MoreExps (Method l o name es) EndExps) t j h g = (exp_up o t j h.0 g.0.0, (h.1.0, (exps_up es t (j + made_by o) h.1.1.0 g.0.1, h.1.1.1)))
+  last_up (MoreExps (Nil l) EndExps) t j h g = (h.0, (exps_up (MoreExps (Nil l) EndExps) t j h.1.0 g, h.1.1))
+  last_up (MoreExps (True l) EndExps) t j h g = (h.0, (exps_up (MoreExps (True l) EndExps) t j h.1.0 g, h.1.1))
+  last_up (MoreExps (False l) EndExps) t j h g = (h.0, (exps_up (MoreExps (False l) EndExps) t j h.1.0 g, h.1.1))
+  last_up (MoreExps (Int l z) EndExps) t j h g = (h.0, (exps_up (MoreExps (Int l z) EndExps) t j h.1.0 g, h.1.1))
+  last_up (MoreExps (Str l bytes) EndExps) t j h g = (h.0, (exps_up (MoreExps (Str l bytes) EndExps) t j h.1.0 g, h.1.1))
+  last_up (MoreExps (Vararg l) EndExps) t j h g = (h.0, (exps_up (MoreExps (Vararg l) EndExps) t j h.1.0 g, h.1.1))
+  last_up (MoreExps (Function l body) EndExps) t j h g = (h.0, (exps_up (MoreExps (Function l body) EndExps) t j h.1.0 g, h.1.1))
+  last_up (MoreExps (Var l name) EndExps) t j h g = (h.0, (exps_up (MoreExps (Var l name) EndExps) t j h.1.0 g, h.1.1))
+  last_up (MoreExps (Index l o key) EndExps) t j h g = (h.0, (exps_up (MoreExps (Index l o key) EndExps) t j h.1.0 g, h.1.1))
+  last_up (MoreExps (Unary l op x) EndExps) t j h g = (h.0, (exps_up (MoreExps (Unary l op x) EndExps) t j h.1.0 g, h.1.1))
+  last_up (MoreExps (Binary l op x y) EndExps) t j h g = (h.0, (exps_up (MoreExps (Binary l op x y) EndExps) t j h.1.0 g, h.1.1))
+  last_up (MoreExps (And l x y) EndExps) t j h g = (h.0, (exps_up (MoreExps (And l x y) EndExps) t j h.1.0 g, h.1.1))
+  last_up (MoreExps (Or l x y) EndExps) t j h g = (h.0, (exps_up (MoreExps (Or l x y) EndExps) t j h.1.0 g, h.1.1))
+  last_up (MoreExps (Paren l x) EndExps) t j h g = (h.0, (exps_up (MoreExps (Paren l x) EndExps) t j h.1.0 g, h.1.1))
+  last_up (MoreExps (Table l fs) EndExps) t j h g = (h.0, (exps_up (MoreExps (Table l fs) EndExps) t j h.1.0 g, h.1.1))
+  last_up (MoreExps (Nil l) (MoreExps d es)) t j h g = (h.0, (exps_up (MoreExps (Nil l) (MoreExps d es)) t j h.1.0 g, h.1.1))
+  last_up (MoreExps (True l) (MoreExps d es)) t j h g = (h.0, (exps_up (MoreExps (True l) (MoreExps d es)) t j h.1.0 g, h.1.1))
+  last_up (MoreExps (False l) (MoreExps d es)) t j h g = (h.0, (exps_up (MoreExps (False l) (MoreExps d es)) t j h.1.0 g, h.1.1))
+  last_up (MoreExps (Int l z) (MoreExps d es)) t j h g = (h.0, (exps_up (MoreExps (Int l z) (MoreExps d es)) t j h.1.0 g, h.1.1))
+  last_up (MoreExps (Str l bytes) (MoreExps d es)) t j h g = (h.0, (exps_up (MoreExps (Str l bytes) (MoreExps d es)) t j h.1.0 g, h.1.1))
+  last_up (MoreExps (Vararg l) (MoreExps d es)) t j h g = (h.0, (exps_up (MoreExps (Vararg l) (MoreExps d es)) t j h.1.0 g, h.1.1))
+  last_up (MoreExps (Function l body) (MoreExps d es)) t j h g = (h.0, (exps_up (MoreExps (Function l body) (MoreExps d es)) t j h.1.0 g, h.1.1))
+  last_up (MoreExps (Var l name) (MoreExps d es)) t j h g = (h.0, (exps_up (MoreExps (Var l name) (MoreExps d es)) t j h.1.0 g, h.1.1))
+  last_up (MoreExps (Index l o key) (MoreExps d es)) t j h g = (h.0, (exps_up (MoreExps (Index l o key) (MoreExps d es)) t j h.1.0 g, h.1.1))
+  last_up (MoreExps (Unary l op x) (MoreExps d es)) t j h g = (h.0, (exps_up (MoreExps (Unary l op x) (MoreExps d es)) t j h.1.0 g, h.1.1))
+  last_up (MoreExps (Binary l op x y) (MoreExps d es)) t j h g = (h.0, (exps_up (MoreExps (Binary l op x y) (MoreExps d es)) t j h.1.0 g, h.1.1))
+  last_up (MoreExps (And l x y) (MoreExps d es)) t j h g = (h.0, (exps_up (MoreExps (And l x y) (MoreExps d es)) t j h.1.0 g, h.1.1))
+  last_up (MoreExps (Or l x y) (MoreExps d es)) t j h g = (h.0, (exps_up (MoreExps (Or l x y) (MoreExps d es)) t j h.1.0 g, h.1.1))
+  last_up (MoreExps (Paren l x) (MoreExps d es)) t j h g = (h.0, (exps_up (MoreExps (Paren l x) (MoreExps d es)) t j h.1.0 g, h.1.1))
+  last_up (MoreExps (Table l fs) (MoreExps d es)) t j h g = (h.0, (exps_up (MoreExps (Table l fs) (MoreExps d es)) t j h.1.0 g, h.1.1))
+  last_up (MoreExps (Call l f args) (MoreExps d es)) t j h g = (h.0, (exps_up (MoreExps (Call l f args) (MoreExps d es)) t j h.1.0 g, h.1.1))
+  last_up (MoreExps (Method l o name args) (MoreExps d es)) t j h g = (h.0, (exps_up (MoreExps (Method l o name args) (MoreExps d es)) t j h.1.0 g, h.1.1))
+
   pub return_up : (es : Exps) (closing : Bool) (t j : ℕ) → ReturnIsPlaced low es closing t j → InExps source p es j → ReturnIsPlaced high es closing t j
-  return_up es closing t j h g = (h.0, (h.1.0, (exps_up es t j h.1.1.0 g, h.1.1.1)))
+  return_up es closing t j h g = (h.0, last_up es t j h.1 g)
 
   mutual
     stat_up : (s : Stat) (closing : Bool) (t j : ℕ) (named : List Named) (loops : Bool) → StatIsPlaced low s closing t j named loops → InStat source p s j → StatIsPlaced high s closing t j named loops
@@ -74,7 +111,7 @@ module _ (source : Option (List ℕ)) (p : Prototype) (bound : ℕ) (varargs : L
     stat_up (Label l name) closing t j named loops h g = h
     stat_up (Goto l name) closing t j named loops h g = h
     stat_up (Break l) closing t j named loops h g = h
-    stat_up (LocalFunction l name body) closing t j named loops h g = h
+    stat_up (LocalFunction l name body) closing t j named loops h g = (inner_up j body h.0 g.0 g.1, h.1)
     stat_up (Assign l targets es) closing t j named loops h g = (h.0, (exps_up es t (j + made_in targets) h.1.0 g.1, h.1.1))
     stat_up (NumFor l name from limit block) closing t j named loops h g = h
     stat_up (NumForStep l name from limit step block) closing t j named loops h g = h

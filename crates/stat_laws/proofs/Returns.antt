@@ -1,11 +1,11 @@
 -- Leaving a function with values: `return`, and the end of its block.
-use Rattle.std.proofs.Common.{◌≡◌, ℕ, zero, suc, ◌+◌, ◌-◌, ◌<◌, ◌≤◌, ◌^◌, max, Bool, true, false, cond, List, [], ◌∷◌, ◌++◌, length, drop, take, Option, Some, None, refl, sym, ap, ap₂, subst, ◌∙◌, arith, length-append}
+use Rattle.std.proofs.Common.{◌≡◌, ℕ, zero, suc, ◌+◌, ◌-◌, ◌<◌, ◌≤◌, ◌^◌, max, Bool, true, false, cond, List, [], ◌∷◌, ◌++◌, length, drop, take, Option, Some, None, refl, sym, ap, ap₂, subst, ◌∙◌, arith, append_assoc, length-append}
 use borrow.Author.Tests.{le-leb, lt-ltb}
 use Rattle.std.specs.Prelude.{nat_lt, eqb, ◌==◌}
 use Rattle.int_core.specs.Value.{Value, known, nil, nth, range}
 use Rattle.int_core.specs.Ask.{leaves, returns, Captured, held_below, gone_from, shared_by}
 use Rattle.tree_core.specs.Tree.{Body, Block, Falls, Returns, Stats, EndStats, Exp, Nil, True, False, Int, Str, Vararg, Function, Var, Index, Call, Method, Unary, Binary, And, Or, Paren, Table, Exps, EndExps, MoreExps}
-use Rattle.tree_activation.specs.Work.{complete, collect, for_return, finish, leave_scope, run, Work, Pending, Passed, returns_list, Activation, State}
+use Rattle.tree_activation.specs.Work.{complete, collect, evaluate, callee_of, method_of, for_return, finish, leave_scope, run, Work, Pending, Passed, returns_list, Activation, State}
 use Rattle.tree_activation.specs.Work as tree
 use Rattle.tree_activation.specs.Asking.{go}
 use Rattle.tree_activation.specs.Activation.{step}
@@ -38,13 +38,14 @@ use Rattle.exp_laws.proofs.Talking.{Setting, Agree, go_left, both_ask, of_tree, 
 use Rattle.exp_laws.proofs.Placing.{HasAt, has_front, has_back}
 use Rattle.exp_laws.proofs.Lists.{Holds, range_held}
 use Rattle.exp_laws.proofs.Calls.{read_values_step}
-use Rattle.exp_laws.proofs.Placed.{room_of, room_of_list, room_of_values, ArePlaced}
+use Rattle.exp_laws.proofs.Placed.{room_of, room_of_list, room_of_values, IsPlaced, ArePlaced}
 use Rattle.exp_laws.proofs.ListForms.{Listed}
 use Rattle.exp_laws.proofs.Exps.{exps_same}
 use Rattle.exp_laws.proofs.Steps.{row_step, own_step}
+use Rattle.exp_laws.proofs.LastCalls.{call_last_same, method_last_same}
 use Rattle.stat_laws.proofs.Closing.{AllBelow}
 use Rattle.stat_laws.proofs.Standing.{numbers, Standing, GoesOn}
-use Rattle.stat_laws.specs.Scoped.{IsList, ReturnIsPlaced}
+use Rattle.stat_laws.specs.Scoped.{LastIsPlaced, ReturnIsPlaced}
 use Rattle.stat_laws.proofs.Sizes.{stats_sized}
 use Rattle.stat_laws.proofs.Labels.{closed_after}
 use Rattle.stat_laws.proofs.Blocks.{closeds_after, known_after, added_none, StatsLaw}
@@ -71,81 +72,6 @@ no_numbers (p ∷ ps) e = absurd (cc)
 pub known_all : (ss : Stats) (t : ℕ) (closing : Bool) (closed : List ℕ) → (closing ≡ false → closed ≡ []) → closings_after ss closing ≡ false → closeds_after ss t closed ≡ []
 known_all EndStats t closing closed h e = h e
 known_all (Rattle.tree_core.specs.Tree.MoreStats s ss) t closing closed h e = known_all ss (level_after s t) (closing_after s closing) (closed_after s t closed) (known_after s t closing closed h) e
-
--- a list that is no single call
-begins_list : (es : Exps) (line : ℕ) (a : Activation) (k : List Work) → IsList es → begins_return line es a k ≡ go (collect (for_return line) [] es) a k
-begins_list EndExps line a k is = refl
-begins_list (MoreExps (Nil l) EndExps) line a k is = refl
-begins_list (MoreExps (True l) EndExps) line a k is = refl
-begins_list (MoreExps (False l) EndExps) line a k is = refl
-begins_list (MoreExps (Int l z) EndExps) line a k is = refl
-begins_list (MoreExps (Str l bytes) EndExps) line a k is = refl
-begins_list (MoreExps (Vararg l) EndExps) line a k is = refl
-begins_list (MoreExps (Function l body) EndExps) line a k is = refl
-begins_list (MoreExps (Var l name) EndExps) line a k is = refl
-begins_list (MoreExps (Index l o key) EndExps) line a k is = refl
-begins_list (MoreExps (Unary l op x) EndExps) line a k is = refl
-begins_list (MoreExps (Binary l op x y) EndExps) line a k is = refl
-begins_list (MoreExps (And l x y) EndExps) line a k is = refl
-begins_list (MoreExps (Or l x y) EndExps) line a k is = refl
-begins_list (MoreExps (Paren l x) EndExps) line a k is = refl
-begins_list (MoreExps (Table l fs) EndExps) line a k is = refl
-begins_list (MoreExps (Call l f args) EndExps) line a k is = absurd is
-begins_list (MoreExps (Method l o name args) EndExps) line a k is = absurd is
-begins_list (MoreExps (Nil l) (MoreExps d es)) line a k is = refl
-begins_list (MoreExps (True l) (MoreExps d es)) line a k is = refl
-begins_list (MoreExps (False l) (MoreExps d es)) line a k is = refl
-begins_list (MoreExps (Int l z) (MoreExps d es)) line a k is = refl
-begins_list (MoreExps (Str l bytes) (MoreExps d es)) line a k is = refl
-begins_list (MoreExps (Vararg l) (MoreExps d es)) line a k is = refl
-begins_list (MoreExps (Function l body) (MoreExps d es)) line a k is = refl
-begins_list (MoreExps (Var l name) (MoreExps d es)) line a k is = refl
-begins_list (MoreExps (Index l o key) (MoreExps d es)) line a k is = refl
-begins_list (MoreExps (Unary l op x) (MoreExps d es)) line a k is = refl
-begins_list (MoreExps (Binary l op x y) (MoreExps d es)) line a k is = refl
-begins_list (MoreExps (And l x y) (MoreExps d es)) line a k is = refl
-begins_list (MoreExps (Or l x y) (MoreExps d es)) line a k is = refl
-begins_list (MoreExps (Paren l x) (MoreExps d es)) line a k is = refl
-begins_list (MoreExps (Table l fs) (MoreExps d es)) line a k is = refl
-begins_list (MoreExps (Call l f args) (MoreExps d es)) line a k is = refl
-begins_list (MoreExps (Method l o name args) (MoreExps d es)) line a k is = refl
-
-pub code_list : (cs : List Const) (es : Exps) (t j line back : ℕ) → IsList es → return_code cs false es t j line back ≡ values_last cs es t j line back
-code_list cs EndExps t j line back is = refl
-code_list cs (MoreExps (Nil l) EndExps) t j line back is = refl
-code_list cs (MoreExps (True l) EndExps) t j line back is = refl
-code_list cs (MoreExps (False l) EndExps) t j line back is = refl
-code_list cs (MoreExps (Int l z) EndExps) t j line back is = refl
-code_list cs (MoreExps (Str l bytes) EndExps) t j line back is = refl
-code_list cs (MoreExps (Vararg l) EndExps) t j line back is = refl
-code_list cs (MoreExps (Function l body) EndExps) t j line back is = refl
-code_list cs (MoreExps (Var l name) EndExps) t j line back is = refl
-code_list cs (MoreExps (Index l o key) EndExps) t j line back is = refl
-code_list cs (MoreExps (Unary l op x) EndExps) t j line back is = refl
-code_list cs (MoreExps (Binary l op x y) EndExps) t j line back is = refl
-code_list cs (MoreExps (And l x y) EndExps) t j line back is = refl
-code_list cs (MoreExps (Or l x y) EndExps) t j line back is = refl
-code_list cs (MoreExps (Paren l x) EndExps) t j line back is = refl
-code_list cs (MoreExps (Table l fs) EndExps) t j line back is = refl
-code_list cs (MoreExps (Call l f args) EndExps) t j line back is = absurd is
-code_list cs (MoreExps (Method l o name args) EndExps) t j line back is = absurd is
-code_list cs (MoreExps (Nil l) (MoreExps d es)) t j line back is = refl
-code_list cs (MoreExps (True l) (MoreExps d es)) t j line back is = refl
-code_list cs (MoreExps (False l) (MoreExps d es)) t j line back is = refl
-code_list cs (MoreExps (Int l z) (MoreExps d es)) t j line back is = refl
-code_list cs (MoreExps (Str l bytes) (MoreExps d es)) t j line back is = refl
-code_list cs (MoreExps (Vararg l) (MoreExps d es)) t j line back is = refl
-code_list cs (MoreExps (Function l body) (MoreExps d es)) t j line back is = refl
-code_list cs (MoreExps (Var l name) (MoreExps d es)) t j line back is = refl
-code_list cs (MoreExps (Index l o key) (MoreExps d es)) t j line back is = refl
-code_list cs (MoreExps (Unary l op x) (MoreExps d es)) t j line back is = refl
-code_list cs (MoreExps (Binary l op x y) (MoreExps d es)) t j line back is = refl
-code_list cs (MoreExps (And l x y) (MoreExps d es)) t j line back is = refl
-code_list cs (MoreExps (Or l x y) (MoreExps d es)) t j line back is = refl
-code_list cs (MoreExps (Paren l x) (MoreExps d es)) t j line back is = refl
-code_list cs (MoreExps (Table l fs) (MoreExps d es)) t j line back is = refl
-code_list cs (MoreExps (Call l f args) (MoreExps d es)) t j line back is = refl
-code_list cs (MoreExps (Method l o name args) (MoreExps d es)) t j line back is = refl
 
 last_some : (cs : List Const) (es : Exps) (t j line back : ℕ) → 1 ≤ length (values_last cs es t j line back)
 last_some cs es t j line back = let sum = length-append (exps_code cs es None t j line) (with_abc Return t (list_field 0 es) back line ∷ []) in omega (arith, sum)
@@ -257,6 +183,10 @@ module _ (S : Setting) where
       ∙ own_step S.code (read_registers t m) (λ v _. text.leave (text.results v)) (([] ++ vs) ++ []) a c (le-leb (behind t m) (length regs) (behind_within t m (length regs) width))
       ∙ ap (λ l. says_so (leaves (returns l)) S.code a c (λ x b d. amid text.trap [] b d)) (drop_front (([] ++ vs) ++ []) (range t m regs) ∙ same)
 
+  without_last : (a : List Coded) (x y : Coded) (pc : ℕ) → HasAt S pc (a ++ x ∷ y ∷ []) → HasAt S pc (a ++ x ∷ [])
+  without_last [] x y pc h = (h.0, (h.1.0, tt))
+  without_last (z ∷ a) x y pc h = (h.0, (h.1.0, without_last a x y (pc + 1) h.1.1))
+
   module _ (back : ℕ) where
     -- the values of a list
     list_returns : (es : Exps) (n t j line pc opened : ℕ) (env regs : List Value) (c : Captured) (k : List Work) → n ≤ S.bound → HasAt S pc (values_last S.code.own.constants es t j line back) → ends_open es ≡ false → ArePlaced S es t j
@@ -300,6 +230,108 @@ module _ (S : Setting) where
             (leaves_goes n line (pc + length code) opened1 vs env1 regs1 c1 [] _ rel1 at_last.1.0
             (return_step t (count es) back (pc + length code) opened1 vs regs1 c1 at_last.0 (omega (arith, size1, rel1.fits, S.small)) (omega (arith, few)) wide (omega (arith, size1, rel1.fits, rel1.room, count_fits, room)) h.1)))
 
+    -- `return`, where no variable to be closed is in scope
+    return_goes : (es : Exps) (n t j line pc opened : ℕ) (env regs : List Value) (c : Captured) (k : List Work) (s : tree.State) → step s ≡ begins_return line es (of_tree S [] env c) k → n ≤ S.bound
+        → HasAt S pc (return_code S.code.own.constants false es t j line back) → LastIsPlaced S es t j → pc + length (return_code S.code.own.constants false es t j line back) ≤ length S.code.own.code → length env ≡ t → Rel S.code.own.stack [] env c regs
+        → Agree S n s (before (of_code S [] pc regs opened) c)
+    return_goes (MoreExps (Call l f es) EndExps) n t j line pc opened env regs c k s st fewer has h inside size rel =
+        let first_code = exp_code S.code.own.constants f t j 2 in
+        let args = exps_code S.code.own.constants es None (t + 1) (j + made_by f) l in
+        let one = with_abc TailCall t (list_field 0 es) 0 l in
+        let two = with_abc Return t 0 back l in
+        let front = without_last (first_code ++ args) one two pc (subst (HasAt S pc) (sym (append_assoc first_code args (one ∷ two ∷ []))) has) in
+        let a = length-append first_code (args ++ one ∷ []) in
+        let b = length-append args (one ∷ []) in
+        let d = length-append first_code (args ++ one ∷ two ∷ []) in
+        let e = length-append args (one ∷ two ∷ []) in
+        go_left S n s (tree.at (evaluate f) (of_tree S [] env c) (callee_of l true es ∷ k)) _ st
+        (call_last_same S [] f es l t j n pc opened env regs c k fewer (subst (HasAt S pc) (append_assoc first_code args (one ∷ [])) front) (subst (λ u. IsPlaced S f u j) (sym size) h.0) (subst (λ u. ArePlaced S es u (j + made_by f)) (sym size) h.1.0)
+        (omega (arith, inside, a, b, d, e)) (omega (arith, size)) h.1.1.0 h.1.1.1 rel)
+    return_goes (MoreExps (Method l o name es) EndExps) n t j line pc opened env regs c k s st fewer has h inside size rel =
+        let first_code = exp_code S.code.own.constants o t j 2 in
+        let key = loads S.code.own.constants (StrConst name.text) (t + 1) l in
+        let self = with_abc OpSelf t t (t + 1) l in
+        let args = exps_code S.code.own.constants es None (t + 2) (j + made_by o) l in
+        let one = with_abc TailCall t (list_field 1 es) 0 l in
+        let two = with_abc Return t 0 back l in
+        let joined = λ (z : List Coded). append_assoc first_code (key ++ (self ∷ args)) z ∙ ap (λ l. first_code ++ l) (append_assoc key (self ∷ args) z) in
+        let front = without_last (first_code ++ (key ++ (self ∷ args))) one two pc (subst (HasAt S pc) (sym (joined (one ∷ two ∷ []))) has) in
+        let a = length-append first_code (key ++ (self ∷ (args ++ one ∷ []))) in
+        let b = length-append key (self ∷ (args ++ one ∷ [])) in
+        let x = length-append args (one ∷ []) in
+        let d = length-append first_code (key ++ (self ∷ (args ++ one ∷ two ∷ []))) in
+        let e = length-append key (self ∷ (args ++ one ∷ two ∷ [])) in
+        let y = length-append args (one ∷ two ∷ []) in
+        go_left S n s (tree.at (evaluate o) (of_tree S [] env c) (method_of l true name.text es ∷ k)) _ st
+        (method_last_same S [] o name.text es l t j n pc opened env regs c k fewer (subst (HasAt S pc) (joined (one ∷ [])) front) (subst (λ u. IsPlaced S o u j) (sym size) h.0) h.1.0 (subst (λ u. ArePlaced S es u (j + made_by o)) (sym size) h.1.1.0)
+        (omega (arith, inside, a, b, x, d, e, y)) (omega (arith, size)) h.1.1.1.0 h.1.1.1.1.0 h.1.1.1.1.1 rel)
+    return_goes EndExps n t j line pc opened env regs c k s st fewer has h inside size rel =
+        go_left S n s (tree.at (collect (for_return line) [] EndExps) (of_tree S [] env c) k) _ st (list_returns EndExps n t j line pc opened env regs c k fewer has h.0 h.1.0 h.1.1.0 h.1.1.1 inside size rel)
+    return_goes (MoreExps (Nil l) EndExps) n t j line pc opened env regs c k s st fewer has h inside size rel =
+        go_left S n s (tree.at (collect (for_return line) [] (MoreExps (Nil l) EndExps)) (of_tree S [] env c) k) _ st (list_returns (MoreExps (Nil l) EndExps) n t j line pc opened env regs c k fewer has h.0 h.1.0 h.1.1.0 h.1.1.1 inside size rel)
+    return_goes (MoreExps (True l) EndExps) n t j line pc opened env regs c k s st fewer has h inside size rel =
+        go_left S n s (tree.at (collect (for_return line) [] (MoreExps (True l) EndExps)) (of_tree S [] env c) k) _ st (list_returns (MoreExps (True l) EndExps) n t j line pc opened env regs c k fewer has h.0 h.1.0 h.1.1.0 h.1.1.1 inside size rel)
+    return_goes (MoreExps (False l) EndExps) n t j line pc opened env regs c k s st fewer has h inside size rel =
+        go_left S n s (tree.at (collect (for_return line) [] (MoreExps (False l) EndExps)) (of_tree S [] env c) k) _ st (list_returns (MoreExps (False l) EndExps) n t j line pc opened env regs c k fewer has h.0 h.1.0 h.1.1.0 h.1.1.1 inside size rel)
+    return_goes (MoreExps (Int l z) EndExps) n t j line pc opened env regs c k s st fewer has h inside size rel =
+        go_left S n s (tree.at (collect (for_return line) [] (MoreExps (Int l z) EndExps)) (of_tree S [] env c) k) _ st (list_returns (MoreExps (Int l z) EndExps) n t j line pc opened env regs c k fewer has h.0 h.1.0 h.1.1.0 h.1.1.1 inside size rel)
+    return_goes (MoreExps (Str l bytes) EndExps) n t j line pc opened env regs c k s st fewer has h inside size rel =
+        go_left S n s (tree.at (collect (for_return line) [] (MoreExps (Str l bytes) EndExps)) (of_tree S [] env c) k) _ st (list_returns (MoreExps (Str l bytes) EndExps) n t j line pc opened env regs c k fewer has h.0 h.1.0 h.1.1.0 h.1.1.1 inside size rel)
+    return_goes (MoreExps (Vararg l) EndExps) n t j line pc opened env regs c k s st fewer has h inside size rel =
+        go_left S n s (tree.at (collect (for_return line) [] (MoreExps (Vararg l) EndExps)) (of_tree S [] env c) k) _ st (list_returns (MoreExps (Vararg l) EndExps) n t j line pc opened env regs c k fewer has h.0 h.1.0 h.1.1.0 h.1.1.1 inside size rel)
+    return_goes (MoreExps (Function l body) EndExps) n t j line pc opened env regs c k s st fewer has h inside size rel =
+        go_left S n s (tree.at (collect (for_return line) [] (MoreExps (Function l body) EndExps)) (of_tree S [] env c) k) _ st (list_returns (MoreExps (Function l body) EndExps) n t j line pc opened env regs c k fewer has h.0 h.1.0 h.1.1.0 h.1.1.1 inside size rel)
+    return_goes (MoreExps (Var l name) EndExps) n t j line pc opened env regs c k s st fewer has h inside size rel =
+        go_left S n s (tree.at (collect (for_return line) [] (MoreExps (Var l name) EndExps)) (of_tree S [] env c) k) _ st (list_returns (MoreExps (Var l name) EndExps) n t j line pc opened env regs c k fewer has h.0 h.1.0 h.1.1.0 h.1.1.1 inside size rel)
+    return_goes (MoreExps (Index l o key) EndExps) n t j line pc opened env regs c k s st fewer has h inside size rel =
+        go_left S n s (tree.at (collect (for_return line) [] (MoreExps (Index l o key) EndExps)) (of_tree S [] env c) k) _ st (list_returns (MoreExps (Index l o key) EndExps) n t j line pc opened env regs c k fewer has h.0 h.1.0 h.1.1.0 h.1.1.1 inside size rel)
+    return_goes (MoreExps (Unary l op x) EndExps) n t j line pc opened env regs c k s st fewer has h inside size rel =
+        go_left S n s (tree.at (collect (for_return line) [] (MoreExps (Unary l op x) EndExps)) (of_tree S [] env c) k) _ st (list_returns (MoreExps (Unary l op x) EndExps) n t j line pc opened env regs c k fewer has h.0 h.1.0 h.1.1.0 h.1.1.1 inside size rel)
+    return_goes (MoreExps (Binary l op x y) EndExps) n t j line pc opened env regs c k s st fewer has h inside size rel =
+        go_left S n s (tree.at (collect (for_return line) [] (MoreExps (Binary l op x y) EndExps)) (of_tree S [] env c) k) _ st (list_returns (MoreExps (Binary l op x y) EndExps) n t j line pc opened env regs c k fewer has h.0 h.1.0 h.1.1.0 h.1.1.1 inside size rel)
+    return_goes (MoreExps (And l x y) EndExps) n t j line pc opened env regs c k s st fewer has h inside size rel =
+        go_left S n s (tree.at (collect (for_return line) [] (MoreExps (And l x y) EndExps)) (of_tree S [] env c) k) _ st (list_returns (MoreExps (And l x y) EndExps) n t j line pc opened env regs c k fewer has h.0 h.1.0 h.1.1.0 h.1.1.1 inside size rel)
+    return_goes (MoreExps (Or l x y) EndExps) n t j line pc opened env regs c k s st fewer has h inside size rel =
+        go_left S n s (tree.at (collect (for_return line) [] (MoreExps (Or l x y) EndExps)) (of_tree S [] env c) k) _ st (list_returns (MoreExps (Or l x y) EndExps) n t j line pc opened env regs c k fewer has h.0 h.1.0 h.1.1.0 h.1.1.1 inside size rel)
+    return_goes (MoreExps (Paren l x) EndExps) n t j line pc opened env regs c k s st fewer has h inside size rel =
+        go_left S n s (tree.at (collect (for_return line) [] (MoreExps (Paren l x) EndExps)) (of_tree S [] env c) k) _ st (list_returns (MoreExps (Paren l x) EndExps) n t j line pc opened env regs c k fewer has h.0 h.1.0 h.1.1.0 h.1.1.1 inside size rel)
+    return_goes (MoreExps (Table l fs) EndExps) n t j line pc opened env regs c k s st fewer has h inside size rel =
+        go_left S n s (tree.at (collect (for_return line) [] (MoreExps (Table l fs) EndExps)) (of_tree S [] env c) k) _ st (list_returns (MoreExps (Table l fs) EndExps) n t j line pc opened env regs c k fewer has h.0 h.1.0 h.1.1.0 h.1.1.1 inside size rel)
+    return_goes (MoreExps (Nil l) (MoreExps d es)) n t j line pc opened env regs c k s st fewer has h inside size rel =
+        go_left S n s (tree.at (collect (for_return line) [] (MoreExps (Nil l) (MoreExps d es))) (of_tree S [] env c) k) _ st (list_returns (MoreExps (Nil l) (MoreExps d es)) n t j line pc opened env regs c k fewer has h.0 h.1.0 h.1.1.0 h.1.1.1 inside size rel)
+    return_goes (MoreExps (True l) (MoreExps d es)) n t j line pc opened env regs c k s st fewer has h inside size rel =
+        go_left S n s (tree.at (collect (for_return line) [] (MoreExps (True l) (MoreExps d es))) (of_tree S [] env c) k) _ st (list_returns (MoreExps (True l) (MoreExps d es)) n t j line pc opened env regs c k fewer has h.0 h.1.0 h.1.1.0 h.1.1.1 inside size rel)
+    return_goes (MoreExps (False l) (MoreExps d es)) n t j line pc opened env regs c k s st fewer has h inside size rel =
+        go_left S n s (tree.at (collect (for_return line) [] (MoreExps (False l) (MoreExps d es))) (of_tree S [] env c) k) _ st (list_returns (MoreExps (False l) (MoreExps d es)) n t j line pc opened env regs c k fewer has h.0 h.1.0 h.1.1.0 h.1.1.1 inside size rel)
+    return_goes (MoreExps (Int l z) (MoreExps d es)) n t j line pc opened env regs c k s st fewer has h inside size rel =
+        go_left S n s (tree.at (collect (for_return line) [] (MoreExps (Int l z) (MoreExps d es))) (of_tree S [] env c) k) _ st (list_returns (MoreExps (Int l z) (MoreExps d es)) n t j line pc opened env regs c k fewer has h.0 h.1.0 h.1.1.0 h.1.1.1 inside size rel)
+    return_goes (MoreExps (Str l bytes) (MoreExps d es)) n t j line pc opened env regs c k s st fewer has h inside size rel =
+        go_left S n s (tree.at (collect (for_return line) [] (MoreExps (Str l bytes) (MoreExps d es))) (of_tree S [] env c) k) _ st (list_returns (MoreExps (Str l bytes) (MoreExps d es)) n t j line pc opened env regs c k fewer has h.0 h.1.0 h.1.1.0 h.1.1.1 inside size rel)
+    return_goes (MoreExps (Vararg l) (MoreExps d es)) n t j line pc opened env regs c k s st fewer has h inside size rel =
+        go_left S n s (tree.at (collect (for_return line) [] (MoreExps (Vararg l) (MoreExps d es))) (of_tree S [] env c) k) _ st (list_returns (MoreExps (Vararg l) (MoreExps d es)) n t j line pc opened env regs c k fewer has h.0 h.1.0 h.1.1.0 h.1.1.1 inside size rel)
+    return_goes (MoreExps (Function l body) (MoreExps d es)) n t j line pc opened env regs c k s st fewer has h inside size rel =
+        go_left S n s (tree.at (collect (for_return line) [] (MoreExps (Function l body) (MoreExps d es))) (of_tree S [] env c) k) _ st (list_returns (MoreExps (Function l body) (MoreExps d es)) n t j line pc opened env regs c k fewer has h.0 h.1.0 h.1.1.0 h.1.1.1 inside size rel)
+    return_goes (MoreExps (Var l name) (MoreExps d es)) n t j line pc opened env regs c k s st fewer has h inside size rel =
+        go_left S n s (tree.at (collect (for_return line) [] (MoreExps (Var l name) (MoreExps d es))) (of_tree S [] env c) k) _ st (list_returns (MoreExps (Var l name) (MoreExps d es)) n t j line pc opened env regs c k fewer has h.0 h.1.0 h.1.1.0 h.1.1.1 inside size rel)
+    return_goes (MoreExps (Index l o key) (MoreExps d es)) n t j line pc opened env regs c k s st fewer has h inside size rel =
+        go_left S n s (tree.at (collect (for_return line) [] (MoreExps (Index l o key) (MoreExps d es))) (of_tree S [] env c) k) _ st (list_returns (MoreExps (Index l o key) (MoreExps d es)) n t j line pc opened env regs c k fewer has h.0 h.1.0 h.1.1.0 h.1.1.1 inside size rel)
+    return_goes (MoreExps (Unary l op x) (MoreExps d es)) n t j line pc opened env regs c k s st fewer has h inside size rel =
+        go_left S n s (tree.at (collect (for_return line) [] (MoreExps (Unary l op x) (MoreExps d es))) (of_tree S [] env c) k) _ st (list_returns (MoreExps (Unary l op x) (MoreExps d es)) n t j line pc opened env regs c k fewer has h.0 h.1.0 h.1.1.0 h.1.1.1 inside size rel)
+    return_goes (MoreExps (Binary l op x y) (MoreExps d es)) n t j line pc opened env regs c k s st fewer has h inside size rel =
+        go_left S n s (tree.at (collect (for_return line) [] (MoreExps (Binary l op x y) (MoreExps d es))) (of_tree S [] env c) k) _ st (list_returns (MoreExps (Binary l op x y) (MoreExps d es)) n t j line pc opened env regs c k fewer has h.0 h.1.0 h.1.1.0 h.1.1.1 inside size rel)
+    return_goes (MoreExps (And l x y) (MoreExps d es)) n t j line pc opened env regs c k s st fewer has h inside size rel =
+        go_left S n s (tree.at (collect (for_return line) [] (MoreExps (And l x y) (MoreExps d es))) (of_tree S [] env c) k) _ st (list_returns (MoreExps (And l x y) (MoreExps d es)) n t j line pc opened env regs c k fewer has h.0 h.1.0 h.1.1.0 h.1.1.1 inside size rel)
+    return_goes (MoreExps (Or l x y) (MoreExps d es)) n t j line pc opened env regs c k s st fewer has h inside size rel =
+        go_left S n s (tree.at (collect (for_return line) [] (MoreExps (Or l x y) (MoreExps d es))) (of_tree S [] env c) k) _ st (list_returns (MoreExps (Or l x y) (MoreExps d es)) n t j line pc opened env regs c k fewer has h.0 h.1.0 h.1.1.0 h.1.1.1 inside size rel)
+    return_goes (MoreExps (Paren l x) (MoreExps d es)) n t j line pc opened env regs c k s st fewer has h inside size rel =
+        go_left S n s (tree.at (collect (for_return line) [] (MoreExps (Paren l x) (MoreExps d es))) (of_tree S [] env c) k) _ st (list_returns (MoreExps (Paren l x) (MoreExps d es)) n t j line pc opened env regs c k fewer has h.0 h.1.0 h.1.1.0 h.1.1.1 inside size rel)
+    return_goes (MoreExps (Table l fs) (MoreExps d es)) n t j line pc opened env regs c k s st fewer has h inside size rel =
+        go_left S n s (tree.at (collect (for_return line) [] (MoreExps (Table l fs) (MoreExps d es))) (of_tree S [] env c) k) _ st (list_returns (MoreExps (Table l fs) (MoreExps d es)) n t j line pc opened env regs c k fewer has h.0 h.1.0 h.1.1.0 h.1.1.1 inside size rel)
+    return_goes (MoreExps (Call l f args) (MoreExps d es)) n t j line pc opened env regs c k s st fewer has h inside size rel =
+        go_left S n s (tree.at (collect (for_return line) [] (MoreExps (Call l f args) (MoreExps d es))) (of_tree S [] env c) k) _ st (list_returns (MoreExps (Call l f args) (MoreExps d es)) n t j line pc opened env regs c k fewer has h.0 h.1.0 h.1.1.0 h.1.1.1 inside size rel)
+    return_goes (MoreExps (Method l o name args) (MoreExps d es)) n t j line pc opened env regs c k s st fewer has h inside size rel =
+        go_left S n s (tree.at (collect (for_return line) [] (MoreExps (Method l o name args) (MoreExps d es))) (of_tree S [] env c) k) _ st (list_returns (MoreExps (Method l o name args) (MoreExps d es)) n t j line pc opened env regs c k fewer has h.0 h.1.0 h.1.1.0 h.1.1.1 inside size rel)
+
     -- the end of statements, where `return` stands
     pub return_ends : (ss : Stats) (es : Exps) (line n : ℕ) (closing : Bool) (closed : List ℕ) (outer t j pc : ℕ) (reach : Reach) (k : List Work) → n ≤ S.bound
         → HasAt S pc (stats_code S.code.own.constants back ss false closing outer t j pc [] reach ++ return_code S.code.own.constants (closings_after ss closing) es (levels_after ss t) (j + made_in_stats ss) line back)
@@ -311,9 +343,8 @@ module _ (S : Setting) where
         let none = no_numbers ps (st.numbered ∙ known_all ss t closing closed plain placed.0) in
         let wide = ap length last_is in
         subst (λ qs. Agree S m (tree.at (run (record { rest = EndStats; ending = returns_list line es; level = outer; labels = labels })) (of_tree S qs env c) k) (before (of_code S qs (pc + size) regs opened) c)) (sym none)
-        (go_left S m _ (tree.at (collect (for_return line) [] es) (of_tree S [] env c) k) _ (begins_list es line (of_tree S [] env c) k placed.1.0.0)
-        (list_returns es m (levels_after ss t) (j + made_in_stats ss) line (pc + size) opened env regs c k (omega (arith, fewer, le)) at_last placed.1.0.1 placed.1.1.0 placed.1.1.1.0 placed.1.1.1.1 (omega (arith, inside, wide)) st.size
-        (subst (λ qs. Rel S.code.own.stack qs env c regs) none st.rel)))
+        (return_goes es m (levels_after ss t) (j + made_in_stats ss) line (pc + size) opened env regs c k _ refl (omega (arith, fewer, le)) at_last placed.1 (omega (arith, inside, wide)) st.size
+        (subst (λ qs. Rel S.code.own.stack qs env c regs) none st.rel))
       where
         code : List Coded
         code = stats_code S.code.own.constants back ss false closing outer t j pc [] reach
@@ -324,10 +355,10 @@ module _ (S : Setting) where
         size : ℕ
         size = stats_size S.code.own.constants back ss closing t j
 
-        last_is : return_code S.code.own.constants (closings_after ss closing) es (levels_after ss t) (j + made_in_stats ss) line back ≡ values_last S.code.own.constants es (levels_after ss t) (j + made_in_stats ss) line back
-        last_is = ap (λ b. return_code S.code.own.constants b es (levels_after ss t) (j + made_in_stats ss) line back) placed.0 ∙ code_list S.code.own.constants es (levels_after ss t) (j + made_in_stats ss) line back placed.1.0.0
+        last_is : return_code S.code.own.constants (closings_after ss closing) es (levels_after ss t) (j + made_in_stats ss) line back ≡ return_code S.code.own.constants false es (levels_after ss t) (j + made_in_stats ss) line back
+        last_is = ap (λ b. return_code S.code.own.constants b es (levels_after ss t) (j + made_in_stats ss) line back) placed.0
 
-        at_last : HasAt S (pc + size) (values_last S.code.own.constants es (levels_after ss t) (j + made_in_stats ss) line back)
+        at_last : HasAt S (pc + size) (return_code S.code.own.constants false es (levels_after ss t) (j + made_in_stats ss) line back)
         at_last = subst (HasAt S (pc + size)) last_is (subst (λ q. HasAt S (pc + q) last) (stats_sized S.code.own.constants back ss false closing outer t j pc [] reach) (has_back S pc code last has))
 
     -- a block that ends by `return`

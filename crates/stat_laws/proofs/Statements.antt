@@ -11,7 +11,7 @@ use Rattle.stat_laws.proofs.Forms.{ExpLaw, BlockLaw, falls_goes, do_goes, goto_g
 use Rattle.stat_laws.proofs.Loops.{repeat_goes}
 use Rattle.stat_laws.proofs.Returns.{returns_goes}
 use Rattle.stat_laws.proofs.Assigning.{assign_goes}
-use Rattle.stat_laws.proofs.Values.{local_goes, call_goes}
+use Rattle.stat_laws.proofs.Values.{local_goes, function_goes, call_goes}
 
 abbrev pub exps : (S : Setting) → ExpLaw S
 exps S pending e t j n pc opened env regs c k fewer has fine inside le room rel goes = exp_same S pending e t j n pc opened env regs c k fewer has fine inside le room rel goes
@@ -25,7 +25,7 @@ module _ (S : Setting) (back : ℕ) where
     pub stat_goes : (s : Stat) → StatLaw S back s
     stat_goes (Empty l) = empty_stat_goes S back l
     stat_goes (Local l names es) = local_goes S back l names es
-    stat_goes (LocalFunction l name body) = never (LocalFunction l name body) (λ closing t j named loops placed. placed)
+    stat_goes (LocalFunction l name body) = function_goes S back l name body
     stat_goes (Assign l targets es) = assign_goes S back l targets es
     stat_goes (CallStat l e) = call_goes S back l e
     stat_goes (Do l block) = do_goes S back l block (block_goes block)

@@ -3,7 +3,8 @@ use Rattle.std.proofs.Common.{◌≡◌, ℕ, zero, suc, ◌+◌, ◌-◌, ◌<�
 use Rattle.int_core.specs.Value.{Value, nth}
 use Rattle.int_core.specs.Ask.{Captured}
 use Rattle.tree_core.specs.declared.name.Declared.{Declared}
-use Rattle.tree_core.specs.Tree.{Local, CallStat, Exp, Exps, EndExps}
+use Rattle.tree_core.specs.declared.name.Name.{Name}
+use Rattle.tree_core.specs.Tree.{Body, Local, LocalFunction, CallStat, Exp, Exps, EndExps}
 use Rattle.tree_activation.specs.Work.{Control, complete, collect, evaluate, give, for_declaration, dropped, mark, Work, Pending, State}
 use Rattle.tree_activation.specs.Work as tree
 use Rattle.tree_activation.specs.Asking.{go, fitted}
@@ -22,6 +23,7 @@ use Rattle.exp_laws.proofs.Placing.{HasAt, has_front}
 use Rattle.exp_laws.proofs.Placed.{IsPlaced, ArePlaced}
 use Rattle.exp_laws.proofs.Lists.{Holds}
 use Rattle.exp_laws.proofs.ListForms.{nth_behind}
+use Rattle.exp_laws.proofs.FunctionForms.{local_function_goes}
 use Rattle.exp_laws.proofs.Exps.{open_same, exps_same}
 use Rattle.stat_laws.proofs.Standing.{numbers, Standing, below_higher}
 use Rattle.stat_laws.proofs.Labels.{closed_numbers}
@@ -128,3 +130,8 @@ module _ (S : Setting) (back : ℕ) where
       (open_same S ps e placed.0 1 t j n pc opened env regs c (dropped ∷ k) fewer has (lit< tt) (subst (λ u. IsPlaced S e u j) (sym standing.size) placed.1.0) inside (omega (arith, size)) placed.1.1 standing.rel
       (λ vs env1 regs1 c1 opened1 af filled. go_left S n _ (tree.at complete (of_tree S ps env1 c1) k) _ refl
       (done n (omega arith) ps env1 regs1 c1 opened1 (record { numbered = standing.numbered; size = af.size ∙ standing.size; rel = af.rel }))))
+
+  pub function_goes : (line : ℕ) (name : Name) (body : Body) → StatLaw S back (LocalFunction line name body)
+  function_goes line name body n closing closed t j pc named loops reach k fewer has placed inside under plain jumps done ps env regs c opened s st standing =
+      local_function_goes S ps n t j pc opened body s env regs c k st has fewer placed.0 placed.1.0 inside standing.size placed.1.1 standing.rel
+      (λ env1 regs1 c1 size1 rel1. done n (omega arith) ps env1 regs1 c1 opened (record { numbered = standing.numbered; size = size1; rel = rel1 }))

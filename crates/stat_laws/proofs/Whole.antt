@@ -43,7 +43,7 @@ use Rattle.stat_laws.specs.Scoped.{StatsArePlaced, ReturnIsPlaced}
 use Rattle.stat_laws.proofs.Sizes.{stats_sized}
 use Rattle.stat_laws.proofs.Labels.{Jumps}
 use Rattle.stat_laws.proofs.Blocks.{closeds_after, added_none}
-use Rattle.stat_laws.proofs.Returns.{finishes_goes, return_step, return_ends, no_numbers, known_all, code_list, return_some}
+use Rattle.stat_laws.proofs.Returns.{finishes_goes, return_step, return_ends, no_numbers, known_all, return_some}
 use Rattle.stat_laws.proofs.Values.{nth_fitted}
 use Rattle.stat_laws.proofs.Statements.{stats_goes}
 use Rattle.stat_laws.proofs.Lines.{lines_back, has_all}
@@ -163,7 +163,7 @@ module _ (S : Setting) (back : ℕ) where
         placed = fits.0;
         from = omega arith;
         to = omega (arith, sized);
-        inside = omega (arith, inside, sum, wide, more);
+        inside = omega (arith, inside, sum, some);
         jumps = no_jumps n pc (pc + length body) (end_of_body line ∷ []);
         passed = tt;
         added = added_none 0 [];
@@ -189,11 +189,8 @@ module _ (S : Setting) (back : ℕ) where
       sum : length (body ++ last) ≡ length body + length last
       sum = length-append body last
 
-      wide : length last ≡ length (values_last S.code.own.constants es (levels_after ss params) (0 + made_in_stats ss) line back)
-      wide = ap length (ap (λ b. return_code S.code.own.constants b es (levels_after ss params) (0 + made_in_stats ss) line back) fits.1.0 ∙ code_list S.code.own.constants es (levels_after ss params) (0 + made_in_stats ss) line back fits.1.1.0.0)
-
-      more : length (values_last S.code.own.constants es (levels_after ss params) (0 + made_in_stats ss) line back) ≡ length (exps_code S.code.own.constants es None (levels_after ss params) (0 + made_in_stats ss) line) + 1
-      more = length-append (exps_code S.code.own.constants es None (levels_after ss params) (0 + made_in_stats ss) line) (with_abc Return (levels_after ss params) (list_field 0 es) back line ∷ [])
+      some : 1 ≤ length last
+      some = return_some S.code.own.constants (closings_after ss false) es (levels_after ss params) (0 + made_in_stats ss) line back
 
   -- VARARGPREP stands in front in a function with `...`
   opens : (vararg : Bool) (n params line : ℕ) (s : tree.State) (regs : List Value) → HasAt S 0 (opening vararg params line) → length (opening vararg params line) < length S.code.own.code
