@@ -1,5 +1,6 @@
 mod Hand
 mod Vectors
 mod MoreVectors
+mod LoopVectors
 mod Allowed
 mod ClosedCells

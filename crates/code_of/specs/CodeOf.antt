@@ -1,7 +1,7 @@
 -- The prototype that a function's body is compiled to. Where a source name is given, lines and names are kept.
 use Rattle.std.specs.Prelude.{ℕ, suc, ◌+◌, ◌-ℤ◌, ℤ, pos, negsuc, Bool, false, cond, max, List, [], ◌∷◌, ◌++◌, length, map, nat_eq, nat_le, Option, Some, None}
 use Rattle.tree_core.specs.declared.name.UpName.{UpName}
-use Rattle.tree_core.specs.Tree.{Block, Falls, Returns, Body, BodyOf, Stats, EndStats, MoreStats, Stat, Local, LocalFunction, Assign, CallStat, Do, While, If, IfElse, Arms, EndArms, MoreArms, Exp, Function, Index, Call, Method, Unary, Binary, And, Or, Paren, Table, Exps, EndExps, MoreExps, Fields, EndFields, MoreFields, Field, Item, Keyed}
+use Rattle.tree_core.specs.Tree.{Block, Falls, Returns, Body, BodyOf, Stats, EndStats, MoreStats, Stat, Empty, Local, LocalFunction, Assign, CallStat, Do, While, Repeat, If, IfElse, NumFor, NumForStep, GenFor, Label, Goto, Break, Arms, EndArms, MoreArms, Exp, Nil, True, False, Int, Str, Vararg, Var, Function, Index, Call, Method, Unary, Binary, And, Or, Paren, Table, Exps, EndExps, MoreExps, Fields, EndFields, MoreFields, Field, Item, Keyed}
 use Rattle.tree_activation.specs.Activation.{line_of_end}
 use Rattle.code_core.specs.declared.opcode.Opcode.TheVariants.{VarArgPrep}
 use Rattle.code_core.specs.declared.instruction.Instruction.{Instruction}
@@ -26,7 +26,8 @@ opening vararg params line = cond vararg (with_abc VarArgPrep params 0 0 line �
 
 abbrev pub body_code : Body → List Coded
 body_code (BodyOf params vararg inner ups line) =
-    opening vararg (length params) line ++ whole_code (of_block inner []) (back_field vararg (length params)) inner (length params)
+    let begin = opening vararg (length params) line in
+    begin ++ whole_code (of_block inner []) (back_field vararg (length params)) inner (length params) (length begin)
 
 -- a frame has room for the parameters and for each register that the code names
 
@@ -69,7 +70,7 @@ where_known (Some source) xs = xs
 abbrev pub variables_of : Body → List LocVar
 variables_of (BodyOf params vararg inner ups line) =
     variables params 0 (length (body_code (BodyOf params vararg inner ups line)))
-    ++ within_block (of_block inner []) (back_field vararg (length params)) inner false (length params) 0 (cond vararg 1 0)
+    ++ within_block (of_block inner []) (back_field vararg (length params)) inner false 0 (length params) 0 (cond vararg 1 0)
 
 -- the main function has line 0, and no last line either
 abbrev pub last_line_of : Block → (line : ℕ) → ℕ
@@ -98,7 +99,14 @@ parts_of source (BodyOf params vararg inner ups line) =
 module _ (source : Option (List ℕ)) where
   abbrev mutual
     pub from_exp : Exp → Prototypes → Prototypes
+    from_exp (Nil line) rest = rest
+    from_exp (True line) rest = rest
+    from_exp (False line) rest = rest
+    from_exp (Int line n) rest = rest
+    from_exp (Str line bytes) rest = rest
+    from_exp (Vararg line) rest = rest
     from_exp (Function line body) rest = more (parts_of source body) (from_body body) rest
+    from_exp (Var line name) rest = rest
     from_exp (Index line object key) rest = from_exp object (from_exp key rest)
     from_exp (Call line f es) rest = from_exp f (from_exps es rest)
     from_exp (Method line object name es) rest = from_exp object (from_exps es rest)
@@ -108,7 +116,6 @@ module _ (source : Option (List ℕ)) where
     from_exp (Or line e d) rest = from_exp e (from_exp d rest)
     from_exp (Paren line e) rest = from_exp e rest
     from_exp (Table line fs) rest = from_fields fs rest
-    from_exp _ rest = rest
 
     pub from_exps : Exps → Prototypes → Prototypes
     from_exps EndExps rest = rest
@@ -123,15 +130,22 @@ module _ (source : Option (List ℕ)) where
     from_field (Keyed line e d) rest = from_exp e (from_exp d rest)
 
     pub from_stat : Stat → Prototypes → Prototypes
+    from_stat (Empty line) rest = rest
     from_stat (Local line names es) rest = from_exps es rest
     from_stat (LocalFunction line name body) rest = more (parts_of source body) (from_body body) rest
     from_stat (Assign line targets es) rest = from_exps targets (from_exps es rest)
     from_stat (CallStat line e) rest = from_exp e rest
     from_stat (Do line block) rest = from_block block rest
     from_stat (While line e block) rest = from_exp e (from_block block rest)
+    from_stat (Repeat line block e) rest = from_block block (from_exp e rest)
     from_stat (If line arms) rest = from_arms arms rest
     from_stat (IfElse line arms block) rest = from_arms arms (from_block block rest)
-    from_stat _ rest = rest
+    from_stat (NumFor line name from limit block) rest = from_exp from (from_exp limit (from_block block rest))
+    from_stat (NumForStep line name from limit step block) rest = from_exp from (from_exp limit (from_exp step (from_block block rest)))
+    from_stat (GenFor line names es block) rest = from_exps es (from_block block rest)
+    from_stat (Label line name) rest = rest
+    from_stat (Goto line name) rest = rest
+    from_stat (Break line) rest = rest
 
     pub from_arms : Arms → Prototypes → Prototypes
     from_arms EndArms rest = rest

@@ -3,7 +3,7 @@ use Rattle.std.specs.Prelude.{ℕ, suc, ◌+◌, ◌-◌, ℤ, pos, negsuc, Bool
 use Rattle.int_core.specs.Value.{same_integer}
 use Rattle.tree_core.specs.declared.name.Place.{Place}
 use Rattle.tree_core.specs.declared.name.Place.TheVariants.{GlobalIn, GlobalOf}
-use Rattle.tree_core.specs.Tree.{Block, Falls, Returns, Stats, EndStats, MoreStats, Stat, Local, Assign, CallStat, Do, While, If, IfElse, Arms, EndArms, MoreArms, Exp, Int, Str, Var, Index, Call, Method, Unary, Binary, And, Or, Paren, Table, Exps, EndExps, MoreExps, Fields, EndFields, MoreFields, Field, Item, Keyed}
+use Rattle.tree_core.specs.Tree.{Block, Falls, Returns, Stats, EndStats, MoreStats, Stat, Empty, Local, LocalFunction, Assign, CallStat, Do, While, Repeat, If, IfElse, NumFor, NumForStep, GenFor, Label, Goto, Break, Arms, EndArms, MoreArms, Exp, Nil, True, False, Int, Str, Vararg, Function, Var, Index, Call, Method, Unary, Binary, And, Or, Paren, Table, Exps, EndExps, MoreExps, Fields, EndFields, MoreFields, Field, Item, Keyed}
 use Rattle.code_core.specs.declared.opcode.Opcode.TheVariants.{LoadI, LoadK, LoadKx, ExtraArg}
 use Rattle.code_core.specs.declared.proto.Const.{Const}
 use Rattle.code_core.specs.declared.proto.Const.TheVariants.{Int as IntConst, Str as StrConst}
@@ -53,8 +53,13 @@ of_name _ text cs = cs
 
 abbrev mutual
   pub of_exp : Exp → List Const → List Const
+  of_exp (Nil line) cs = cs
+  of_exp (True line) cs = cs
+  of_exp (False line) cs = cs
   of_exp (Int line n) cs = cond (is_small n) cs (with_constant (IntConst n) cs)
   of_exp (Str line bytes) cs = with_constant (StrConst bytes) cs
+  of_exp (Vararg line) cs = cs
+  of_exp (Function line body) cs = cs
   of_exp (Var line name) cs = of_name name.place name.text cs
   of_exp (Index line object key) cs = of_exp key (of_exp object cs)
   of_exp (Call line f es) cs = of_exps es (of_exp f cs)
@@ -65,7 +70,6 @@ abbrev mutual
   of_exp (Or line e d) cs = of_exp d (of_exp e cs)
   of_exp (Paren line e) cs = of_exp e cs
   of_exp (Table line fs) cs = of_fields fs cs
-  of_exp _ cs = cs
 
   pub of_exps : Exps → List Const → List Const
   of_exps EndExps cs = cs
@@ -81,14 +85,22 @@ abbrev mutual
 
 abbrev mutual
   pub of_stat : Stat → List Const → List Const
+  of_stat (Empty line) cs = cs
   of_stat (Local line names es) cs = of_exps es cs
+  of_stat (LocalFunction line name body) cs = cs
   of_stat (Assign line targets es) cs = of_exps es (of_exps targets cs)
   of_stat (CallStat line e) cs = of_exp e cs
   of_stat (Do line block) cs = of_block block cs
   of_stat (While line e block) cs = of_block block (of_exp e cs)
+  of_stat (Repeat line block e) cs = of_exp e (of_block block cs)
   of_stat (If line arms) cs = of_arms arms cs
   of_stat (IfElse line arms block) cs = of_block block (of_arms arms cs)
-  of_stat _ cs = cs
+  of_stat (NumFor line name from limit block) cs = of_block block (of_exp limit (of_exp from cs))
+  of_stat (NumForStep line name from limit step block) cs = of_block block (of_exp step (of_exp limit (of_exp from cs)))
+  of_stat (GenFor line names es block) cs = of_block block (of_exps es cs)
+  of_stat (Label line name) cs = cs
+  of_stat (Goto line name) cs = cs
+  of_stat (Break line) cs = cs
 
   pub of_arms : Arms → List Const → List Const
   of_arms EndArms cs = cs

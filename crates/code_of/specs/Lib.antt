@@ -2,6 +2,10 @@ pub mod Coded
 pub mod Constants
 pub mod Operators
 pub mod Expressions
+pub mod Levels
+pub mod Jumps
+pub mod Parts
+pub mod Sizes
 pub mod Statements
 pub mod Variables
 pub mod CodeOf

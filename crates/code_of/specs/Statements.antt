@@ -1,183 +1,120 @@
--- The code of statements and blocks (Lua 5.4 manual, 3.3), where t locals are in scope: these stand in the registers below t.
--- Loops but `while`, labels and jumps have no code here yet.
-use Rattle.std.specs.Prelude.{ℕ, ◌+◌, ◌*◌, Bool, false, cond, ◌||◌, List, [], ◌∷◌, ◌++◌, length, nat_eq, Some, None}
-use Rattle.tree_core.specs.declared.name.Declared.{Declared}
-use Rattle.tree_core.specs.declared.name.Place.{Place}
-use Rattle.tree_core.specs.declared.name.Place.TheVariants.{Unset, Upvalue, GlobalIn, GlobalOf}
-use Rattle.tree_core.specs.declared.name.Place.TheVariants.{Local as LocalPlace}
-use Rattle.tree_core.specs.Tree.{Block, Falls, Returns, Stats, EndStats, MoreStats, Stat, Local, LocalFunction, Assign, CallStat, Do, While, If, IfElse, Arms, EndArms, MoreArms, Exp, Var, Index, Call, Method, Exps, EndExps, MoreExps}
-use Rattle.tree_activation.specs.Asking.{line_of_body}
-use Rattle.tree_activation.specs.Statements.{is_closed}
-use Rattle.code_core.specs.declared.opcode.Opcode.TheVariants.{Move, LoadNil, GetUpval, SetUpval, SetTable, OpSelf, Close, Tbc, Test, TailCall, Return, Closure}
+-- The code of statements and blocks (Lua 5.4 manual, 3.3), where t locals are in scope and the next place of the code is pc.
+use Rattle.std.specs.Prelude.{ℕ, ◌+◌, Bool, true, false, cond, ◌&&◌, List, [], ◌∷◌, ◌++◌, length, Some, None}
+use Rattle.tree_core.specs.Tree.{Block, Falls, Returns, Stats, EndStats, MoreStats, Stat, Empty, Local, LocalFunction, Assign, CallStat, Do, While, Repeat, If, IfElse, NumFor, NumForStep, GenFor, Label, Goto, Break, Arms, EndArms, MoreArms}
+use Rattle.tree_activation.specs.Activation.{line_of_end}
+use Rattle.tree_activation.specs.Jumps.{are_void}
+use Rattle.code_core.specs.declared.opcode.Opcode.TheVariants.{Return}
 use Rattle.code_core.specs.declared.proto.Const.{Const}
-use Rattle.code_core.specs.declared.proto.Const.TheVariants.{Str as StrConst}
-use Rattle.code_of.specs.Coded.{Coded, with_abc, with_abx, jump_over, jump_back}
-use Rattle.code_of.specs.Constants.{loads}
-use Rattle.code_of.specs.Expressions.{made_by, made_in, count, list_field, exp_code, exps_code}
+use Rattle.code_of.specs.Coded.{Coded, with_abc}
+use Rattle.code_of.specs.Expressions.{made_by, made_in, exp_code, exps_code}
+use Rattle.code_of.specs.Jumps.{Visible, Reach, label_in, leads}
+use Rattle.code_of.specs.Levels.{made_by_stat, made_in_arms, made_in_stats, made_in_block, level_after, levels_after, levels_in, closing_after, closings_after}
+use Rattle.code_of.specs.Parts.{marks_code, close_code, function_code, while_code, repeat_code, past_size, arm_code, counting_code, iterating_code, assign_code, return_code, bounds_code, steps_code}
+use Rattle.code_of.specs.Sizes.{stat_size, arms_size, block_size}
 
--- how many functions a piece of tree makes itself
-abbrev mutual
-  pub made_by_stat : Stat → ℕ
-  made_by_stat (Local line names es) = made_in es
-  made_by_stat (LocalFunction line name body) = 1
-  made_by_stat (Assign line targets es) = made_in targets + made_in es
-  made_by_stat (CallStat line e) = made_by e
-  made_by_stat (Do line block) = made_in_block block
-  made_by_stat (While line e block) = made_by e + made_in_block block
-  made_by_stat (If line arms) = made_in_arms arms
-  made_by_stat (IfElse line arms block) = made_in_arms arms + made_in_block block
-  made_by_stat _ = 0
+abbrev pub visible : List ℕ → (place level : ℕ) → Visible
+visible name place level = record { name = name; landing = record { place = place; level = level } }
 
-  pub made_in_arms : Arms → ℕ
-  made_in_arms EndArms = 0
-  made_in_arms (MoreArms e block arms) = made_by e + made_in_block block + made_in_arms arms
+-- a loop's block: `break` leads to the place behind the loop
+abbrev pub in_loop : Reach → (place level : ℕ) → Reach
+in_loop reach place level = record { labels = reach.labels; exit = Some (record { place = place; level = level }) }
 
-  pub made_in_stats : Stats → ℕ
-  made_in_stats EndStats = 0
-  made_in_stats (MoreStats s ss) = made_by_stat s + made_in_stats ss
+-- the labels of a block that were passed
+abbrev pub passed_after : Stat → (t pc : ℕ) → List Visible → List Visible
+passed_after (Label line name) t pc passed = visible name.text pc t ∷ passed
+passed_after _ t pc passed = passed
 
-  pub made_in_block : Block → ℕ
-  made_in_block (Falls ss tokens line) = made_in_stats ss
-  made_in_block (Returns ss es tokens line) = made_in_stats ss + made_in es
+module _ (constants : List Const) (back : ℕ) where
+  -- the labels among the statements to come. Where the block falls off its end, a label that only void statements follow stands outside the
+  -- scope of the block's locals
+  abbrev pub labels_ahead : Stats → (falls closing : Bool) → (outer t j pc : ℕ) → List Visible
+  labels_ahead EndStats falls closing outer t j pc = []
+  labels_ahead (MoreStats (Label line name) ss) falls closing outer t j pc =
+      visible name.text pc (cond (falls && are_void ss) outer t) ∷ labels_ahead ss falls closing outer t j pc
+  labels_ahead (MoreStats s ss) falls closing outer t j pc =
+      labels_ahead ss falls (closing_after s closing) outer (level_after s t) (j + made_by_stat s) (pc + stat_size constants back s closing t j)
 
--- what is in scope behind a statement: how many locals, and whether one is to be closed
+  abbrev mutual
+    pub stat_code : Stat → (closing : Bool) → (t j pc : ℕ) → Reach → List Coded
+    stat_code (Empty line) closing t j pc reach = []
+    stat_code (Local line names es) closing t j pc reach = exps_code constants es (Some (length names)) t j line ++ marks_code names t
+    stat_code (LocalFunction line name body) closing t j pc reach = function_code body t j
+    stat_code (Assign line targets es) closing t j pc reach = assign_code constants targets es t j line
+    stat_code (CallStat line e) closing t j pc reach = exp_code constants e t j 1
+    stat_code (Do line block) closing t j pc reach = block_code block closing t t j pc reach
+    stat_code (While line e block) closing t j pc reach =
+        let test = exp_code constants e t j 2 in
+        while_code test
+        (block_code block closing t t (j + made_by e) (pc + length test + 2) (in_loop reach (pc + stat_size constants back (While line e block) closing t j) t))
+        t line
+    stat_code (Repeat line block e) closing t j pc reach =
+        let inner = levels_in block t in
+        repeat_code (open_code block closing t j pc (in_loop reach (pc + stat_size constants back (Repeat line block e) closing t j) t))
+        (exp_code constants e inner (j + made_in_block block) 2) (close_code t inner (line_of_end block)) inner line
+    stat_code (If line arms) closing t j pc reach = arms_code arms [] closing t j pc line reach
+    stat_code (IfElse line arms block) closing t j pc reach =
+        let k = j + made_in_arms arms in
+        let place = pc + arms_size constants back arms (block_size constants back block closing t t k) closing t j in
+        arms_code arms (block_code block closing t t k place reach) closing t j pc line reach
+    stat_code (NumFor line name from limit block) closing t j pc reach =
+        let start = bounds_code constants from limit t j line in
+        counting_code start
+        (block_code block closing (t + 3) (t + 4) (j + made_by from + made_by limit) (pc + length start + 1)
+        (in_loop reach (pc + stat_size constants back (NumFor line name from limit block) closing t j) t))
+        t line
+    stat_code (NumForStep line name from limit step block) closing t j pc reach =
+        let start = steps_code constants from limit step t j in
+        counting_code start
+        (block_code block closing (t + 3) (t + 4) (j + made_by from + made_by limit + made_by step) (pc + length start + 1)
+        (in_loop reach (pc + stat_size constants back (NumForStep line name from limit step block) closing t j) t))
+        t line
+    stat_code (GenFor line names es block) closing t j pc reach =
+        let start = exps_code constants es (Some 4) t j line in
+        iterating_code start
+        (block_code block true (t + 4) (t + 4 + length names) (j + made_in es) (pc + length start + 1)
+        (in_loop reach (pc + stat_size constants back (GenFor line names es block) closing t j) t))
+        t (length names) line
+    stat_code (Label line name) closing t j pc reach = []
+    stat_code (Goto line name) closing t j pc reach = leads (label_in name.text reach.labels) pc line
+    stat_code (Break line) closing t j pc reach = leads reach.exit pc line
 
-abbrev pub level_after : Stat → ℕ → ℕ
-level_after (Local line names es) t = t + length names
-level_after (LocalFunction line name body) t = t + 1
-level_after _ t = t
+    -- `otherwise` is the code that stands behind the arms
+    pub arms_code : Arms → (otherwise : List Coded) → (closing : Bool) → (t j pc line : ℕ) → Reach → List Coded
+    arms_code EndArms otherwise closing t j pc line reach = otherwise
+    arms_code (MoreArms e block arms) otherwise closing t j pc line reach =
+        let test = exp_code constants e t j 2 in
+        let k = j + made_by e + made_in_block block in
+        let inner = pc + length test + 2 in
+        let behind = inner + block_size constants back block closing t t (j + made_by e)
+        + past_size (arms_size constants back arms (length otherwise) closing t k + length otherwise) in
+        arm_code test (block_code block closing t t (j + made_by e) inner reach) (arms_code arms otherwise closing t k behind line reach) t line
 
-abbrev pub levels_after : Stats → ℕ → ℕ
-levels_after EndStats t = t
-levels_after (MoreStats s ss) t = levels_after ss (level_after s t)
+    -- of a block, with the labels that were passed in it; `outer` locals are in scope around it
+    pub stats_code : Stats → (falls closing : Bool) → (outer t j pc : ℕ) → (passed : List Visible) → Reach → List Coded
+    stats_code EndStats falls closing outer t j pc passed reach = []
+    stats_code (MoreStats s ss) falls closing outer t j pc passed reach =
+        let k = j + made_by_stat s in
+        let place = pc + stat_size constants back s closing t j in
+        let ahead = labels_ahead ss falls (closing_after s closing) outer (level_after s t) k place in
+        stat_code s closing t j pc (record { labels = ahead ++ (passed ++ reach.labels); exit = reach.exit })
+        ++ stats_code ss falls (closing_after s closing) outer (level_after s t) k place (passed_after s t pc passed) reach
 
-abbrev pub has_closed : List Declared → Bool
-has_closed [] = false
-has_closed (d ∷ names) = is_closed d.attrib || has_closed names
+    pub block_code : Block → (closing : Bool) → (outer t j pc : ℕ) → Reach → List Coded
+    block_code (Falls ss tokens line) closing outer t j pc reach =
+        stats_code ss true closing outer t j pc [] reach ++ close_code outer (levels_after ss t) line
+    block_code (Returns ss es tokens line) closing outer t j pc reach =
+        stats_code ss false closing outer t j pc [] reach
+        ++ return_code constants (closings_after ss closing) es (levels_after ss t) (j + made_in_stats ss) line back
 
-abbrev pub closing_after : Stat → Bool → Bool
-closing_after (Local line names es) closing = closing || has_closed names
-closing_after _ closing = closing
+    -- the block of a `repeat`, in front of its test
+    pub open_code : Block → (closing : Bool) → (t j pc : ℕ) → Reach → List Coded
+    open_code (Falls ss tokens line) closing t j pc reach = stats_code ss false closing t t j pc [] reach
+    open_code (Returns ss es tokens line) closing t j pc reach =
+        stats_code ss false closing t t j pc [] reach
+        ++ return_code constants (closings_after ss closing) es (levels_after ss t) (j + made_in_stats ss) line back
 
-abbrev pub closings_after : Stats → Bool → Bool
-closings_after EndStats closing = closing
-closings_after (MoreStats s ss) closing = closings_after ss (closing_after s closing)
-
--- variables to be closed are marked once all names of their declaration are in scope
-abbrev pub marks_code : List Declared → (t : ℕ) → List Coded
-marks_code [] t = []
-marks_code (d ∷ names) t = cond (is_closed d.attrib) (with_abc Tbc t 0 0 d.name.line ∷ marks_code names (t + 1)) (marks_code names (t + 1))
-
--- where a scope ends that has locals, its cells are closed, and so are its variables to be closed
-abbrev pub close_code : (before after line : ℕ) → List Coded
-close_code before after line = cond (nat_eq before after) [] (with_abc Close before 0 0 line ∷ [])
-
--- a loop: the test, a jump past the end, the block and a jump back to the test
-abbrev pub while_code : (test block : List Coded) → (t line : ℕ) → List Coded
-while_code test block t line =
-    test ++ (with_abc Test t 0 0 line ∷ jump_over (length block + 1) line ∷ (block ++ jump_back (length test + length block + 3) line ∷ []))
-
--- a test with its block, and what else is to be done; where there is nothing else no jump leads past it
-abbrev pub past : List Coded → (line : ℕ) → List Coded
-past [] line = []
-past (x ∷ rest) line = jump_over (length (x ∷ rest)) line ∷ []
-
-abbrev pub arm_code : (test block rest : List Coded) → (t line : ℕ) → List Coded
-arm_code test block rest t line =
-    test ++ (with_abc Test t 0 0 line ∷ jump_over (length block + length (past rest line)) line ∷ (block ++ (past rest line ++ rest)))
-
-module _ (constants : List Const) where
-  -- a target has two registers from r on: its table and its key
-
-  abbrev pub name_target : Place → List ℕ → (r line : ℕ) → List Coded
-  name_target (GlobalIn n) text r line = with_abc Move r n 0 line ∷ loads constants (StrConst text) (r + 1) line
-  name_target (GlobalOf u) text r line = with_abc GetUpval r u 0 line ∷ loads constants (StrConst text) (r + 1) line
-  name_target _ text r line = []
-
-  abbrev pub target_code : Exp → (r j : ℕ) → List Coded
-  target_code (Var line name) r j = name_target name.place name.text r line
-  target_code (Index line object key) r j = exp_code constants object r j 2 ++ exp_code constants key (r + 1) (j + made_by object) 2
-  target_code _ r j = []
-
-  abbrev pub targets_code : Exps → (r j : ℕ) → List Coded
-  targets_code EndExps r j = []
-  targets_code (MoreExps e es) r j = target_code e r j ++ targets_code es (r + 2) (j + made_by e)
-
-  -- the value in register v goes to a target
-
-  abbrev pub name_store : Place → (r v line : ℕ) → List Coded
-  name_store Unset r v line = []
-  name_store (LocalPlace n) r v line = with_abc Move n v 0 line ∷ []
-  name_store (Upvalue u) r v line = with_abc SetUpval v u 0 line ∷ []
-  name_store (GlobalIn n) r v line = with_abc SetTable r (r + 1) v line ∷ []
-  name_store (GlobalOf u) r v line = with_abc SetTable r (r + 1) v line ∷ []
-
-  abbrev pub store_code : Exp → (r v : ℕ) → List Coded
-  store_code (Var line name) r v = name_store name.place r v line
-  store_code (Index line object key) r v = with_abc SetTable r (r + 1) v line ∷ []
-  store_code _ r v = []
-
-  -- from right to left
-  abbrev pub stores_code : Exps → (r v : ℕ) → List Coded
-  stores_code EndExps r v = []
-  stores_code (MoreExps e es) r v = stores_code es (r + 2) (v + 1) ++ store_code e r v
-
-  abbrev pub assign_code : (targets values : Exps) → (t j line : ℕ) → List Coded
-  assign_code targets es t j line =
-      let v = t + 2 * count targets in
-      targets_code targets t j ++ (exps_code constants es (Some (count targets)) v (j + made_in targets) line ++ stores_code targets t v)
-
-  -- a call in the place of its caller. The list that it leaves is taken by a RETURN that is never reached
-
-  abbrev pub call_last : Exp → Exps → (t j line back : ℕ) → List Coded
-  call_last f es t j line back =
-      exp_code constants f t j 2 ++ (exps_code constants es None (t + 1) (j + made_by f) line
-      ++ (with_abc TailCall t (list_field 0 es) 0 line ∷ with_abc Return t 0 back line ∷ []))
-
-  abbrev pub method_last : Exp → List ℕ → Exps → (t j line back : ℕ) → List Coded
-  method_last object name es t j line back =
-      exp_code constants object t j 2 ++ (loads constants (StrConst name) (t + 1) line ++ (with_abc OpSelf t t (t + 1) line
-      ∷ (exps_code constants es None (t + 2) (j + made_by object) line
-      ++ (with_abc TailCall t (list_field 1 es) 0 line ∷ with_abc Return t 0 back line ∷ []))))
-
-  abbrev pub values_last : Exps → (t j line back : ℕ) → List Coded
-  values_last es t j line back = exps_code constants es None t j line ++ with_abc Return t (list_field 0 es) back line ∷ []
-
-  -- `back` is the field C of each RETURN
-  abbrev pub return_code : (closing : Bool) → Exps → (t j line back : ℕ) → List Coded
-  return_code false (MoreExps (Call call_line f es) EndExps) t j line back = call_last f es t j call_line back
-  return_code false (MoreExps (Method call_line object name es) EndExps) t j line back = method_last object name.text es t j call_line back
-  return_code closing es t j line back = values_last es t j line back
-
-  module _ (back : ℕ) where
-    abbrev mutual
-      pub stat_code : Stat → (closing : Bool) → (t j : ℕ) → List Coded
-      stat_code (Local line names es) closing t j = exps_code constants es (Some (length names)) t j line ++ marks_code names t
-      stat_code (LocalFunction line name body) closing t j = with_abc LoadNil t 0 0 (line_of_body body) ∷ with_abx Closure t j (line_of_body body) ∷ []
-      stat_code (Assign line targets es) closing t j = assign_code targets es t j line
-      stat_code (CallStat line e) closing t j = exp_code constants e t j 1
-      stat_code (Do line block) closing t j = block_code block closing t j
-      stat_code (While line e block) closing t j = while_code (exp_code constants e t j 2) (block_code block closing t (j + made_by e)) t line
-      stat_code (If line arms) closing t j = arms_code arms [] closing t j line
-      stat_code (IfElse line arms block) closing t j = arms_code arms (block_code block closing t (j + made_in_arms arms)) closing t j line
-      stat_code _ closing t j = []
-
-      pub arms_code : Arms → (otherwise : List Coded) → (closing : Bool) → (t j line : ℕ) → List Coded
-      arms_code EndArms otherwise closing t j line = otherwise
-      arms_code (MoreArms e block arms) otherwise closing t j line =
-          arm_code (exp_code constants e t j 2) (block_code block closing t (j + made_by e))
-          (arms_code arms otherwise closing t (j + made_by e + made_in_block block) line) t line
-
-      pub stats_code : Stats → (closing : Bool) → (t j : ℕ) → List Coded
-      stats_code EndStats closing t j = []
-      stats_code (MoreStats s ss) closing t j = stat_code s closing t j ++ stats_code ss (closing_after s closing) (level_after s t) (j + made_by_stat s)
-
-      pub block_code : Block → (closing : Bool) → (t j : ℕ) → List Coded
-      block_code (Falls ss tokens line) closing t j = stats_code ss closing t j ++ close_code t (levels_after ss t) line
-      block_code (Returns ss es tokens line) closing t j =
-          stats_code ss closing t j ++ return_code (closings_after ss closing) es (levels_after ss t) (j + made_in_stats ss) line back
-
-    -- the block of a function, whose parameters are its first locals: it ends by a return
-    abbrev pub whole_code : Block → (params : ℕ) → List Coded
-    whole_code (Falls ss tokens line) params = stats_code ss false params 0 ++ with_abc Return (levels_after ss params) 1 back line ∷ []
-    whole_code (Returns ss es tokens line) params = block_code (Returns ss es tokens line) false params 0
+  -- the block of a function, whose parameters are its first locals: it ends by a return
+  abbrev pub whole_code : Block → (params pc : ℕ) → List Coded
+  whole_code (Falls ss tokens line) params pc =
+      stats_code ss true false 0 params 0 pc [] (record { labels = []; exit = None }) ++ with_abc Return (levels_after ss params) 1 back line ∷ []
+  whole_code (Returns ss es tokens line) params pc = block_code (Returns ss es tokens line) false 0 params 0 pc (record { labels = []; exit = None })

@@ -1,0 +1,187 @@
+-- Bodies with loops and jumps whose code is written by hand, and that the code asks as the body does.
+use Rattle.std.proofs.Common.{true, false, [], ◌∷◌, refl}
+use Rattle.std.specs.Prelude.{negsuc}
+use Rattle.std.specs.Int.{int_wrap}
+use Rattle.code_core.specs.Opcode.{opcodes, number_of}
+use Rattle.code_core.specs.declared.opcode.Opcode.TheVariants.{Move, LFalseSkip, LoadTrue, LoadNil, GetUpval, SetUpval, Add, MmBin, Not, Close, Tbc, Eq, Test, Call, Return, ForLoop, ForPrep, TForPrep, TForCall, TForLoop, Closure}
+use Rattle.code_core.specs.Instruction.{abc, abx}
+use Rattle.code_core.specs.Prototype.{Prototype}
+use Rattle.int_core.specs.Value.{Value, known, nil, boolean, integer, object, a_table}
+use Rattle.int_core.specs.Ask.{Reply, values, left}
+use Rattle.tree_core.specs.declared.name.Place.TheVariants.{Local as LocalPlace}
+use Rattle.tree_core.specs.declared.operator.BinOp.TheVariants.{Add as Plus, Eq as Equal}
+use Rattle.tree_core.specs.declared.operator.UnOp.TheVariants.{Not as Negation}
+use Rattle.tree_core.specs.Tree.{Body, True, Unary, And, Paren, Do, Repeat, NumFor, NumForStep, GenFor, Label, Goto, Break, exps}
+use Rattle.code_means.proofs.Traces.{number}
+use Rattle.code_means.proofs.Forms.{name, no_variable, closed, of_local, loc, outer, int, call, bin, block, returning, locals, loc_is, assign, does, when, fun, function, variable, hidden, load_int, jump, jump_back, AskAlike, tree_asks, code_asks}
+use Rattle.code_of.proofs.Hand.{hand, Compiles}
+
+abbrev one : Value → Reply
+one v = values (v ∷ [])
+
+-- function(f) repeat local x=f() local g=function() return x end until x and not f(g) end
+abbrev repeats : Body
+repeats = fun ("f" ∷ []) [] (block (
+    Repeat 1 (block (
+    loc_is "x" 1 (call (loc "f" 0) []) ∷ loc_is "g" 2 (function (fun [] (of_local "x" 1 ∷ []) (returning [] (outer "x" 0 ∷ [])))) ∷ []))
+    (And 1 (loc "x" 1) (Unary 1 Negation (call (loc "f" 0) (loc "g" 2 ∷ [])))) ∷ []))
+
+abbrev pub repeats_code : Prototype
+repeats_code = hand 1 false 5 [] [] (variable "f" 0 16 ∷ variable "x" 2 15 ∷ variable "g" 3 15 ∷ [])
+    (hand 0 false 1 [] (("x", 1) ∷ []) [] [] (abc GetUpval 0 0 0 false ∷ abc Return 0 2 0 false ∷ []) ∷ [])
+    (abc Move 1 0 0 false ∷ abc Call 1 1 2 false ∷ abx Closure 2 0
+    ∷ abc Move 3 1 0 false ∷ abc Test 3 0 0 false ∷ jump 4 ∷ abc Move 3 0 0 false ∷ abc Move 4 2 0 false ∷ abc Call 3 2 2 false ∷ abc Not 3 3 0 false
+    ∷ abc Test 3 0 0 true ∷ jump 2 ∷ abc Close 1 0 0 false ∷ jump_back 14 ∷ abc Close 1 0 0 false ∷ abc Return 1 1 0 false ∷ [])
+
+repeat_code : Compiles repeats repeats_code
+unfolding opcodes number_of
+repeat_code = refl
+
+repeat_rounds : AskAlike 14 (tree_asks repeats (number 1 ∷ []) (one (known nil) ∷ one (number 5) ∷ one (number 6) ∷ one (number 7) ∷ one (known nil) ∷ []))
+    (code_asks repeats_code (number 1 ∷ []) (one (known nil) ∷ one (number 5) ∷ one (number 6) ∷ one (number 7) ∷ one (known nil) ∷ []))
+unfolding opcodes number_of int_wrap
+repeat_rounds = (refl, refl)
+
+-- function(it) for k in it,1,2 do local g=function() return k end if k==3 then break end end end
+abbrev breaks_out : Body
+breaks_out = fun ("it" ∷ []) [] (block (
+    GenFor 1 (name "k" (LocalPlace 5) ∷ []) (exps (loc "it" 0 ∷ int 1 ∷ int 2 ∷ [])) (block (
+    loc_is "g" 6 (function (fun [] (of_local "k" 5 ∷ []) (returning [] (outer "k" 0 ∷ []))))
+    ∷ when (bin Equal (loc "k" 5) (int 3)) (Break 1 ∷ []) ∷ [])) ∷ []))
+
+abbrev pub breaks_out_code : Prototype
+breaks_out_code = hand 1 false 9 [] []
+    (variable "it" 0 21 ∷ hidden 4 20 ∷ hidden 4 20 ∷ hidden 4 20 ∷ hidden 4 20 ∷ variable "k" 5 17 ∷ variable "g" 6 17 ∷ [])
+    (hand 0 false 1 [] (("k", 5) ∷ []) [] [] (abc GetUpval 0 0 0 false ∷ abc Return 0 2 0 false ∷ []) ∷ [])
+    (abc Move 1 0 0 false ∷ load_int 2 1 ∷ load_int 3 2 ∷ abc LoadNil 4 0 0 false ∷ abx TForPrep 1 12
+    ∷ abx Closure 6 0 ∷ abc Move 7 5 0 false ∷ load_int 8 3 ∷ abc Eq 7 8 0 true ∷ jump 1 ∷ abc LFalseSkip 7 0 0 false ∷ abc LoadTrue 7 0 0 false
+    ∷ abc Test 7 0 0 false ∷ jump 2 ∷ abc Close 1 0 0 false ∷ jump 4
+    ∷ abc Close 5 0 0 false ∷ abc TForCall 1 0 1 false ∷ abx TForLoop 1 14 ∷ abc Close 1 0 0 false ∷ abc Return 1 1 0 false ∷ [])
+
+generic_for_code : Compiles breaks_out breaks_out_code
+unfolding opcodes number_of
+generic_for_code = refl
+
+break_of_generic_for : AskAlike 11 (tree_asks breaks_out (number 77 ∷ []) (one (number 8) ∷ one (known (boolean false)) ∷ one (number 3) ∷ one (known (boolean true)) ∷ []))
+    (code_asks breaks_out_code (number 77 ∷ []) (one (number 8) ∷ one (known (boolean false)) ∷ one (number 3) ∷ one (known (boolean true)) ∷ []))
+unfolding opcodes number_of int_wrap
+break_of_generic_for = (refl, refl)
+
+end_of_generic_for : AskAlike 7 (tree_asks breaks_out (number 77 ∷ []) (one (number 8) ∷ one (known (boolean false)) ∷ values [] ∷ []))
+    (code_asks breaks_out_code (number 77 ∷ []) (one (number 8) ∷ one (known (boolean false)) ∷ values [] ∷ []))
+unfolding opcodes number_of int_wrap
+end_of_generic_for = (refl, refl)
+
+-- function(it,v) for k in it,1,2,v do return it(k) end end: v is to be closed, so the call is none in the function's place
+abbrev returns_from_for : Body
+returns_from_for = fun ("it" ∷ "v" ∷ []) [] (block (
+    GenFor 1 (name "k" (LocalPlace 6) ∷ []) (exps (loc "it" 0 ∷ int 1 ∷ int 2 ∷ loc "v" 1 ∷ [])) (returning [] (call (loc "it" 0) (loc "k" 6 ∷ []) ∷ [])) ∷ []))
+
+abbrev pub returns_from_for_code : Prototype
+returns_from_for_code = hand 2 false 9 [] []
+    (variable "it" 0 13 ∷ variable "v" 0 13 ∷ hidden 4 12 ∷ hidden 4 12 ∷ hidden 4 12 ∷ hidden 4 12 ∷ variable "k" 5 9 ∷ []) []
+    (abc Move 2 0 0 false ∷ load_int 3 1 ∷ load_int 4 2 ∷ abc Move 5 1 0 false ∷ abx TForPrep 2 4
+    ∷ abc Move 7 0 0 false ∷ abc Move 8 6 0 false ∷ abc Call 7 2 0 false ∷ abc Return 7 0 0 false
+    ∷ abc TForCall 2 0 1 false ∷ abx TForLoop 2 6 ∷ abc Close 2 0 0 false ∷ abc Return 2 1 0 false ∷ [])
+
+return_code : Compiles returns_from_for returns_from_for_code
+unfolding opcodes number_of
+return_code = refl
+
+return_in_generic_for : AskAlike 6 (tree_asks returns_from_for (number 1 ∷ object a_table 5 ∷ []) (one (number 8) ∷ values (number 3 ∷ number 4 ∷ []) ∷ values [] ∷ []))
+    (code_asks returns_from_for_code (number 1 ∷ object a_table 5 ∷ []) (one (number 8) ∷ values (number 3 ∷ number 4 ∷ []) ∷ values [] ∷ []))
+unfolding opcodes number_of int_wrap
+return_in_generic_for = (refl, refl)
+
+closed_after_generic_for : AskAlike 4 (tree_asks returns_from_for (number 1 ∷ object a_table 5 ∷ []) (values [] ∷ values [] ∷ []))
+    (code_asks returns_from_for_code (number 1 ∷ object a_table 5 ∷ []) (values [] ∷ values [] ∷ []))
+unfolding opcodes number_of int_wrap
+closed_after_generic_for = (refl, refl)
+
+-- function() for i=1,2 do local j=i if j==1 then goto continue end (function() i=i+j end)() ::continue:: end end
+abbrev continues : Body
+continues = fun [] [] (block (
+    NumFor 1 (name "i" (LocalPlace 3)) (int 1) (int 2) (block (
+    loc_is "j" 4 (loc "i" 3)
+    ∷ when (bin Equal (loc "j" 4) (int 1)) (Goto 1 (no_variable "continue") ∷ [])
+    ∷ does (call (Paren 1 (function (fun [] (of_local "i" 3 ∷ of_local "j" 4 ∷ []) (block (assign (outer "i" 0) (bin Plus (outer "i" 0) (outer "j" 1)) ∷ []))))) [])
+    ∷ Label 1 (no_variable "continue") ∷ [])) ∷ []))
+
+abbrev pub continues_code : Prototype
+continues_code = hand 0 false 7 [] [] (hidden 3 19 ∷ hidden 3 19 ∷ hidden 3 19 ∷ variable "i" 4 18 ∷ variable "j" 5 18 ∷ [])
+    (hand 0 false 4 [] (("i", 3) ∷ ("j", 4) ∷ []) [] []
+    (abc GetUpval 2 0 0 false ∷ abc GetUpval 3 1 0 false ∷ abc Add 2 2 3 false ∷ abc MmBin 2 3 6 false ∷ abc SetUpval 2 0 0 false ∷ abc Return 0 1 0 false ∷ []) ∷ [])
+    (load_int 0 1 ∷ load_int 1 2 ∷ load_int 2 1 ∷ abx ForPrep 0 14
+    ∷ abc Move 4 3 0 false ∷ abc Move 5 4 0 false ∷ load_int 6 1 ∷ abc Eq 5 6 0 true ∷ jump 1 ∷ abc LFalseSkip 5 0 0 false ∷ abc LoadTrue 5 0 0 false
+    ∷ abc Test 5 0 0 false ∷ jump 2 ∷ abc Close 3 0 0 false ∷ jump 2
+    ∷ abx Closure 5 0 ∷ abc Call 5 1 1 false ∷ abc Close 3 0 0 false ∷ abx ForLoop 0 15 ∷ abc Return 0 1 0 false ∷ [])
+
+numeric_for_code : Compiles continues continues_code
+unfolding opcodes number_of
+numeric_for_code = refl
+
+goto_continue : AskAlike 8 (tree_asks continues [] (one (known (boolean true)) ∷ one (known (boolean false)) ∷ values [] ∷ []))
+    (code_asks continues_code [] (one (known (boolean true)) ∷ one (known (boolean false)) ∷ values [] ∷ []))
+unfolding opcodes number_of int_wrap
+goto_continue = (refl, refl)
+
+captured_in_rounds : AskAlike 12 (tree_asks continues [] (one (known (boolean false)) ∷ values [] ∷ one (known (boolean false)) ∷ values [] ∷ []))
+    (code_asks continues_code [] (one (known (boolean false)) ∷ values [] ∷ one (known (boolean false)) ∷ values [] ∷ []))
+unfolding opcodes number_of int_wrap
+captured_in_rounds = (refl, refl)
+
+-- function(a) for i=3,1,a do goto test ::found:: do break end ::test:: if i==2 then goto found end end end
+abbrev jumps_about : Body
+jumps_about = fun ("a" ∷ []) [] (block (
+    NumForStep 1 (name "i" (LocalPlace 4)) (int 3) (int 1) (loc "a" 0) (block (
+    Goto 1 (no_variable "test") ∷ Label 1 (no_variable "found") ∷ Do 1 (block (Break 1 ∷ [])) ∷ Label 1 (no_variable "test")
+    ∷ when (bin Equal (loc "i" 4) (int 2)) (Goto 1 (no_variable "found") ∷ []) ∷ [])) ∷ []))
+
+abbrev pub jumps_about_code : Prototype
+jumps_about_code = hand 1 false 7 [] [] (variable "a" 0 21 ∷ hidden 3 20 ∷ hidden 3 20 ∷ hidden 3 20 ∷ variable "i" 4 19 ∷ []) []
+    (load_int 1 3 ∷ load_int 2 1 ∷ abc Move 3 0 0 false ∷ abx ForPrep 1 15
+    ∷ abc Close 5 0 0 false ∷ jump 2 ∷ abc Close 1 0 0 false ∷ jump 12
+    ∷ abc Move 5 4 0 false ∷ load_int 6 2 ∷ abc Eq 5 6 0 true ∷ jump 1 ∷ abc LFalseSkip 5 0 0 false ∷ abc LoadTrue 5 0 0 false
+    ∷ abc Test 5 0 0 false ∷ jump 2 ∷ abc Close 5 0 0 false ∷ jump_back 12 ∷ abc Close 4 0 0 false ∷ abx ForLoop 1 16 ∷ abc Return 1 1 0 false ∷ [])
+
+jump_code : Compiles jumps_about jumps_about_code
+unfolding opcodes number_of
+jump_code = refl
+
+ahead_and_back : AskAlike 5 (tree_asks jumps_about (known (integer (negsuc 0)) ∷ []) (one (known (boolean false)) ∷ one (known (boolean true)) ∷ []))
+    (code_asks jumps_about_code (known (integer (negsuc 0)) ∷ []) (one (known (boolean false)) ∷ one (known (boolean true)) ∷ []))
+unfolding opcodes number_of int_wrap
+ahead_and_back = (refl, refl)
+
+no_round : AskAlike 1 (tree_asks jumps_about (number 1 ∷ []) []) (code_asks jumps_about_code (number 1 ∷ []) [])
+unfolding opcodes number_of int_wrap
+no_round = (refl, refl)
+
+no_step : AskAlike 2 (tree_asks jumps_about [] (left (number 5) ∷ [])) (code_asks jumps_about_code [] (left (number 5) ∷ []))
+unfolding opcodes number_of int_wrap
+no_step = (refl, refl)
+
+-- function(f,v) ::again:: do local x <close> = v repeat local y=f() if y then goto again end goto done until true ::done:: end end
+abbrev leaves_scopes : Body
+leaves_scopes = fun ("f" ∷ "v" ∷ []) [] (block (
+    Label 1 (no_variable "again")
+    ∷ Do 1 (block (
+    locals (closed "x" 2 ∷ []) (loc "v" 1 ∷ [])
+    ∷ Repeat 1 (block (loc_is "y" 3 (call (loc "f" 0) []) ∷ when (loc "y" 3) (Goto 1 (no_variable "again") ∷ []) ∷ Goto 1 (no_variable "done") ∷ [])) (True 1)
+    ∷ Label 1 (no_variable "done") ∷ [])) ∷ []))
+
+abbrev pub leaves_scopes_code : Prototype
+leaves_scopes_code = hand 2 false 5 [] [] (variable "f" 0 19 ∷ variable "v" 0 19 ∷ variable "x" 1 18 ∷ variable "y" 4 17 ∷ []) []
+    (abc Move 2 1 0 false ∷ abc Tbc 2 0 0 false ∷ abc Move 3 0 0 false ∷ abc Call 3 1 2 false
+    ∷ abc Move 4 3 0 false ∷ abc Test 4 0 0 false ∷ jump 2 ∷ abc Close 2 0 0 false ∷ jump_back 9 ∷ abc Close 2 0 0 false ∷ jump 6
+    ∷ abc LoadTrue 4 0 0 false ∷ abc Test 4 0 0 true ∷ jump 2 ∷ abc Close 3 0 0 false ∷ jump_back 14 ∷ abc Close 3 0 0 false
+    ∷ abc Close 2 0 0 false ∷ abc Return 2 1 0 false ∷ [])
+
+leaving_code : Compiles leaves_scopes leaves_scopes_code
+unfolding opcodes number_of
+leaving_code = refl
+
+closed_by_goto : AskAlike 8 (tree_asks leaves_scopes (number 1 ∷ object a_table 5 ∷ []) (one (number 4) ∷ values [] ∷ values [] ∷ values [] ∷ []))
+    (code_asks leaves_scopes_code (number 1 ∷ object a_table 5 ∷ []) (one (number 4) ∷ values [] ∷ values [] ∷ values [] ∷ []))
+unfolding opcodes number_of int_wrap
+closed_by_goto = (refl, refl)

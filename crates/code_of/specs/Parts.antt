@@ -1,0 +1,144 @@
+-- The code of statements that have no block, and the forms of those that have some (Lua 5.4 manual, 3.3), where t locals are in scope:
+-- these stand in the registers below t.
+use Rattle.std.specs.Prelude.{ℕ, zero, suc, ◌+◌, ◌*◌, pos, Bool, true, false, cond, List, [], ◌∷◌, ◌++◌, length, nat_eq, Some, None}
+use Rattle.tree_core.specs.declared.name.Declared.{Declared}
+use Rattle.tree_core.specs.declared.name.Place.{Place}
+use Rattle.tree_core.specs.declared.name.Place.TheVariants.{Unset, Upvalue, GlobalIn, GlobalOf}
+use Rattle.tree_core.specs.declared.name.Place.TheVariants.{Local as LocalPlace}
+use Rattle.tree_core.specs.Tree.{Body, Exp, Var, Index, Call, Method, Exps, EndExps, MoreExps}
+use Rattle.tree_activation.specs.Asking.{line_of_body}
+use Rattle.tree_activation.specs.Statements.{is_closed}
+use Rattle.code_core.specs.declared.opcode.Opcode.TheVariants.{Move, LoadI, LoadNil, GetUpval, SetUpval, SetTable, OpSelf, Close, Tbc, Test, TailCall, Return, ForLoop, ForPrep, TForPrep, TForCall, TForLoop, Closure}
+use Rattle.code_core.specs.declared.proto.Const.{Const}
+use Rattle.code_core.specs.declared.proto.Const.TheVariants.{Str as StrConst}
+use Rattle.code_core.specs.Instruction.{abc}
+use Rattle.code_of.specs.Coded.{Coded, with_abc, with_abx, jump_over, jump_back}
+use Rattle.code_of.specs.Constants.{small_field, loads}
+use Rattle.code_of.specs.Expressions.{made_by, made_in, count, list_field, exp_code, exps_code}
+
+-- variables to be closed are marked once all names of their declaration are in scope
+abbrev pub marks_code : List Declared → (t : ℕ) → List Coded
+marks_code [] t = []
+marks_code (d ∷ names) t = cond (is_closed d.attrib) (with_abc Tbc t 0 0 d.name.line ∷ marks_code names (t + 1)) (marks_code names (t + 1))
+
+-- where a scope ends that has locals, its cells are closed, and so are its variables to be closed
+abbrev pub close_code : (before after line : ℕ) → List Coded
+close_code before after line = cond (nat_eq before after) [] (with_abc Close before 0 0 line ∷ [])
+
+abbrev pub function_code : Body → (t j : ℕ) → List Coded
+function_code body t j = with_abc LoadNil t 0 0 (line_of_body body) ∷ with_abx Closure t j (line_of_body body) ∷ []
+
+-- a loop: the test, a jump past the end, the block and a jump back to the test
+abbrev pub while_code : (test block : List Coded) → (t line : ℕ) → List Coded
+while_code test block t line =
+    test ++ (with_abc Test t 0 0 line ∷ jump_over (length block + 1) line ∷ (block ++ jump_back (length test + length block + 3) line ∷ []))
+
+-- the test sees the locals of the block, of which there are `inner` at its end; they are closed whatever it came to
+abbrev pub repeat_code : (block test close : List Coded) → (inner line : ℕ) → List Coded
+repeat_code block test close inner line =
+    block ++ (test ++ ((abc Test inner 0 0 true, line) ∷ jump_over (length close + 1) line
+    ∷ (close ++ (jump_back (length block + length test + length close + 3) line ∷ close))))
+
+-- a test with its block, and what else is to be done; where there is nothing else no jump leads past it
+
+abbrev pub past_size : (rest : ℕ) → ℕ
+past_size zero = 0
+past_size (suc n) = 1
+
+abbrev pub past : (rest : List Coded) → (line : ℕ) → List Coded
+past [] line = []
+past (x ∷ rest) line = jump_over (length (x ∷ rest)) line ∷ []
+
+abbrev pub arm_code : (test block rest : List Coded) → (t line : ℕ) → List Coded
+arm_code test block rest t line =
+    test ++ (with_abc Test t 0 0 line ∷ jump_over (length block + length (past rest line)) line ∷ (block ++ (past rest line ++ rest)))
+
+-- a numeric `for`: the index, the limit or the count of rounds to come, and the step stand in registers of their own, and the variable behind them
+
+abbrev pub default_step : (t line : ℕ) → List Coded
+default_step t line = with_abx LoadI t (small_field (pos 1)) line ∷ []
+
+abbrev pub counting_code : (start block : List Coded) → (t line : ℕ) → List Coded
+counting_code start block t line =
+    start ++ (with_abx ForPrep t (length block) line ∷ (block ++ with_abx ForLoop t (length block + 1) line ∷ []))
+
+-- a generic `for`: the iterator, the state, the control variable and the value to be closed stand in registers of their own, and n variables behind them
+abbrev pub iterating_code : (start block : List Coded) → (t n line : ℕ) → List Coded
+iterating_code start block t n line =
+    start ++ (with_abx TForPrep t (length block) line
+    ∷ (block ++ (with_abc TForCall t 0 n line ∷ with_abx TForLoop t (length block + 2) line ∷ with_abc Close t 0 0 line ∷ [])))
+
+module _ (constants : List Const) where
+  -- a target has two registers from r on: its table and its key. No tree has another target than a name and an index, and a resolved
+  -- tree has no name whose place is unset
+
+  abbrev pub name_target : Place → List ℕ → (r line : ℕ) → List Coded
+  name_target (GlobalIn n) text r line = with_abc Move r n 0 line ∷ loads constants (StrConst text) (r + 1) line
+  name_target (GlobalOf u) text r line = with_abc GetUpval r u 0 line ∷ loads constants (StrConst text) (r + 1) line
+  name_target _ text r line = []
+
+  abbrev pub target_code : Exp → (r j : ℕ) → List Coded
+  target_code (Var line name) r j = name_target name.place name.text r line
+  target_code (Index line object key) r j = exp_code constants object r j 2 ++ exp_code constants key (r + 1) (j + made_by object) 2
+  target_code _ r j = []
+
+  abbrev pub targets_code : Exps → (r j : ℕ) → List Coded
+  targets_code EndExps r j = []
+  targets_code (MoreExps e es) r j = target_code e r j ++ targets_code es (r + 2) (j + made_by e)
+
+  -- the value in register v goes to a target
+
+  abbrev pub name_store : Place → (r v line : ℕ) → List Coded
+  name_store Unset r v line = []
+  name_store (LocalPlace n) r v line = with_abc Move n v 0 line ∷ []
+  name_store (Upvalue u) r v line = with_abc SetUpval v u 0 line ∷ []
+  name_store (GlobalIn n) r v line = with_abc SetTable r (r + 1) v line ∷ []
+  name_store (GlobalOf u) r v line = with_abc SetTable r (r + 1) v line ∷ []
+
+  abbrev pub store_code : Exp → (r v : ℕ) → List Coded
+  store_code (Var line name) r v = name_store name.place r v line
+  store_code (Index line object key) r v = with_abc SetTable r (r + 1) v line ∷ []
+  store_code _ r v = []
+
+  -- from right to left
+  abbrev pub stores_code : Exps → (r v : ℕ) → List Coded
+  stores_code EndExps r v = []
+  stores_code (MoreExps e es) r v = stores_code es (r + 2) (v + 1) ++ store_code e r v
+
+  abbrev pub assign_code : (targets values : Exps) → (t j line : ℕ) → List Coded
+  assign_code targets es t j line =
+      let v = t + 2 * count targets in
+      targets_code targets t j ++ (exps_code constants es (Some (count targets)) v (j + made_in targets) line ++ stores_code targets t v)
+
+  -- a call in the place of its caller. The list that it leaves is taken by a RETURN that is never reached
+
+  abbrev pub call_last : Exp → Exps → (t j line back : ℕ) → List Coded
+  call_last f es t j line back =
+      exp_code constants f t j 2 ++ (exps_code constants es None (t + 1) (j + made_by f) line
+      ++ (with_abc TailCall t (list_field 0 es) 0 line ∷ with_abc Return t 0 back line ∷ []))
+
+  abbrev pub method_last : Exp → List ℕ → Exps → (t j line back : ℕ) → List Coded
+  method_last object name es t j line back =
+      exp_code constants object t j 2 ++ (loads constants (StrConst name) (t + 1) line ++ (with_abc OpSelf t t (t + 1) line
+      ∷ (exps_code constants es None (t + 2) (j + made_by object) line
+      ++ (with_abc TailCall t (list_field 1 es) 0 line ∷ with_abc Return t 0 back line ∷ []))))
+
+  abbrev pub values_last : Exps → (t j line back : ℕ) → List Coded
+  values_last es t j line back = exps_code constants es None t j line ++ with_abc Return t (list_field 0 es) back line ∷ []
+
+  -- `back` is the field C of each RETURN
+  abbrev pub return_code : (closing : Bool) → Exps → (t j line back : ℕ) → List Coded
+  return_code false (MoreExps (Call call_line f es) EndExps) t j line back = call_last f es t j call_line back
+  return_code false (MoreExps (Method call_line object name es) EndExps) t j line back = method_last object name.text es t j call_line back
+  return_code closing es t j line back = values_last es t j line back
+
+  -- the values of a numeric `for`
+
+  abbrev pub pair_code : (from limit : Exp) → (t j : ℕ) → List Coded
+  pair_code from limit t j = exp_code constants from t j 2 ++ exp_code constants limit (t + 1) (j + made_by from) 2
+
+  abbrev pub bounds_code : (from limit : Exp) → (t j line : ℕ) → List Coded
+  bounds_code from limit t j line = pair_code from limit t j ++ default_step (t + 2) line
+
+  abbrev pub steps_code : (from limit step : Exp) → (t j : ℕ) → List Coded
+  steps_code from limit step t j = pair_code from limit t j ++ exp_code constants step (t + 2) (j + made_by from + made_by limit) 2

@@ -1,0 +1,35 @@
+-- A body that the law covers, so that its premise is no empty one.
+use Rattle.std.proofs.Common.{◌≡◌, ◌<◌, ◌≤◌, ◌^◌, ℕ, List, lit<, lit≤, true, false, [], ◌∷◌, Option, Some, None, refl, arith}
+use Rattle.std.specs.Prelude.{codes}
+use Rattle.code_core.specs.Opcode.{opcodes, number_of}
+use Rattle.tree_core.specs.Tree.{Body, While, Break}
+use Rattle.code_means.specs.Means.{Means}
+use Rattle.code_means.proofs.Forms.{loc, int, call, block, returning, loc_is, when, fun}
+use Rattle.code_of.specs.CodeOf.{code_of}
+use Rattle.stat_laws.specs.Fits.{BodyFits}
+use Rattle.stat_laws.proofs.Whole.{means}
+
+-- function(f) local x=0 while f(x) do if f(1) then break end end return x,f end
+abbrev calls_on : Body
+calls_on = fun ("f" ∷ []) [] (returning (
+    loc_is "x" 1 (int 0) ∷ While 1 (call (loc "f" 0) (loc "x" 1 ∷ [])) (block (when (call (loc "f" 0) (int 1 ∷ [])) (Break 1 ∷ []) ∷ [])) ∷ [])
+    (loc "x" 1 ∷ loc "f" 0 ∷ []))
+
+abbrev source : Option (List ℕ)
+source = Some (codes "@s.lua")
+
+it_fits : BodyFits source calls_on
+unfolding opcodes number_of
+it_fits = (record {
+  small = lit< tt;
+  short = lit≤ tt;
+  room = lit≤ tt;
+  placed = (
+    ((((λ e. absurd (cc)), tt), (lit≤ tt, (lit≤ tt, (lit< tt, refl)))),
+    (((lit< tt, (lit< tt, tt)), (lit≤ tt, (((lit< tt, ((λ e. absurd (cc)), tt)), (lit≤ tt, ((refl, tt), tt))), tt))), tt)),
+    (refl, (refl, ((lit< tt, (lit< tt, tt)), (lit≤ tt, lit< tt))))
+  );
+}, (((tt, tt), (((tt, (tt, tt)), ((((tt, (tt, tt)), ((tt, tt), tt))), tt)), tt)), (tt, (tt, tt))))
+
+its_code_means_it : Means true (code_of source calls_on) calls_on
+its_code_means_it = means source calls_on it_fits

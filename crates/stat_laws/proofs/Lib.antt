@@ -1,0 +1,15 @@
+mod Sizes
+mod Closing
+mod Standing
+mod Labels
+mod Blocks
+mod Forms
+mod Loops
+mod Returns
+mod Values
+mod Assigning
+mod Statements
+mod Lines
+mod Raised
+mod Whole
+mod Example

@@ -1,0 +1,382 @@
+-- Leaving a function with values: `return`, and the end of its block.
+use Rattle.std.proofs.Common.{◌≡◌, ℕ, zero, suc, ◌+◌, ◌-◌, ◌<◌, ◌≤◌, ◌^◌, max, Bool, true, false, cond, List, [], ◌∷◌, ◌++◌, length, drop, take, Option, Some, None, refl, sym, ap, ap₂, subst, ◌∙◌, arith, append_assoc, length-append}
+use borrow.Author.Tests.{le-leb, lt-ltb}
+use Rattle.std.specs.Prelude.{nat_lt, eqb, ◌==◌}
+use Rattle.int_core.specs.Value.{Value, known, nil, nth, range}
+use Rattle.int_core.specs.Ask.{leaves, returns, Captured, held_below, gone_from, shared_by}
+use Rattle.tree_core.specs.Tree.{Body, Block, Falls, Returns, Stats, EndStats, Exp, Nil, True, False, Int, Str, Vararg, Function, Var, Index, Call, Method, Unary, Binary, And, Or, Paren, Table, Exps, EndExps, MoreExps}
+use Rattle.tree_activation.specs.Work.{complete, collect, evaluate, callee_of, method_of, for_return, finish, leave_scope, run, Work, Pending, Passed, returns_list, Activation, State}
+use Rattle.tree_activation.specs.Work as tree
+use Rattle.tree_activation.specs.Asking.{go}
+use Rattle.tree_activation.specs.Activation.{step}
+use Rattle.tree_activation.specs.Statements.{begins_return}
+use Rattle.code_core.specs.declared.opcode.Opcode.TheVariants.{OpSelf, TailCall, Return}
+use Rattle.code_core.specs.Instruction.{abc, a_of, b_of}
+use Rattle.code_core.specs.Check.{at}
+use Rattle.code_core.specs.declared.proto.Const.{Const}
+use Rattle.machine_core.specs.Moves.{line_of}
+use Rattle.code_core.proofs.FieldLemmas.{opcode_of-abc, a_of-abc, b_of-abc}
+use Rattle.machine_core.specs.World as world
+use Rattle.machine_core.specs.Text as text
+use Rattle.machine_core.specs.Text.{read_registers, list_end, behind}
+use Rattle.machine_core.specs.InstructionRows as rows
+use Rattle.machine_core.specs.InstructionRows.{read_values, counted}
+use Rattle.machine_core.specs.Talk as code
+use Rattle.machine_core.specs.Talk.{talk, talk_step, says_so, before, amid}
+use Rattle.machine_join.proofs.Lists.{append_nil, eq_not, lt_not}
+use Rattle.code_of.specs.Coded.{Coded, with_abc}
+use Rattle.code_of.specs.Expressions.{made_by, count, is_last_open, ends_open, list_field, one_less, exp_code, exps_code}
+use Rattle.code_of.specs.Constants.{loads}
+use Rattle.code_core.specs.declared.proto.Const.TheVariants.{Str as StrConst}
+use Rattle.code_of.specs.Jumps.{Reach}
+use Rattle.code_of.specs.Levels.{level_after, levels_after, closing_after, closings_after, made_in_stats}
+use Rattle.code_of.specs.Parts.{values_last, return_code}
+use Rattle.code_of.specs.Sizes.{stats_size, block_size}
+use Rattle.code_of.specs.Statements.{stats_code, block_code}
+use Rattle.exp_laws.proofs.Registers.{Rel, held_same}
+use Rattle.exp_laws.proofs.Talking.{Setting, Agree, go_left, both_ask, of_tree, of_code}
+use Rattle.exp_laws.proofs.Placing.{HasAt, has_front, has_back}
+use Rattle.exp_laws.proofs.Lists.{Holds, range_held}
+use Rattle.exp_laws.proofs.Calls.{read_values_step}
+use Rattle.exp_laws.proofs.Placed.{room_of, room_of_list, room_of_values, IsPlaced, ArePlaced}
+use Rattle.exp_laws.proofs.ListForms.{Listed}
+use Rattle.exp_laws.proofs.Exps.{exps_same}
+use Rattle.exp_laws.proofs.Steps.{row_step, own_step}
+use Rattle.exp_laws.proofs.LastCalls.{call_last_same, method_last_same}
+use Rattle.stat_laws.proofs.Closing.{AllBelow}
+use Rattle.stat_laws.proofs.Standing.{numbers, Standing, GoesOn}
+use Rattle.stat_laws.specs.Scoped.{LastIsPlaced, ReturnIsPlaced}
+use Rattle.stat_laws.proofs.Sizes.{stats_sized}
+use Rattle.stat_laws.proofs.Labels.{closed_after}
+use Rattle.stat_laws.proofs.Blocks.{closeds_after, known_after, added_none, StatsLaw}
+use Rattle.stat_laws.proofs.Forms.{room_any, BlockLaw, below_level}
+
+held_zero : (held : List (ℕ × ℕ)) → held_below 0 held ≡ []
+held_zero [] = refl
+held_zero (h ∷ held) = ap (λ b. cond b (h ∷ held_below 0 held) (held_below 0 held)) (lt_not h.0 0 (λ l. omega arith)) ∙ held_zero held
+
+gone_zero : (held : List (ℕ × ℕ)) (xs : List Value) → gone_from 0 held xs ≡ shared_by held xs
+gone_zero [] xs = refl
+gone_zero (h ∷ held) xs =
+    ap (λ b. cond b (gone_from 0 held xs) ((h.1, nth xs h.0) ∷ gone_from 0 held xs)) (lt_not h.0 0 (λ l. omega arith)) ∙ ap (λ l. (h.1, nth xs h.0) ∷ l) (gone_zero held xs)
+
+drop_front : (xs ys : List Value) → drop (length xs) (xs ++ ys) ≡ ys
+drop_front [] ys = refl
+drop_front (x ∷ xs) ys = drop_front xs ys
+
+pub no_numbers : (ps : List Pending) → numbers ps ≡ [] → ps ≡ []
+no_numbers [] e = refl
+no_numbers (p ∷ ps) e = absurd (cc)
+
+-- where no variable to be closed is in scope at the end of some statements
+pub known_all : (ss : Stats) (t : ℕ) (closing : Bool) (closed : List ℕ) → (closing ≡ false → closed ≡ []) → closings_after ss closing ≡ false → closeds_after ss t closed ≡ []
+known_all EndStats t closing closed h e = h e
+known_all (Rattle.tree_core.specs.Tree.MoreStats s ss) t closing closed h e = known_all ss (level_after s t) (closing_after s closing) (closed_after s t closed) (known_after s t closing closed h) e
+
+last_some : (cs : List Const) (es : Exps) (t j line back : ℕ) → 1 ≤ length (values_last cs es t j line back)
+last_some cs es t j line back = let sum = length-append (exps_code cs es None t j line) (with_abc Return t (list_field 0 es) back line ∷ []) in omega (arith, sum)
+
+-- a `return` has an instruction at least
+pub return_some : (cs : List Const) (closing : Bool) (es : Exps) (t j line back : ℕ) → 1 ≤ length (return_code cs closing es t j line back)
+return_some cs false (MoreExps (Call l f es) EndExps) t j line back =
+    let a = exp_code cs f t j 2 in
+    let b = exps_code cs es None (t + 1) (j + made_by f) l in
+    let last = with_abc TailCall t (list_field 0 es) 0 l ∷ with_abc Return t 0 back l ∷ [] in
+    let one = length-append a (b ++ last) in
+    let two = length-append b last in
+    omega (arith, one, two)
+return_some cs false (MoreExps (Method l o name es) EndExps) t j line back =
+    let a = exp_code cs o t j 2 in
+    let b = loads cs (StrConst name.text) (t + 1) l in
+    let rest = with_abc OpSelf t t (t + 1) l ∷ (exps_code cs es None (t + 2) (j + made_by o) l ++ (with_abc TailCall t (list_field 1 es) 0 l ∷ with_abc Return t 0 back l ∷ [])) in
+    let one = length-append a (b ++ rest) in
+    let two = length-append b rest in
+    omega (arith, one, two)
+return_some cs false EndExps t j line back = last_some cs EndExps t j line back
+return_some cs false (MoreExps (Nil l) EndExps) t j line back = last_some cs (MoreExps (Nil l) EndExps) t j line back
+return_some cs false (MoreExps (True l) EndExps) t j line back = last_some cs (MoreExps (True l) EndExps) t j line back
+return_some cs false (MoreExps (False l) EndExps) t j line back = last_some cs (MoreExps (False l) EndExps) t j line back
+return_some cs false (MoreExps (Int l z) EndExps) t j line back = last_some cs (MoreExps (Int l z) EndExps) t j line back
+return_some cs false (MoreExps (Str l bytes) EndExps) t j line back = last_some cs (MoreExps (Str l bytes) EndExps) t j line back
+return_some cs false (MoreExps (Vararg l) EndExps) t j line back = last_some cs (MoreExps (Vararg l) EndExps) t j line back
+return_some cs false (MoreExps (Function l body) EndExps) t j line back = last_some cs (MoreExps (Function l body) EndExps) t j line back
+return_some cs false (MoreExps (Var l name) EndExps) t j line back = last_some cs (MoreExps (Var l name) EndExps) t j line back
+return_some cs false (MoreExps (Index l o key) EndExps) t j line back = last_some cs (MoreExps (Index l o key) EndExps) t j line back
+return_some cs false (MoreExps (Unary l op x) EndExps) t j line back = last_some cs (MoreExps (Unary l op x) EndExps) t j line back
+return_some cs false (MoreExps (Binary l op x y) EndExps) t j line back = last_some cs (MoreExps (Binary l op x y) EndExps) t j line back
+return_some cs false (MoreExps (And l x y) EndExps) t j line back = last_some cs (MoreExps (And l x y) EndExps) t j line back
+return_some cs false (MoreExps (Or l x y) EndExps) t j line back = last_some cs (MoreExps (Or l x y) EndExps) t j line back
+return_some cs false (MoreExps (Paren l x) EndExps) t j line back = last_some cs (MoreExps (Paren l x) EndExps) t j line back
+return_some cs false (MoreExps (Table l fs) EndExps) t j line back = last_some cs (MoreExps (Table l fs) EndExps) t j line back
+return_some cs false (MoreExps (Nil l) (MoreExps d es)) t j line back = last_some cs (MoreExps (Nil l) (MoreExps d es)) t j line back
+return_some cs false (MoreExps (True l) (MoreExps d es)) t j line back = last_some cs (MoreExps (True l) (MoreExps d es)) t j line back
+return_some cs false (MoreExps (False l) (MoreExps d es)) t j line back = last_some cs (MoreExps (False l) (MoreExps d es)) t j line back
+return_some cs false (MoreExps (Int l z) (MoreExps d es)) t j line back = last_some cs (MoreExps (Int l z) (MoreExps d es)) t j line back
+return_some cs false (MoreExps (Str l bytes) (MoreExps d es)) t j line back = last_some cs (MoreExps (Str l bytes) (MoreExps d es)) t j line back
+return_some cs false (MoreExps (Vararg l) (MoreExps d es)) t j line back = last_some cs (MoreExps (Vararg l) (MoreExps d es)) t j line back
+return_some cs false (MoreExps (Function l body) (MoreExps d es)) t j line back = last_some cs (MoreExps (Function l body) (MoreExps d es)) t j line back
+return_some cs false (MoreExps (Var l name) (MoreExps d es)) t j line back = last_some cs (MoreExps (Var l name) (MoreExps d es)) t j line back
+return_some cs false (MoreExps (Index l o key) (MoreExps d es)) t j line back = last_some cs (MoreExps (Index l o key) (MoreExps d es)) t j line back
+return_some cs false (MoreExps (Unary l op x) (MoreExps d es)) t j line back = last_some cs (MoreExps (Unary l op x) (MoreExps d es)) t j line back
+return_some cs false (MoreExps (Binary l op x y) (MoreExps d es)) t j line back = last_some cs (MoreExps (Binary l op x y) (MoreExps d es)) t j line back
+return_some cs false (MoreExps (And l x y) (MoreExps d es)) t j line back = last_some cs (MoreExps (And l x y) (MoreExps d es)) t j line back
+return_some cs false (MoreExps (Or l x y) (MoreExps d es)) t j line back = last_some cs (MoreExps (Or l x y) (MoreExps d es)) t j line back
+return_some cs false (MoreExps (Paren l x) (MoreExps d es)) t j line back = last_some cs (MoreExps (Paren l x) (MoreExps d es)) t j line back
+return_some cs false (MoreExps (Table l fs) (MoreExps d es)) t j line back = last_some cs (MoreExps (Table l fs) (MoreExps d es)) t j line back
+return_some cs false (MoreExps (Call l f args) (MoreExps d es)) t j line back = last_some cs (MoreExps (Call l f args) (MoreExps d es)) t j line back
+return_some cs false (MoreExps (Method l o name args) (MoreExps d es)) t j line back = last_some cs (MoreExps (Method l o name args) (MoreExps d es)) t j line back
+return_some cs true es t j line back = last_some cs es t j line back
+
+behind_within : (from m size : ℕ) → from + m ≤ size → behind from m ≤ size
+behind_within from zero size h = omega arith
+behind_within from (suc m) size h = h
+
+nonzero : (n : ℕ) → (suc n == 0) ≡ false
+nonzero n = eq_not (suc n) 0 (λ e. absurd (omega (arith, e)))
+
+wanted_none : (b : Bool) → cond b None (one_less None) ≡ None
+wanted_none true = refl
+wanted_none false = refl
+
+module _ (S : Setting) where
+  open_some : (b : Bool) (e : Exp) → 1 ≤ room_of S.code.own.constants e (cond b 0 2)
+  open_some true e = room_any S e 0 (omega arith)
+  open_some false e = room_any S e 2 (omega arith)
+
+  -- a list has a register for each of its expressions
+  count_room : (es : Exps) (above : ℕ) → above + count es ≤ max above (room_of_list S.code.own.constants above es None)
+  count_room EndExps above = omega arith
+  count_room (MoreExps e es) above =
+      let some = open_some (is_last_open e es) e in
+      let rest = subst (λ w. above + 1 + count es ≤ max (above + 1) (room_of_list S.code.own.constants (above + 1) es w)) (sym (wanted_none (is_last_open e es))) (count_room es (above + 1)) in
+      omega (arith, some, rest)
+
+  -- an activation that has left its scopes ends with values
+  pub finishes_goes : (n line pc opened : ℕ) (vs env regs : List Value) (c : Captured) (k : List Work) (t : code.State) → Rel S.code.own.stack [] env c regs → line_of S.code pc ≡ cond S.lines (Some line) None
+      → talk_step S.code t ≡ says_so (leaves (returns vs)) S.code (of_code S [] pc regs opened) c (λ x b d. amid text.trap [] b d)
+      → Agree S n (tree.at (finish line (returns vs)) (of_tree S [] [] (record { held = held_below 0 c.held; gone = gone_from 0 c.held env ++ c.gone })) k) t
+  finishes_goes zero line pc opened vs env regs c k t rel lined e = tt
+  finishes_goes (suc n) line pc opened vs env regs c k t rel lined e =
+      both_ask S n _ t (leaves (returns vs)) (leaves (returns vs)) line _ _ _ _ _ refl e refl refl lined
+      (ap (λ h. shared_by h [] ++ (gone_from 0 c.held env ++ c.gone)) (held_zero c.held) ∙ ap (λ g. g ++ c.gone) (gone_zero c.held env ∙ held_same S.code.own.stack [] env c regs rel))
+      (λ x fits. absurd fits.reply)
+
+  -- leaving with values, on both sides
+  leaves_goes : (n line pc opened : ℕ) (vs env regs : List Value) (c : Captured) (k : List Work) (t : code.State) → Rel S.code.own.stack [] env c regs → line_of S.code pc ≡ cond S.lines (Some line) None
+      → talk_step S.code t ≡ says_so (leaves (returns vs)) S.code (of_code S [] pc regs opened) c (λ x b d. amid text.trap [] b d)
+      → Agree S n (tree.at (leave_scope 0 line (known nil) (finish line (returns vs))) (of_tree S [] env c) k) t
+  leaves_goes n line pc opened vs env regs c k t rel lined e =
+      go_left S n _ (tree.at (finish line (returns vs)) (of_tree S [] [] (record { held = held_below 0 c.held; gone = gone_from 0 c.held env ++ c.gone })) k) _ refl (finishes_goes n line pc opened vs env regs c k t rel lined e)
+
+  -- RETURN of so many registers
+  pub return_step : (t m back pc opened : ℕ) (vs regs : List Value) (c : Captured) → at S.code pc ≡ Some (abc Return t (suc m) back false) → t < 2 ^ 8 → suc m < 2 ^ 8 → length vs ≡ m → t + m ≤ length regs → Holds t (length vs) vs regs
+      → talk_step S.code (before (of_code S [] pc regs opened) c) ≡ says_so (leaves (returns vs)) S.code (of_code S [] pc regs opened) c (λ x b d. amid text.trap [] b d)
+  return_step t m back pc opened vs regs c here small few size width held =
+      let a = of_code S [] pc regs opened in
+      let w = abc Return t (suc m) back false in
+      let same : range t m regs ≡ vs = ap (λ n. range t n regs) (sym size) ∙ range_held t vs regs held in
+      row_step S.code w Return (read_values t (suc m) (λ _ s. rows.returns t m)) a c here (opcode_of-abc Return t (suc m) back false)
+      (ap₂ (λ x y. read_values x y (λ _ s. rows.returns x (cond (y == 0) (counted s) (y - 1)))) (a_of-abc Return t (suc m) back false small) (b_of-abc Return t (suc m) back false small few)
+      ∙ ap (λ b. read_values t (suc m) (λ _ s. rows.returns t (cond b (counted s) (suc m - 1)))) (nonzero m)
+      ∙ (let one : suc m - 1 ≡ m = omega arith in ap (λ q. read_values t (suc m) (λ _ s. rows.returns t q)) one))
+      ∙ read_values_step S.code t (suc m) (λ _ s. rows.returns t m) [] vs a c (size, (width, held))
+      ∙ own_step S.code (read_registers t m) (λ v _. text.leave (text.results v)) (([] ++ vs) ++ []) a c (le-leb (behind t m) (length regs) (behind_within t m (length regs) width))
+      ∙ ap (λ l. says_so (leaves (returns l)) S.code a c (λ x b d. amid text.trap [] b d)) (drop_front (([] ++ vs) ++ []) (range t m regs) ∙ same)
+
+  without_last : (a : List Coded) (x y : Coded) (pc : ℕ) → HasAt S pc (a ++ x ∷ y ∷ []) → HasAt S pc (a ++ x ∷ [])
+  without_last [] x y pc h = (h.0, (h.1.0, tt))
+  without_last (z ∷ a) x y pc h = (h.0, (h.1.0, without_last a x y (pc + 1) h.1.1))
+
+  module _ (back : ℕ) where
+    -- the values of a list
+    list_returns : (es : Exps) (n t j line pc opened : ℕ) (env regs : List Value) (c : Captured) (k : List Work) → n ≤ S.bound → HasAt S pc (values_last S.code.own.constants es t j line back) → ends_open es ≡ false → ArePlaced S es t j
+        → t + room_of_list S.code.own.constants 0 es None ≤ S.code.own.stack → count es + 1 < 2 ^ 8 → pc + length (values_last S.code.own.constants es t j line back) ≤ length S.code.own.code → length env ≡ t → Rel S.code.own.stack [] env c regs
+        → Agree S n (tree.at (collect (for_return line) [] es) (of_tree S [] env c) k) (before (of_code S [] pc regs opened) c)
+    list_returns es n t j line pc opened env regs c k fewer has shut fine room few inside size rel =
+        exps_same S [] es (for_return line) None t 0 j line n pc opened [] env regs c k fewer tt
+        (subst (λ r. HasAt S pc (exps_code S.code.own.constants es None r j line)) (sym flat) (has_front S pc code last has)) tt (subst (λ u. ArePlaced S es u j) (sym size) fine)
+        (subst (λ r. pc + length (exps_code S.code.own.constants es None r j line) < length S.code.own.code) (sym flat) (omega (arith, inside, sum))) refl (λ i lt. absurd (omega arith)) (omega (arith, size)) (omega (arith, size, rel.fits)) room rel
+        (λ vs env1 regs1 c1 opened1 af listed.
+        by vs env1 regs1 c1 opened1 (subst (λ b. Listed S [] None b (0 + count es) (pc + length (exps_code S.code.own.constants es None (t + 0) j line)) t vs regs1 opened1) shut listed) (af.size ∙ size) af.rel)
+      where
+        code : List Coded
+        code = exps_code S.code.own.constants es None t j line
+
+        last : List Coded
+        last = with_abc Return t (list_field 0 es) back line ∷ []
+
+        flat : t + 0 ≡ t
+        flat = omega arith
+
+        sum : length (exps_code S.code.own.constants es None t j line ++ (with_abc Return t (list_field 0 es) back line ∷ [])) ≡ length (exps_code S.code.own.constants es None t j line) + 1
+        sum = length-append (exps_code S.code.own.constants es None t j line) (with_abc Return t (list_field 0 es) back line ∷ [])
+
+        field_is : list_field 0 es ≡ suc (count es)
+        field_is = (let one : 0 + count es + 1 ≡ suc (count es) = omega arith in ap (λ b. cond b 0 (0 + count es + 1)) shut ∙ one)
+
+        at_last : HasAt S (pc + length code) (with_abc Return t (suc (count es)) back line ∷ [])
+        at_last = subst (λ f. HasAt S (pc + length code) (with_abc Return t f back line ∷ [])) field_is (has_back S pc code last has)
+
+        placed_so : pc + length (exps_code S.code.own.constants es None (t + 0) j line) ≡ pc + length code
+        placed_so = ap (λ r. pc + length (exps_code S.code.own.constants es None r j line)) flat
+
+        by : (vs env1 regs1 : List Value) (c1 : Captured) (opened1 : ℕ) → (length vs ≡ 0 + count es) × Holds t (length vs) vs regs1 → length env1 ≡ t → Rel S.code.own.stack [] env1 c1 regs1
+            → Agree S n (tree.at (collect (for_return line) vs EndExps) (of_tree S [] env1 c1) k) (before (of_code S [] (pc + length (exps_code S.code.own.constants es None (t + 0) j line)) regs1 opened1) c1)
+        by vs env1 regs1 c1 opened1 h size1 rel1 =
+            let wide : length vs ≡ count es = (let s = h.0 in omega (arith, s)) in
+            let count_fits = count_room es 0 in
+            subst (λ q. Agree S n (tree.at (collect (for_return line) vs EndExps) (of_tree S [] env1 c1) k) (before (of_code S [] q regs1 opened1) c1)) (sym placed_so)
+            (go_left S n _ (tree.at (leave_scope 0 line (known nil) (finish line (returns vs))) (of_tree S [] env1 c1) []) _ refl
+            (leaves_goes n line (pc + length code) opened1 vs env1 regs1 c1 [] _ rel1 at_last.1.0
+            (return_step t (count es) back (pc + length code) opened1 vs regs1 c1 at_last.0 (omega (arith, size1, rel1.fits, S.small)) (omega (arith, few)) wide (omega (arith, size1, rel1.fits, rel1.room, count_fits, room)) h.1)))
+
+    -- `return`, where no variable to be closed is in scope
+    return_goes : (es : Exps) (n t j line pc opened : ℕ) (env regs : List Value) (c : Captured) (k : List Work) (s : tree.State) → step s ≡ begins_return line es (of_tree S [] env c) k → n ≤ S.bound
+        → HasAt S pc (return_code S.code.own.constants false es t j line back) → LastIsPlaced S es t j → pc + length (return_code S.code.own.constants false es t j line back) ≤ length S.code.own.code → length env ≡ t → Rel S.code.own.stack [] env c regs
+        → Agree S n s (before (of_code S [] pc regs opened) c)
+    return_goes (MoreExps (Call l f es) EndExps) n t j line pc opened env regs c k s st fewer has h inside size rel =
+        let first_code = exp_code S.code.own.constants f t j 2 in
+        let args = exps_code S.code.own.constants es None (t + 1) (j + made_by f) l in
+        let one = with_abc TailCall t (list_field 0 es) 0 l in
+        let two = with_abc Return t 0 back l in
+        let front = without_last (first_code ++ args) one two pc (subst (HasAt S pc) (sym (append_assoc first_code args (one ∷ two ∷ []))) has) in
+        let a = length-append first_code (args ++ one ∷ []) in
+        let b = length-append args (one ∷ []) in
+        let d = length-append first_code (args ++ one ∷ two ∷ []) in
+        let e = length-append args (one ∷ two ∷ []) in
+        go_left S n s (tree.at (evaluate f) (of_tree S [] env c) (callee_of l true es ∷ k)) _ st
+        (call_last_same S [] f es l t j n pc opened env regs c k fewer (subst (HasAt S pc) (append_assoc first_code args (one ∷ [])) front) (subst (λ u. IsPlaced S f u j) (sym size) h.0) (subst (λ u. ArePlaced S es u (j + made_by f)) (sym size) h.1.0)
+        (omega (arith, inside, a, b, d, e)) (omega (arith, size)) h.1.1.0 h.1.1.1 rel)
+    return_goes (MoreExps (Method l o name es) EndExps) n t j line pc opened env regs c k s st fewer has h inside size rel =
+        let first_code = exp_code S.code.own.constants o t j 2 in
+        let key = loads S.code.own.constants (StrConst name.text) (t + 1) l in
+        let self = with_abc OpSelf t t (t + 1) l in
+        let args = exps_code S.code.own.constants es None (t + 2) (j + made_by o) l in
+        let one = with_abc TailCall t (list_field 1 es) 0 l in
+        let two = with_abc Return t 0 back l in
+        let joined = λ (z : List Coded). append_assoc first_code (key ++ (self ∷ args)) z ∙ ap (λ l. first_code ++ l) (append_assoc key (self ∷ args) z) in
+        let front = without_last (first_code ++ (key ++ (self ∷ args))) one two pc (subst (HasAt S pc) (sym (joined (one ∷ two ∷ []))) has) in
+        let a = length-append first_code (key ++ (self ∷ (args ++ one ∷ []))) in
+        let b = length-append key (self ∷ (args ++ one ∷ [])) in
+        let x = length-append args (one ∷ []) in
+        let d = length-append first_code (key ++ (self ∷ (args ++ one ∷ two ∷ []))) in
+        let e = length-append key (self ∷ (args ++ one ∷ two ∷ [])) in
+        let y = length-append args (one ∷ two ∷ []) in
+        go_left S n s (tree.at (evaluate o) (of_tree S [] env c) (method_of l true name.text es ∷ k)) _ st
+        (method_last_same S [] o name.text es l t j n pc opened env regs c k fewer (subst (HasAt S pc) (joined (one ∷ [])) front) (subst (λ u. IsPlaced S o u j) (sym size) h.0) h.1.0 (subst (λ u. ArePlaced S es u (j + made_by o)) (sym size) h.1.1.0)
+        (omega (arith, inside, a, b, x, d, e, y)) (omega (arith, size)) h.1.1.1.0 h.1.1.1.1.0 h.1.1.1.1.1 rel)
+    return_goes EndExps n t j line pc opened env regs c k s st fewer has h inside size rel =
+        go_left S n s (tree.at (collect (for_return line) [] EndExps) (of_tree S [] env c) k) _ st (list_returns EndExps n t j line pc opened env regs c k fewer has h.0 h.1.0 h.1.1.0 h.1.1.1 inside size rel)
+    return_goes (MoreExps (Nil l) EndExps) n t j line pc opened env regs c k s st fewer has h inside size rel =
+        go_left S n s (tree.at (collect (for_return line) [] (MoreExps (Nil l) EndExps)) (of_tree S [] env c) k) _ st (list_returns (MoreExps (Nil l) EndExps) n t j line pc opened env regs c k fewer has h.0 h.1.0 h.1.1.0 h.1.1.1 inside size rel)
+    return_goes (MoreExps (True l) EndExps) n t j line pc opened env regs c k s st fewer has h inside size rel =
+        go_left S n s (tree.at (collect (for_return line) [] (MoreExps (True l) EndExps)) (of_tree S [] env c) k) _ st (list_returns (MoreExps (True l) EndExps) n t j line pc opened env regs c k fewer has h.0 h.1.0 h.1.1.0 h.1.1.1 inside size rel)
+    return_goes (MoreExps (False l) EndExps) n t j line pc opened env regs c k s st fewer has h inside size rel =
+        go_left S n s (tree.at (collect (for_return line) [] (MoreExps (False l) EndExps)) (of_tree S [] env c) k) _ st (list_returns (MoreExps (False l) EndExps) n t j line pc opened env regs c k fewer has h.0 h.1.0 h.1.1.0 h.1.1.1 inside size rel)
+    return_goes (MoreExps (Int l z) EndExps) n t j line pc opened env regs c k s st fewer has h inside size rel =
+        go_left S n s (tree.at (collect (for_return line) [] (MoreExps (Int l z) EndExps)) (of_tree S [] env c) k) _ st (list_returns (MoreExps (Int l z) EndExps) n t j line pc opened env regs c k fewer has h.0 h.1.0 h.1.1.0 h.1.1.1 inside size rel)
+    return_goes (MoreExps (Str l bytes) EndExps) n t j line pc opened env regs c k s st fewer has h inside size rel =
+        go_left S n s (tree.at (collect (for_return line) [] (MoreExps (Str l bytes) EndExps)) (of_tree S [] env c) k) _ st (list_returns (MoreExps (Str l bytes) EndExps) n t j line pc opened env regs c k fewer has h.0 h.1.0 h.1.1.0 h.1.1.1 inside size rel)
+    return_goes (MoreExps (Vararg l) EndExps) n t j line pc opened env regs c k s st fewer has h inside size rel =
+        go_left S n s (tree.at (collect (for_return line) [] (MoreExps (Vararg l) EndExps)) (of_tree S [] env c) k) _ st (list_returns (MoreExps (Vararg l) EndExps) n t j line pc opened env regs c k fewer has h.0 h.1.0 h.1.1.0 h.1.1.1 inside size rel)
+    return_goes (MoreExps (Function l body) EndExps) n t j line pc opened env regs c k s st fewer has h inside size rel =
+        go_left S n s (tree.at (collect (for_return line) [] (MoreExps (Function l body) EndExps)) (of_tree S [] env c) k) _ st (list_returns (MoreExps (Function l body) EndExps) n t j line pc opened env regs c k fewer has h.0 h.1.0 h.1.1.0 h.1.1.1 inside size rel)
+    return_goes (MoreExps (Var l name) EndExps) n t j line pc opened env regs c k s st fewer has h inside size rel =
+        go_left S n s (tree.at (collect (for_return line) [] (MoreExps (Var l name) EndExps)) (of_tree S [] env c) k) _ st (list_returns (MoreExps (Var l name) EndExps) n t j line pc opened env regs c k fewer has h.0 h.1.0 h.1.1.0 h.1.1.1 inside size rel)
+    return_goes (MoreExps (Index l o key) EndExps) n t j line pc opened env regs c k s st fewer has h inside size rel =
+        go_left S n s (tree.at (collect (for_return line) [] (MoreExps (Index l o key) EndExps)) (of_tree S [] env c) k) _ st (list_returns (MoreExps (Index l o key) EndExps) n t j line pc opened env regs c k fewer has h.0 h.1.0 h.1.1.0 h.1.1.1 inside size rel)
+    return_goes (MoreExps (Unary l op x) EndExps) n t j line pc opened env regs c k s st fewer has h inside size rel =
+        go_left S n s (tree.at (collect (for_return line) [] (MoreExps (Unary l op x) EndExps)) (of_tree S [] env c) k) _ st (list_returns (MoreExps (Unary l op x) EndExps) n t j line pc opened env regs c k fewer has h.0 h.1.0 h.1.1.0 h.1.1.1 inside size rel)
+    return_goes (MoreExps (Binary l op x y) EndExps) n t j line pc opened env regs c k s st fewer has h inside size rel =
+        go_left S n s (tree.at (collect (for_return line) [] (MoreExps (Binary l op x y) EndExps)) (of_tree S [] env c) k) _ st (list_returns (MoreExps (Binary l op x y) EndExps) n t j line pc opened env regs c k fewer has h.0 h.1.0 h.1.1.0 h.1.1.1 inside size rel)
+    return_goes (MoreExps (And l x y) EndExps) n t j line pc opened env regs c k s st fewer has h inside size rel =
+        go_left S n s (tree.at (collect (for_return line) [] (MoreExps (And l x y) EndExps)) (of_tree S [] env c) k) _ st (list_returns (MoreExps (And l x y) EndExps) n t j line pc opened env regs c k fewer has h.0 h.1.0 h.1.1.0 h.1.1.1 inside size rel)
+    return_goes (MoreExps (Or l x y) EndExps) n t j line pc opened env regs c k s st fewer has h inside size rel =
+        go_left S n s (tree.at (collect (for_return line) [] (MoreExps (Or l x y) EndExps)) (of_tree S [] env c) k) _ st (list_returns (MoreExps (Or l x y) EndExps) n t j line pc opened env regs c k fewer has h.0 h.1.0 h.1.1.0 h.1.1.1 inside size rel)
+    return_goes (MoreExps (Paren l x) EndExps) n t j line pc opened env regs c k s st fewer has h inside size rel =
+        go_left S n s (tree.at (collect (for_return line) [] (MoreExps (Paren l x) EndExps)) (of_tree S [] env c) k) _ st (list_returns (MoreExps (Paren l x) EndExps) n t j line pc opened env regs c k fewer has h.0 h.1.0 h.1.1.0 h.1.1.1 inside size rel)
+    return_goes (MoreExps (Table l fs) EndExps) n t j line pc opened env regs c k s st fewer has h inside size rel =
+        go_left S n s (tree.at (collect (for_return line) [] (MoreExps (Table l fs) EndExps)) (of_tree S [] env c) k) _ st (list_returns (MoreExps (Table l fs) EndExps) n t j line pc opened env regs c k fewer has h.0 h.1.0 h.1.1.0 h.1.1.1 inside size rel)
+    return_goes (MoreExps (Nil l) (MoreExps d es)) n t j line pc opened env regs c k s st fewer has h inside size rel =
+        go_left S n s (tree.at (collect (for_return line) [] (MoreExps (Nil l) (MoreExps d es))) (of_tree S [] env c) k) _ st (list_returns (MoreExps (Nil l) (MoreExps d es)) n t j line pc opened env regs c k fewer has h.0 h.1.0 h.1.1.0 h.1.1.1 inside size rel)
+    return_goes (MoreExps (True l) (MoreExps d es)) n t j line pc opened env regs c k s st fewer has h inside size rel =
+        go_left S n s (tree.at (collect (for_return line) [] (MoreExps (True l) (MoreExps d es))) (of_tree S [] env c) k) _ st (list_returns (MoreExps (True l) (MoreExps d es)) n t j line pc opened env regs c k fewer has h.0 h.1.0 h.1.1.0 h.1.1.1 inside size rel)
+    return_goes (MoreExps (False l) (MoreExps d es)) n t j line pc opened env regs c k s st fewer has h inside size rel =
+        go_left S n s (tree.at (collect (for_return line) [] (MoreExps (False l) (MoreExps d es))) (of_tree S [] env c) k) _ st (list_returns (MoreExps (False l) (MoreExps d es)) n t j line pc opened env regs c k fewer has h.0 h.1.0 h.1.1.0 h.1.1.1 inside size rel)
+    return_goes (MoreExps (Int l z) (MoreExps d es)) n t j line pc opened env regs c k s st fewer has h inside size rel =
+        go_left S n s (tree.at (collect (for_return line) [] (MoreExps (Int l z) (MoreExps d es))) (of_tree S [] env c) k) _ st (list_returns (MoreExps (Int l z) (MoreExps d es)) n t j line pc opened env regs c k fewer has h.0 h.1.0 h.1.1.0 h.1.1.1 inside size rel)
+    return_goes (MoreExps (Str l bytes) (MoreExps d es)) n t j line pc opened env regs c k s st fewer has h inside size rel =
+        go_left S n s (tree.at (collect (for_return line) [] (MoreExps (Str l bytes) (MoreExps d es))) (of_tree S [] env c) k) _ st (list_returns (MoreExps (Str l bytes) (MoreExps d es)) n t j line pc opened env regs c k fewer has h.0 h.1.0 h.1.1.0 h.1.1.1 inside size rel)
+    return_goes (MoreExps (Vararg l) (MoreExps d es)) n t j line pc opened env regs c k s st fewer has h inside size rel =
+        go_left S n s (tree.at (collect (for_return line) [] (MoreExps (Vararg l) (MoreExps d es))) (of_tree S [] env c) k) _ st (list_returns (MoreExps (Vararg l) (MoreExps d es)) n t j line pc opened env regs c k fewer has h.0 h.1.0 h.1.1.0 h.1.1.1 inside size rel)
+    return_goes (MoreExps (Function l body) (MoreExps d es)) n t j line pc opened env regs c k s st fewer has h inside size rel =
+        go_left S n s (tree.at (collect (for_return line) [] (MoreExps (Function l body) (MoreExps d es))) (of_tree S [] env c) k) _ st (list_returns (MoreExps (Function l body) (MoreExps d es)) n t j line pc opened env regs c k fewer has h.0 h.1.0 h.1.1.0 h.1.1.1 inside size rel)
+    return_goes (MoreExps (Var l name) (MoreExps d es)) n t j line pc opened env regs c k s st fewer has h inside size rel =
+        go_left S n s (tree.at (collect (for_return line) [] (MoreExps (Var l name) (MoreExps d es))) (of_tree S [] env c) k) _ st (list_returns (MoreExps (Var l name) (MoreExps d es)) n t j line pc opened env regs c k fewer has h.0 h.1.0 h.1.1.0 h.1.1.1 inside size rel)
+    return_goes (MoreExps (Index l o key) (MoreExps d es)) n t j line pc opened env regs c k s st fewer has h inside size rel =
+        go_left S n s (tree.at (collect (for_return line) [] (MoreExps (Index l o key) (MoreExps d es))) (of_tree S [] env c) k) _ st (list_returns (MoreExps (Index l o key) (MoreExps d es)) n t j line pc opened env regs c k fewer has h.0 h.1.0 h.1.1.0 h.1.1.1 inside size rel)
+    return_goes (MoreExps (Unary l op x) (MoreExps d es)) n t j line pc opened env regs c k s st fewer has h inside size rel =
+        go_left S n s (tree.at (collect (for_return line) [] (MoreExps (Unary l op x) (MoreExps d es))) (of_tree S [] env c) k) _ st (list_returns (MoreExps (Unary l op x) (MoreExps d es)) n t j line pc opened env regs c k fewer has h.0 h.1.0 h.1.1.0 h.1.1.1 inside size rel)
+    return_goes (MoreExps (Binary l op x y) (MoreExps d es)) n t j line pc opened env regs c k s st fewer has h inside size rel =
+        go_left S n s (tree.at (collect (for_return line) [] (MoreExps (Binary l op x y) (MoreExps d es))) (of_tree S [] env c) k) _ st (list_returns (MoreExps (Binary l op x y) (MoreExps d es)) n t j line pc opened env regs c k fewer has h.0 h.1.0 h.1.1.0 h.1.1.1 inside size rel)
+    return_goes (MoreExps (And l x y) (MoreExps d es)) n t j line pc opened env regs c k s st fewer has h inside size rel =
+        go_left S n s (tree.at (collect (for_return line) [] (MoreExps (And l x y) (MoreExps d es))) (of_tree S [] env c) k) _ st (list_returns (MoreExps (And l x y) (MoreExps d es)) n t j line pc opened env regs c k fewer has h.0 h.1.0 h.1.1.0 h.1.1.1 inside size rel)
+    return_goes (MoreExps (Or l x y) (MoreExps d es)) n t j line pc opened env regs c k s st fewer has h inside size rel =
+        go_left S n s (tree.at (collect (for_return line) [] (MoreExps (Or l x y) (MoreExps d es))) (of_tree S [] env c) k) _ st (list_returns (MoreExps (Or l x y) (MoreExps d es)) n t j line pc opened env regs c k fewer has h.0 h.1.0 h.1.1.0 h.1.1.1 inside size rel)
+    return_goes (MoreExps (Paren l x) (MoreExps d es)) n t j line pc opened env regs c k s st fewer has h inside size rel =
+        go_left S n s (tree.at (collect (for_return line) [] (MoreExps (Paren l x) (MoreExps d es))) (of_tree S [] env c) k) _ st (list_returns (MoreExps (Paren l x) (MoreExps d es)) n t j line pc opened env regs c k fewer has h.0 h.1.0 h.1.1.0 h.1.1.1 inside size rel)
+    return_goes (MoreExps (Table l fs) (MoreExps d es)) n t j line pc opened env regs c k s st fewer has h inside size rel =
+        go_left S n s (tree.at (collect (for_return line) [] (MoreExps (Table l fs) (MoreExps d es))) (of_tree S [] env c) k) _ st (list_returns (MoreExps (Table l fs) (MoreExps d es)) n t j line pc opened env regs c k fewer has h.0 h.1.0 h.1.1.0 h.1.1.1 inside size rel)
+    return_goes (MoreExps (Call l f args) (MoreExps d es)) n t j line pc opened env regs c k s st fewer has h inside size rel =
+        go_left S n s (tree.at (collect (for_return line) [] (MoreExps (Call l f args) (MoreExps d es))) (of_tree S [] env c) k) _ st (list_returns (MoreExps (Call l f args) (MoreExps d es)) n t j line pc opened env regs c k fewer has h.0 h.1.0 h.1.1.0 h.1.1.1 inside size rel)
+    return_goes (MoreExps (Method l o name args) (MoreExps d es)) n t j line pc opened env regs c k s st fewer has h inside size rel =
+        go_left S n s (tree.at (collect (for_return line) [] (MoreExps (Method l o name args) (MoreExps d es))) (of_tree S [] env c) k) _ st (list_returns (MoreExps (Method l o name args) (MoreExps d es)) n t j line pc opened env regs c k fewer has h.0 h.1.0 h.1.1.0 h.1.1.1 inside size rel)
+
+    -- the end of statements, where `return` stands
+    pub return_ends : (ss : Stats) (es : Exps) (line n : ℕ) (closing : Bool) (closed : List ℕ) (outer t j pc : ℕ) (reach : Reach) (k : List Work) → n ≤ S.bound
+        → HasAt S pc (stats_code S.code.own.constants back ss false closing outer t j pc [] reach ++ return_code S.code.own.constants (closings_after ss closing) es (levels_after ss t) (j + made_in_stats ss) line back)
+        → ReturnIsPlaced S es (closings_after ss closing) (levels_after ss t) (j + made_in_stats ss)
+        → pc + (stats_size S.code.own.constants back ss closing t j + length (return_code S.code.own.constants (closings_after ss closing) es (levels_after ss t) (j + made_in_stats ss) line back)) ≤ length S.code.own.code
+        → (closing ≡ false → closed ≡ []) → (labels : List Passed)
+        → GoesOn S n (levels_after ss t) (closeds_after ss t closed) (run (record { rest = EndStats; ending = returns_list line es; level = outer; labels = labels })) k (pc + stats_size S.code.own.constants back ss closing t j)
+    return_ends ss es line n closing closed outer t j pc reach k fewer has placed inside plain labels m le ps env regs c opened st =
+        let none = no_numbers ps (st.numbered ∙ known_all ss t closing closed plain placed.0) in
+        let wide = ap length last_is in
+        subst (λ qs. Agree S m (tree.at (run (record { rest = EndStats; ending = returns_list line es; level = outer; labels = labels })) (of_tree S qs env c) k) (before (of_code S qs (pc + size) regs opened) c)) (sym none)
+        (return_goes es m (levels_after ss t) (j + made_in_stats ss) line (pc + size) opened env regs c k _ refl (omega (arith, fewer, le)) at_last placed.1 (omega (arith, inside, wide)) st.size
+        (subst (λ qs. Rel S.code.own.stack qs env c regs) none st.rel))
+      where
+        code : List Coded
+        code = stats_code S.code.own.constants back ss false closing outer t j pc [] reach
+
+        last : List Coded
+        last = return_code S.code.own.constants (closings_after ss closing) es (levels_after ss t) (j + made_in_stats ss) line back
+
+        size : ℕ
+        size = stats_size S.code.own.constants back ss closing t j
+
+        last_is : return_code S.code.own.constants (closings_after ss closing) es (levels_after ss t) (j + made_in_stats ss) line back ≡ return_code S.code.own.constants false es (levels_after ss t) (j + made_in_stats ss) line back
+        last_is = ap (λ b. return_code S.code.own.constants b es (levels_after ss t) (j + made_in_stats ss) line back) placed.0
+
+        at_last : HasAt S (pc + size) (return_code S.code.own.constants false es (levels_after ss t) (j + made_in_stats ss) line back)
+        at_last = subst (HasAt S (pc + size)) last_is (subst (λ q. HasAt S (pc + q) last) (stats_sized S.code.own.constants back ss false closing outer t j pc [] reach) (has_back S pc code last has))
+
+    -- a block that ends by `return`
+    pub returns_goes : (ss : Stats) (es : Exps) (tokens line : ℕ) → ((outer : ℕ) (closed : List ℕ) (k : List Work) → StatsLaw S back (returns_list line es) false outer closed k (λ ss. refl) ss) → BlockLaw S back (Returns ss es tokens line)
+    returns_goes ss es tokens line law n closing closed outer t j pc named loops reach k fewer has placed inside under outer_low plain jumps done =
+        (law outer closed k n pc (pc + block_size S.code.own.constants back (Returns ss es tokens line) closing outer t j) closing closed t j pc [] [] [] named loops reach (record {
+          fewer = fewer;
+          has = has_front S pc (stats_code S.code.own.constants back ss false closing outer t j pc [] reach) (return_code S.code.own.constants (closings_after ss closing) es (levels_after ss t) (j + made_in_stats ss) line back) has;
+          placed = placed.0;
+          from = omega arith;
+          to = omega arith;
+          inside = inside;
+          jumps = jumps;
+          passed = tt;
+          added = added_none outer closed;
+          base_under = under;
+          under = below_level S back closed outer t under outer_low;
+          outer_low = outer_low;
+          known = plain;
+          ends = record { full = return_ends ss es line n closing closed outer t j pc reach k fewer has placed.1 (omega (arith, inside)) plain; low = λ is. absurd (cc) };
+        })).0

@@ -1,0 +1,271 @@
+-- The code of a function's body means the body.
+use Rattle.std.proofs.Common.{◌≡◌, ℕ, zero, suc, ◌+◌, ◌<◌, ◌≤◌, ◌^◌, lit<, Bool, true, false, cond, List, [], ◌∷◌, ◌++◌, length, map, take, drop, Option, Some, None, refl, sym, ap, subst, ◌∙◌, arith, length-append}
+use Rattle.std.proofs.lemmas.List.{length-map}
+use Rattle.std.specs.Prelude.{slice_get, option_map, pos, negsuc, ℤ}
+use borrow.Author.Tests.{le-leb}
+use Rattle.std.proofs.lemmas.Option.{slice_get-map}
+use Rattle.int_core.specs.Value.{Value, known, nil, nth, bind}
+use Rattle.int_core.specs.Ask.{leaves, returns, Captured, goes_on, held_below, gone_from}
+use Rattle.tree_core.specs.declared.name.Name.{Name}
+use Rattle.tree_core.specs.declared.name.UpName.{UpName}
+use Rattle.tree_core.specs.Tree.{Block, Falls, Returns, Body, BodyOf, Stats, EndStats, Exps}
+use Rattle.tree_activation.specs.Work.{complete, run, finish, leave_scope, end_of_body, Work, Pending, Passed, falls_off, returns_list, when_captured}
+use Rattle.tree_activation.specs.Work as tree
+use Rattle.tree_activation.specs.Asking as trees
+use Rattle.tree_activation.specs.Activation.{start, step, line_of_end}
+use Rattle.tree_activation.specs.Statements.{point_of}
+use Rattle.code_core.specs.declared.opcode.Opcode.TheVariants.{Return, VarArgPrep}
+use Rattle.code_core.specs.Instruction.{abc}
+use Rattle.code_core.specs.declared.proto.Const.{Const}
+use Rattle.code_core.specs.Prototype.{Prototype}
+use Rattle.code_core.proofs.FieldLemmas.{opcode_of-abc}
+use Rattle.machine_core.specs.InstructionRows.{next}
+use Rattle.machine_core.specs.Moves as moves
+use Rattle.machine_core.specs.Moves.{line_of}
+use Rattle.machine_core.specs.Talk.{talk_start, talk_step, before}
+use Rattle.code_means.specs.Means.{Means}
+use Rattle.code_of.specs.Coded.{Coded, with_abc, words, lines}
+use Rattle.code_of.specs.Constants.{of_block}
+use Rattle.code_of.specs.Jumps.{Reach}
+use Rattle.code_of.specs.Levels.{levels_after, closings_after, made_in_stats}
+use Rattle.code_of.specs.Parts.{values_last, return_code}
+use Rattle.code_of.specs.Expressions.{list_field, exps_code}
+use Rattle.code_of.specs.Sizes.{stats_size}
+use Rattle.code_of.specs.Statements.{stats_code, whole_code}
+use Rattle.code_of.specs.CodeOf.{back_field, opening, body_code, code_of}
+use Rattle.exp_laws.proofs.Registers.{Rel}
+use Rattle.exp_laws.proofs.Talking.{Setting, Alike, Agree, go_left, go_right, of_tree, of_code}
+use Rattle.exp_laws.proofs.Placing.{HasAt, has_front, has_back}
+use Rattle.exp_laws.proofs.Going.{next_there}
+use Rattle.exp_laws.proofs.Steps.{row_step, go_step}
+use Rattle.stat_laws.proofs.Standing.{strong, Standing, GoesOn}
+use Rattle.stat_laws.specs.Scoped.{StatsArePlaced, ReturnIsPlaced}
+use Rattle.stat_laws.proofs.Sizes.{stats_sized}
+use Rattle.stat_laws.proofs.Labels.{Jumps}
+use Rattle.stat_laws.proofs.Blocks.{closeds_after, added_none}
+use Rattle.stat_laws.proofs.Returns.{finishes_goes, return_step, return_ends, no_numbers, known_all, return_some}
+use Rattle.stat_laws.proofs.Values.{nth_fitted}
+use Rattle.stat_laws.proofs.Statements.{stats_goes}
+use Rattle.stat_laws.proofs.Lines.{lines_back, has_all}
+use Rattle.stat_laws.specs.Fits.{is_known, setting, BlockFits, Alone, BodyFits, InBlock}
+use Rattle.stat_laws.proofs.Raised.{stats_up, return_up}
+
+-- arguments in locals and in registers
+
+length_fitted : (n : ℕ) (vs : List Value) → length (trees.fitted n vs) ≡ n
+length_fitted zero vs = refl
+length_fitted (suc n) [] = ap suc (length_fitted n [])
+length_fitted (suc n) (v ∷ vs) = ap suc (length_fitted n vs)
+
+length_registers : (n : ℕ) (vs : List Value) → length (moves.fitted n vs) ≡ n
+length_registers zero vs = refl
+length_registers (suc n) [] = ap suc (length_registers n [])
+length_registers (suc n) (v ∷ vs) = ap suc (length_registers n vs)
+
+nth_registers : (stack n : ℕ) (vs : List Value) (r : ℕ) → r < n → n ≤ stack → nth (moves.fitted stack (take n vs)) r ≡ nth vs r
+nth_registers stack zero vs r h le = absurd (omega arith)
+nth_registers zero (suc n) vs r h le = absurd (omega arith)
+nth_registers (suc stack) (suc n) [] zero h le = refl
+nth_registers (suc stack) (suc n) [] (suc r) h le = nth_none stack r
+  where
+    nth_none : (stack r : ℕ) → nth (moves.fitted stack []) r ≡ known nil
+    nth_none zero r = refl
+    nth_none (suc stack) zero = refl
+    nth_none (suc stack) (suc r) = nth_none stack r
+nth_registers (suc stack) (suc n) (v ∷ vs) zero h le = refl
+nth_registers (suc stack) (suc n) (v ∷ vs) (suc r) h le = nth_registers stack n vs r (omega arith) (omega arith)
+
+abbrev no_cells : Captured
+no_cells = record { held = []; gone = [] }
+
+abbrev start_reach : Reach
+start_reach = record { labels = []; exit = None }
+
+whole_some : (cs : List Const) (back : ℕ) (inner : Block) (params pc : ℕ) → 1 ≤ length (whole_code cs back inner params pc)
+whole_some cs back (Falls ss tokens line) params pc =
+    let sum = length-append (stats_code cs back ss true false 0 params 0 pc [] start_reach) (with_abc Return (levels_after ss params) 1 back line ∷ []) in omega (arith, sum)
+whole_some cs back (Returns ss es tokens line) params pc =
+    let last = return_code cs (closings_after ss false) es (levels_after ss params) (0 + made_in_stats ss) line back in
+    let sum = length-append (stats_code cs back ss false false 0 params 0 pc [] start_reach) last in
+    let some = return_some cs (closings_after ss false) es (levels_after ss params) (0 + made_in_stats ss) line back in
+    omega (arith, sum, some)
+
+module _ (S : Setting) (back : ℕ) where
+  -- nothing is around a function's block
+  no_jumps : (n lo hi : ℕ) (k : List Work) → Jumps S back n lo hi 0 [] [] false start_reach k
+  no_jumps n lo hi k = record { gotos = λ name ok. absurd (cc); exits = λ ok. absurd (cc) }
+
+  -- the function's end, without values
+  end_goes : (n t line line' pc : ℕ) (labels : List Passed) (e : line ≡ line') → HasAt S pc (with_abc Return t 1 back line ∷ []) → t < 2 ^ 8
+      → (m : ℕ) → m ≤ n → (ps : List Pending) (env regs : List Value) (c : Captured) (opened : ℕ) → ps ≡ [] → t ≤ length regs → Rel S.code.own.stack ps env c regs
+      → Agree S m (tree.at (run (record { rest = EndStats; ending = falls_off line; level = 0; labels = labels })) (of_tree S ps env c) (end_of_body line' ∷ [])) (before (of_code S ps pc regs opened) c)
+  end_goes n t line line' pc labels e has small m le ps env regs c opened none width rel =
+      subst (λ qs. Agree S m (tree.at (run (record { rest = EndStats; ending = falls_off line; level = 0; labels = labels })) (of_tree S qs env c) (end_of_body line' ∷ [])) (before (of_code S qs pc regs opened) c)) (sym none)
+      (subst (λ l. Agree S m (tree.at (run (record { rest = EndStats; ending = falls_off line; level = 0; labels = labels })) (of_tree S [] env c) (end_of_body l ∷ [])) (before (of_code S [] pc regs opened) c)) e
+      (go_left S m _ (tree.at (leave_scope 0 line (known nil) complete) (of_tree S [] env c) (end_of_body line ∷ [])) _ refl
+      (go_left S m _ (tree.at complete (of_tree S [] [] (record { held = held_below 0 c.held; gone = gone_from 0 c.held env ++ c.gone })) (end_of_body line ∷ [])) _ refl
+      (go_left S m _ (tree.at (finish line (returns [])) (of_tree S [] [] (record { held = held_below 0 c.held; gone = gone_from 0 c.held env ++ c.gone })) []) _ refl
+      (finishes_goes S m line pc opened [] env regs c [] _ (subst (λ qs. Rel S.code.own.stack qs env c regs) none rel) has.1.0
+      (return_step S t 0 back pc opened [] regs c has.0 small (lit< tt) refl (omega (arith, width)) (λ i lt. absurd (omega arith))))))))
+
+  abbrev Runs : Block → (n params pc : ℕ) → Type 0
+  Runs inner n params pc =
+      (env regs : List Value) (opened : ℕ) → length env ≡ params → Rel S.code.own.stack [] env no_cells regs
+      → Agree S n (tree.at (run (point_of inner 0)) (of_tree S [] env no_cells) (end_of_body (line_of_end inner) ∷ [])) (before (of_code S [] pc regs opened) no_cells)
+
+  -- a function's block, at its first instruction
+  block_runs : (inner : Block) (n params pc : ℕ) → n ≤ S.bound → HasAt S pc (whole_code S.code.own.constants back inner params pc) → pc + length (whole_code S.code.own.constants back inner params pc) ≤ length S.code.own.code
+      → BlockFits S params inner → Runs inner n params pc
+  block_runs (Falls ss tokens line) n params pc fewer has inside fits env regs opened size rel =
+      (stats_goes S back ss (falls_off line) true 0 [] (end_of_body line ∷ []) (λ more. refl) n pc (pc + length body) false [] params 0 pc [] [] [] [] false start_reach (record {
+        fewer = fewer;
+        has = has_front S pc body last has;
+        placed = fits.0;
+        from = omega arith;
+        to = omega (arith, sized);
+        inside = omega (arith, inside, sum);
+        jumps = no_jumps n pc (pc + length body) (end_of_body line ∷ []);
+        passed = tt;
+        added = added_none 0 [];
+        base_under = tt;
+        under = tt;
+        outer_low = omega arith;
+        known = λ e. refl;
+        ends = record {
+          full = λ labels m le ps env1 regs1 c1 opened1 st. end_goes n (levels_after ss params) line line (pc + size_of) labels refl at_last (omega (arith, fits.1.1, S.small)) m le ps env1 regs1 c1 opened1
+              (no_numbers ps (st.numbered ∙ known_all ss params false [] (λ e. refl) fits.1.0)) (omega (arith, fits.1.1, st.rel.room)) st.rel;
+          low = λ is labels m le ps env1 regs1 c1 opened1 st. end_goes n (levels_after ss params) line line (pc + size_of) labels refl at_last (omega (arith, fits.1.1, S.small)) m le ps env1 regs1 c1 opened1
+              (no_numbers ps st.numbered) (omega (arith, fits.1.1, st.rel.room)) st.rel;
+        };
+      })).0 n (omega arith) [] env regs no_cells opened (record { numbered = refl; size = size; rel = rel })
+    where
+      body : List Coded
+      body = stats_code S.code.own.constants back ss true false 0 params 0 pc [] start_reach
+
+      last : List Coded
+      last = with_abc Return (levels_after ss params) 1 back line ∷ []
+
+      size_of : ℕ
+      size_of = stats_size S.code.own.constants back ss false params 0
+
+      sized : length body ≡ size_of
+      sized = stats_sized S.code.own.constants back ss true false 0 params 0 pc [] start_reach
+
+      sum : length (body ++ last) ≡ length body + 1
+      sum = length-append body last
+
+      at_last : HasAt S (pc + size_of) last
+      at_last = subst (λ q. HasAt S (pc + q) last) sized (has_back S pc body last has)
+  block_runs (Returns ss es tokens line) n params pc fewer has inside fits env regs opened size rel =
+      (stats_goes S back ss (returns_list line es) false 0 [] (end_of_body line ∷ []) (λ more. refl) n pc (pc + length body) false [] params 0 pc [] [] [] [] false start_reach (record {
+        fewer = fewer;
+        has = has_front S pc body last has;
+        placed = fits.0;
+        from = omega arith;
+        to = omega (arith, sized);
+        inside = omega (arith, inside, sum, some);
+        jumps = no_jumps n pc (pc + length body) (end_of_body line ∷ []);
+        passed = tt;
+        added = added_none 0 [];
+        base_under = tt;
+        under = tt;
+        outer_low = omega arith;
+        known = λ e. refl;
+        ends = record {
+          full = return_ends S back ss es line n false [] 0 params 0 pc start_reach (end_of_body line ∷ []) fewer has fits.1 (omega (arith, inside, sum, sized)) (λ e. refl);
+          low = λ is. absurd (cc);
+        };
+      })).0 n (omega arith) [] env regs no_cells opened (record { numbered = refl; size = size; rel = rel })
+    where
+      body : List Coded
+      body = stats_code S.code.own.constants back ss false false 0 params 0 pc [] start_reach
+
+      last : List Coded
+      last = return_code S.code.own.constants (closings_after ss false) es (levels_after ss params) (0 + made_in_stats ss) line back
+
+      sized : length body ≡ stats_size S.code.own.constants back ss false params 0
+      sized = stats_sized S.code.own.constants back ss false false 0 params 0 pc [] start_reach
+
+      sum : length (body ++ last) ≡ length body + length last
+      sum = length-append body last
+
+      some : 1 ≤ length last
+      some = return_some S.code.own.constants (closings_after ss false) es (levels_after ss params) (0 + made_in_stats ss) line back
+
+  -- VARARGPREP stands in front in a function with `...`
+  opens : (vararg : Bool) (n params line : ℕ) (s : tree.State) (regs : List Value) → HasAt S 0 (opening vararg params line) → length (opening vararg params line) < length S.code.own.code
+      → Agree S n s (before (of_code S [] (length (opening vararg params line)) regs 0) no_cells) → Agree S n s (before (of_code S [] 0 regs 0) no_cells)
+  opens false n params line s regs has inside h = h
+  opens true n params line s regs has inside h =
+      let there = next_there S (0 + 1) inside in
+      go_right S n s _ (before (of_code S [] (0 + 1) regs 0) no_cells)
+      (row_step S.code (abc VarArgPrep params 0 0 false) VarArgPrep next (of_code S [] 0 regs 0) no_cells has.0 (opcode_of-abc VarArgPrep params 0 0 false) refl ∙ go_step S.code 1 there.0 [] (of_code S [] 0 regs 0) no_cells there.1) h
+
+abbrev line_read : Option (Option ℤ) → Option ℕ
+line_read o = bind (bind o (λ line. line)) (λ line. elim line as (λ _. Option ℕ) [ pos n ↦ Some n | negsuc _ ↦ None ])
+
+lined : (source : Option (List ℕ)) (body : Body) (i : ℕ) (x : Coded) → slice_get (body_code body) i ≡ Some x → line_of (code_of source body) i ≡ cond (is_known source) (Some x.1) None
+lined None (BodyOf params vararg inner ups line) i x e = refl
+lined (Some text) (BodyOf params vararg inner ups line) i x e =
+    let code = body_code (BodyOf params vararg inner ups line) in
+    ap (λ l. line_read (slice_get l i)) (lines_back (lines code) line)
+    ∙ ap line_read (slice_get-map (λ l. Some (pos l)) (lines code) i ∙ ap (option_map (λ l. Some (pos l))) (slice_get-map (λ y. y.1) code i ∙ ap (option_map (λ y. y.1)) e))
+
+module _ (source : Option (List ℕ)) where
+  -- a body, where the functions in it are alike through fewer asks
+  body_alike : (N : ℕ) → ((b : Body) → BodyFits source b → (m : ℕ) → m < N → Alike (is_known source) m b (code_of source b)) → (body : Body) → BodyFits source body → Alike (is_known source) N body (code_of source body)
+  body_alike N below (BodyOf params vararg inner ups line) fits arguments =
+      opens S (back_field vararg (length params)) vararg N (length params) line _ regs (has_front S 0 begin whole has) (omega (arith, sized, some))
+      (block_runs S (back_field vararg (length params)) inner N (length params) (length begin) (omega arith) at_whole (omega (arith, sized)) (raised inner fits.0.placed fits.1)
+      (trees.fitted (length params) arguments) regs 0 (length_fitted (length params) arguments) rel)
+    where
+      p : Prototype
+      p = code_of source (BodyOf params vararg inner ups line)
+
+      S : Setting
+      S = setting source (code_of source (BodyOf params vararg inner ups line)) N (cond vararg (drop (length params) arguments) []) fits.0.small fits.0.short
+
+      regs : List Value
+      regs = moves.fitted (code_of source (BodyOf params vararg inner ups line)).own.stack (take (length params) arguments)
+
+      begin : List Coded
+      begin = opening vararg (length params) line
+
+      whole : List Coded
+      whole = whole_code (of_block inner []) (back_field vararg (length params)) inner (length params) (length (opening vararg (length params) line))
+
+      has : HasAt S 0 (begin ++ whole)
+      has = has_all S [] (body_code (BodyOf params vararg inner ups line)) refl (λ i x e. lined source (BodyOf params vararg inner ups line) i x e)
+
+      at_whole : HasAt S (length begin) whole
+      at_whole = let same : 0 + length begin ≡ length begin = omega arith in subst (λ q. HasAt S q whole) same (has_back S 0 begin whole has)
+
+      sized : length S.code.own.code ≡ length begin + length whole
+      sized = length-map (begin ++ whole) (λ y. y.0) ∙ length-append begin whole
+
+      some : 1 ≤ length whole
+      some = whole_some (of_block inner []) (back_field vararg (length params)) inner (length params) (length begin)
+
+      rel : Rel S.code.own.stack [] (trees.fitted (length params) arguments) no_cells regs
+      rel =
+          let wide = length_fitted (length params) arguments in
+          let room = fits.0.room in
+          let all = length_registers (code_of source (BodyOf params vararg inner ups line)).own.stack (take (length params) arguments) in
+          record {
+            agree = λ r lr. nth_fitted (length params) arguments r (omega (arith, lr, wide)) ∙ sym (nth_registers (code_of source (BodyOf params vararg inner ups line)).own.stack (length params) arguments r (omega (arith, lr, wide)) room);
+            held = tt;
+            ascends = tt;
+            fits = omega (arith, wide, room);
+            room = omega (arith, all);
+          }
+
+      raised : (inner' : Block) → BlockFits (setting source p 0 [] fits.0.small fits.0.short) (length params) inner' → InBlock source p inner' 0 → BlockFits S (length params) inner'
+      raised (Falls ss tokens end) h g = (stats_up source p N (cond vararg (drop (length params) arguments) []) fits.0.small fits.0.short below ss true false (length params) 0 [] [] false h.0 g, h.1)
+      raised (Returns ss es tokens end) h g =
+          (stats_up source p N (cond vararg (drop (length params) arguments) []) fits.0.small fits.0.short below ss false false (length params) 0 [] [] false h.0 g.0,
+          return_up source p N (cond vararg (drop (length params) arguments) []) fits.0.small fits.0.short below es (closings_after ss false) (levels_after ss (length params)) (0 + made_in_stats ss) h.1 g.1)
+
+  -- the code of a body means it
+  pub means : (body : Body) → BodyFits source body → Means (is_known source) (code_of source body) body
+  means body fits n arguments =
+      strong (λ N. (b : Body) → BodyFits source b → Alike (is_known source) N b (code_of source b)) (λ N fewer. body_alike N (λ b h m lt. fewer m lt b h)) n body fits arguments

@@ -1,0 +1,104 @@
+-- What is assumed of a statement where t locals are in scope and j functions of its function are made before it: names and labels are in scope, and
+-- there are registers enough. It also says which forms are proved: for the others nothing is assumed that holds.
+use Rattle.std.specs.Prelude.{◌≡◌, ℕ, ◌+◌, ◌*◌, ◌<◌, ◌≤◌, ◌^◌, Bool, true, false, cond, ◌&&◌, ◌||◌, List, [], ◌∷◌, ◌++◌, length, Some, None, nat_le, bytes_eq}
+use Rattle.tree_core.specs.declared.name.Place.{Place}
+use Rattle.tree_core.specs.declared.name.Place.TheVariants.{Upvalue}
+use Rattle.tree_core.specs.declared.name.Place.TheVariants.{Local as LocalPlace}
+use Rattle.tree_core.specs.Tree.{Block, Falls, Returns, Stats, EndStats, MoreStats, Stat, Empty, Local, LocalFunction, Assign, CallStat, Do, While, Repeat, If, IfElse, NumFor, NumForStep, GenFor, Label, Goto, Break, Arms, EndArms, MoreArms, Exp, Var, Call, Method, Exps, EndExps, MoreExps}
+use Rattle.tree_activation.specs.Asking.{upvalues_of}
+use Rattle.tree_activation.specs.Jumps.{are_void}
+use Rattle.code_core.specs.declared.proto.Const.TheVariants.{Str as StrConst}
+use Rattle.code_of.specs.Expressions.{made_by, made_in, count, is_open, ends_open}
+use Rattle.code_of.specs.Levels.{made_by_stat, made_in_arms, made_in_stats, made_in_block, level_after, levels_after, levels_in, has_closed, closing_after, closings_after}
+use Rattle.exp_laws.proofs.Talking.{Setting}
+use Rattle.exp_laws.proofs.Placed.{Found, Inner, Captures, IsPlaced, ArePlaced, room_of, room_of_list}
+
+-- names that a `goto` may have: those of the labels around it, and whether it may go there without entering the scope of a local
+
+abbrev pub Named : Type 0
+Named = List ℕ × Bool
+
+abbrev pub legal : List ℕ → List Named → Bool
+legal name [] = false
+legal name (x ∷ xs) = cond (bytes_eq x.0 name) x.1 (legal name xs)
+
+-- of the labels further on, from a statement before which t locals are in scope
+abbrev pub names_ahead : Stats → (falls : Bool) → (t level : ℕ) → List Named
+names_ahead EndStats falls t level = []
+names_ahead (MoreStats (Label line name) ss) falls t level = (name.text, (falls && are_void ss) || nat_le level t) ∷ names_ahead ss falls t level
+names_ahead (MoreStats s ss) falls t level = names_ahead ss falls t (level_after s level)
+
+abbrev pub names_passed : Stat → List Named → List Named
+names_passed (Label line name) named = (name.text, true) ∷ named
+names_passed _ named = named
+
+-- a name that is assigned: a local in scope, or an upvalue
+abbrev pub NameIsStored : Place → (t : ℕ) → Type 0
+NameIsStored (LocalPlace n) t = n < t
+NameIsStored (Upvalue u) t = u < 2 ^ 8
+NameIsStored _ t = ⊥
+
+abbrev pub TargetsArePlaced : Exps → (t : ℕ) → Type 0
+TargetsArePlaced EndExps t = Unit {0}
+TargetsArePlaced (MoreExps (Var line name) targets) t = NameIsStored name.place t × TargetsArePlaced targets t
+TargetsArePlaced (MoreExps _ targets) t = ⊥
+
+module _ (S : Setting) where
+  -- what `return` gives: a call in the function's place, or a list of known length
+  abbrev pub LastIsPlaced : Exps → (t j : ℕ) → Type 0
+  LastIsPlaced (MoreExps (Call line f es) EndExps) t j =
+      IsPlaced S f t j × (ArePlaced S es t (j + made_by f) × ((t + room_of S.code.own.constants f 2 ≤ S.code.own.stack) × (t + room_of_list S.code.own.constants 1 es None ≤ S.code.own.stack)))
+  LastIsPlaced (MoreExps (Method line object name es) EndExps) t j =
+      IsPlaced S object t j × (Found S.code.own.constants (StrConst name.text) × (ArePlaced S es t (j + made_by object)
+      × ((t + room_of S.code.own.constants object 2 ≤ S.code.own.stack) × ((t + 1 < S.code.own.stack) × (t + room_of_list S.code.own.constants 2 es None ≤ S.code.own.stack)))))
+  LastIsPlaced es t j = (ends_open es ≡ false) × (ArePlaced S es t j × ((t + room_of_list S.code.own.constants 0 es None ≤ S.code.own.stack) × (count es + 1 < 2 ^ 8)))
+
+  -- no variable to be closed is in scope there
+  abbrev pub ReturnIsPlaced : Exps → (closing : Bool) → (t j : ℕ) → Type 0
+  ReturnIsPlaced es closing t j = (closing ≡ false) × LastIsPlaced es t j
+
+  abbrev mutual
+    pub StatIsPlaced : Stat → (closing : Bool) → (t j : ℕ) → List Named → (loops : Bool) → Type 0
+    StatIsPlaced (Empty line) closing t j named loops = Unit {0}
+    StatIsPlaced (Local line names es) closing t j named loops =
+        ArePlaced S es t j × ((t + room_of_list S.code.own.constants 0 es (Some (length names)) ≤ S.code.own.stack) × ((t + length names ≤ S.code.own.stack) × ((length names + 1 < 2 ^ 8) × (has_closed names ≡ false))))
+    StatIsPlaced (LocalFunction line name body) closing t j named loops = Inner S j body × (Captures (upvalues_of body) (t + 1) × (t < S.code.own.stack))
+    StatIsPlaced (Assign line targets es) closing t j named loops =
+        TargetsArePlaced targets t × (ArePlaced S es t (j + made_in targets)
+        × ((t + 2 * count targets + room_of_list S.code.own.constants 0 es (Some (count targets)) ≤ S.code.own.stack) × ((t + 2 * count targets + count targets ≤ S.code.own.stack) × (count targets + 1 < 2 ^ 8))))
+    StatIsPlaced (CallStat line e) closing t j named loops = (is_open e ≡ true) × (IsPlaced S e t j × (t + room_of S.code.own.constants e 1 ≤ S.code.own.stack))
+    StatIsPlaced (Do line block) closing t j named loops = BlockIsPlaced block closing t j named loops
+    StatIsPlaced (While line e block) closing t j named loops =
+        IsPlaced S e t j × ((t + room_of S.code.own.constants e 2 ≤ S.code.own.stack) × BlockIsPlaced block closing t (j + made_by e) named true)
+    StatIsPlaced (Repeat line block e) closing t j named loops =
+        OpenIsPlaced block closing t j named true × (IsPlaced S e (levels_in block t) (j + made_in_block block) × (levels_in block t + room_of S.code.own.constants e 2 ≤ S.code.own.stack))
+    StatIsPlaced (If line arms) closing t j named loops = ArmsArePlaced arms closing t j named loops
+    StatIsPlaced (IfElse line arms block) closing t j named loops = ArmsArePlaced arms closing t j named loops × BlockIsPlaced block closing t (j + made_in_arms arms) named loops
+    StatIsPlaced (NumFor line name from limit block) closing t j named loops = ⊥
+    StatIsPlaced (NumForStep line name from limit step block) closing t j named loops = ⊥
+    StatIsPlaced (GenFor line names es block) closing t j named loops = ⊥
+    StatIsPlaced (Label line name) closing t j named loops = Unit {0}
+    StatIsPlaced (Goto line name) closing t j named loops = legal name.text named ≡ true
+    StatIsPlaced (Break line) closing t j named loops = loops ≡ true
+
+    pub ArmsArePlaced : Arms → (closing : Bool) → (t j : ℕ) → List Named → (loops : Bool) → Type 0
+    ArmsArePlaced EndArms closing t j named loops = Unit {0}
+    ArmsArePlaced (MoreArms e block arms) closing t j named loops =
+        IsPlaced S e t j × ((t + room_of S.code.own.constants e 2 ≤ S.code.own.stack)
+        × (BlockIsPlaced block closing t (j + made_by e) named loops × ArmsArePlaced arms closing t (j + made_by e + made_in_block block) named loops))
+
+    pub StatsArePlaced : Stats → (falls closing : Bool) → (t j : ℕ) → (names named : List Named) → (loops : Bool) → Type 0
+    StatsArePlaced EndStats falls closing t j names named loops = Unit {0}
+    StatsArePlaced (MoreStats s ss) falls closing t j names named loops =
+        StatIsPlaced s closing t j (names_ahead ss falls t (level_after s t) ++ (names ++ named)) loops
+        × StatsArePlaced ss falls (closing_after s closing) (level_after s t) (j + made_by_stat s) (names_passed s names) named loops
+
+    pub BlockIsPlaced : Block → (closing : Bool) → (t j : ℕ) → List Named → (loops : Bool) → Type 0
+    BlockIsPlaced (Falls ss tokens line) closing t j named loops = StatsArePlaced ss true closing t j [] named loops
+    BlockIsPlaced (Returns ss es tokens line) closing t j named loops =
+        StatsArePlaced ss false closing t j [] named loops × ReturnIsPlaced es (closings_after ss closing) (levels_after ss t) (j + made_in_stats ss)
+
+    -- the block of a `repeat`, whose labels stand in the scope of its locals
+    pub OpenIsPlaced : Block → (closing : Bool) → (t j : ℕ) → List Named → (loops : Bool) → Type 0
+    OpenIsPlaced (Falls ss tokens line) closing t j named loops = StatsArePlaced ss false closing t j [] named loops
+    OpenIsPlaced (Returns ss es tokens line) closing t j named loops = ⊥
