@@ -8,3 +8,6 @@ mod resolving;
 mod walk;
 
 pub use resolving::resolve;
+
+#[cfg(test)]
+mod tests;
