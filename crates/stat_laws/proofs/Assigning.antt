@@ -1,5 +1,5 @@
 -- Assignments to locals and upvalues.
-use Rattle.std.proofs.Common.{◌≡◌, ◌≢◌, ℕ, zero, suc, ◌+◌, ◌*◌, ◌<◌, ◌≤◌, ◌^◌, lit<, Bool, true, false, List, [], ◌∷◌, ◌++◌, length, reverse, Some, None, refl, sym, ap, ap₂, subst, ◌∙◌, ◌⊎◌, inl, inr, ⊎_elim, arith, append_assoc, length-append}
+use Rattle.std.proofs.Common.{◌≡◌, ◌≢◌, ℕ, zero, suc, ◌+◌, ◌*◌, ◌<◌, ◌≤◌, ◌^◌, false, List, [], ◌∷◌, ◌++◌, length, reverse, Some, refl, sym, ap, ap₂, subst, ◌∙◌, ◌⊎◌, inl, inr, ⊎_elim, arith, append_assoc, length-append}
 use Rattle.std.proofs.lemmas.List.{reverse-append}
 use borrow.Author.Tests.{lt-ltb}
 use Rattle.int_core.specs.Value.{Value, nth, write}
@@ -7,13 +7,12 @@ use Rattle.int_core.specs.Ask.{writes_upvalue, Captured, values_in, goes_on}
 use Rattle.tree_core.specs.declared.name.Place.{Place}
 use Rattle.tree_core.specs.declared.name.Place.TheVariants.{Unset, Upvalue, GlobalIn, GlobalOf}
 use Rattle.tree_core.specs.declared.name.Place.TheVariants.{Local as LocalPlace}
-use Rattle.tree_core.specs.Tree.{Assign, Exp, Nil, True, False, Int, Str, Vararg, Function, Var, Index, Call, Method, Unary, Binary, And, Or, Paren, Table, Exps, EndExps, MoreExps}
+use Rattle.tree_core.specs.Tree.{Assign, Nil, True, False, Int, Str, Vararg, Function, Var, Index, Call, Method, Unary, Binary, And, Or, Paren, Table, Exps, EndExps, MoreExps}
 use Rattle.tree_activation.specs.Work.{complete, collect, aim, store, Target, to_local, to_upvalue, for_assignment, Work, Pending, State}
 use Rattle.tree_activation.specs.Work as tree
 use Rattle.tree_activation.specs.Asking.{first}
-use Rattle.tree_activation.specs.Activation.{step}
 use Rattle.tree_activation.specs.Statements.{paired, aims_at_name}
-use Rattle.code_core.specs.declared.opcode.Opcode.TheVariants.{Move, SetUpval}
+use Rattle.code_core.specs.declared.opcode.Opcode.TheVariants.{SetUpval}
 use Rattle.code_core.specs.declared.proto.Const.{Const}
 use Rattle.code_core.specs.Instruction.{abc}
 use Rattle.code_core.specs.Check.{at}
@@ -24,10 +23,10 @@ use Rattle.machine_core.specs.InstructionRows.{next}
 use Rattle.machine_core.specs.Talk as code
 use Rattle.machine_core.specs.Talk.{talk, talk_step, says_so, before, amid}
 use Rattle.machine_join.proofs.Lists.{append_nil, nth_write_same, nth_write_other, length_write, write_more}
-use Rattle.code_of.specs.Coded.{Coded, with_abc}
+use Rattle.code_of.specs.Coded.{Coded}
 use Rattle.code_of.specs.Expressions.{made_in, count, exps_code}
 use Rattle.code_of.specs.Parts.{name_target, targets_code, name_store, stores_code}
-use Rattle.exp_laws.proofs.Registers.{Rel, After, HeldBelow, Ascends}
+use Rattle.exp_laws.proofs.Registers.{Rel, HeldBelow, Ascends}
 use Rattle.exp_laws.proofs.Talking.{Setting, Agree, go_left, go_right, of_tree, of_code}
 use Rattle.exp_laws.proofs.Placing.{HasAt, has_front, has_back, here_abc}
 use Rattle.exp_laws.proofs.Placed.{ArePlaced}

@@ -11,7 +11,6 @@ use Rattle.tree_activation.specs.Activation.{step}
 use Rattle.code_core.specs.declared.opcode.Opcode.TheVariants.{Close}
 use Rattle.code_core.specs.declared.instruction.Instruction.{Instruction}
 use Rattle.code_core.specs.Instruction.{abc, opcode_of}
-use Rattle.code_core.specs.Prototype.{Prototype}
 use Rattle.code_core.specs.Check.{at}
 use Rattle.code_core.proofs.FieldLemmas.{opcode_of-abc, a_of-abc}
 use Rattle.lua_meaning.specs.World.{as_known}

@@ -1,5 +1,5 @@
 -- A body that the law covers, so that its premise is no empty one.
-use Rattle.std.proofs.Common.{◌≡◌, ◌<◌, ◌≤◌, ◌^◌, ℕ, List, lit<, lit≤, true, false, [], ◌∷◌, Option, Some, None, refl, arith}
+use Rattle.std.proofs.Common.{ℕ, List, lit<, lit≤, true, [], ◌∷◌, Option, Some, refl}
 use Rattle.std.specs.Prelude.{codes}
 use Rattle.code_core.specs.Opcode.{opcodes, number_of}
 use Rattle.tree_core.specs.Tree.{Body, While, Break}
@@ -20,16 +20,21 @@ source = Some (codes "@s.lua")
 
 it_fits : BodyFits source calls_on
 unfolding opcodes number_of
-it_fits = (record {
-  small = lit< tt;
-  short = lit≤ tt;
-  room = lit≤ tt;
-  placed = (
-    ((((λ e. absurd (cc)), tt), (lit≤ tt, (lit≤ tt, (lit< tt, refl)))),
-    (((lit< tt, (lit< tt, tt)), (lit≤ tt, (((lit< tt, ((λ e. absurd (cc)), tt)), (lit≤ tt, ((refl, tt), tt))), tt))), tt)),
-    (refl, (refl, ((lit< tt, (lit< tt, tt)), (lit≤ tt, lit< tt))))
-  );
-}, (((tt, tt), (((tt, (tt, tt)), ((((tt, (tt, tt)), ((tt, tt), tt))), tt)), tt)), (tt, (tt, tt))))
+it_fits = (
+  record {
+    small = lit< tt;
+    short = lit≤ tt;
+    room = lit≤ tt;
+    placed = (
+      (
+        (((λ e. absurd (cc)), tt), (lit≤ tt, (lit≤ tt, (lit< tt, refl)))),
+        (((lit< tt, (lit< tt, tt)), (lit≤ tt, (((lit< tt, ((λ e. absurd (cc)), tt)), (lit≤ tt, ((refl, tt), tt))), tt))), tt),
+      ),
+      (refl, (refl, ((lit< tt, (lit< tt, tt)), (lit≤ tt, lit< tt)))),
+    );
+  },
+  (((tt, tt), (((tt, (tt, tt)), ((((tt, (tt, tt)), ((tt, tt), tt))), tt)), tt)), (tt, (tt, tt))),
+)
 
 its_code_means_it : Means true (code_of source calls_on) calls_on
 its_code_means_it = means source calls_on it_fits

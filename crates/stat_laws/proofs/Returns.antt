@@ -1,29 +1,27 @@
 -- Leaving a function with values: `return`, and the end of its block.
-use Rattle.std.proofs.Common.{◌≡◌, ℕ, zero, suc, ◌+◌, ◌-◌, ◌<◌, ◌≤◌, ◌^◌, max, Bool, true, false, cond, List, [], ◌∷◌, ◌++◌, length, drop, take, Option, Some, None, refl, sym, ap, ap₂, subst, ◌∙◌, arith, append_assoc, length-append}
-use borrow.Author.Tests.{le-leb, lt-ltb}
-use Rattle.std.specs.Prelude.{nat_lt, eqb, ◌==◌}
+use Rattle.std.proofs.Common.{◌≡◌, ℕ, zero, suc, ◌+◌, ◌-◌, ◌<◌, ◌≤◌, ◌^◌, max, Bool, true, false, cond, List, [], ◌∷◌, ◌++◌, length, drop, Some, None, refl, sym, ap, ap₂, subst, ◌∙◌, arith, append_assoc, length-append}
+use borrow.Author.Tests.{le-leb}
+use Rattle.std.specs.Prelude.{◌==◌}
 use Rattle.int_core.specs.Value.{Value, known, nil, nth, range}
 use Rattle.int_core.specs.Ask.{leaves, returns, Captured, held_below, gone_from, shared_by}
 use Rattle.tree_core.specs.Tree.{Body, Block, Falls, Returns, Stats, EndStats, Exp, Nil, True, False, Int, Str, Vararg, Function, Var, Index, Call, Method, Unary, Binary, And, Or, Paren, Table, Exps, EndExps, MoreExps}
 use Rattle.tree_activation.specs.Work.{complete, collect, evaluate, callee_of, method_of, for_return, finish, leave_scope, run, Work, Pending, Passed, returns_list, Activation, State}
 use Rattle.tree_activation.specs.Work as tree
-use Rattle.tree_activation.specs.Asking.{go}
 use Rattle.tree_activation.specs.Activation.{step}
 use Rattle.tree_activation.specs.Statements.{begins_return}
 use Rattle.code_core.specs.declared.opcode.Opcode.TheVariants.{OpSelf, TailCall, Return}
-use Rattle.code_core.specs.Instruction.{abc, a_of, b_of}
+use Rattle.code_core.specs.Instruction.{abc}
 use Rattle.code_core.specs.Check.{at}
 use Rattle.code_core.specs.declared.proto.Const.{Const}
 use Rattle.machine_core.specs.Moves.{line_of}
 use Rattle.code_core.proofs.FieldLemmas.{opcode_of-abc, a_of-abc, b_of-abc}
-use Rattle.machine_core.specs.World as world
 use Rattle.machine_core.specs.Text as text
 use Rattle.machine_core.specs.Text.{read_registers, list_end, behind}
 use Rattle.machine_core.specs.InstructionRows as rows
 use Rattle.machine_core.specs.InstructionRows.{read_values, counted}
 use Rattle.machine_core.specs.Talk as code
 use Rattle.machine_core.specs.Talk.{talk, talk_step, says_so, before, amid}
-use Rattle.machine_join.proofs.Lists.{append_nil, eq_not, lt_not}
+use Rattle.machine_join.proofs.Lists.{eq_not, lt_not}
 use Rattle.code_of.specs.Coded.{Coded, with_abc}
 use Rattle.code_of.specs.Expressions.{made_by, count, is_last_open, ends_open, list_field, one_less, exp_code, exps_code}
 use Rattle.code_of.specs.Constants.{loads}
@@ -32,19 +30,18 @@ use Rattle.code_of.specs.Jumps.{Reach}
 use Rattle.code_of.specs.Levels.{level_after, levels_after, closing_after, closings_after, made_in_stats}
 use Rattle.code_of.specs.Parts.{values_last, return_code}
 use Rattle.code_of.specs.Sizes.{stats_size, block_size}
-use Rattle.code_of.specs.Statements.{stats_code, block_code}
+use Rattle.code_of.specs.Statements.{stats_code}
 use Rattle.exp_laws.proofs.Registers.{Rel, held_same}
 use Rattle.exp_laws.proofs.Talking.{Setting, Agree, go_left, both_ask, of_tree, of_code}
 use Rattle.exp_laws.proofs.Placing.{HasAt, has_front, has_back}
 use Rattle.exp_laws.proofs.Lists.{Holds, range_held}
 use Rattle.exp_laws.proofs.Calls.{read_values_step}
-use Rattle.exp_laws.proofs.Placed.{room_of, room_of_list, room_of_values, IsPlaced, ArePlaced}
+use Rattle.exp_laws.proofs.Placed.{room_of, room_of_list, IsPlaced, ArePlaced}
 use Rattle.exp_laws.proofs.ListForms.{Listed}
 use Rattle.exp_laws.proofs.Exps.{exps_same}
 use Rattle.exp_laws.proofs.Steps.{row_step, own_step}
 use Rattle.exp_laws.proofs.LastCalls.{call_last_same, method_last_same}
-use Rattle.stat_laws.proofs.Closing.{AllBelow}
-use Rattle.stat_laws.proofs.Standing.{numbers, Standing, GoesOn}
+use Rattle.stat_laws.proofs.Standing.{numbers, GoesOn}
 use Rattle.stat_laws.specs.Scoped.{LastIsPlaced, ReturnIsPlaced}
 use Rattle.stat_laws.proofs.Sizes.{stats_sized}
 use Rattle.stat_laws.proofs.Labels.{closed_after}

@@ -1,5 +1,5 @@
 -- The code of a statement has as many instructions as its size says, wherever it stands and its jumps lead.
-use Rattle.std.proofs.Common.{◌≡◌, ℕ, zero, suc, ◌+◌, Bool, true, false, List, [], ◌∷◌, ◌++◌, length, Option, Some, None, refl, ap, ◌∙◌, arith, length-append}
+use Rattle.std.proofs.Common.{◌≡◌, ℕ, ◌+◌, Bool, true, false, List, [], ◌∷◌, ◌++◌, length, Option, Some, None, refl, ap, ◌∙◌, arith, length-append}
 use Rattle.tree_core.specs.Tree.{Block, Falls, Returns, Stats, EndStats, MoreStats, Stat, Empty, Local, LocalFunction, Assign, CallStat, Do, While, Repeat, If, IfElse, NumFor, NumForStep, GenFor, Label, Goto, Break, Arms, EndArms, MoreArms}
 use Rattle.tree_activation.specs.Activation.{line_of_end}
 use Rattle.code_core.specs.declared.opcode.Opcode.TheVariants.{Close, Test, ForLoop, ForPrep, TForPrep, TForCall, TForLoop}
@@ -125,7 +125,7 @@ module _ (cs : List Const) (back : ℕ) where
         let others = arms_size cs back arms (length otherwise) closing t k in
         let behind = inner + block_size cs back block closing t t (j + made_by e) + past_size (others + length otherwise) in
         let a = arm_sized test (block_code cs back block closing t t (j + made_by e) inner reach) (arms_code cs back arms otherwise closing t k behind line reach) t line _ _
-            (block_sized block closing t t (j + made_by e) inner reach) (arms_sized arms otherwise closing t k behind line reach) in
+        (block_sized block closing t t (j + made_by e) inner reach) (arms_sized arms otherwise closing t k behind line reach) in
         omega (arith, a)
 
     pub stats_sized : (ss : Stats) (falls closing : Bool) (outer t j pc : ℕ) (passed : List Visible) (reach : Reach)

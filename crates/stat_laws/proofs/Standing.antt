@@ -1,29 +1,26 @@
 -- What holds of a tree and its code between two statements, and how a jump leads from one such place to another.
-use Rattle.std.proofs.Common.{◌≡◌, ℕ, zero, suc, ◌+◌, ◌-◌, ◌*◌, ◌<◌, ◌≤◌, ◌^◌, ℤ, pos, negsuc, ◌+ℤ◌, ◌-ℤ◌, Bool, true, false, cond, List, [], ◌∷◌, ◌++◌, length, map, Option, Some, None, refl, sym, ap, ap₂, subst, ◌∙◌, arith, append_assoc}
+use Rattle.std.proofs.Common.{◌≡◌, ℕ, zero, suc, ◌+◌, ◌-◌, ◌<◌, ◌≤◌, pos, negsuc, ◌+ℤ◌, ◌-ℤ◌, Bool, true, false, cond, List, [], ◌∷◌, ◌++◌, length, map, Option, Some, None, refl, sym, ap, ap₂, subst, ◌∙◌, arith, append_assoc}
 use borrow.Author.Tests.{le-leb}
 use Rattle.std.specs.Prelude.{nat_le}
 use Rattle.int_core.specs.Value.{Value, known, nil, bind}
 use Rattle.int_core.specs.Ask.{pays, values_in, Captured, Answer, Next, goes_on, stuck}
-use Rattle.tree_core.specs.Tree.{Body}
 use Rattle.tree_activation.specs.Work.{Control, pay, leave_scope, Work, Pending}
 use Rattle.tree_activation.specs.Work as tree
 use Rattle.tree_activation.specs.Asking.{go, asks_quickly}
 use Rattle.tree_activation.specs.Activation.{step}
 use Rattle.code_core.specs.declared.opcode.Opcode.TheVariants.{Close, Jmp}
-use Rattle.code_core.specs.declared.instruction.Instruction.{Instruction}
-use Rattle.code_core.specs.Instruction.{abc, op_ax}
+use Rattle.code_core.specs.Instruction.{op_ax}
 use Rattle.code_core.specs.Prototype.{Prototype}
 use Rattle.code_core.specs.Check.{at}
 use Rattle.code_core.proofs.FieldLemmas.{opcode_of-ax, ax_of-ax}
 use Rattle.machine_core.specs.Text.{pay as pay', quick, go_by}
 use Rattle.machine_core.specs.InstructionRows.{jumps}
-use Rattle.machine_core.specs.Moves.{place_from}
 use Rattle.machine_core.specs.Talk as code
 use Rattle.machine_core.specs.Talk.{talk, talk_step, says_so, before, amid}
-use Rattle.code_of.specs.Coded.{Coded, with_abc, jump_over, jump_back}
+use Rattle.code_of.specs.Coded.{with_abc, jump_over, jump_back}
 use Rattle.code_of.specs.Jumps.{Landing, jump_code}
-use Rattle.exp_laws.proofs.Registers.{Rel, After, Ascends, told, share_same, after_share}
-use Rattle.exp_laws.proofs.Talking.{Setting, Here, Agree, go_left, go_right, both_ask, of_tree, of_code}
+use Rattle.exp_laws.proofs.Registers.{Rel, Ascends, told, share_same, after_share}
+use Rattle.exp_laws.proofs.Talking.{Setting, Agree, go_left, go_right, both_ask, of_tree, of_code}
 use Rattle.exp_laws.proofs.Placing.{HasAt, here_abc}
 use Rattle.exp_laws.proofs.Going.{next_there}
 use Rattle.exp_laws.proofs.Steps.{row_step}
