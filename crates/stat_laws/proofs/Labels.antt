@@ -24,6 +24,7 @@ use Rattle.exp_laws.proofs.Placing.{HasAt}
 use Rattle.stat_laws.proofs.Closing.{AllBelow}
 use Rattle.stat_laws.specs.Scoped.{Named, legal, names_ahead, names_passed}
 use Rattle.stat_laws.proofs.Standing.{numbers, AllFrom, from_lower, from_more, GoesOn, lands_ahead, lands_back}
+use Rattle.machine_join.proofs.Lists.{append_nil}
 
 -- the numbers of those variables of a declaration that are to be closed
 
@@ -59,7 +60,7 @@ level_rises (Label line name') t = omega arith
 
 pub level_still : (s : Stat) (t : ℕ) (closed : List ℕ) → level_after s t ≤ t → closed_after s t closed ≡ closed
 level_still (Empty line) t closed le = refl
-level_still (Local line [] es) t closed le = Rattle.machine_join.proofs.Lists.append_nil closed
+level_still (Local line [] es) t closed le = append_nil closed
 level_still (Local line (d ∷ names) es) t closed le = absurd (omega arith)
 level_still (LocalFunction line name' body) t closed le = absurd (omega arith)
 level_still (Assign line targets es) t closed le = refl
@@ -382,7 +383,7 @@ module _ (S : Setting) (back : ℕ) where
           on_jump n lo hi t closed front reach named loops whole front_from base_under closed_under outer_low outward ss labels name m line at_pc ps env regs c opened more s fewer low high (omega arith) numbered above size rel
           (entries ++ reach.labels) (names ++ named) (behind name (point ss labels) labels)
           (λ st' has' ok'. back_jump n lo hi t closed front reach named loops whole front_from base_under closed_under outer_low outward ss labels name m line at_pc ps env regs c opened more s fewer low high (omega arith) numbered above size rel
-          labels entries names (subst (λ l. AllPassed n at_pc t l labels entries names) (Rattle.machine_join.proofs.Lists.append_nil closed) (passed_within n n lo at_pc t t closed [] labels entries names (omega arith) low (omega arith) tt passed)) st' has' ok')
+          labels entries names (subst (λ l. AllPassed n at_pc t l labels entries names) (append_nil closed) (passed_within n n lo at_pc t t closed [] labels entries names (omega arith) low (omega arith) tt passed)) st' has' ok')
           ss closing closed' level j pc labels (omega (arith, same)) far still all
           (subst (λ u. step s ≡ lands (ahead name u ss (point ss labels) labels) (behind name (point ss labels) labels) line (goes_to name line (of_tree S ps env c) k) (of_tree S ps env c) k) same st) has ok;
       exits = λ ok m line at_pc ps env regs c opened more s fewer has low high numbered above size rel st.

@@ -4,7 +4,7 @@ use borrow.Author.Tests.{le-leb}
 use Rattle.std.specs.Prelude.{◌==◌}
 use Rattle.int_core.specs.Value.{Value, known, nil, nth, range}
 use Rattle.int_core.specs.Ask.{leaves, returns, Captured, held_below, gone_from, shared_by}
-use Rattle.tree_core.specs.Tree.{Body, Block, Falls, Returns, Stats, EndStats, Exp, Nil, True, False, Int, Str, Vararg, Function, Var, Index, Call, Method, Unary, Binary, And, Or, Paren, Table, Exps, EndExps, MoreExps}
+use Rattle.tree_core.specs.Tree.{Body, Block, Falls, Returns, Stats, EndStats, Exp, Nil, True, False, Int, Str, Vararg, Function, Var, Index, Call, Method, Unary, Binary, And, Or, Paren, Table, Exps, EndExps, MoreExps, MoreStats}
 use Rattle.tree_activation.specs.Work.{complete, collect, evaluate, callee_of, method_of, for_return, finish, leave_scope, run, Work, Pending, Passed, returns_list, Activation, State}
 use Rattle.tree_activation.specs.Work as tree
 use Rattle.tree_activation.specs.Activation.{step}
@@ -68,7 +68,7 @@ no_numbers (p ∷ ps) e = absurd (cc)
 -- where no variable to be closed is in scope at the end of some statements
 pub known_all : (ss : Stats) (t : ℕ) (closing : Bool) (closed : List ℕ) → (closing ≡ false → closed ≡ []) → closings_after ss closing ≡ false → closeds_after ss t closed ≡ []
 known_all EndStats t closing closed h e = h e
-known_all (Rattle.tree_core.specs.Tree.MoreStats s ss) t closing closed h e = known_all ss (level_after s t) (closing_after s closing) (closed_after s t closed) (known_after s t closing closed h) e
+known_all (MoreStats s ss) t closing closed h e = known_all ss (level_after s t) (closing_after s closing) (closed_after s t closed) (known_after s t closing closed h) e
 
 last_some : (cs : List Const) (es : Exps) (t j line back : ℕ) → 1 ≤ length (values_last cs es t j line back)
 last_some cs es t j line back = let sum = length-append (exps_code cs es None t j line) (with_abc Return t (list_field 0 es) back line ∷ []) in omega (arith, sum)

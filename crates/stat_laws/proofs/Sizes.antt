@@ -12,6 +12,7 @@ use Rattle.code_of.specs.Levels.{made_by_stat, made_in_arms, made_in_stats, made
 use Rattle.code_of.specs.Parts.{marks_code, close_code, while_code, repeat_code, past_size, past, arm_code, counting_code, iterating_code, return_code, bounds_code, steps_code}
 use Rattle.code_of.specs.Sizes.{stat_size, arms_size, stats_size, block_size, open_size}
 use Rattle.code_of.specs.Statements.{in_loop, passed_after, labels_ahead, stat_code, arms_code, stats_code, block_code, open_code}
+use Rattle.std.specs.Prelude.{cond, nat_eq}
 
 -- the forms of statements, where their parts have these sizes
 
@@ -63,9 +64,9 @@ leads_sized None pc line = refl
 leads_sized (Some x) pc line = refl
 
 pub close_sized : (before after line other : ℕ) → length (close_code before after line) ≡ length (close_code before after other)
-close_sized before after line other = by (Rattle.std.specs.Prelude.nat_eq before after)
+close_sized before after line other = by (nat_eq before after)
   where
-    by : (b : Bool) → length (Rattle.std.specs.Prelude.cond b [] (with_abc Close before 0 0 line ∷ [])) ≡ length (Rattle.std.specs.Prelude.cond b [] (with_abc Close before 0 0 other ∷ []))
+    by : (b : Bool) → length (cond b [] (with_abc Close before 0 0 line ∷ [])) ≡ length (cond b [] (with_abc Close before 0 0 other ∷ []))
     by true = refl
     by false = refl
 

@@ -1,9 +1,9 @@
 -- What holds of a tree and its code between two statements, and how a jump leads from one such place to another.
 use Rattle.std.proofs.Common.{◌≡◌, ℕ, zero, suc, ◌+◌, ◌-◌, ◌<◌, ◌≤◌, pos, negsuc, ◌+ℤ◌, ◌-ℤ◌, Bool, true, false, cond, List, [], ◌∷◌, ◌++◌, length, map, Option, Some, None, refl, sym, ap, ap₂, subst, ◌∙◌, arith, append_assoc}
-use borrow.Author.Tests.{le-leb}
+use borrow.Author.Tests.{le-leb, leb-true}
 use Rattle.std.specs.Prelude.{nat_le}
 use Rattle.int_core.specs.Value.{Value, known, nil, bind}
-use Rattle.int_core.specs.Ask.{pays, values_in, Captured, Answer, Next, goes_on, stuck}
+use Rattle.int_core.specs.Ask.{pays, values_in, Captured, Answer, Next, goes_on, stuck, brought}
 use Rattle.tree_activation.specs.Work.{Control, pay, leave_scope, Work, Pending}
 use Rattle.tree_activation.specs.Work as tree
 use Rattle.tree_activation.specs.Asking.{go, asks_quickly}
@@ -26,6 +26,7 @@ use Rattle.exp_laws.proofs.Going.{next_there}
 use Rattle.exp_laws.proofs.Steps.{row_step}
 use Rattle.exp_laws.proofs.Tests.{jump_step}
 use Rattle.stat_laws.proofs.Closing.{Grown, as_before, one_more, grown_then, AllBelow, close_goes}
+use Rattle.machine_join.proofs.Lists.{append_nil}
 
 -- a law at a number of asks that may rest on the law at fewer
 pub strong : (P : ℕ → Type 0) → ((n : ℕ) → ((m : ℕ) → m < n → P m) → P n) → (n : ℕ) → P n
@@ -65,7 +66,7 @@ rest_of [] = []
 rest_of (x ∷ xs) = xs
 
 grown_all : (level : ℕ) (base ps : List Pending) → AllFrom level (numbers ps) → Grown level base (base ++ ps)
-grown_all level base [] h = subst (Grown level base) (sym (Rattle.machine_join.proofs.Lists.append_nil base)) as_before
+grown_all level base [] h = subst (Grown level base) (sym (append_nil base)) as_before
 grown_all level base (p ∷ ps) h =
     subst (Grown level base) (append_assoc base (p ∷ []) ps)
     (grown_then level level base (base ++ p ∷ []) ((base ++ p ∷ []) ++ ps) (omega arith) (one_more base as_before p h.0) (grown_all level (base ++ p ∷ []) ps h.1))
@@ -154,8 +155,8 @@ module _ (S : Setting) where
     back_goes n s goes env regs c opened k st rel after =
         both_ask S n s _ pays pays line _ _ _ _ _ st (back_step regs c opened) tt refl has.1.0 (share_same S.code.own.stack ps env c regs rel)
         (λ x fits. let af = after_share S.code.own.stack ps env regs x.shared c 0 rel in
-        go_right S n _ _ (before (of_code S ps target (Rattle.int_core.specs.Ask.brought c.held x.shared regs) opened) (told c)) (landed ([] ++ values_in x.reply) (Rattle.int_core.specs.Ask.brought c.held x.shared regs) (told c) opened)
-        (after (Rattle.int_core.specs.Ask.brought c.held x.shared env) (Rattle.int_core.specs.Ask.brought c.held x.shared regs) (told c) af.size af.rel))
+        go_right S n _ _ (before (of_code S ps target (brought c.held x.shared regs) opened) (told c)) (landed ([] ++ values_in x.reply) (brought c.held x.shared regs) (told c) opened)
+        (after (brought c.held x.shared env) (brought c.held x.shared regs) (told c) af.size af.rel))
 
   -- where a jump of two instructions leads
 
@@ -167,7 +168,7 @@ module _ (S : Setting) where
     where
       by : (b : Bool) → nat_le (pc + 2) x.place ≡ b → nat_le (pc + 2) x.place ≡ false
       by false e = e
-      by true e = let h = borrow.Author.Tests.leb-true (pc + 2) x.place e in absurd (omega (arith, h, le))
+      by true e = let h = leb-true (pc + 2) x.place e in absurd (omega (arith, h, le))
 
   module _ (n : ℕ) (x : Landing) (closed : List ℕ) (pc line : ℕ) (ps : List Pending) (env regs : List Value) (c : Captured) (opened : ℕ) (s : tree.State) (k : List Work)
       (has : HasAt S pc (jump_code x pc line)) (end : pc + 2 < length S.code.own.code) (inside : x.place < length S.code.own.code) (more : List ℕ) (numbered : numbers ps ≡ closed ++ more) (from : AllFrom x.level more) (under : AllBelow closed x.level)
