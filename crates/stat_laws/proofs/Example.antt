@@ -1,5 +1,5 @@
 -- Bodies that the law covers, so that its premise is no empty one.
-use Rattle.std.proofs.Common.{ℕ, List, lit<, lit≤, true, [], ◌∷◌, Option, Some, refl}
+use Rattle.std.proofs.Common.{ℕ, List, lit<, lit≤, true, [], ◌∷◌, Option, Some, refl, inl, arith}
 use Rattle.std.specs.Prelude.{codes}
 use Rattle.code_core.specs.Opcode.{opcodes, number_of}
 use Rattle.tree_core.specs.declared.name.Place.TheVariants.{Local as LocalPlace}
@@ -63,7 +63,7 @@ this_fits = (record {
   placed = (
     ((((λ e. absurd (cc)), tt), (lit≤ tt, (lit≤ tt, (lit< tt, refl)))),
     (tt,
-    (((lit< tt, tt), (((lit< tt, (lit< tt, tt)), tt), (lit≤ tt, (lit≤ tt, lit< tt)))),
+    ((inl (lit< tt, tt), (((lit< tt, (lit< tt, tt)), tt), (lit≤ tt, (lit≤ tt, lit< tt)))),
     ((lit< tt, (lit≤ tt, ((refl, tt), tt))),
     ((record { prototype = code_of source gives_x; there = refl; near = lit< tt; upvalues = refl; alike = λ n lt. absurd (omega arith) }, (((λ e. lit< tt), tt), lit< tt)),
     tt))))),
