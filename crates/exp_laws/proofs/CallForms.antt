@@ -22,7 +22,7 @@ use Rattle.code_of.specs.Coded.{with_abc}
 use Rattle.exp_laws.proofs.Registers.{Rel, After, after_none, after_then, lower, after_above, after_put}
 use Rattle.exp_laws.proofs.Talking.{Setting, Agree, go_left, go_right, of_tree, of_code}
 use Rattle.exp_laws.proofs.Placing.{HasAt, here_abc}
-use Rattle.exp_laws.proofs.Lists.{write_all_more, write_all_below, write_all_holds, write_range_holds, drops_none}
+use Rattle.exp_laws.proofs.Lists.{write_all_wide, write_all_more, write_all_below, write_all_holds, write_range_holds, drops_none}
 use Rattle.exp_laws.proofs.Leaving.{length_blanked, blanked_keeps}
 use Rattle.exp_laws.proofs.Asking.{asks_alike}
 use Rattle.exp_laws.proofs.Placed.{room_of_values}
@@ -44,9 +44,9 @@ filled_more zero t ws regs = write_all_more t ws regs
 filled_more (suc count) t ws regs = write_all_more t (range 0 count ws) regs
 
 module _ (S : Setting) (pending : List Pending) where
-  are_filled : (field pc t opened : ℕ) (ws regs : List Value) → (field ≡ 0 → mark S.code pc ≡ open_from t) → Filled S field pc t ws (filled field t ws regs) (left_open field ws opened)
-  are_filled zero pc t opened ws regs marked = (marked refl, (refl, write_all_holds t ws regs))
-  are_filled (suc count) pc t opened ws regs marked = write_range_holds t count ws regs
+  are_filled : (field pc t opened : ℕ) (ws regs : List Value) → (field ≡ 0 → mark S.code pc ≡ open_from t) → t ≤ length regs → Filled S field pc t ws (filled field t ws regs) (left_open field ws opened)
+  are_filled zero pc t opened ws regs marked low = (marked refl, (refl, (write_all_wide t ws regs low, write_all_holds t ws regs)))
+  are_filled (suc count) pc t opened ws regs marked low = write_range_holds t count ws regs
 
   -- values go to registers from t on
   values_goes : (field n line t pc opened : ℕ) (s : tree.State) (q : code.State) (ws env regs env1 regs1 : List Value) (c1 : Captured) (k : List Work)
@@ -62,7 +62,7 @@ module _ (S : Setting) (pending : List Pending) where
       (goes ws env1 (filled field t ws regs1) c1 (left_open field ws opened)
       (after_then S.code.own.stack pending env regs env1 regs1 env1 (filled field t ws regs1) c1 c1 t t (omega arith) af
       (after_above S.code.own.stack pending env1 regs1 (filled field t ws regs1) c1 t (omega (arith, le, af.size)) af.rel (λ r lt. filled_below field t ws regs1 r lt) (omega (arith, more, af.rel.room))))
-      (are_filled field (pc + 1) t opened ws regs1 marked)))
+      (are_filled field (pc + 1) t opened ws regs1 marked (omega (arith, room, af.rel.room)))))
 
   -- `...`
   pub varargs_goes : (field n line t pc opened : ℕ) (s : tree.State) (env regs : List Value) (c : Captured) (k : List Work) → step s ≡ goes_on (tree.at (give S.varargs) (of_tree S pending env c) k)

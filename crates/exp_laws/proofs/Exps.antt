@@ -71,7 +71,7 @@ room_some cs (Paren line e) = room_some cs e
 room_some cs (Table line fs) = omega arith
 
 -- each value of a list that is not open has its register
-room_count : (cs : List Const) (above : ℕ) (es : Exps) → ends_open es ≡ false → above + count es ≤ max above (room_of_list cs above es None)
+pub room_count : (cs : List Const) (above : ℕ) (es : Exps) → ends_open es ≡ false → above + count es ≤ max above (room_of_list cs above es None)
 room_count cs above EndExps e = omega arith
 room_count cs above (MoreExps d EndExps) e =
     let some = room_some cs d in
@@ -221,7 +221,10 @@ module _ (S : Setting) (pending : List Pending) where
         omega (arith, wide),
         (
           ap (λ m. elim m as (λ _. Option ℕ) [ fixed ↦ None | open_from r ↦ Some (r + opened) ]) filled.0 ∙ ap Some end,
-          subst (λ m. Holds base m (have ++ vs) regs1) (sym wide) (held_both base above (length vs) have vs regs1 size (λ i lt. af.keeps (base + i) (omega (arith, le)) (omega (arith, lt)) ∙ held i lt) filled.1.1),
+          (
+            (let top = filled.1.1.0 in omega (arith, wide, top)),
+            subst (λ m. Holds base m (have ++ vs) regs1) (sym wide) (held_both base above (length vs) have vs regs1 size (λ i lt. af.keeps (base + i) (omega (arith, le)) (omega (arith, lt)) ∙ held i lt) filled.1.1.1),
+          ),
         ),
       )
   all_more purpose (Some m) base above n pc opened have vs env regs env1 regs1 c1 k size held le af filled goes =
@@ -289,7 +292,7 @@ module _ (S : Setting) (pending : List Pending) where
       small_field false is = let e = is_field false is in let w = width is in omega (arith, e, w, S.small)
 
       first_held : (b : Bool) → Listed S pending None b (more + 1 + count es) pc t (f ∷ args) regs opened → nth regs t ≡ f
-      first_held true l = held_first t (length args) (f ∷ args) regs l.1.1
+      first_held true l = held_first t (length args) (f ∷ args) regs l.1.1.1
       first_held false l = held_first t (length args) (f ∷ args) regs l.1
 
   called : (es : Exps) (more field : ℕ) (args : List Value) (n line t pc opened : ℕ) (env regs : List Value) (c : Captured) (k : List Work) → HasAt S pc (with_abc CallCode t (list_field more es) field line ∷ []) → pc + 1 < length S.code.own.code

@@ -33,7 +33,7 @@ Given false vs = vs ≡ first vs ∷ []
 module _ (S : Setting) where
   -- what a call or `...` with this field C leaves in front of a place: all its values as an open list from register t on, or so many of them
   abbrev pub Filled : (field pc t : ℕ) → (vs regs : List Value) → (opened : ℕ) → Type 0
-  Filled zero pc t vs regs opened = (mark S.code pc ≡ open_from t) × ((opened ≡ length vs) × Holds t (length vs) vs regs)
+  Filled zero pc t vs regs opened = (mark S.code pc ≡ open_from t) × ((opened ≡ length vs) × ((t + length vs ≤ length regs) × Holds t (length vs) vs regs))
   Filled (suc count) pc t vs regs opened = Holds t count vs regs
 
   pub next_there : (pc : ℕ) → pc < length S.code.own.code → (w : Instruction) × (at S.code pc ≡ Some w)

@@ -23,16 +23,16 @@ use Rattle.exp_laws.proofs.Talking.{Setting, Here, Agree, go_left, both_ask, of_
 
 -- cells cut loose
 
-none_below : (held : List (ℕ × ℕ)) → held_below 0 held ≡ []
+pub none_below : (held : List (ℕ × ℕ)) → held_below 0 held ≡ []
 none_below [] = refl
 none_below (h ∷ held) = ap (λ b. cond b (h ∷ held_below 0 held) (held_below 0 held)) (lt_not h.0 0 (λ l. omega arith)) ∙ none_below held
 
-gone_all : (held : List (ℕ × ℕ)) (xs : List Value) → gone_from 0 held xs ≡ shared_by held xs
+pub gone_all : (held : List (ℕ × ℕ)) (xs : List Value) → gone_from 0 held xs ≡ shared_by held xs
 gone_all [] xs = refl
 gone_all (h ∷ held) xs =
     ap (λ b. cond b (gone_from 0 held xs) ((h.1, nth xs h.0) ∷ gone_from 0 held xs)) (lt_not h.0 0 (λ l. omega arith)) ∙ ap (λ l. (h.1, nth xs h.0) ∷ l) (gone_all held xs)
 
-brought_none : (held : List (ℕ × ℕ)) (vs xs : List Value) → brought (held_below 0 held) vs xs ≡ xs
+pub brought_none : (held : List (ℕ × ℕ)) (vs xs : List Value) → brought (held_below 0 held) vs xs ≡ xs
 brought_none held vs xs = ap (λ h. brought h vs xs) (none_below held)
 
 -- registers that are kept
@@ -95,11 +95,11 @@ or_more : (b c d : Bool) → (c ≡ true → d ≡ true) → (b || c) ≡ true �
 or_more true c d f e = refl
 or_more false c d f e = f e
 
-is_pending_last : (ms : List ℕ) (q : ℕ) → is_pending (ms ++ q ∷ []) q ≡ true
+pub is_pending_last : (ms : List ℕ) (q : ℕ) → is_pending (ms ++ q ∷ []) q ≡ true
 is_pending_last [] q = ap (λ b. b || false) (eq_refl q)
 is_pending_last (m ∷ ms) q = or_true (nat_eq q m) (is_pending (ms ++ q ∷ []) q) (is_pending_last ms q)
 
-is_pending_more : (ms : List ℕ) (q r : ℕ) → is_pending ms r ≡ true → is_pending (ms ++ q ∷ []) r ≡ true
+pub is_pending_more : (ms : List ℕ) (q r : ℕ) → is_pending ms r ≡ true → is_pending (ms ++ q ∷ []) r ≡ true
 is_pending_more [] q r e = absurd (cc)
 is_pending_more (m ∷ ms) q r e = or_more (nat_eq r m) (is_pending ms r) (is_pending (ms ++ q ∷ []) r) (is_pending_more ms q r) e
 
@@ -121,16 +121,16 @@ module _ (S : Setting) where
     pub shared : shared_by c.held env ≡ shared_by c.held regs
     pub values : (r : ℕ) → is_pending (marked_in pending) r ≡ true → (nth env r ≡ nth regs r) × (r < S.code.own.stack)
 
-  left_from : (pending : List Pending) (env : List Value) (c : Captured) (regs : List Value) → Rel S.code.own.stack pending env c regs → Left pending env c regs
+  pub left_from : (pending : List Pending) (env : List Value) (c : Captured) (regs : List Value) → Rel S.code.own.stack pending env c regs → Left pending env c regs
   left_from pending env c regs rel = record {
     shared = held_same S.code.own.stack pending env c regs rel;
     values = λ r e. let below = pending_below 0 pending (length env) rel.ascends r e in (rel.agree r below, omega (arith, below, rel.fits));
   }
 
-  abbrev cut : List Value → Captured → Captured
+  abbrev pub cut : List Value → Captured → Captured
   cut xs c = record { held = held_below 0 c.held; gone = gone_from 0 c.held xs ++ c.gone }
 
-  cut_same : (pending : List Pending) (env : List Value) (c : Captured) (regs : List Value) → Left pending env c regs → gone_from 0 c.held env ++ c.gone ≡ gone_from 0 c.held regs ++ c.gone
+  pub cut_same : (pending : List Pending) (env : List Value) (c : Captured) (regs : List Value) → Left pending env c regs → gone_from 0 c.held env ++ c.gone ≡ gone_from 0 c.held regs ++ c.gone
   cut_same pending env c regs l = ap (λ g. g ++ c.gone) (gone_all c.held env ∙ l.shared ∙ sym (gone_all c.held regs))
 
   abbrev kept : List ℕ → List Value → List Value
@@ -176,19 +176,19 @@ module _ (S : Setting) where
 
   -- the tree's side
 
-  leave_one : (ys : List Pending) (y : Pending) (line : ℕ) (e : Value) (next : Control) (env : List Value) (c : Captured) (k : List Work)
+  pub leave_one : (ys : List Pending) (y : Pending) (line : ℕ) (e : Value) (next : Control) (env : List Value) (c : Captured) (k : List Work)
       → step (tree.at (leave_scope 0 line e next) (of_tree S (ys ++ y ∷ []) env c) k)
       ≡ cond y.needed (asks (closes (nth env y.number) e) line (of_tree S ys env (cut env c)) k (λ _. leave_scope 0 line e next)) (go (leave_scope 0 line e next) (of_tree S ys env c) k)
   leave_one ys y line e next env c k =
       ap (λ o. leave_by o 0 line e next (of_tree S (ys ++ y ∷ []) env c) k) (ap (λ o. bind o (λ p. cond (nat_le 0 p.number) (Some p) None)) (last_is ys y) ∙ ap (λ b. cond b (Some y) None) (le-leb 0 y.number (omega arith)))
       ∙ ap (λ l. cond y.needed (asks (closes (nth env y.number) e) line (of_tree S l env (cut env c)) k (λ _. leave_scope 0 line e next)) (go (leave_scope 0 line e next) (of_tree S l env c) k)) (without_last_is ys y)
 
-  abbrev Leaves : ℕ → Type 0
+  abbrev pub Leaves : ℕ → Type 0
   Leaves n =
       (pending : List Pending) (line pc opened : ℕ) (env regs : List Value) (c : Captured) (e : Value) → Left pending env c regs → Here S pc line
       → Agree S n (tree.at (leave_scope 0 line e (finish line (throws e))) (of_tree S pending env c) []) (amid fails (e ∷ []) (of_code S pending pc regs opened) c)
 
-  abbrev Faults : ℕ → Type 0
+  abbrev pub Faults : ℕ → Type 0
   Faults n =
       (pending : List Pending) (line pc opened : ℕ) (env regs : List Value) (c : Captured) (words : List ℕ) (s : tree.State) (t : code.State) → Left pending env c regs → Here S pc line
       → step s ≡ raises_fault line words (of_tree S pending env c) → talk_step S.code t ≡ talk S.code (text.raise words) [] (of_code S pending pc regs opened) c → Agree S n s t
@@ -255,11 +255,11 @@ module _ (S : Setting) where
       by x (faulted text) fits = absurd fits
 
   mutual
-    leaves_so : (n : ℕ) → Leaves n
+    pub leaves_so : (n : ℕ) → Leaves n
     leaves_so zero pending line pc opened env regs c e l here = tt
     leaves_so (suc n) pending line pc opened env regs c e l here = leaves_step n (leaves_so n) (faults_so n) (length pending) pending (omega arith) line pc opened env regs c e l here
 
-    faults_so : (n : ℕ) → Faults n
+    pub faults_so : (n : ℕ) → Faults n
     faults_so zero pending line pc opened env regs c words s t l here e d = tt
     faults_so (suc n) pending line pc opened env regs c words s t l here e d = faults_step n (leaves_so n) pending line pc opened env regs c words s t l here e d
 

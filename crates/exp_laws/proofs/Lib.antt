@@ -14,6 +14,8 @@ pub mod FunctionForms
 pub mod TableForms
 pub mod Exps
 pub mod LastCalls
+pub mod Returning
+pub mod Returns
 pub mod Steps
 pub mod Calls
 pub mod Tables

@@ -59,7 +59,7 @@ module _ (S : Setting) (pending : List Pending) where
   abbrev pub Listed : Wanted → (many : Bool) → (size pc base : ℕ) → (vs regs : List Value) → (opened : ℕ) → Type 0
   Listed (Some n) many size pc base vs regs opened = Holds base n vs regs
   Listed None false size pc base vs regs opened = (length vs ≡ size) × Holds base (length vs) vs regs
-  Listed None true size pc base vs regs opened = (size ≤ suc (length vs)) × ((list_end S.code (of_code S pending pc regs opened) ≡ Some (base + length vs)) × Holds base (length vs) vs regs)
+  Listed None true size pc base vs regs opened = (size ≤ suc (length vs)) × ((list_end S.code (of_code S pending pc regs opened) ≡ Some (base + length vs)) × ((base + length vs ≤ length regs) × Holds base (length vs) vs regs))
 
   -- the code at pc goes on as the work k does once a list is complete
   abbrev pub GoesListed : (n : ℕ) → Wanted → (many : Bool) → (size : ℕ) → Purpose → (base : ℕ) → (env regs : List Value) → (pc : ℕ) → (k : List Work) → Type 0
@@ -122,8 +122,19 @@ module _ (S : Setting) (pending : List Pending) where
       → Passed S.code field (base + 1) args (of_code S pending pc regs opened)
   passed true size field pc base opened f args regs is fits listed =
       let end : base + length (f ∷ args) ≡ base + 1 + length args = omega arith in
-      subst (λ z. Passed S.code z (base + 1) args (of_code S pending pc regs opened)) (sym is) (listed.1.0 ∙ ap Some end, held_rest base (length args) f args regs listed.1.1)
+      subst (λ z. Passed S.code z (base + 1) args (of_code S pending pc regs opened)) (sym is) (listed.1.0 ∙ ap Some end, held_rest base (length args) f args regs listed.1.1.1)
   passed false size field pc base opened f args regs is fits listed =
       let wide = listed.0 in
       let enough = fits refl in
       subst (λ z. Passed S.code z (base + 1) args (of_code S pending pc regs opened)) (listed.0 ∙ sym is) (refl, (omega (arith, wide, enough), held_rest base (length args) f args regs listed.1))
+
+  -- a whole list stands in registers, as an instruction takes it
+  pub passed_all : (many : Bool) (size field pc base opened : ℕ) (vs regs : List Value) → field ≡ cond many 0 (size + 1) → (many ≡ false → base + size ≤ length regs) → Listed None many size pc base vs regs opened
+      → Passed S.code field base vs (of_code S pending pc regs opened) × ((base + length vs ≤ length regs) × Holds base (length vs) vs regs)
+  passed_all true size field pc base opened vs regs is fits listed =
+      (subst (λ z. Passed S.code z base vs (of_code S pending pc regs opened)) (sym is) (listed.1.0, listed.1.1.1), listed.1.1)
+  passed_all false size field pc base opened vs regs is fits listed =
+      let one : size + 1 ≡ suc size = omega arith in
+      let wide = listed.0 in
+      let enough = fits refl in
+      (subst (λ z. Passed S.code z base vs (of_code S pending pc regs opened)) (sym (is ∙ one)) (wide, (enough, listed.1)), (omega (arith, wide, enough), listed.1))

@@ -10,9 +10,22 @@ use Rattle.exp_laws.proofs.Registers.{marked_in, Ascends}
 abbrev pub Holds : (t count : ℕ) → (vs regs : List Value) → Type 0
 Holds t count vs regs = (i : ℕ) → i < count → nth regs (t + i) ≡ nth vs i
 
+write_reaches : (t : ℕ) (w : Value) (regs : List Value) → t < length (write t w regs)
+write_reaches zero w [] = omega arith
+write_reaches zero w (x ∷ regs) = omega arith
+write_reaches (suc t) w [] = let h = write_reaches t w [] in omega (arith, h)
+write_reaches (suc t) w (x ∷ regs) = let h = write_reaches t w regs in omega (arith, h)
+
 pub write_all_more : (t : ℕ) (ws regs : List Value) → length regs ≤ length (write_all t ws regs)
 write_all_more t [] regs = omega arith
 write_all_more t (w ∷ ws) regs = let a = write_more t w regs in let b = write_all_more (suc t) ws (write t w regs) in omega (arith, a, b)
+
+pub write_all_wide : (t : ℕ) (ws regs : List Value) → t ≤ length regs → t + length ws ≤ length (write_all t ws regs)
+write_all_wide t [] regs h = omega arith
+write_all_wide t (w ∷ ws) regs h =
+    let here = write_reaches t w regs in
+    let rest = write_all_wide (suc t) ws (write t w regs) (omega (arith, here)) in
+    omega (arith, rest)
 
 pub write_all_below : (t : ℕ) (ws regs : List Value) (r : ℕ) → r < t → nth (write_all t ws regs) r ≡ nth regs r
 write_all_below t [] regs r lt = refl

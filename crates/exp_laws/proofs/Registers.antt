@@ -81,7 +81,7 @@ module _ (stack : ℕ) (pending : List Pending) where
       let more = write_more t v regs in
       after_above env regs (write t v regs) c t le h (λ r lr. nth_write_other t v regs r (λ e. absurd (omega arith))) (omega (arith, more, h.room))
 
-last_nth : (xs : List Value) (v : Value) → nth (xs ++ v ∷ []) (length xs) ≡ v
+pub last_nth : (xs : List Value) (v : Value) → nth (xs ++ v ∷ []) (length xs) ≡ v
 last_nth [] v = refl
 last_nth (x ∷ xs) v = last_nth xs v
 

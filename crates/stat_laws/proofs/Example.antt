@@ -31,7 +31,7 @@ it_fits = (
         (((λ e. absurd (cc)), tt), (lit≤ tt, (lit≤ tt, (lit< tt, refl)))),
         (((lit< tt, (lit< tt, tt)), (lit≤ tt, (((lit< tt, ((λ e. absurd (cc)), tt)), (lit≤ tt, ((refl, tt), tt))), tt))), tt),
       ),
-      (refl, (refl, ((lit< tt, (lit< tt, tt)), (lit≤ tt, lit< tt)))),
+      (refl, ((lit< tt, (lit< tt, tt)), (lit≤ tt, lit< tt))),
     );
   },
   (((tt, tt), (((tt, (tt, tt)), ((((tt, (tt, tt)), ((tt, tt), tt))), tt)), tt)), (tt, (tt, tt))),
@@ -52,7 +52,7 @@ goes_back = fun ("f" ∷ []) [] (returning (
 
 inner_fits : BodyFits source gives_x
 unfolding opcodes number_of
-inner_fits = (record { small = lit< tt; short = lit≤ tt; room = lit≤ tt; placed = (tt, (refl, (refl, ((lit< tt, tt), (lit≤ tt, lit< tt))))) }, (tt, (tt, tt)))
+inner_fits = (record { small = lit< tt; short = lit≤ tt; room = lit≤ tt; placed = (tt, (refl, ((lit< tt, tt), (lit≤ tt, lit< tt)))) }, (tt, (tt, tt)))
 
 this_fits : BodyFits source goes_back
 unfolding opcodes number_of

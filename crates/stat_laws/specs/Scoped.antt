@@ -8,7 +8,7 @@ use Rattle.tree_core.specs.Tree.{Block, Falls, Returns, Stats, EndStats, MoreSta
 use Rattle.tree_activation.specs.Asking.{upvalues_of}
 use Rattle.tree_activation.specs.Jumps.{are_void}
 use Rattle.code_core.specs.declared.proto.Const.TheVariants.{Str as StrConst}
-use Rattle.code_of.specs.Expressions.{made_by, made_in, count, is_open, ends_open}
+use Rattle.code_of.specs.Expressions.{made_by, made_in, count, is_open}
 use Rattle.code_of.specs.Levels.{made_by_stat, made_in_arms, made_in_stats, made_in_block, level_after, levels_after, levels_in, has_closed, closing_after, closings_after}
 use Rattle.exp_laws.proofs.Talking.{Setting}
 use Rattle.exp_laws.proofs.Placed.{Found, Inner, Captures, IsPlaced, ArePlaced, room_of, room_of_list}
@@ -53,14 +53,14 @@ module _ (S : Setting) where
   GlobalIsPlaced (MoreExps (Var line name) EndExps) = GlobalIsStored name.place name.text
   GlobalIsPlaced _ = ⊥
 
-  -- what `return` gives: a call in the function's place, or a list of known length
+  -- what `return` gives: a call in the function's place, or a list
   abbrev pub LastIsPlaced : Exps → (t j : ℕ) → Type 0
   LastIsPlaced (MoreExps (Call line f es) EndExps) t j =
       IsPlaced S f t j × (ArePlaced S es t (j + made_by f) × ((t + room_of S.code.own.constants f 2 ≤ S.code.own.stack) × (t + room_of_list S.code.own.constants 1 es None ≤ S.code.own.stack)))
   LastIsPlaced (MoreExps (Method line object name es) EndExps) t j =
       IsPlaced S object t j × (Found S.code.own.constants (StrConst name.text) × (ArePlaced S es t (j + made_by object)
       × ((t + room_of S.code.own.constants object 2 ≤ S.code.own.stack) × ((t + 1 < S.code.own.stack) × (t + room_of_list S.code.own.constants 2 es None ≤ S.code.own.stack)))))
-  LastIsPlaced es t j = (ends_open es ≡ false) × (ArePlaced S es t j × ((t + room_of_list S.code.own.constants 0 es None ≤ S.code.own.stack) × (count es + 1 < 2 ^ 8)))
+  LastIsPlaced es t j = ArePlaced S es t j × ((t + room_of_list S.code.own.constants 0 es None ≤ S.code.own.stack) × (count es + 1 < 2 ^ 8))
 
   -- no variable to be closed is in scope there
   abbrev pub ReturnIsPlaced : Exps → (closing : Bool) → (t j : ℕ) → Type 0
