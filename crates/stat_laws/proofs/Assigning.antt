@@ -1,5 +1,5 @@
 -- Assignments to locals and upvalues.
-use Rattle.std.proofs.Common.{◌≡◌, ◌≢◌, ℕ, zero, suc, ◌+◌, ◌*◌, ◌<◌, ◌≤◌, ◌^◌, lit<, Bool, true, false, List, [], ◌∷◌, ◌++◌, length, reverse, Some, None, refl, sym, ap, ap₂, subst, ◌∙◌, ◌⊎◌, inl, inr, ⊎_elim, arith, append_assoc, length-append}
+use Rattle.std.proofs.Common.{◌≡◌, ◌≢◌, ℕ, zero, suc, ◌+◌, ◌*◌, ◌<◌, ◌≤◌, ◌^◌, false, List, [], ◌∷◌, ◌++◌, length, reverse, Some, refl, sym, ap, ap₂, subst, ◌∙◌, ◌⊎◌, inl, inr, ⊎_elim, arith, append_assoc, length-append}
 use Rattle.std.proofs.lemmas.List.{reverse-append}
 use borrow.Author.Tests.{lt-ltb}
 use Rattle.int_core.specs.Value.{Value, nth, write}
@@ -7,13 +7,12 @@ use Rattle.int_core.specs.Ask.{writes_upvalue, Captured, values_in, goes_on}
 use Rattle.tree_core.specs.declared.name.Place.{Place}
 use Rattle.tree_core.specs.declared.name.Place.TheVariants.{Unset, Upvalue, GlobalIn, GlobalOf}
 use Rattle.tree_core.specs.declared.name.Place.TheVariants.{Local as LocalPlace}
-use Rattle.tree_core.specs.Tree.{Assign, Exp, Nil, True, False, Int, Str, Vararg, Function, Var, Index, Call, Method, Unary, Binary, And, Or, Paren, Table, Exps, EndExps, MoreExps}
+use Rattle.tree_core.specs.Tree.{Assign, Nil, True, False, Int, Str, Vararg, Function, Var, Index, Call, Method, Unary, Binary, And, Or, Paren, Table, Exps, EndExps, MoreExps}
 use Rattle.tree_activation.specs.Work.{complete, collect, aim, store, Target, to_local, to_upvalue, for_assignment, Work, Pending, State}
 use Rattle.tree_activation.specs.Work as tree
 use Rattle.tree_activation.specs.Asking.{first}
-use Rattle.tree_activation.specs.Activation.{step}
-use Rattle.tree_activation.specs.Statements.{paired, aims_at_name}
-use Rattle.code_core.specs.declared.opcode.Opcode.TheVariants.{Move, SetUpval}
+use Rattle.tree_activation.specs.Statements.{paired, aims_at_name, executes}
+use Rattle.code_core.specs.declared.opcode.Opcode.TheVariants.{SetUpval}
 use Rattle.code_core.specs.declared.proto.Const.{Const}
 use Rattle.code_core.specs.Instruction.{abc}
 use Rattle.code_core.specs.Check.{at}
@@ -24,21 +23,22 @@ use Rattle.machine_core.specs.InstructionRows.{next}
 use Rattle.machine_core.specs.Talk as code
 use Rattle.machine_core.specs.Talk.{talk, talk_step, says_so, before, amid}
 use Rattle.machine_join.proofs.Lists.{append_nil, nth_write_same, nth_write_other, length_write, write_more}
-use Rattle.code_of.specs.Coded.{Coded, with_abc}
+use Rattle.code_of.specs.Coded.{Coded}
 use Rattle.code_of.specs.Expressions.{made_in, count, exps_code}
-use Rattle.code_of.specs.Parts.{name_target, targets_code, name_store, stores_code}
-use Rattle.exp_laws.proofs.Registers.{Rel, After, HeldBelow, Ascends}
+use Rattle.code_of.specs.Parts.{assign_code, name_target, targets_code, name_store, stores_code}
+use Rattle.exp_laws.proofs.Registers.{Rel, HeldBelow, Ascends}
 use Rattle.exp_laws.proofs.Talking.{Setting, Agree, go_left, go_right, of_tree, of_code}
 use Rattle.exp_laws.proofs.Placing.{HasAt, has_front, has_back, here_abc}
-use Rattle.exp_laws.proofs.Placed.{ArePlaced}
+use Rattle.exp_laws.proofs.Placed.{ArePlaced, room_of_list}
 use Rattle.exp_laws.proofs.Lists.{Holds}
 use Rattle.exp_laws.proofs.Going.{next_there}
 use Rattle.exp_laws.proofs.Asking.{quick_alike}
 use Rattle.exp_laws.proofs.Exps.{exps_same}
 use Rattle.exp_laws.proofs.Steps.{row_step, own_step, go_step, move_step}
-use Rattle.stat_laws.proofs.Standing.{Standing}
+use Rattle.stat_laws.proofs.Standing.{Standing, GoesOn}
 use Rattle.stat_laws.specs.Scoped.{NameIsStored, TargetsArePlaced}
 use Rattle.stat_laws.proofs.Blocks.{StatLaw}
+use Rattle.tree_activation.specs.Activation.{step}
 
 -- where the values of a list of targets go
 
@@ -229,8 +229,21 @@ module _ (S : Setting) (back : ℕ) where
   aim_goes (MoreExps (Paren l x) ts) t n aimed es ps env c k s ok h = absurd ok
   aim_goes (MoreExps (Table l fs) ts) t n aimed es ps env c k s ok h = absurd ok
 
-  pub assign_goes : (line : ℕ) (targets es : Exps) → StatLaw S back (Assign line targets es)
-  assign_goes line targets es n closing closed t j pc named loops reach k fewer has placed inside under plain jumps done ps env regs c opened s st standing =
+  -- what is left of the premise beside the targets
+  abbrev pub ValuesFit : (targets es : Exps) (t j : ℕ) → Type 0
+  ValuesFit targets es t j =
+      ArePlaced S es t (j + made_in targets)
+      × ((t + 2 * count targets + room_of_list S.code.own.constants 0 es (Some (count targets)) ≤ S.code.own.stack) × ((t + 2 * count targets + count targets ≤ S.code.own.stack) × (count targets + 1 < 2 ^ 8)))
+
+  -- the law of an assignment, of whose targets this is supposed
+  abbrev pub AssignLaw : (line : ℕ) (targets es : Exps) → (ℕ → Type 0) → Type 0
+  AssignLaw line targets es Fits =
+      (n : ℕ) (closed : List ℕ) (t j pc : ℕ) (k : List Work) → n ≤ S.bound → HasAt S pc (assign_code S.code.own.constants targets es t j line) → Fits t × ValuesFit targets es t j
+      → pc + length (assign_code S.code.own.constants targets es t j line) < length S.code.own.code → GoesOn S n t closed complete k (pc + length (assign_code S.code.own.constants targets es t j line))
+      → (ps : List Pending) (env regs : List Value) (c : Captured) (opened : ℕ) (s : State) → step s ≡ executes (Assign line targets es) (of_tree S ps env c) k → Standing S t closed ps env c regs → Agree S n s (before (of_code S ps pc regs opened) c)
+
+  pub names_goes : (line : ℕ) (targets es : Exps) → AssignLaw line targets es (TargetsArePlaced targets)
+  names_goes line targets es n closed t j pc k fewer has placed inside done ps env regs c opened s st standing =
       let size = standing.size in
       go_left S n s (tree.at (aim [] targets es) (of_tree S ps env c) k) _ st
       (aim_goes targets t n [] es ps env c k _ placed.0

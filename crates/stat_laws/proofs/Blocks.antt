@@ -1,29 +1,27 @@
 -- Statements one after another, and blocks, where their parts talk alike.
-use Rattle.std.proofs.Common.{◌≡◌, ℕ, zero, suc, ◌+◌, ◌<◌, ◌≤◌, Bool, true, false, cond, ◌&&◌, ◌||◌, List, [], ◌∷◌, ◌++◌, length, refl, sym, ap, subst, ◌∙◌, arith, append_assoc, length-append}
-use Rattle.int_core.specs.Value.{Value, known, nil}
+use Rattle.std.proofs.Common.{◌≡◌, ℕ, ◌+◌, ◌<◌, ◌≤◌, Bool, true, false, cond, ◌&&◌, ◌||◌, List, [], ◌∷◌, ◌++◌, length, refl, sym, ap, subst, ◌∙◌, arith, append_assoc}
+use Rattle.int_core.specs.Value.{Value}
 use Rattle.int_core.specs.Ask.{Captured}
 use Rattle.tree_core.specs.declared.name.Declared.{Declared}
-use Rattle.tree_core.specs.Tree.{Block, Falls, Returns, Stats, EndStats, MoreStats, Stat, Empty, Local, LocalFunction, Assign, CallStat, Do, While, Repeat, If, IfElse, NumFor, NumForStep, GenFor, Label, Goto, Break, Exps}
+use Rattle.tree_core.specs.Tree.{Stats, EndStats, MoreStats, Stat, Empty, Local, LocalFunction, Assign, CallStat, Do, While, Repeat, If, IfElse, NumFor, NumForStep, GenFor, Label, Goto, Break}
 use Rattle.tree_activation.specs.Work.{complete, run, leave_scope, Work, Pending, Passed, Point, End, falls_off, in_block, State}
 use Rattle.tree_activation.specs.Work as tree
-use Rattle.tree_activation.specs.Asking.{go}
 use Rattle.tree_activation.specs.Activation.{step}
-use Rattle.tree_activation.specs.Statements.{is_closed, executes, point_of}
+use Rattle.tree_activation.specs.Statements.{is_closed, executes}
 use Rattle.tree_activation.specs.Jumps.{are_void, is_at_end, passed_by}
 use Rattle.machine_core.specs.Talk.{before}
 use Rattle.code_of.specs.Jumps.{Visible, Reach}
 use Rattle.code_of.specs.Levels.{made_by_stat, level_after, levels_after, has_closed, closing_after}
-use Rattle.code_of.specs.Parts.{close_code}
-use Rattle.code_of.specs.Sizes.{stat_size, stats_size, block_size}
-use Rattle.code_of.specs.Statements.{visible, labels_ahead, passed_after, stat_code, stats_code, block_code}
-use Rattle.exp_laws.proofs.Registers.{Rel}
+use Rattle.code_of.specs.Sizes.{stat_size, stats_size}
+use Rattle.code_of.specs.Statements.{visible, labels_ahead, passed_after, stat_code, stats_code}
 use Rattle.exp_laws.proofs.Talking.{Setting, Agree, go_left, of_tree, of_code}
 use Rattle.exp_laws.proofs.Placing.{HasAt, has_front, has_back}
-use Rattle.stat_laws.proofs.Closing.{AllBelow, ends_goes}
-use Rattle.stat_laws.proofs.Standing.{strong, numbers, AllFrom, from_lower, from_more, below_higher, Standing, GoesOn, goes_fewer, goes_from, part, ascends_under}
-use Rattle.stat_laws.proofs.Sizes.{stat_sized, stats_sized}
-use Rattle.stat_laws.specs.Scoped.{Named, names_ahead, names_passed, StatIsPlaced, StatsArePlaced}
-use Rattle.stat_laws.proofs.Labels.{closed_numbers, closed_after, IsNoLabel, level_rises, level_still, runs_stat, passed_other, named_other, Jumps, jumps_within, point, RunGoes, AllAhead, all_other, OnePassed, AllPassed, passed_within, rest_jumps}
+use Rattle.stat_laws.proofs.Closing.{AllBelow}
+use Rattle.stat_laws.proofs.Standing.{strong, AllFrom, from_lower, from_more, below_higher, Standing, GoesOn, goes_from}
+use Rattle.stat_laws.proofs.Sizes.{stat_sized}
+use Rattle.stat_laws.specs.Scoped.{Named, names_ahead, StatIsPlaced, StatsArePlaced}
+use Rattle.stat_laws.proofs.Labels.{closed_numbers, closed_after, IsNoLabel, level_rises, level_still, runs_stat, passed_other, named_other, Jumps, jumps_within, point, RunGoes, AllAhead, all_other, AllPassed, passed_within, rest_jumps}
+use Rattle.machine_join.proofs.Lists.{append_nil}
 
 -- variables to be closed, behind some statements
 
@@ -64,7 +62,7 @@ pub record Added (t : ℕ) (closed after : List ℕ) : Type 0 where
   pub from : AllFrom t more
 
 pub added_none : (t : ℕ) (closed : List ℕ) → Added t closed closed
-added_none t closed = record { more = []; whole = sym (Rattle.machine_join.proofs.Lists.append_nil closed); from = tt }
+added_none t closed = record { more = []; whole = sym (append_nil closed); from = tt }
 
 pub added_by : (s : Stat) (t : ℕ) (closed : List ℕ) → Added t closed (closed_after s t closed)
 added_by (Empty l) t closed = added_none t closed
@@ -269,21 +267,24 @@ module _ (S : Setting) (back : ℕ) where
               from = (let f = w.from in omega arith);
               to = (let f = w.to in omega (arith, f));
               inside = w.inside;
-              jumps = subst (λ b. Jumps S back m lo hi outer b named loops reach k) (Rattle.machine_join.proofs.Lists.append_nil base) (jumps_within S back n m lo hi lo hi outer outer base [] named loops reach k le (omega arith) (omega arith) (omega arith) tt w.jumps);
-              passed = (record {
-                place = pc;
-                front = closed;
-                more = [];
-                entry = refl;
-                named = refl;
-                near = omega arith;
-                low = omega arith;
-                whole = sym (Rattle.machine_join.proofs.Lists.append_nil closed);
-                above = tt;
-                under = w.under;
-                inside = (let f = w.to in let g = w.inside in omega arith);
-                again = λ l less. goes_from S l t closed (run (at_point ss passed)) k (pc + 0) pc same (fewer l less (omega arith)).0;
-              }, subst (λ c. Behind m (pc + 0) t c labels entries names) (Rattle.machine_join.proofs.Lists.append_nil closed) (passed_within S back ending falls outer base k ending_is n m pc (pc + 0) t t closed [] labels entries names le (omega arith) (omega arith) tt w.passed));
+              jumps = subst (λ b. Jumps S back m lo hi outer b named loops reach k) (append_nil base) (jumps_within S back n m lo hi lo hi outer outer base [] named loops reach k le (omega arith) (omega arith) (omega arith) tt w.jumps);
+              passed = (
+                record {
+                  place = pc;
+                  front = closed;
+                  more = [];
+                  entry = refl;
+                  named = refl;
+                  near = omega arith;
+                  low = omega arith;
+                  whole = sym (append_nil closed);
+                  above = tt;
+                  under = w.under;
+                  inside = (let f = w.to in let g = w.inside in omega arith);
+                  again = λ l less. goes_from S l t closed (run (at_point ss passed)) k (pc + 0) pc same (fewer l less (omega arith)).0;
+                },
+                subst (λ c. Behind m (pc + 0) t c labels entries names) (append_nil closed) (passed_within S back ending falls outer base k ending_is n m pc (pc + 0) t t closed [] labels entries names le (omega arith) (omega arith) tt w.passed),
+              );
               added = w.added;
               base_under = w.base_under;
               under = w.under;
@@ -375,11 +376,11 @@ module _ (S : Setting) (back : ℕ) where
             let f = w.from in
             let g = w.to in
             let i = w.inside in
-            subst (λ c. Jumps S back m pc (pc + stat_size S.code.own.constants back s closing t j) t c (names_ahead ss falls t (level_after s t) ++ (names ++ named)) loops around (in_block t (at_point ss labels) ∷ k)) (Rattle.machine_join.proofs.Lists.append_nil closed)
+            subst (λ c. Jumps S back m pc (pc + stat_size S.code.own.constants back s closing t j) t c (names_ahead ss falls t (level_after s t) ++ (names ++ named)) loops around (in_block t (at_point ss labels) ∷ k)) (append_nil closed)
             (jumps_within S back n m pc (pc + stat_size S.code.own.constants back s closing t j) pc (pc + stat_size S.code.own.constants back s closing t j) t t closed [] (names_ahead ss falls t (level_after s t) ++ (names ++ named)) loops around (in_block t (at_point ss labels) ∷ k) le (omega arith) (omega arith) (omega arith) tt
             (rest_jumps S back ending falls outer base k ending_is n pc (pc + stat_size S.code.own.constants back s closing t j) t (level_after s t) (closing_after s closing) closed (closed_after s t closed) a.more ss (j + made_by_stat s) (pc + stat_size S.code.own.constants back s closing t j) labels entries names named loops reach
             a.whole a.from w.base_under w.under w.outer_low same (λ l. level_still s t closed l) (omega arith) (omega arith) rest.1 w.passed
-            (subst (λ b. Jumps S back n pc (pc + stat_size S.code.own.constants back s closing t j) outer b named loops reach k) (Rattle.machine_join.proofs.Lists.append_nil base)
+            (subst (λ b. Jumps S back n pc (pc + stat_size S.code.own.constants back s closing t j) outer b named loops reach k) (append_nil base)
             (jumps_within S back n n lo hi pc (pc + stat_size S.code.own.constants back s closing t j) outer outer base [] named loops reach k (omega arith) (omega arith) (omega arith) (omega arith) tt w.jumps))))
 
         done : (m : ℕ) → m ≤ n → GoesOn S m (level_after s t) (closed_after s t closed) complete (in_block t (at_point ss labels) ∷ k) (pc + stat_size S.code.own.constants back s closing t j)

@@ -11,7 +11,6 @@ use Rattle.tree_activation.specs.Activation.{step}
 use Rattle.code_core.specs.declared.opcode.Opcode.TheVariants.{Close}
 use Rattle.code_core.specs.declared.instruction.Instruction.{Instruction}
 use Rattle.code_core.specs.Instruction.{abc, opcode_of}
-use Rattle.code_core.specs.Prototype.{Prototype}
 use Rattle.code_core.specs.Check.{at}
 use Rattle.code_core.proofs.FieldLemmas.{opcode_of-abc, a_of-abc}
 use Rattle.lua_meaning.specs.World.{as_known}
@@ -23,7 +22,7 @@ use Rattle.machine_core.specs.InstructionRows as rows
 use Rattle.machine_core.specs.InstructionRows.{next, then, rest_at, rest_by}
 use Rattle.machine_core.specs.Talk as code
 use Rattle.machine_core.specs.Talk.{talk, talk_step, says_so, heard, before, amid}
-use Rattle.machine_join.proofs.Lists.{nth_get, get_new, length_more, last_is, without_last_is, lt_is, lt_true}
+use Rattle.machine_join.proofs.Lists.{nth_get, get_new, length_more, last_is, without_last_is, lt_is, lt_true, eq_true}
 use Rattle.code_of.specs.Coded.{with_abc}
 use Rattle.code_of.specs.Parts.{close_code}
 use Rattle.exp_laws.proofs.Registers.{Rel, HeldBelow, Ascends, marked_in}
@@ -295,7 +294,7 @@ module _ (S : Setting) where
           → GoesLeft n outer base (pc + length (cond b [] (with_abc Close outer 0 0 line ∷ []))) goes k
           → Agree S n (tree.at (leave_scope outer line (known nil) goes) (of_tree S qs env c) k) (before (of_code S qs pc regs opened) c)
       by true e has inside left =
-          let same = Rattle.machine_join.proofs.Lists.eq_true outer level e in
+          let same = eq_true outer level e in
           let there : pc + 0 ≡ pc = omega arith in
           empty_goes n outer line pc base goes k under (subst (λ q. GoesLeft n outer base q goes k) there left) qs g env regs c opened (omega (arith, same, from, to)) rel
       by false e has inside left = close_goes n outer line pc base goes k small (here_abc S Close outer 0 0 false line pc [] has) has.0 inside under left qs g env regs c opened from rel

@@ -1,10 +1,11 @@
--- A body that the law covers, so that its premise is no empty one.
-use Rattle.std.proofs.Common.{◌≡◌, ◌<◌, ◌≤◌, ◌^◌, ℕ, List, lit<, lit≤, true, false, [], ◌∷◌, Option, Some, None, refl, arith}
+-- Bodies that the law covers, so that its premise is no empty one.
+use Rattle.std.proofs.Common.{ℕ, List, lit<, lit≤, true, [], ◌∷◌, Option, Some, refl, inl, arith}
 use Rattle.std.specs.Prelude.{codes}
 use Rattle.code_core.specs.Opcode.{opcodes, number_of}
-use Rattle.tree_core.specs.Tree.{Body, While, Break}
+use Rattle.tree_core.specs.declared.name.Place.TheVariants.{Local as LocalPlace}
+use Rattle.tree_core.specs.Tree.{Body, LocalFunction, While, Label, Goto, Break}
 use Rattle.code_means.specs.Means.{Means}
-use Rattle.code_means.proofs.Forms.{loc, int, call, block, returning, loc_is, when, fun}
+use Rattle.code_means.proofs.Forms.{name, no_variable, of_local, loc, outer, int, call, block, returning, loc_is, assign, when, fun}
 use Rattle.code_of.specs.CodeOf.{code_of}
 use Rattle.stat_laws.specs.Fits.{BodyFits}
 use Rattle.stat_laws.proofs.Whole.{means}
@@ -20,16 +21,55 @@ source = Some (codes "@s.lua")
 
 it_fits : BodyFits source calls_on
 unfolding opcodes number_of
-it_fits = (record {
+it_fits = (
+  record {
+    small = lit< tt;
+    short = lit≤ tt;
+    room = lit≤ tt;
+    placed = (
+      (
+        (((λ e. absurd (cc)), tt), (lit≤ tt, (lit≤ tt, (lit< tt, refl)))),
+        (((lit< tt, (lit< tt, tt)), (lit≤ tt, (((lit< tt, ((λ e. absurd (cc)), tt)), (lit≤ tt, ((refl, tt), tt))), tt))), tt),
+      ),
+      (refl, ((lit< tt, (lit< tt, tt)), (lit≤ tt, lit< tt))),
+    );
+  },
+  (((tt, tt), (((tt, (tt, tt)), ((((tt, (tt, tt)), ((tt, tt), tt))), tt)), tt)), (tt, (tt, tt))),
+)
+
+its_code_means_it : Means true (code_of source calls_on) calls_on
+its_code_means_it = means source calls_on it_fits
+
+-- function(f) local x=0 ::top:: x=f(x) if x then goto top end local function g() return x end return g(f) end
+abbrev gives_x : Body
+gives_x = fun [] (of_local "x" 1 ∷ []) (returning [] (outer "x" 0 ∷ []))
+
+abbrev goes_back : Body
+goes_back = fun ("f" ∷ []) [] (returning (
+    loc_is "x" 1 (int 0) ∷ Label 1 (no_variable "top") ∷ assign (loc "x" 1) (call (loc "f" 0) (loc "x" 1 ∷ [])) ∷ when (loc "x" 1) (Goto 1 (no_variable "top") ∷ [])
+    ∷ LocalFunction 1 (name "g" (LocalPlace 2)) gives_x ∷ [])
+    (call (loc "g" 2) (loc "f" 0 ∷ []) ∷ []))
+
+inner_fits : BodyFits source gives_x
+unfolding opcodes number_of
+inner_fits = (record { small = lit< tt; short = lit≤ tt; room = lit≤ tt; placed = (tt, (refl, ((lit< tt, tt), (lit≤ tt, lit< tt)))) }, (tt, (tt, tt)))
+
+this_fits : BodyFits source goes_back
+unfolding opcodes number_of
+this_fits = (record {
   small = lit< tt;
   short = lit≤ tt;
   room = lit≤ tt;
   placed = (
     ((((λ e. absurd (cc)), tt), (lit≤ tt, (lit≤ tt, (lit< tt, refl)))),
-    (((lit< tt, (lit< tt, tt)), (lit≤ tt, (((lit< tt, ((λ e. absurd (cc)), tt)), (lit≤ tt, ((refl, tt), tt))), tt))), tt)),
-    (refl, (refl, ((lit< tt, (lit< tt, tt)), (lit≤ tt, lit< tt))))
+    (tt,
+    ((inl (lit< tt, tt), (((lit< tt, (lit< tt, tt)), tt), (lit≤ tt, (lit≤ tt, lit< tt)))),
+    ((lit< tt, (lit≤ tt, ((refl, tt), tt))),
+    ((record { prototype = code_of source gives_x; there = refl; near = lit< tt; upvalues = refl; alike = λ n lt. absurd (omega arith) }, (((λ e. lit< tt), tt), lit< tt)),
+    tt))))),
+    (refl, (lit< tt, ((lit< tt, tt), (lit≤ tt, lit≤ tt))))
   );
-}, (((tt, tt), (((tt, (tt, tt)), ((((tt, (tt, tt)), ((tt, tt), tt))), tt)), tt)), (tt, (tt, tt))))
+}, (((tt, tt), (tt, (((tt, tt), ((tt, (tt, tt)), tt)), ((tt, ((tt, tt), tt)), ((refl, inner_fits), tt))))), ((tt, (tt, tt)), tt)))
 
-its_code_means_it : Means true (code_of source calls_on) calls_on
-its_code_means_it = means source calls_on it_fits
+its_code_means_this : Means true (code_of source goes_back) goes_back
+its_code_means_this = means source goes_back this_fits

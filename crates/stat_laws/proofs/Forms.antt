@@ -1,12 +1,11 @@
 -- Blocks, and the statements that have some: `do`, `if` and `while`.
-use Rattle.std.proofs.Common.{◌≡◌, ℕ, zero, suc, ◌+◌, ◌-◌, ◌<◌, ◌≤◌, ◌^◌, max, Bool, true, false, cond, List, [], ◌∷◌, ◌++◌, length, Option, Some, None, refl, sym, ap, subst, ◌∙◌, arith, append_assoc, length-append}
+use Rattle.std.proofs.Common.{◌≡◌, ℕ, zero, suc, ◌+◌, ◌<◌, ◌≤◌, max, Bool, true, false, cond, List, [], ◌∷◌, ◌++◌, length, Option, Some, None, refl, sym, ap, subst, ◌∙◌, arith, append_assoc}
 use Rattle.int_core.specs.Value.{Value, known, nil, nth, shape, holds, same_truth}
 use Rattle.int_core.specs.Ask.{Captured}
-use Rattle.tree_core.specs.Tree.{Block, Falls, Returns, Stats, EndStats, Stat, Empty, Do, While, If, IfElse, Label, Goto, Break, Arms, EndArms, MoreArms, Exp, Nil, True, False, Int, Str, Vararg, Function, Var, Index, Call, Method, Unary, Binary, And, Or, Paren, Table}
+use Rattle.tree_core.specs.Tree.{Block, Falls, Stats, EndStats, Empty, Do, While, If, IfElse, Label, Goto, Break, Arms, EndArms, MoreArms, Exp, Nil, True, False, Int, Str, Vararg, Function, Var, Index, Call, Method, Unary, Binary, And, Or, Paren, Table}
 use Rattle.tree_activation.specs.Work.{complete, choose, evaluate, give, run, leave_scope, Work, Pending, Passed, falls_off, if_test, while_test, looping, Activation, State}
 use Rattle.tree_activation.specs.Work as tree
 use Rattle.tree_activation.specs.Asking.{first, go}
-use Rattle.tree_activation.specs.Activation.{step}
 use Rattle.tree_activation.specs.Statements.{point_of, begins}
 use Rattle.tree_activation.specs.Jumps.{goes_to, breaks}
 use Rattle.code_core.specs.declared.opcode.Opcode.TheVariants.{Test, Jmp}
@@ -17,15 +16,14 @@ use Rattle.tree_core.specs.declared.name.Place.TheVariants.{Local as LocalPlace}
 use Rattle.code_core.specs.declared.proto.Const.TheVariants.{Str as StrConst}
 use Rattle.code_of.specs.Constants.{number_in}
 use Rattle.code_core.specs.Instruction.{abc, op_ax}
-use Rattle.code_core.specs.Check.{at}
 use Rattle.machine_core.specs.Talk.{before}
 use Rattle.code_of.specs.Coded.{Coded, with_abc, jump_over, jump_back}
 use Rattle.code_of.specs.Expressions.{made_by, is_open, exp_code}
-use Rattle.code_of.specs.Jumps.{Landing, Reach, label_in}
+use Rattle.code_of.specs.Jumps.{Reach}
 use Rattle.code_of.specs.Levels.{made_in_arms, made_in_block, levels_after}
-use Rattle.code_of.specs.Parts.{close_code, while_code, past_size, past, arm_code}
-use Rattle.code_of.specs.Sizes.{stat_size, arms_size, stats_size, block_size}
-use Rattle.code_of.specs.Statements.{in_loop, stat_code, arms_code, stats_code, block_code}
+use Rattle.code_of.specs.Parts.{close_code, past_size, past}
+use Rattle.code_of.specs.Sizes.{arms_size, stats_size, block_size}
+use Rattle.code_of.specs.Statements.{in_loop, arms_code, stats_code, block_code}
 use Rattle.machine_join.proofs.Lists.{append_nil}
 use Rattle.exp_laws.proofs.Registers.{Rel, Ascends}
 use Rattle.exp_laws.proofs.Talking.{Setting, Agree, go_left, go_right, of_tree, of_code}
@@ -34,11 +32,11 @@ use Rattle.exp_laws.proofs.Placed.{IsPlaced, room_of, room_of_name, room_of_list
 use Rattle.exp_laws.proofs.Going.{Goes, next_there}
 use Rattle.exp_laws.proofs.Tests.{test_on, test_past, jump_step}
 use Rattle.stat_laws.proofs.Closing.{AllBelow, ends_goes}
-use Rattle.stat_laws.proofs.Standing.{strong, numbers, AllFrom, from_lower, from_more, Parted, part, ascends_under, Standing, GoesOn, goes_fewer, goes_from, back_goes, lands_ahead}
+use Rattle.stat_laws.proofs.Standing.{strong, numbers, AllFrom, from_lower, from_more, Parted, part, ascends_under, Standing, GoesOn, goes_fewer, goes_from, back_goes, lands_ahead, below_higher}
 use Rattle.stat_laws.specs.Scoped.{Named, ArmsArePlaced, BlockIsPlaced}
 use Rattle.stat_laws.proofs.Sizes.{past_sized, block_sized, arms_sized, stats_sized}
-use Rattle.stat_laws.proofs.Labels.{Jumps, jumps_within, JumpGoes}
-use Rattle.stat_laws.proofs.Blocks.{Added, added_all, added_none, levels_rise, closeds_after, StatLaw, StatsLaw, Within, Ends}
+use Rattle.stat_laws.proofs.Labels.{Jumps, jumps_within}
+use Rattle.stat_laws.proofs.Blocks.{Added, added_all, added_none, levels_rise, closeds_after, StatLaw, StatsLaw}
 
 module _ (S : Setting) where
   -- the law of expressions
@@ -148,7 +146,7 @@ module _ (S : Setting) where
         → GoesOn S n t closed (run (point_of block outer)) k pc
 
     pub below_level : (closed : List ℕ) (outer t : ℕ) → AllBelow closed outer → outer ≤ t → AllBelow closed t
-    below_level closed outer t h le = Rattle.stat_laws.proofs.Standing.below_higher outer t closed le h
+    below_level closed outer t h le = below_higher outer t closed le h
 
     -- a block that falls off its end
     pub falls_goes : (ss : Stats) (tokens line : ℕ) → ((outer : ℕ) (closed : List ℕ) (k : List Work) → StatsLaw S back (falls_off line) true outer closed k (λ ss. refl) ss) → BlockLaw (Falls ss tokens line)

@@ -1,5 +1,5 @@
 -- Labels: a tree and its code look for them in the same order, and where the one goes on behind a label the other does at its place.
-use Rattle.std.proofs.Common.{◌≡◌, ℕ, zero, suc, ◌+◌, ◌<◌, ◌≤◌, Bool, true, false, cond, ◌&&◌, ◌||◌, List, [], ◌∷◌, ◌++◌, length, Option, Some, None, refl, sym, ap, subst, ◌∙◌, arith, append_assoc}
+use Rattle.std.proofs.Common.{◌≡◌, ℕ, ◌+◌, ◌<◌, ◌≤◌, Bool, true, false, cond, ◌&&◌, ◌||◌, List, [], ◌∷◌, ◌++◌, length, Option, Some, None, refl, sym, ap, subst, ◌∙◌, arith, append_assoc}
 use borrow.Author.Tests.{leb-true}
 use Rattle.std.specs.Prelude.{nat_le, bytes_eq}
 use Rattle.int_core.specs.Value.{Value, known, nil}
@@ -14,17 +14,17 @@ use Rattle.tree_activation.specs.Activation.{step}
 use Rattle.tree_activation.specs.Statements.{is_closed, executes, runs_on}
 use Rattle.tree_activation.specs.Jumps.{are_void, is_at_end, Landing as TreeLanding, passed_by, ahead, behind, lands, goes_to, breaks}
 use Rattle.machine_core.specs.Talk.{before}
-use Rattle.code_core.specs.declared.proto.Const.{Const}
 use Rattle.code_of.specs.Jumps.{Landing, Visible, Reach, label_in, leads, jump_code}
 use Rattle.code_of.specs.Levels.{made_by_stat, level_after, closing_after}
 use Rattle.code_of.specs.Sizes.{stat_size}
 use Rattle.code_of.specs.Statements.{visible, labels_ahead, passed_after}
 use Rattle.exp_laws.proofs.Registers.{Rel}
-use Rattle.exp_laws.proofs.Talking.{Setting, Agree, go_left, of_tree, of_code}
+use Rattle.exp_laws.proofs.Talking.{Setting, Agree, of_tree, of_code}
 use Rattle.exp_laws.proofs.Placing.{HasAt}
-use Rattle.stat_laws.proofs.Closing.{AllBelow, as_tree}
+use Rattle.stat_laws.proofs.Closing.{AllBelow}
 use Rattle.stat_laws.specs.Scoped.{Named, legal, names_ahead, names_passed}
-use Rattle.stat_laws.proofs.Standing.{numbers, AllFrom, from_lower, from_more, Standing, GoesOn, lands_ahead, lands_back}
+use Rattle.stat_laws.proofs.Standing.{numbers, AllFrom, from_lower, from_more, GoesOn, lands_ahead, lands_back}
+use Rattle.machine_join.proofs.Lists.{append_nil}
 
 -- the numbers of those variables of a declaration that are to be closed
 
@@ -60,7 +60,7 @@ level_rises (Label line name') t = omega arith
 
 pub level_still : (s : Stat) (t : ℕ) (closed : List ℕ) → level_after s t ≤ t → closed_after s t closed ≡ closed
 level_still (Empty line) t closed le = refl
-level_still (Local line [] es) t closed le = Rattle.machine_join.proofs.Lists.append_nil closed
+level_still (Local line [] es) t closed le = append_nil closed
 level_still (Local line (d ∷ names) es) t closed le = absurd (omega arith)
 level_still (LocalFunction line name' body) t closed le = absurd (omega arith)
 level_still (Assign line targets es) t closed le = refl
@@ -219,21 +219,23 @@ module _ (S : Setting) (back : ℕ) where
     passed_within n m hi hi' t t' closed extra (x ∷ xs) (e ∷ es) (d ∷ ds) fewer a b from h =
         let o = h.0 in
         let near = o.near in
-        let low = o.low in
-        (record {
-          place = o.place;
-          front = o.front;
-          more = o.more ++ extra;
-          entry = o.entry;
-          named = o.named;
-          near = omega arith;
-          low = omega arith;
-          whole = ap (λ l. l ++ extra) o.whole ∙ append_assoc o.front o.more extra;
-          above = from_more x.level o.more extra o.above (from_lower x.level t extra low from);
-          under = o.under;
-          inside = o.inside;
-          again = λ l less. o.again l (omega arith);
-        }, passed_within n m hi hi' t t' closed extra xs es ds fewer a b from h.1)
+        let low = o.low in (
+          record {
+            place = o.place;
+            front = o.front;
+            more = o.more ++ extra;
+            entry = o.entry;
+            named = o.named;
+            near = omega arith;
+            low = omega arith;
+            whole = ap (λ l. l ++ extra) o.whole ∙ append_assoc o.front o.more extra;
+            above = from_more x.level o.more extra o.above (from_lower x.level t extra low from);
+            under = o.under;
+            inside = o.inside;
+            again = λ l less. o.again l (omega arith);
+          },
+          passed_within n m hi hi' t t' closed extra xs es ds fewer a b from h.1,
+        )
     passed_within n m hi hi' t t' closed extra _ _ _ fewer a b from h = absurd h
 
     -- a `goto` from a place in a statement before which t locals are in scope
@@ -381,7 +383,7 @@ module _ (S : Setting) (back : ℕ) where
           on_jump n lo hi t closed front reach named loops whole front_from base_under closed_under outer_low outward ss labels name m line at_pc ps env regs c opened more s fewer low high (omega arith) numbered above size rel
           (entries ++ reach.labels) (names ++ named) (behind name (point ss labels) labels)
           (λ st' has' ok'. back_jump n lo hi t closed front reach named loops whole front_from base_under closed_under outer_low outward ss labels name m line at_pc ps env regs c opened more s fewer low high (omega arith) numbered above size rel
-          labels entries names (subst (λ l. AllPassed n at_pc t l labels entries names) (Rattle.machine_join.proofs.Lists.append_nil closed) (passed_within n n lo at_pc t t closed [] labels entries names (omega arith) low (omega arith) tt passed)) st' has' ok')
+          labels entries names (subst (λ l. AllPassed n at_pc t l labels entries names) (append_nil closed) (passed_within n n lo at_pc t t closed [] labels entries names (omega arith) low (omega arith) tt passed)) st' has' ok')
           ss closing closed' level j pc labels (omega (arith, same)) far still all
           (subst (λ u. step s ≡ lands (ahead name u ss (point ss labels) labels) (behind name (point ss labels) labels) line (goes_to name line (of_tree S ps env c) k) (of_tree S ps env c) k) same st) has ok;
       exits = λ ok m line at_pc ps env regs c opened more s fewer has low high numbered above size rel st.

@@ -8,6 +8,7 @@ mod Loops
 mod Returns
 mod Values
 mod Assigning
+mod Globals
 mod Statements
 mod Lines
 mod Raised

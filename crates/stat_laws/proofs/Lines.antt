@@ -1,16 +1,14 @@
 -- The code of a function stands in its prototype, with its lines.
-use Rattle.std.proofs.Common.{◌≡◌, ℕ, zero, suc, ◌+◌, ◌<◌, ◌≤◌, Bool, true, false, cond, if◌then◌else◌, ℤ, pos, negsuc, ◌+ℤ◌, ◌-ℤ◌, List, [], ◌∷◌, ◌++◌, length, map, slice_get, Option, Some, None, refl, sym, ap, ap₂, subst, ◌∙◌, arith, append_assoc}
+use Rattle.std.proofs.Common.{◌≡◌, ℕ, suc, ◌+◌, ◌<◌, Bool, true, false, cond, if◌then◌else◌, ℤ, pos, negsuc, ◌+ℤ◌, ◌-ℤ◌, List, [], ◌∷◌, ◌++◌, length, map, slice_get, Some, None, refl, sym, ap, ap₂, subst, ◌∙◌, arith, append_assoc}
 use borrow.Author.Tests.{leb-true}
-use Rattle.std.specs.Prelude.{find, ◌==◌, nat_eq, option_map}
+use Rattle.std.specs.Prelude.{find, ◌==◌, option_map}
 use Rattle.std.proofs.lemmas.Option.{slice_get-map}
-use Rattle.int_core.specs.Value.{bind}
-use Rattle.code_core.specs.declared.instruction.Instruction.{Instruction}
 use Rattle.code_core.specs.declared.proto.AbsLine.{AbsLine}
-use Rattle.code_core.specs.Check.{at, is_absolute, line_at, lines_from}
+use Rattle.code_core.specs.Check.{is_absolute, line_at, lines_from}
 use Rattle.machine_core.specs.Moves.{line_of}
 use Rattle.machine_join.proofs.Lists.{eq_not, eq_refl, length_more}
-use Rattle.code_of.specs.Coded.{Coded, words, lines}
-use Rattle.code_of.specs.CodeOf.{is_near, change_of, changes, far_lines}
+use Rattle.code_of.specs.Coded.{Coded, words}
+use Rattle.code_of.specs.CodeOf.{is_near, changes, far_lines}
 use Rattle.exp_laws.proofs.Talking.{Setting}
 use Rattle.exp_laws.proofs.Placing.{HasAt}
 
@@ -84,7 +82,10 @@ module _ (S : Setting) where
   has_all front (x ∷ code) whole lined =
       let here = get_seam front x code in
       let same : (front ++ x ∷ []) ++ code ≡ front ++ x ∷ code = append_assoc front (x ∷ []) code in
-      let next : length (front ++ x ∷ []) ≡ length front + 1 = (let l = length_more front x in omega (arith, l)) in
-      (ap (λ w. slice_get w (length front)) whole ∙ slice_get-map (λ y. y.0) (front ++ x ∷ code) (length front) ∙ ap (option_map (λ y. y.0)) here,
-      (lined (length front) x here,
-      subst (λ q. HasAt S q code) next (has_all (front ++ x ∷ []) code (whole ∙ ap words (sym same)) (λ i y e. lined i y (ap (λ l. slice_get l i) (sym same) ∙ e)))))
+      let next : length (front ++ x ∷ []) ≡ length front + 1 = (let l = length_more front x in omega (arith, l)) in (
+        ap (λ w. slice_get w (length front)) whole ∙ slice_get-map (λ y. y.0) (front ++ x ∷ code) (length front) ∙ ap (option_map (λ y. y.0)) here,
+        (
+          lined (length front) x here,
+          subst (λ q. HasAt S q code) next (has_all (front ++ x ∷ []) code (whole ∙ ap words (sym same)) (λ i y e. lined i y (ap (λ l. slice_get l i) (sym same) ∙ e))),
+        ),
+      )

@@ -1,12 +1,11 @@
 -- `repeat`, whose test sees the locals of the block.
-use Rattle.std.proofs.Common.{◌≡◌, ℕ, zero, suc, ◌+◌, ◌<◌, ◌≤◌, Bool, true, false, cond, List, [], ◌∷◌, ◌++◌, length, refl, sym, ap, subst, ◌∙◌, arith, length-append}
+use Rattle.std.proofs.Common.{◌≡◌, ℕ, zero, suc, ◌+◌, ◌<◌, ◌≤◌, Bool, true, false, List, [], ◌∷◌, ◌++◌, length, refl, sym, ap, subst, ◌∙◌, arith}
 use Rattle.int_core.specs.Value.{Value, known, nil, nth, shape, holds, same_truth}
 use Rattle.int_core.specs.Ask.{Captured}
 use Rattle.tree_core.specs.Tree.{Block, Falls, Stats, EndStats, Repeat, Exp}
 use Rattle.tree_activation.specs.Work.{complete, decide, evaluate, give, run, pay, leave_scope, Work, Pending, Passed, until, until_test, repeating, State}
 use Rattle.tree_activation.specs.Work as tree
 use Rattle.tree_activation.specs.Asking.{first, go}
-use Rattle.tree_activation.specs.Activation.{step}
 use Rattle.tree_activation.specs.Statements.{repeat_point}
 use Rattle.code_core.specs.declared.opcode.Opcode.TheVariants.{Test}
 use Rattle.code_core.specs.Instruction.{abc}
@@ -24,7 +23,7 @@ use Rattle.exp_laws.proofs.Talking.{Setting, Agree, go_left, of_tree, of_code}
 use Rattle.exp_laws.proofs.Placing.{HasAt, has_front, has_back}
 use Rattle.exp_laws.proofs.Placed.{IsPlaced}
 use Rattle.stat_laws.proofs.Closing.{AllBelow, GoesLeft, ends_goes}
-use Rattle.stat_laws.proofs.Standing.{strong, numbers, AllFrom, from_lower, Parted, part, ascends_under, Standing, GoesOn, goes_fewer, back_goes}
+use Rattle.stat_laws.proofs.Standing.{strong, numbers, part, ascends_under, Standing, GoesOn, goes_fewer, back_goes}
 use Rattle.stat_laws.proofs.Sizes.{close_sized, stats_sized}
 use Rattle.stat_laws.proofs.Labels.{Jumps, jumps_within}
 use Rattle.stat_laws.proofs.Blocks.{Added, added_all, added_none, levels_rise, closeds_after, StatLaw, StatsLaw}

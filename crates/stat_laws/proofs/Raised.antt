@@ -2,16 +2,16 @@
 use Rattle.std.proofs.Common.{◌≡◌, ℕ, ◌+◌, ◌<◌, ◌≤◌, ◌^◌, Bool, true, false, List, [], ◌++◌, length, map, Option, Some, refl, subst, arith}
 use Rattle.std.specs.Prelude.{slice_get}
 use Rattle.int_core.specs.Value.{Value}
-use Rattle.tree_core.specs.Tree.{Block, Falls, Returns, Body, BodyOf, Stats, EndStats, MoreStats, Stat, Empty, Local, LocalFunction, Assign, CallStat, Do, While, Repeat, If, IfElse, NumFor, NumForStep, GenFor, Label, Goto, Break, Arms, EndArms, MoreArms, Exp, Nil, True, False, Int, Str, Vararg, Function, Var, Index, Call, Method, Unary, Binary, And, Or, Paren, Table, Exps, EndExps, MoreExps, Fields, EndFields, MoreFields, Field, Item, Keyed}
+use Rattle.tree_core.specs.Tree.{Block, Falls, Returns, Body, BodyOf, Stats, EndStats, MoreStats, Stat, Empty, Local, LocalFunction, Assign, CallStat, Do, While, Repeat, If, IfElse, NumFor, NumForStep, GenFor, Label, Goto, Break, Arms, EndArms, MoreArms, Exp, Nil, True, False, Int, Str, Vararg, Function, Var, Index, Call, Method, Unary, Binary, And, Or, Paren, Table, Exps, EndExps, MoreExps, Fields, EndFields, MoreFields, Item, Keyed}
 use Rattle.tree_activation.specs.Asking.{upvalues_of}
 use Rattle.code_core.specs.Prototype.{Prototype, list_of}
 use Rattle.code_of.specs.CodeOf.{code_of, upvalue}
-use Rattle.code_of.specs.Expressions.{made_by, made_in, made_by_field}
+use Rattle.code_of.specs.Expressions.{made_by, made_in}
 use Rattle.code_of.specs.Levels.{made_by_stat, made_in_arms, made_in_stats, made_in_block, level_after, levels_after, levels_in, closing_after, closings_after}
 use Rattle.exp_laws.proofs.Talking.{Setting, Alike}
 use Rattle.exp_laws.proofs.Placed.{Inner, IsPlaced, ArePlaced, FieldsArePlaced}
 use Rattle.stat_laws.specs.Scoped.{Named, names_ahead, names_passed, LastIsPlaced, ReturnIsPlaced, StatIsPlaced, ArmsArePlaced, StatsArePlaced, BlockIsPlaced, OpenIsPlaced}
-use Rattle.stat_laws.specs.Fits.{is_known, setting, BodyFits, InExp, InExps, InFields, InField, InStat, InArms, InStats, InBlock}
+use Rattle.stat_laws.specs.Fits.{is_known, setting, BodyFits, InExp, InExps, InFields, InStat, InArms, InStats, InBlock}
 
 upvalues_same : (source : Option (List ℕ)) (body : Body) → (code_of source body).own.upvalues ≡ map upvalue (upvalues_of body)
 upvalues_same source (BodyOf params vararg inner ups line) = refl
@@ -62,38 +62,38 @@ module _ (source : Option (List ℕ)) (p : Prototype) (bound : ℕ) (varargs : L
   last_up EndExps t j h g = h
   last_up (MoreExps (Call l f es) EndExps) t j h g = (exp_up f t j h.0 g.0.0, (exps_up es t (j + made_by f) h.1.0 g.0.1, h.1.1))
   last_up (MoreExps (Method l o name es) EndExps) t j h g = (exp_up o t j h.0 g.0.0, (h.1.0, (exps_up es t (j + made_by o) h.1.1.0 g.0.1, h.1.1.1)))
-  last_up (MoreExps (Nil l) EndExps) t j h g = (h.0, (exps_up (MoreExps (Nil l) EndExps) t j h.1.0 g, h.1.1))
-  last_up (MoreExps (True l) EndExps) t j h g = (h.0, (exps_up (MoreExps (True l) EndExps) t j h.1.0 g, h.1.1))
-  last_up (MoreExps (False l) EndExps) t j h g = (h.0, (exps_up (MoreExps (False l) EndExps) t j h.1.0 g, h.1.1))
-  last_up (MoreExps (Int l z) EndExps) t j h g = (h.0, (exps_up (MoreExps (Int l z) EndExps) t j h.1.0 g, h.1.1))
-  last_up (MoreExps (Str l bytes) EndExps) t j h g = (h.0, (exps_up (MoreExps (Str l bytes) EndExps) t j h.1.0 g, h.1.1))
-  last_up (MoreExps (Vararg l) EndExps) t j h g = (h.0, (exps_up (MoreExps (Vararg l) EndExps) t j h.1.0 g, h.1.1))
-  last_up (MoreExps (Function l body) EndExps) t j h g = (h.0, (exps_up (MoreExps (Function l body) EndExps) t j h.1.0 g, h.1.1))
-  last_up (MoreExps (Var l name) EndExps) t j h g = (h.0, (exps_up (MoreExps (Var l name) EndExps) t j h.1.0 g, h.1.1))
-  last_up (MoreExps (Index l o key) EndExps) t j h g = (h.0, (exps_up (MoreExps (Index l o key) EndExps) t j h.1.0 g, h.1.1))
-  last_up (MoreExps (Unary l op x) EndExps) t j h g = (h.0, (exps_up (MoreExps (Unary l op x) EndExps) t j h.1.0 g, h.1.1))
-  last_up (MoreExps (Binary l op x y) EndExps) t j h g = (h.0, (exps_up (MoreExps (Binary l op x y) EndExps) t j h.1.0 g, h.1.1))
-  last_up (MoreExps (And l x y) EndExps) t j h g = (h.0, (exps_up (MoreExps (And l x y) EndExps) t j h.1.0 g, h.1.1))
-  last_up (MoreExps (Or l x y) EndExps) t j h g = (h.0, (exps_up (MoreExps (Or l x y) EndExps) t j h.1.0 g, h.1.1))
-  last_up (MoreExps (Paren l x) EndExps) t j h g = (h.0, (exps_up (MoreExps (Paren l x) EndExps) t j h.1.0 g, h.1.1))
-  last_up (MoreExps (Table l fs) EndExps) t j h g = (h.0, (exps_up (MoreExps (Table l fs) EndExps) t j h.1.0 g, h.1.1))
-  last_up (MoreExps (Nil l) (MoreExps d es)) t j h g = (h.0, (exps_up (MoreExps (Nil l) (MoreExps d es)) t j h.1.0 g, h.1.1))
-  last_up (MoreExps (True l) (MoreExps d es)) t j h g = (h.0, (exps_up (MoreExps (True l) (MoreExps d es)) t j h.1.0 g, h.1.1))
-  last_up (MoreExps (False l) (MoreExps d es)) t j h g = (h.0, (exps_up (MoreExps (False l) (MoreExps d es)) t j h.1.0 g, h.1.1))
-  last_up (MoreExps (Int l z) (MoreExps d es)) t j h g = (h.0, (exps_up (MoreExps (Int l z) (MoreExps d es)) t j h.1.0 g, h.1.1))
-  last_up (MoreExps (Str l bytes) (MoreExps d es)) t j h g = (h.0, (exps_up (MoreExps (Str l bytes) (MoreExps d es)) t j h.1.0 g, h.1.1))
-  last_up (MoreExps (Vararg l) (MoreExps d es)) t j h g = (h.0, (exps_up (MoreExps (Vararg l) (MoreExps d es)) t j h.1.0 g, h.1.1))
-  last_up (MoreExps (Function l body) (MoreExps d es)) t j h g = (h.0, (exps_up (MoreExps (Function l body) (MoreExps d es)) t j h.1.0 g, h.1.1))
-  last_up (MoreExps (Var l name) (MoreExps d es)) t j h g = (h.0, (exps_up (MoreExps (Var l name) (MoreExps d es)) t j h.1.0 g, h.1.1))
-  last_up (MoreExps (Index l o key) (MoreExps d es)) t j h g = (h.0, (exps_up (MoreExps (Index l o key) (MoreExps d es)) t j h.1.0 g, h.1.1))
-  last_up (MoreExps (Unary l op x) (MoreExps d es)) t j h g = (h.0, (exps_up (MoreExps (Unary l op x) (MoreExps d es)) t j h.1.0 g, h.1.1))
-  last_up (MoreExps (Binary l op x y) (MoreExps d es)) t j h g = (h.0, (exps_up (MoreExps (Binary l op x y) (MoreExps d es)) t j h.1.0 g, h.1.1))
-  last_up (MoreExps (And l x y) (MoreExps d es)) t j h g = (h.0, (exps_up (MoreExps (And l x y) (MoreExps d es)) t j h.1.0 g, h.1.1))
-  last_up (MoreExps (Or l x y) (MoreExps d es)) t j h g = (h.0, (exps_up (MoreExps (Or l x y) (MoreExps d es)) t j h.1.0 g, h.1.1))
-  last_up (MoreExps (Paren l x) (MoreExps d es)) t j h g = (h.0, (exps_up (MoreExps (Paren l x) (MoreExps d es)) t j h.1.0 g, h.1.1))
-  last_up (MoreExps (Table l fs) (MoreExps d es)) t j h g = (h.0, (exps_up (MoreExps (Table l fs) (MoreExps d es)) t j h.1.0 g, h.1.1))
-  last_up (MoreExps (Call l f args) (MoreExps d es)) t j h g = (h.0, (exps_up (MoreExps (Call l f args) (MoreExps d es)) t j h.1.0 g, h.1.1))
-  last_up (MoreExps (Method l o name args) (MoreExps d es)) t j h g = (h.0, (exps_up (MoreExps (Method l o name args) (MoreExps d es)) t j h.1.0 g, h.1.1))
+  last_up (MoreExps (Nil l) EndExps) t j h g = (exps_up (MoreExps (Nil l) EndExps) t j h.0 g, h.1)
+  last_up (MoreExps (True l) EndExps) t j h g = (exps_up (MoreExps (True l) EndExps) t j h.0 g, h.1)
+  last_up (MoreExps (False l) EndExps) t j h g = (exps_up (MoreExps (False l) EndExps) t j h.0 g, h.1)
+  last_up (MoreExps (Int l z) EndExps) t j h g = (exps_up (MoreExps (Int l z) EndExps) t j h.0 g, h.1)
+  last_up (MoreExps (Str l bytes) EndExps) t j h g = (exps_up (MoreExps (Str l bytes) EndExps) t j h.0 g, h.1)
+  last_up (MoreExps (Vararg l) EndExps) t j h g = (exps_up (MoreExps (Vararg l) EndExps) t j h.0 g, h.1)
+  last_up (MoreExps (Function l body) EndExps) t j h g = (exps_up (MoreExps (Function l body) EndExps) t j h.0 g, h.1)
+  last_up (MoreExps (Var l name) EndExps) t j h g = (exps_up (MoreExps (Var l name) EndExps) t j h.0 g, h.1)
+  last_up (MoreExps (Index l o key) EndExps) t j h g = (exps_up (MoreExps (Index l o key) EndExps) t j h.0 g, h.1)
+  last_up (MoreExps (Unary l op x) EndExps) t j h g = (exps_up (MoreExps (Unary l op x) EndExps) t j h.0 g, h.1)
+  last_up (MoreExps (Binary l op x y) EndExps) t j h g = (exps_up (MoreExps (Binary l op x y) EndExps) t j h.0 g, h.1)
+  last_up (MoreExps (And l x y) EndExps) t j h g = (exps_up (MoreExps (And l x y) EndExps) t j h.0 g, h.1)
+  last_up (MoreExps (Or l x y) EndExps) t j h g = (exps_up (MoreExps (Or l x y) EndExps) t j h.0 g, h.1)
+  last_up (MoreExps (Paren l x) EndExps) t j h g = (exps_up (MoreExps (Paren l x) EndExps) t j h.0 g, h.1)
+  last_up (MoreExps (Table l fs) EndExps) t j h g = (exps_up (MoreExps (Table l fs) EndExps) t j h.0 g, h.1)
+  last_up (MoreExps (Nil l) (MoreExps d es)) t j h g = (exps_up (MoreExps (Nil l) (MoreExps d es)) t j h.0 g, h.1)
+  last_up (MoreExps (True l) (MoreExps d es)) t j h g = (exps_up (MoreExps (True l) (MoreExps d es)) t j h.0 g, h.1)
+  last_up (MoreExps (False l) (MoreExps d es)) t j h g = (exps_up (MoreExps (False l) (MoreExps d es)) t j h.0 g, h.1)
+  last_up (MoreExps (Int l z) (MoreExps d es)) t j h g = (exps_up (MoreExps (Int l z) (MoreExps d es)) t j h.0 g, h.1)
+  last_up (MoreExps (Str l bytes) (MoreExps d es)) t j h g = (exps_up (MoreExps (Str l bytes) (MoreExps d es)) t j h.0 g, h.1)
+  last_up (MoreExps (Vararg l) (MoreExps d es)) t j h g = (exps_up (MoreExps (Vararg l) (MoreExps d es)) t j h.0 g, h.1)
+  last_up (MoreExps (Function l body) (MoreExps d es)) t j h g = (exps_up (MoreExps (Function l body) (MoreExps d es)) t j h.0 g, h.1)
+  last_up (MoreExps (Var l name) (MoreExps d es)) t j h g = (exps_up (MoreExps (Var l name) (MoreExps d es)) t j h.0 g, h.1)
+  last_up (MoreExps (Index l o key) (MoreExps d es)) t j h g = (exps_up (MoreExps (Index l o key) (MoreExps d es)) t j h.0 g, h.1)
+  last_up (MoreExps (Unary l op x) (MoreExps d es)) t j h g = (exps_up (MoreExps (Unary l op x) (MoreExps d es)) t j h.0 g, h.1)
+  last_up (MoreExps (Binary l op x y) (MoreExps d es)) t j h g = (exps_up (MoreExps (Binary l op x y) (MoreExps d es)) t j h.0 g, h.1)
+  last_up (MoreExps (And l x y) (MoreExps d es)) t j h g = (exps_up (MoreExps (And l x y) (MoreExps d es)) t j h.0 g, h.1)
+  last_up (MoreExps (Or l x y) (MoreExps d es)) t j h g = (exps_up (MoreExps (Or l x y) (MoreExps d es)) t j h.0 g, h.1)
+  last_up (MoreExps (Paren l x) (MoreExps d es)) t j h g = (exps_up (MoreExps (Paren l x) (MoreExps d es)) t j h.0 g, h.1)
+  last_up (MoreExps (Table l fs) (MoreExps d es)) t j h g = (exps_up (MoreExps (Table l fs) (MoreExps d es)) t j h.0 g, h.1)
+  last_up (MoreExps (Call l f args) (MoreExps d es)) t j h g = (exps_up (MoreExps (Call l f args) (MoreExps d es)) t j h.0 g, h.1)
+  last_up (MoreExps (Method l o name args) (MoreExps d es)) t j h g = (exps_up (MoreExps (Method l o name args) (MoreExps d es)) t j h.0 g, h.1)
 
   pub return_up : (es : Exps) (closing : Bool) (t j : ℕ) → ReturnIsPlaced low es closing t j → InExps source p es j → ReturnIsPlaced high es closing t j
   return_up es closing t j h g = (h.0, last_up es t j h.1 g)

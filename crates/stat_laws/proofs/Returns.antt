@@ -1,29 +1,27 @@
 -- Leaving a function with values: `return`, and the end of its block.
-use Rattle.std.proofs.Common.{◌≡◌, ℕ, zero, suc, ◌+◌, ◌-◌, ◌<◌, ◌≤◌, ◌^◌, max, Bool, true, false, cond, List, [], ◌∷◌, ◌++◌, length, drop, take, Option, Some, None, refl, sym, ap, ap₂, subst, ◌∙◌, arith, append_assoc, length-append}
-use borrow.Author.Tests.{le-leb, lt-ltb}
-use Rattle.std.specs.Prelude.{nat_lt, eqb, ◌==◌}
+use Rattle.std.proofs.Common.{◌≡◌, ℕ, zero, suc, ◌+◌, ◌-◌, ◌<◌, ◌≤◌, ◌^◌, max, Bool, true, false, cond, List, [], ◌∷◌, ◌++◌, length, drop, Some, None, refl, sym, ap, ap₂, subst, ◌∙◌, arith, append_assoc, length-append}
+use borrow.Author.Tests.{le-leb}
+use Rattle.std.specs.Prelude.{◌==◌}
 use Rattle.int_core.specs.Value.{Value, known, nil, nth, range}
 use Rattle.int_core.specs.Ask.{leaves, returns, Captured, held_below, gone_from, shared_by}
-use Rattle.tree_core.specs.Tree.{Body, Block, Falls, Returns, Stats, EndStats, Exp, Nil, True, False, Int, Str, Vararg, Function, Var, Index, Call, Method, Unary, Binary, And, Or, Paren, Table, Exps, EndExps, MoreExps}
+use Rattle.tree_core.specs.Tree.{Body, Block, Falls, Returns, Stats, EndStats, Exp, Nil, True, False, Int, Str, Vararg, Function, Var, Index, Call, Method, Unary, Binary, And, Or, Paren, Table, Exps, EndExps, MoreExps, MoreStats}
 use Rattle.tree_activation.specs.Work.{complete, collect, evaluate, callee_of, method_of, for_return, finish, leave_scope, run, Work, Pending, Passed, returns_list, Activation, State}
 use Rattle.tree_activation.specs.Work as tree
-use Rattle.tree_activation.specs.Asking.{go}
 use Rattle.tree_activation.specs.Activation.{step}
 use Rattle.tree_activation.specs.Statements.{begins_return}
 use Rattle.code_core.specs.declared.opcode.Opcode.TheVariants.{OpSelf, TailCall, Return}
-use Rattle.code_core.specs.Instruction.{abc, a_of, b_of}
+use Rattle.code_core.specs.Instruction.{abc}
 use Rattle.code_core.specs.Check.{at}
 use Rattle.code_core.specs.declared.proto.Const.{Const}
 use Rattle.machine_core.specs.Moves.{line_of}
 use Rattle.code_core.proofs.FieldLemmas.{opcode_of-abc, a_of-abc, b_of-abc}
-use Rattle.machine_core.specs.World as world
 use Rattle.machine_core.specs.Text as text
 use Rattle.machine_core.specs.Text.{read_registers, list_end, behind}
 use Rattle.machine_core.specs.InstructionRows as rows
 use Rattle.machine_core.specs.InstructionRows.{read_values, counted}
 use Rattle.machine_core.specs.Talk as code
 use Rattle.machine_core.specs.Talk.{talk, talk_step, says_so, before, amid}
-use Rattle.machine_join.proofs.Lists.{append_nil, eq_not, lt_not}
+use Rattle.machine_join.proofs.Lists.{eq_not, lt_not}
 use Rattle.code_of.specs.Coded.{Coded, with_abc}
 use Rattle.code_of.specs.Expressions.{made_by, count, is_last_open, ends_open, list_field, one_less, exp_code, exps_code}
 use Rattle.code_of.specs.Constants.{loads}
@@ -32,24 +30,24 @@ use Rattle.code_of.specs.Jumps.{Reach}
 use Rattle.code_of.specs.Levels.{level_after, levels_after, closing_after, closings_after, made_in_stats}
 use Rattle.code_of.specs.Parts.{values_last, return_code}
 use Rattle.code_of.specs.Sizes.{stats_size, block_size}
-use Rattle.code_of.specs.Statements.{stats_code, block_code}
+use Rattle.code_of.specs.Statements.{stats_code}
 use Rattle.exp_laws.proofs.Registers.{Rel, held_same}
 use Rattle.exp_laws.proofs.Talking.{Setting, Agree, go_left, both_ask, of_tree, of_code}
 use Rattle.exp_laws.proofs.Placing.{HasAt, has_front, has_back}
 use Rattle.exp_laws.proofs.Lists.{Holds, range_held}
 use Rattle.exp_laws.proofs.Calls.{read_values_step}
-use Rattle.exp_laws.proofs.Placed.{room_of, room_of_list, room_of_values, IsPlaced, ArePlaced}
+use Rattle.exp_laws.proofs.Placed.{room_of, room_of_list, IsPlaced, ArePlaced}
 use Rattle.exp_laws.proofs.ListForms.{Listed}
 use Rattle.exp_laws.proofs.Exps.{exps_same}
 use Rattle.exp_laws.proofs.Steps.{row_step, own_step}
 use Rattle.exp_laws.proofs.LastCalls.{call_last_same, method_last_same}
-use Rattle.stat_laws.proofs.Closing.{AllBelow}
-use Rattle.stat_laws.proofs.Standing.{numbers, Standing, GoesOn}
+use Rattle.stat_laws.proofs.Standing.{numbers, GoesOn}
 use Rattle.stat_laws.specs.Scoped.{LastIsPlaced, ReturnIsPlaced}
 use Rattle.stat_laws.proofs.Sizes.{stats_sized}
 use Rattle.stat_laws.proofs.Labels.{closed_after}
 use Rattle.stat_laws.proofs.Blocks.{closeds_after, known_after, added_none, StatsLaw}
 use Rattle.stat_laws.proofs.Forms.{room_any, BlockLaw, below_level}
+use Rattle.exp_laws.proofs.Returns.{return_list_same}
 
 held_zero : (held : List (ℕ × ℕ)) → held_below 0 held ≡ []
 held_zero [] = refl
@@ -71,7 +69,7 @@ no_numbers (p ∷ ps) e = absurd (cc)
 -- where no variable to be closed is in scope at the end of some statements
 pub known_all : (ss : Stats) (t : ℕ) (closing : Bool) (closed : List ℕ) → (closing ≡ false → closed ≡ []) → closings_after ss closing ≡ false → closeds_after ss t closed ≡ []
 known_all EndStats t closing closed h e = h e
-known_all (Rattle.tree_core.specs.Tree.MoreStats s ss) t closing closed h e = known_all ss (level_after s t) (closing_after s closing) (closed_after s t closed) (known_after s t closing closed h) e
+known_all (MoreStats s ss) t closing closed h e = known_all ss (level_after s t) (closing_after s closing) (closed_after s t closed) (known_after s t closing closed h) e
 
 last_some : (cs : List Const) (es : Exps) (t j line back : ℕ) → 1 ≤ length (values_last cs es t j line back)
 last_some cs es t j line back = let sum = length-append (exps_code cs es None t j line) (with_abc Return t (list_field 0 es) back line ∷ []) in omega (arith, sum)
@@ -134,23 +132,7 @@ behind_within from (suc m) size h = h
 nonzero : (n : ℕ) → (suc n == 0) ≡ false
 nonzero n = eq_not (suc n) 0 (λ e. absurd (omega (arith, e)))
 
-wanted_none : (b : Bool) → cond b None (one_less None) ≡ None
-wanted_none true = refl
-wanted_none false = refl
-
 module _ (S : Setting) where
-  open_some : (b : Bool) (e : Exp) → 1 ≤ room_of S.code.own.constants e (cond b 0 2)
-  open_some true e = room_any S e 0 (omega arith)
-  open_some false e = room_any S e 2 (omega arith)
-
-  -- a list has a register for each of its expressions
-  count_room : (es : Exps) (above : ℕ) → above + count es ≤ max above (room_of_list S.code.own.constants above es None)
-  count_room EndExps above = omega arith
-  count_room (MoreExps e es) above =
-      let some = open_some (is_last_open e es) e in
-      let rest = subst (λ w. above + 1 + count es ≤ max (above + 1) (room_of_list S.code.own.constants (above + 1) es w)) (sym (wanted_none (is_last_open e es))) (count_room es (above + 1)) in
-      omega (arith, some, rest)
-
   -- an activation that has left its scopes ends with values
   pub finishes_goes : (n line pc opened : ℕ) (vs env regs : List Value) (c : Captured) (k : List Work) (t : code.State) → Rel S.code.own.stack [] env c regs → line_of S.code pc ≡ cond S.lines (Some line) None
       → talk_step S.code t ≡ says_so (leaves (returns vs)) S.code (of_code S [] pc regs opened) c (λ x b d. amid text.trap [] b d)
@@ -160,13 +142,6 @@ module _ (S : Setting) where
       both_ask S n _ t (leaves (returns vs)) (leaves (returns vs)) line _ _ _ _ _ refl e refl refl lined
       (ap (λ h. shared_by h [] ++ (gone_from 0 c.held env ++ c.gone)) (held_zero c.held) ∙ ap (λ g. g ++ c.gone) (gone_zero c.held env ∙ held_same S.code.own.stack [] env c regs rel))
       (λ x fits. absurd fits.reply)
-
-  -- leaving with values, on both sides
-  leaves_goes : (n line pc opened : ℕ) (vs env regs : List Value) (c : Captured) (k : List Work) (t : code.State) → Rel S.code.own.stack [] env c regs → line_of S.code pc ≡ cond S.lines (Some line) None
-      → talk_step S.code t ≡ says_so (leaves (returns vs)) S.code (of_code S [] pc regs opened) c (λ x b d. amid text.trap [] b d)
-      → Agree S n (tree.at (leave_scope 0 line (known nil) (finish line (returns vs))) (of_tree S [] env c) k) t
-  leaves_goes n line pc opened vs env regs c k t rel lined e =
-      go_left S n _ (tree.at (finish line (returns vs)) (of_tree S [] [] (record { held = held_below 0 c.held; gone = gone_from 0 c.held env ++ c.gone })) k) _ refl (finishes_goes n line pc opened vs env regs c k t rel lined e)
 
   -- RETURN of so many registers
   pub return_step : (t m back pc opened : ℕ) (vs regs : List Value) (c : Captured) → at S.code pc ≡ Some (abc Return t (suc m) back false) → t < 2 ^ 8 → suc m < 2 ^ 8 → length vs ≡ m → t + m ≤ length regs → Holds t (length vs) vs regs
@@ -189,46 +164,12 @@ module _ (S : Setting) where
 
   module _ (back : ℕ) where
     -- the values of a list
-    list_returns : (es : Exps) (n t j line pc opened : ℕ) (env regs : List Value) (c : Captured) (k : List Work) → n ≤ S.bound → HasAt S pc (values_last S.code.own.constants es t j line back) → ends_open es ≡ false → ArePlaced S es t j
+    list_returns : (es : Exps) (n t j line pc opened : ℕ) (env regs : List Value) (c : Captured) (k : List Work) → n ≤ S.bound → HasAt S pc (values_last S.code.own.constants es t j line back) → ArePlaced S es t j
         → t + room_of_list S.code.own.constants 0 es None ≤ S.code.own.stack → count es + 1 < 2 ^ 8 → pc + length (values_last S.code.own.constants es t j line back) ≤ length S.code.own.code → length env ≡ t → Rel S.code.own.stack [] env c regs
         → Agree S n (tree.at (collect (for_return line) [] es) (of_tree S [] env c) k) (before (of_code S [] pc regs opened) c)
-    list_returns es n t j line pc opened env regs c k fewer has shut fine room few inside size rel =
-        exps_same S [] es (for_return line) None t 0 j line n pc opened [] env regs c k fewer tt
-        (subst (λ r. HasAt S pc (exps_code S.code.own.constants es None r j line)) (sym flat) (has_front S pc code last has)) tt (subst (λ u. ArePlaced S es u j) (sym size) fine)
-        (subst (λ r. pc + length (exps_code S.code.own.constants es None r j line) < length S.code.own.code) (sym flat) (omega (arith, inside, sum))) refl (λ i lt. absurd (omega arith)) (omega (arith, size)) (omega (arith, size, rel.fits)) room rel
-        (λ vs env1 regs1 c1 opened1 af listed.
-        by vs env1 regs1 c1 opened1 (subst (λ b. Listed S [] None b (0 + count es) (pc + length (exps_code S.code.own.constants es None (t + 0) j line)) t vs regs1 opened1) shut listed) (af.size ∙ size) af.rel)
-      where
-        code : List Coded
-        code = exps_code S.code.own.constants es None t j line
-
-        last : List Coded
-        last = with_abc Return t (list_field 0 es) back line ∷ []
-
-        flat : t + 0 ≡ t
-        flat = omega arith
-
-        sum : length (exps_code S.code.own.constants es None t j line ++ (with_abc Return t (list_field 0 es) back line ∷ [])) ≡ length (exps_code S.code.own.constants es None t j line) + 1
-        sum = length-append (exps_code S.code.own.constants es None t j line) (with_abc Return t (list_field 0 es) back line ∷ [])
-
-        field_is : list_field 0 es ≡ suc (count es)
-        field_is = (let one : 0 + count es + 1 ≡ suc (count es) = omega arith in ap (λ b. cond b 0 (0 + count es + 1)) shut ∙ one)
-
-        at_last : HasAt S (pc + length code) (with_abc Return t (suc (count es)) back line ∷ [])
-        at_last = subst (λ f. HasAt S (pc + length code) (with_abc Return t f back line ∷ [])) field_is (has_back S pc code last has)
-
-        placed_so : pc + length (exps_code S.code.own.constants es None (t + 0) j line) ≡ pc + length code
-        placed_so = ap (λ r. pc + length (exps_code S.code.own.constants es None r j line)) flat
-
-        by : (vs env1 regs1 : List Value) (c1 : Captured) (opened1 : ℕ) → (length vs ≡ 0 + count es) × Holds t (length vs) vs regs1 → length env1 ≡ t → Rel S.code.own.stack [] env1 c1 regs1
-            → Agree S n (tree.at (collect (for_return line) vs EndExps) (of_tree S [] env1 c1) k) (before (of_code S [] (pc + length (exps_code S.code.own.constants es None (t + 0) j line)) regs1 opened1) c1)
-        by vs env1 regs1 c1 opened1 h size1 rel1 =
-            let wide : length vs ≡ count es = (let s = h.0 in omega (arith, s)) in
-            let count_fits = count_room es 0 in
-            subst (λ q. Agree S n (tree.at (collect (for_return line) vs EndExps) (of_tree S [] env1 c1) k) (before (of_code S [] q regs1 opened1) c1)) (sym placed_so)
-            (go_left S n _ (tree.at (leave_scope 0 line (known nil) (finish line (returns vs))) (of_tree S [] env1 c1) []) _ refl
-            (leaves_goes n line (pc + length code) opened1 vs env1 regs1 c1 [] _ rel1 at_last.1.0
-            (return_step t (count es) back (pc + length code) opened1 vs regs1 c1 at_last.0 (omega (arith, size1, rel1.fits, S.small)) (omega (arith, few)) wide (omega (arith, size1, rel1.fits, rel1.room, count_fits, room)) h.1)))
+    list_returns es n t j line pc opened env regs c k fewer has placed room few inside size rel =
+        let sum = length-append (exps_code S.code.own.constants es None t j line) (with_abc Return t (list_field 0 es) back line ∷ []) in
+        return_list_same S [] es line t j back n pc opened env regs c k fewer has (subst (λ u. ArePlaced S es u j) (sym size) placed) (omega (arith, inside, sum)) few (omega (arith, size)) (omega (arith, size, rel.fits)) room rel
 
     -- `return`, where no variable to be closed is in scope
     return_goes : (es : Exps) (n t j line pc opened : ℕ) (env regs : List Value) (c : Captured) (k : List Work) (s : tree.State) → step s ≡ begins_return line es (of_tree S [] env c) k → n ≤ S.bound
@@ -266,71 +207,71 @@ module _ (S : Setting) where
         (method_last_same S [] o name.text es l t j n pc opened env regs c k fewer (subst (HasAt S pc) (joined (one ∷ [])) front) (subst (λ u. IsPlaced S o u j) (sym size) h.0) h.1.0 (subst (λ u. ArePlaced S es u (j + made_by o)) (sym size) h.1.1.0)
         (omega (arith, inside, a, b, x, d, e, y)) (omega (arith, size)) h.1.1.1.0 h.1.1.1.1.0 h.1.1.1.1.1 rel)
     return_goes EndExps n t j line pc opened env regs c k s st fewer has h inside size rel =
-        go_left S n s (tree.at (collect (for_return line) [] EndExps) (of_tree S [] env c) k) _ st (list_returns EndExps n t j line pc opened env regs c k fewer has h.0 h.1.0 h.1.1.0 h.1.1.1 inside size rel)
+        go_left S n s (tree.at (collect (for_return line) [] EndExps) (of_tree S [] env c) k) _ st (list_returns EndExps n t j line pc opened env regs c k fewer has h.0 h.1.0 h.1.1 inside size rel)
     return_goes (MoreExps (Nil l) EndExps) n t j line pc opened env regs c k s st fewer has h inside size rel =
-        go_left S n s (tree.at (collect (for_return line) [] (MoreExps (Nil l) EndExps)) (of_tree S [] env c) k) _ st (list_returns (MoreExps (Nil l) EndExps) n t j line pc opened env regs c k fewer has h.0 h.1.0 h.1.1.0 h.1.1.1 inside size rel)
+        go_left S n s (tree.at (collect (for_return line) [] (MoreExps (Nil l) EndExps)) (of_tree S [] env c) k) _ st (list_returns (MoreExps (Nil l) EndExps) n t j line pc opened env regs c k fewer has h.0 h.1.0 h.1.1 inside size rel)
     return_goes (MoreExps (True l) EndExps) n t j line pc opened env regs c k s st fewer has h inside size rel =
-        go_left S n s (tree.at (collect (for_return line) [] (MoreExps (True l) EndExps)) (of_tree S [] env c) k) _ st (list_returns (MoreExps (True l) EndExps) n t j line pc opened env regs c k fewer has h.0 h.1.0 h.1.1.0 h.1.1.1 inside size rel)
+        go_left S n s (tree.at (collect (for_return line) [] (MoreExps (True l) EndExps)) (of_tree S [] env c) k) _ st (list_returns (MoreExps (True l) EndExps) n t j line pc opened env regs c k fewer has h.0 h.1.0 h.1.1 inside size rel)
     return_goes (MoreExps (False l) EndExps) n t j line pc opened env regs c k s st fewer has h inside size rel =
-        go_left S n s (tree.at (collect (for_return line) [] (MoreExps (False l) EndExps)) (of_tree S [] env c) k) _ st (list_returns (MoreExps (False l) EndExps) n t j line pc opened env regs c k fewer has h.0 h.1.0 h.1.1.0 h.1.1.1 inside size rel)
+        go_left S n s (tree.at (collect (for_return line) [] (MoreExps (False l) EndExps)) (of_tree S [] env c) k) _ st (list_returns (MoreExps (False l) EndExps) n t j line pc opened env regs c k fewer has h.0 h.1.0 h.1.1 inside size rel)
     return_goes (MoreExps (Int l z) EndExps) n t j line pc opened env regs c k s st fewer has h inside size rel =
-        go_left S n s (tree.at (collect (for_return line) [] (MoreExps (Int l z) EndExps)) (of_tree S [] env c) k) _ st (list_returns (MoreExps (Int l z) EndExps) n t j line pc opened env regs c k fewer has h.0 h.1.0 h.1.1.0 h.1.1.1 inside size rel)
+        go_left S n s (tree.at (collect (for_return line) [] (MoreExps (Int l z) EndExps)) (of_tree S [] env c) k) _ st (list_returns (MoreExps (Int l z) EndExps) n t j line pc opened env regs c k fewer has h.0 h.1.0 h.1.1 inside size rel)
     return_goes (MoreExps (Str l bytes) EndExps) n t j line pc opened env regs c k s st fewer has h inside size rel =
-        go_left S n s (tree.at (collect (for_return line) [] (MoreExps (Str l bytes) EndExps)) (of_tree S [] env c) k) _ st (list_returns (MoreExps (Str l bytes) EndExps) n t j line pc opened env regs c k fewer has h.0 h.1.0 h.1.1.0 h.1.1.1 inside size rel)
+        go_left S n s (tree.at (collect (for_return line) [] (MoreExps (Str l bytes) EndExps)) (of_tree S [] env c) k) _ st (list_returns (MoreExps (Str l bytes) EndExps) n t j line pc opened env regs c k fewer has h.0 h.1.0 h.1.1 inside size rel)
     return_goes (MoreExps (Vararg l) EndExps) n t j line pc opened env regs c k s st fewer has h inside size rel =
-        go_left S n s (tree.at (collect (for_return line) [] (MoreExps (Vararg l) EndExps)) (of_tree S [] env c) k) _ st (list_returns (MoreExps (Vararg l) EndExps) n t j line pc opened env regs c k fewer has h.0 h.1.0 h.1.1.0 h.1.1.1 inside size rel)
+        go_left S n s (tree.at (collect (for_return line) [] (MoreExps (Vararg l) EndExps)) (of_tree S [] env c) k) _ st (list_returns (MoreExps (Vararg l) EndExps) n t j line pc opened env regs c k fewer has h.0 h.1.0 h.1.1 inside size rel)
     return_goes (MoreExps (Function l body) EndExps) n t j line pc opened env regs c k s st fewer has h inside size rel =
-        go_left S n s (tree.at (collect (for_return line) [] (MoreExps (Function l body) EndExps)) (of_tree S [] env c) k) _ st (list_returns (MoreExps (Function l body) EndExps) n t j line pc opened env regs c k fewer has h.0 h.1.0 h.1.1.0 h.1.1.1 inside size rel)
+        go_left S n s (tree.at (collect (for_return line) [] (MoreExps (Function l body) EndExps)) (of_tree S [] env c) k) _ st (list_returns (MoreExps (Function l body) EndExps) n t j line pc opened env regs c k fewer has h.0 h.1.0 h.1.1 inside size rel)
     return_goes (MoreExps (Var l name) EndExps) n t j line pc opened env regs c k s st fewer has h inside size rel =
-        go_left S n s (tree.at (collect (for_return line) [] (MoreExps (Var l name) EndExps)) (of_tree S [] env c) k) _ st (list_returns (MoreExps (Var l name) EndExps) n t j line pc opened env regs c k fewer has h.0 h.1.0 h.1.1.0 h.1.1.1 inside size rel)
+        go_left S n s (tree.at (collect (for_return line) [] (MoreExps (Var l name) EndExps)) (of_tree S [] env c) k) _ st (list_returns (MoreExps (Var l name) EndExps) n t j line pc opened env regs c k fewer has h.0 h.1.0 h.1.1 inside size rel)
     return_goes (MoreExps (Index l o key) EndExps) n t j line pc opened env regs c k s st fewer has h inside size rel =
-        go_left S n s (tree.at (collect (for_return line) [] (MoreExps (Index l o key) EndExps)) (of_tree S [] env c) k) _ st (list_returns (MoreExps (Index l o key) EndExps) n t j line pc opened env regs c k fewer has h.0 h.1.0 h.1.1.0 h.1.1.1 inside size rel)
+        go_left S n s (tree.at (collect (for_return line) [] (MoreExps (Index l o key) EndExps)) (of_tree S [] env c) k) _ st (list_returns (MoreExps (Index l o key) EndExps) n t j line pc opened env regs c k fewer has h.0 h.1.0 h.1.1 inside size rel)
     return_goes (MoreExps (Unary l op x) EndExps) n t j line pc opened env regs c k s st fewer has h inside size rel =
-        go_left S n s (tree.at (collect (for_return line) [] (MoreExps (Unary l op x) EndExps)) (of_tree S [] env c) k) _ st (list_returns (MoreExps (Unary l op x) EndExps) n t j line pc opened env regs c k fewer has h.0 h.1.0 h.1.1.0 h.1.1.1 inside size rel)
+        go_left S n s (tree.at (collect (for_return line) [] (MoreExps (Unary l op x) EndExps)) (of_tree S [] env c) k) _ st (list_returns (MoreExps (Unary l op x) EndExps) n t j line pc opened env regs c k fewer has h.0 h.1.0 h.1.1 inside size rel)
     return_goes (MoreExps (Binary l op x y) EndExps) n t j line pc opened env regs c k s st fewer has h inside size rel =
-        go_left S n s (tree.at (collect (for_return line) [] (MoreExps (Binary l op x y) EndExps)) (of_tree S [] env c) k) _ st (list_returns (MoreExps (Binary l op x y) EndExps) n t j line pc opened env regs c k fewer has h.0 h.1.0 h.1.1.0 h.1.1.1 inside size rel)
+        go_left S n s (tree.at (collect (for_return line) [] (MoreExps (Binary l op x y) EndExps)) (of_tree S [] env c) k) _ st (list_returns (MoreExps (Binary l op x y) EndExps) n t j line pc opened env regs c k fewer has h.0 h.1.0 h.1.1 inside size rel)
     return_goes (MoreExps (And l x y) EndExps) n t j line pc opened env regs c k s st fewer has h inside size rel =
-        go_left S n s (tree.at (collect (for_return line) [] (MoreExps (And l x y) EndExps)) (of_tree S [] env c) k) _ st (list_returns (MoreExps (And l x y) EndExps) n t j line pc opened env regs c k fewer has h.0 h.1.0 h.1.1.0 h.1.1.1 inside size rel)
+        go_left S n s (tree.at (collect (for_return line) [] (MoreExps (And l x y) EndExps)) (of_tree S [] env c) k) _ st (list_returns (MoreExps (And l x y) EndExps) n t j line pc opened env regs c k fewer has h.0 h.1.0 h.1.1 inside size rel)
     return_goes (MoreExps (Or l x y) EndExps) n t j line pc opened env regs c k s st fewer has h inside size rel =
-        go_left S n s (tree.at (collect (for_return line) [] (MoreExps (Or l x y) EndExps)) (of_tree S [] env c) k) _ st (list_returns (MoreExps (Or l x y) EndExps) n t j line pc opened env regs c k fewer has h.0 h.1.0 h.1.1.0 h.1.1.1 inside size rel)
+        go_left S n s (tree.at (collect (for_return line) [] (MoreExps (Or l x y) EndExps)) (of_tree S [] env c) k) _ st (list_returns (MoreExps (Or l x y) EndExps) n t j line pc opened env regs c k fewer has h.0 h.1.0 h.1.1 inside size rel)
     return_goes (MoreExps (Paren l x) EndExps) n t j line pc opened env regs c k s st fewer has h inside size rel =
-        go_left S n s (tree.at (collect (for_return line) [] (MoreExps (Paren l x) EndExps)) (of_tree S [] env c) k) _ st (list_returns (MoreExps (Paren l x) EndExps) n t j line pc opened env regs c k fewer has h.0 h.1.0 h.1.1.0 h.1.1.1 inside size rel)
+        go_left S n s (tree.at (collect (for_return line) [] (MoreExps (Paren l x) EndExps)) (of_tree S [] env c) k) _ st (list_returns (MoreExps (Paren l x) EndExps) n t j line pc opened env regs c k fewer has h.0 h.1.0 h.1.1 inside size rel)
     return_goes (MoreExps (Table l fs) EndExps) n t j line pc opened env regs c k s st fewer has h inside size rel =
-        go_left S n s (tree.at (collect (for_return line) [] (MoreExps (Table l fs) EndExps)) (of_tree S [] env c) k) _ st (list_returns (MoreExps (Table l fs) EndExps) n t j line pc opened env regs c k fewer has h.0 h.1.0 h.1.1.0 h.1.1.1 inside size rel)
+        go_left S n s (tree.at (collect (for_return line) [] (MoreExps (Table l fs) EndExps)) (of_tree S [] env c) k) _ st (list_returns (MoreExps (Table l fs) EndExps) n t j line pc opened env regs c k fewer has h.0 h.1.0 h.1.1 inside size rel)
     return_goes (MoreExps (Nil l) (MoreExps d es)) n t j line pc opened env regs c k s st fewer has h inside size rel =
-        go_left S n s (tree.at (collect (for_return line) [] (MoreExps (Nil l) (MoreExps d es))) (of_tree S [] env c) k) _ st (list_returns (MoreExps (Nil l) (MoreExps d es)) n t j line pc opened env regs c k fewer has h.0 h.1.0 h.1.1.0 h.1.1.1 inside size rel)
+        go_left S n s (tree.at (collect (for_return line) [] (MoreExps (Nil l) (MoreExps d es))) (of_tree S [] env c) k) _ st (list_returns (MoreExps (Nil l) (MoreExps d es)) n t j line pc opened env regs c k fewer has h.0 h.1.0 h.1.1 inside size rel)
     return_goes (MoreExps (True l) (MoreExps d es)) n t j line pc opened env regs c k s st fewer has h inside size rel =
-        go_left S n s (tree.at (collect (for_return line) [] (MoreExps (True l) (MoreExps d es))) (of_tree S [] env c) k) _ st (list_returns (MoreExps (True l) (MoreExps d es)) n t j line pc opened env regs c k fewer has h.0 h.1.0 h.1.1.0 h.1.1.1 inside size rel)
+        go_left S n s (tree.at (collect (for_return line) [] (MoreExps (True l) (MoreExps d es))) (of_tree S [] env c) k) _ st (list_returns (MoreExps (True l) (MoreExps d es)) n t j line pc opened env regs c k fewer has h.0 h.1.0 h.1.1 inside size rel)
     return_goes (MoreExps (False l) (MoreExps d es)) n t j line pc opened env regs c k s st fewer has h inside size rel =
-        go_left S n s (tree.at (collect (for_return line) [] (MoreExps (False l) (MoreExps d es))) (of_tree S [] env c) k) _ st (list_returns (MoreExps (False l) (MoreExps d es)) n t j line pc opened env regs c k fewer has h.0 h.1.0 h.1.1.0 h.1.1.1 inside size rel)
+        go_left S n s (tree.at (collect (for_return line) [] (MoreExps (False l) (MoreExps d es))) (of_tree S [] env c) k) _ st (list_returns (MoreExps (False l) (MoreExps d es)) n t j line pc opened env regs c k fewer has h.0 h.1.0 h.1.1 inside size rel)
     return_goes (MoreExps (Int l z) (MoreExps d es)) n t j line pc opened env regs c k s st fewer has h inside size rel =
-        go_left S n s (tree.at (collect (for_return line) [] (MoreExps (Int l z) (MoreExps d es))) (of_tree S [] env c) k) _ st (list_returns (MoreExps (Int l z) (MoreExps d es)) n t j line pc opened env regs c k fewer has h.0 h.1.0 h.1.1.0 h.1.1.1 inside size rel)
+        go_left S n s (tree.at (collect (for_return line) [] (MoreExps (Int l z) (MoreExps d es))) (of_tree S [] env c) k) _ st (list_returns (MoreExps (Int l z) (MoreExps d es)) n t j line pc opened env regs c k fewer has h.0 h.1.0 h.1.1 inside size rel)
     return_goes (MoreExps (Str l bytes) (MoreExps d es)) n t j line pc opened env regs c k s st fewer has h inside size rel =
-        go_left S n s (tree.at (collect (for_return line) [] (MoreExps (Str l bytes) (MoreExps d es))) (of_tree S [] env c) k) _ st (list_returns (MoreExps (Str l bytes) (MoreExps d es)) n t j line pc opened env regs c k fewer has h.0 h.1.0 h.1.1.0 h.1.1.1 inside size rel)
+        go_left S n s (tree.at (collect (for_return line) [] (MoreExps (Str l bytes) (MoreExps d es))) (of_tree S [] env c) k) _ st (list_returns (MoreExps (Str l bytes) (MoreExps d es)) n t j line pc opened env regs c k fewer has h.0 h.1.0 h.1.1 inside size rel)
     return_goes (MoreExps (Vararg l) (MoreExps d es)) n t j line pc opened env regs c k s st fewer has h inside size rel =
-        go_left S n s (tree.at (collect (for_return line) [] (MoreExps (Vararg l) (MoreExps d es))) (of_tree S [] env c) k) _ st (list_returns (MoreExps (Vararg l) (MoreExps d es)) n t j line pc opened env regs c k fewer has h.0 h.1.0 h.1.1.0 h.1.1.1 inside size rel)
+        go_left S n s (tree.at (collect (for_return line) [] (MoreExps (Vararg l) (MoreExps d es))) (of_tree S [] env c) k) _ st (list_returns (MoreExps (Vararg l) (MoreExps d es)) n t j line pc opened env regs c k fewer has h.0 h.1.0 h.1.1 inside size rel)
     return_goes (MoreExps (Function l body) (MoreExps d es)) n t j line pc opened env regs c k s st fewer has h inside size rel =
-        go_left S n s (tree.at (collect (for_return line) [] (MoreExps (Function l body) (MoreExps d es))) (of_tree S [] env c) k) _ st (list_returns (MoreExps (Function l body) (MoreExps d es)) n t j line pc opened env regs c k fewer has h.0 h.1.0 h.1.1.0 h.1.1.1 inside size rel)
+        go_left S n s (tree.at (collect (for_return line) [] (MoreExps (Function l body) (MoreExps d es))) (of_tree S [] env c) k) _ st (list_returns (MoreExps (Function l body) (MoreExps d es)) n t j line pc opened env regs c k fewer has h.0 h.1.0 h.1.1 inside size rel)
     return_goes (MoreExps (Var l name) (MoreExps d es)) n t j line pc opened env regs c k s st fewer has h inside size rel =
-        go_left S n s (tree.at (collect (for_return line) [] (MoreExps (Var l name) (MoreExps d es))) (of_tree S [] env c) k) _ st (list_returns (MoreExps (Var l name) (MoreExps d es)) n t j line pc opened env regs c k fewer has h.0 h.1.0 h.1.1.0 h.1.1.1 inside size rel)
+        go_left S n s (tree.at (collect (for_return line) [] (MoreExps (Var l name) (MoreExps d es))) (of_tree S [] env c) k) _ st (list_returns (MoreExps (Var l name) (MoreExps d es)) n t j line pc opened env regs c k fewer has h.0 h.1.0 h.1.1 inside size rel)
     return_goes (MoreExps (Index l o key) (MoreExps d es)) n t j line pc opened env regs c k s st fewer has h inside size rel =
-        go_left S n s (tree.at (collect (for_return line) [] (MoreExps (Index l o key) (MoreExps d es))) (of_tree S [] env c) k) _ st (list_returns (MoreExps (Index l o key) (MoreExps d es)) n t j line pc opened env regs c k fewer has h.0 h.1.0 h.1.1.0 h.1.1.1 inside size rel)
+        go_left S n s (tree.at (collect (for_return line) [] (MoreExps (Index l o key) (MoreExps d es))) (of_tree S [] env c) k) _ st (list_returns (MoreExps (Index l o key) (MoreExps d es)) n t j line pc opened env regs c k fewer has h.0 h.1.0 h.1.1 inside size rel)
     return_goes (MoreExps (Unary l op x) (MoreExps d es)) n t j line pc opened env regs c k s st fewer has h inside size rel =
-        go_left S n s (tree.at (collect (for_return line) [] (MoreExps (Unary l op x) (MoreExps d es))) (of_tree S [] env c) k) _ st (list_returns (MoreExps (Unary l op x) (MoreExps d es)) n t j line pc opened env regs c k fewer has h.0 h.1.0 h.1.1.0 h.1.1.1 inside size rel)
+        go_left S n s (tree.at (collect (for_return line) [] (MoreExps (Unary l op x) (MoreExps d es))) (of_tree S [] env c) k) _ st (list_returns (MoreExps (Unary l op x) (MoreExps d es)) n t j line pc opened env regs c k fewer has h.0 h.1.0 h.1.1 inside size rel)
     return_goes (MoreExps (Binary l op x y) (MoreExps d es)) n t j line pc opened env regs c k s st fewer has h inside size rel =
-        go_left S n s (tree.at (collect (for_return line) [] (MoreExps (Binary l op x y) (MoreExps d es))) (of_tree S [] env c) k) _ st (list_returns (MoreExps (Binary l op x y) (MoreExps d es)) n t j line pc opened env regs c k fewer has h.0 h.1.0 h.1.1.0 h.1.1.1 inside size rel)
+        go_left S n s (tree.at (collect (for_return line) [] (MoreExps (Binary l op x y) (MoreExps d es))) (of_tree S [] env c) k) _ st (list_returns (MoreExps (Binary l op x y) (MoreExps d es)) n t j line pc opened env regs c k fewer has h.0 h.1.0 h.1.1 inside size rel)
     return_goes (MoreExps (And l x y) (MoreExps d es)) n t j line pc opened env regs c k s st fewer has h inside size rel =
-        go_left S n s (tree.at (collect (for_return line) [] (MoreExps (And l x y) (MoreExps d es))) (of_tree S [] env c) k) _ st (list_returns (MoreExps (And l x y) (MoreExps d es)) n t j line pc opened env regs c k fewer has h.0 h.1.0 h.1.1.0 h.1.1.1 inside size rel)
+        go_left S n s (tree.at (collect (for_return line) [] (MoreExps (And l x y) (MoreExps d es))) (of_tree S [] env c) k) _ st (list_returns (MoreExps (And l x y) (MoreExps d es)) n t j line pc opened env regs c k fewer has h.0 h.1.0 h.1.1 inside size rel)
     return_goes (MoreExps (Or l x y) (MoreExps d es)) n t j line pc opened env regs c k s st fewer has h inside size rel =
-        go_left S n s (tree.at (collect (for_return line) [] (MoreExps (Or l x y) (MoreExps d es))) (of_tree S [] env c) k) _ st (list_returns (MoreExps (Or l x y) (MoreExps d es)) n t j line pc opened env regs c k fewer has h.0 h.1.0 h.1.1.0 h.1.1.1 inside size rel)
+        go_left S n s (tree.at (collect (for_return line) [] (MoreExps (Or l x y) (MoreExps d es))) (of_tree S [] env c) k) _ st (list_returns (MoreExps (Or l x y) (MoreExps d es)) n t j line pc opened env regs c k fewer has h.0 h.1.0 h.1.1 inside size rel)
     return_goes (MoreExps (Paren l x) (MoreExps d es)) n t j line pc opened env regs c k s st fewer has h inside size rel =
-        go_left S n s (tree.at (collect (for_return line) [] (MoreExps (Paren l x) (MoreExps d es))) (of_tree S [] env c) k) _ st (list_returns (MoreExps (Paren l x) (MoreExps d es)) n t j line pc opened env regs c k fewer has h.0 h.1.0 h.1.1.0 h.1.1.1 inside size rel)
+        go_left S n s (tree.at (collect (for_return line) [] (MoreExps (Paren l x) (MoreExps d es))) (of_tree S [] env c) k) _ st (list_returns (MoreExps (Paren l x) (MoreExps d es)) n t j line pc opened env regs c k fewer has h.0 h.1.0 h.1.1 inside size rel)
     return_goes (MoreExps (Table l fs) (MoreExps d es)) n t j line pc opened env regs c k s st fewer has h inside size rel =
-        go_left S n s (tree.at (collect (for_return line) [] (MoreExps (Table l fs) (MoreExps d es))) (of_tree S [] env c) k) _ st (list_returns (MoreExps (Table l fs) (MoreExps d es)) n t j line pc opened env regs c k fewer has h.0 h.1.0 h.1.1.0 h.1.1.1 inside size rel)
+        go_left S n s (tree.at (collect (for_return line) [] (MoreExps (Table l fs) (MoreExps d es))) (of_tree S [] env c) k) _ st (list_returns (MoreExps (Table l fs) (MoreExps d es)) n t j line pc opened env regs c k fewer has h.0 h.1.0 h.1.1 inside size rel)
     return_goes (MoreExps (Call l f args) (MoreExps d es)) n t j line pc opened env regs c k s st fewer has h inside size rel =
-        go_left S n s (tree.at (collect (for_return line) [] (MoreExps (Call l f args) (MoreExps d es))) (of_tree S [] env c) k) _ st (list_returns (MoreExps (Call l f args) (MoreExps d es)) n t j line pc opened env regs c k fewer has h.0 h.1.0 h.1.1.0 h.1.1.1 inside size rel)
+        go_left S n s (tree.at (collect (for_return line) [] (MoreExps (Call l f args) (MoreExps d es))) (of_tree S [] env c) k) _ st (list_returns (MoreExps (Call l f args) (MoreExps d es)) n t j line pc opened env regs c k fewer has h.0 h.1.0 h.1.1 inside size rel)
     return_goes (MoreExps (Method l o name args) (MoreExps d es)) n t j line pc opened env regs c k s st fewer has h inside size rel =
-        go_left S n s (tree.at (collect (for_return line) [] (MoreExps (Method l o name args) (MoreExps d es))) (of_tree S [] env c) k) _ st (list_returns (MoreExps (Method l o name args) (MoreExps d es)) n t j line pc opened env regs c k fewer has h.0 h.1.0 h.1.1.0 h.1.1.1 inside size rel)
+        go_left S n s (tree.at (collect (for_return line) [] (MoreExps (Method l o name args) (MoreExps d es))) (of_tree S [] env c) k) _ st (list_returns (MoreExps (Method l o name args) (MoreExps d es)) n t j line pc opened env regs c k fewer has h.0 h.1.0 h.1.1 inside size rel)
 
     -- the end of statements, where `return` stands
     pub return_ends : (ss : Stats) (es : Exps) (line n : ℕ) (closing : Bool) (closed : List ℕ) (outer t j pc : ℕ) (reach : Reach) (k : List Work) → n ≤ S.bound

@@ -1,5 +1,5 @@
 -- The code of a statement has as many instructions as its size says, wherever it stands and its jumps lead.
-use Rattle.std.proofs.Common.{◌≡◌, ℕ, zero, suc, ◌+◌, Bool, true, false, List, [], ◌∷◌, ◌++◌, length, Option, Some, None, refl, ap, ◌∙◌, arith, length-append}
+use Rattle.std.proofs.Common.{◌≡◌, ℕ, ◌+◌, Bool, true, false, List, [], ◌∷◌, ◌++◌, length, Option, Some, None, refl, ap, ◌∙◌, arith, length-append}
 use Rattle.tree_core.specs.Tree.{Block, Falls, Returns, Stats, EndStats, MoreStats, Stat, Empty, Local, LocalFunction, Assign, CallStat, Do, While, Repeat, If, IfElse, NumFor, NumForStep, GenFor, Label, Goto, Break, Arms, EndArms, MoreArms}
 use Rattle.tree_activation.specs.Activation.{line_of_end}
 use Rattle.code_core.specs.declared.opcode.Opcode.TheVariants.{Close, Test, ForLoop, ForPrep, TForPrep, TForCall, TForLoop}
@@ -12,6 +12,7 @@ use Rattle.code_of.specs.Levels.{made_by_stat, made_in_arms, made_in_stats, made
 use Rattle.code_of.specs.Parts.{marks_code, close_code, while_code, repeat_code, past_size, past, arm_code, counting_code, iterating_code, return_code, bounds_code, steps_code}
 use Rattle.code_of.specs.Sizes.{stat_size, arms_size, stats_size, block_size, open_size}
 use Rattle.code_of.specs.Statements.{in_loop, passed_after, labels_ahead, stat_code, arms_code, stats_code, block_code, open_code}
+use Rattle.std.specs.Prelude.{cond, nat_eq}
 
 -- the forms of statements, where their parts have these sizes
 
@@ -63,9 +64,9 @@ leads_sized None pc line = refl
 leads_sized (Some x) pc line = refl
 
 pub close_sized : (before after line other : ℕ) → length (close_code before after line) ≡ length (close_code before after other)
-close_sized before after line other = by (Rattle.std.specs.Prelude.nat_eq before after)
+close_sized before after line other = by (nat_eq before after)
   where
-    by : (b : Bool) → length (Rattle.std.specs.Prelude.cond b [] (with_abc Close before 0 0 line ∷ [])) ≡ length (Rattle.std.specs.Prelude.cond b [] (with_abc Close before 0 0 other ∷ []))
+    by : (b : Bool) → length (cond b [] (with_abc Close before 0 0 line ∷ [])) ≡ length (cond b [] (with_abc Close before 0 0 other ∷ []))
     by true = refl
     by false = refl
 
@@ -125,7 +126,7 @@ module _ (cs : List Const) (back : ℕ) where
         let others = arms_size cs back arms (length otherwise) closing t k in
         let behind = inner + block_size cs back block closing t t (j + made_by e) + past_size (others + length otherwise) in
         let a = arm_sized test (block_code cs back block closing t t (j + made_by e) inner reach) (arms_code cs back arms otherwise closing t k behind line reach) t line _ _
-            (block_sized block closing t t (j + made_by e) inner reach) (arms_sized arms otherwise closing t k behind line reach) in
+        (block_sized block closing t t (j + made_by e) inner reach) (arms_sized arms otherwise closing t k behind line reach) in
         omega (arith, a)
 
     pub stats_sized : (ss : Stats) (falls closing : Bool) (outer t j pc : ℕ) (passed : List Visible) (reach : Reach)

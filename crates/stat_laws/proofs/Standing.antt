@@ -1,34 +1,32 @@
 -- What holds of a tree and its code between two statements, and how a jump leads from one such place to another.
-use Rattle.std.proofs.Common.{◌≡◌, ℕ, zero, suc, ◌+◌, ◌-◌, ◌*◌, ◌<◌, ◌≤◌, ◌^◌, ℤ, pos, negsuc, ◌+ℤ◌, ◌-ℤ◌, Bool, true, false, cond, List, [], ◌∷◌, ◌++◌, length, map, Option, Some, None, refl, sym, ap, ap₂, subst, ◌∙◌, arith, append_assoc}
-use borrow.Author.Tests.{le-leb}
+use Rattle.std.proofs.Common.{◌≡◌, ℕ, zero, suc, ◌+◌, ◌-◌, ◌<◌, ◌≤◌, pos, negsuc, ◌+ℤ◌, ◌-ℤ◌, Bool, true, false, cond, List, [], ◌∷◌, ◌++◌, length, map, Option, Some, None, refl, sym, ap, ap₂, subst, ◌∙◌, arith, append_assoc}
+use borrow.Author.Tests.{le-leb, leb-true}
 use Rattle.std.specs.Prelude.{nat_le}
 use Rattle.int_core.specs.Value.{Value, known, nil, bind}
-use Rattle.int_core.specs.Ask.{pays, values_in, Captured, Answer, Next, goes_on, stuck}
-use Rattle.tree_core.specs.Tree.{Body}
+use Rattle.int_core.specs.Ask.{pays, values_in, Captured, Answer, Next, goes_on, stuck, brought}
 use Rattle.tree_activation.specs.Work.{Control, pay, leave_scope, Work, Pending}
 use Rattle.tree_activation.specs.Work as tree
 use Rattle.tree_activation.specs.Asking.{go, asks_quickly}
 use Rattle.tree_activation.specs.Activation.{step}
 use Rattle.code_core.specs.declared.opcode.Opcode.TheVariants.{Close, Jmp}
-use Rattle.code_core.specs.declared.instruction.Instruction.{Instruction}
-use Rattle.code_core.specs.Instruction.{abc, op_ax}
+use Rattle.code_core.specs.Instruction.{op_ax}
 use Rattle.code_core.specs.Prototype.{Prototype}
 use Rattle.code_core.specs.Check.{at}
 use Rattle.code_core.proofs.FieldLemmas.{opcode_of-ax, ax_of-ax}
 use Rattle.machine_core.specs.Text.{pay as pay', quick, go_by}
 use Rattle.machine_core.specs.InstructionRows.{jumps}
-use Rattle.machine_core.specs.Moves.{place_from}
 use Rattle.machine_core.specs.Talk as code
 use Rattle.machine_core.specs.Talk.{talk, talk_step, says_so, before, amid}
-use Rattle.code_of.specs.Coded.{Coded, with_abc, jump_over, jump_back}
+use Rattle.code_of.specs.Coded.{with_abc, jump_over, jump_back}
 use Rattle.code_of.specs.Jumps.{Landing, jump_code}
-use Rattle.exp_laws.proofs.Registers.{Rel, After, Ascends, told, share_same, after_share}
-use Rattle.exp_laws.proofs.Talking.{Setting, Here, Agree, go_left, go_right, both_ask, of_tree, of_code}
+use Rattle.exp_laws.proofs.Registers.{Rel, Ascends, told, share_same, after_share}
+use Rattle.exp_laws.proofs.Talking.{Setting, Agree, go_left, go_right, both_ask, of_tree, of_code}
 use Rattle.exp_laws.proofs.Placing.{HasAt, here_abc}
 use Rattle.exp_laws.proofs.Going.{next_there}
 use Rattle.exp_laws.proofs.Steps.{row_step}
 use Rattle.exp_laws.proofs.Tests.{jump_step}
 use Rattle.stat_laws.proofs.Closing.{Grown, as_before, one_more, grown_then, AllBelow, close_goes}
+use Rattle.machine_join.proofs.Lists.{append_nil}
 
 -- a law at a number of asks that may rest on the law at fewer
 pub strong : (P : ℕ → Type 0) → ((n : ℕ) → ((m : ℕ) → m < n → P m) → P n) → (n : ℕ) → P n
@@ -68,7 +66,7 @@ rest_of [] = []
 rest_of (x ∷ xs) = xs
 
 grown_all : (level : ℕ) (base ps : List Pending) → AllFrom level (numbers ps) → Grown level base (base ++ ps)
-grown_all level base [] h = subst (Grown level base) (sym (Rattle.machine_join.proofs.Lists.append_nil base)) as_before
+grown_all level base [] h = subst (Grown level base) (sym (append_nil base)) as_before
 grown_all level base (p ∷ ps) h =
     subst (Grown level base) (append_assoc base (p ∷ []) ps)
     (grown_then level level base (base ++ p ∷ []) ((base ++ p ∷ []) ++ ps) (omega arith) (one_more base as_before p h.0) (grown_all level (base ++ p ∷ []) ps h.1))
@@ -157,8 +155,8 @@ module _ (S : Setting) where
     back_goes n s goes env regs c opened k st rel after =
         both_ask S n s _ pays pays line _ _ _ _ _ st (back_step regs c opened) tt refl has.1.0 (share_same S.code.own.stack ps env c regs rel)
         (λ x fits. let af = after_share S.code.own.stack ps env regs x.shared c 0 rel in
-        go_right S n _ _ (before (of_code S ps target (Rattle.int_core.specs.Ask.brought c.held x.shared regs) opened) (told c)) (landed ([] ++ values_in x.reply) (Rattle.int_core.specs.Ask.brought c.held x.shared regs) (told c) opened)
-        (after (Rattle.int_core.specs.Ask.brought c.held x.shared env) (Rattle.int_core.specs.Ask.brought c.held x.shared regs) (told c) af.size af.rel))
+        go_right S n _ _ (before (of_code S ps target (brought c.held x.shared regs) opened) (told c)) (landed ([] ++ values_in x.reply) (brought c.held x.shared regs) (told c) opened)
+        (after (brought c.held x.shared env) (brought c.held x.shared regs) (told c) af.size af.rel))
 
   -- where a jump of two instructions leads
 
@@ -170,7 +168,7 @@ module _ (S : Setting) where
     where
       by : (b : Bool) → nat_le (pc + 2) x.place ≡ b → nat_le (pc + 2) x.place ≡ false
       by false e = e
-      by true e = let h = borrow.Author.Tests.leb-true (pc + 2) x.place e in absurd (omega (arith, h, le))
+      by true e = let h = leb-true (pc + 2) x.place e in absurd (omega (arith, h, le))
 
   module _ (n : ℕ) (x : Landing) (closed : List ℕ) (pc line : ℕ) (ps : List Pending) (env regs : List Value) (c : Captured) (opened : ℕ) (s : tree.State) (k : List Work)
       (has : HasAt S pc (jump_code x pc line)) (end : pc + 2 < length S.code.own.code) (inside : x.place < length S.code.own.code) (more : List ℕ) (numbered : numbers ps ≡ closed ++ more) (from : AllFrom x.level more) (under : AllBelow closed x.level)

@@ -1,7 +1,7 @@
 -- All statements together.
-use Rattle.std.proofs.Common.{◌≡◌, ℕ, Bool, true, false, ◌&&◌, List, [], refl}
+use Rattle.std.proofs.Common.{◌≡◌, ℕ, Bool, true, false, ◌&&◌, List, refl}
 use Rattle.tree_core.specs.Tree.{Block, Falls, Returns, Stats, EndStats, MoreStats, Stat, Empty, Local, LocalFunction, Assign, CallStat, Do, While, Repeat, If, IfElse, NumFor, NumForStep, GenFor, Label, Goto, Break, Arms, EndArms, MoreArms}
-use Rattle.tree_activation.specs.Work.{Work, End}
+use Rattle.tree_activation.specs.Work.{Work, End, falls_off, returns_list, until}
 use Rattle.tree_activation.specs.Jumps.{are_void, is_at_end}
 use Rattle.exp_laws.proofs.Talking.{Setting}
 use Rattle.exp_laws.proofs.Exps.{exp_same}
@@ -10,7 +10,7 @@ use Rattle.stat_laws.proofs.Blocks.{StatLaw, StatsLaw, none_goes, label_goes, mo
 use Rattle.stat_laws.proofs.Forms.{ExpLaw, BlockLaw, falls_goes, do_goes, goto_goes, break_goes, empty_stat_goes, label_stat_goes, while_goes, ArmsLaw, no_arms_goes, more_arms_goes, if_goes, if_else_goes}
 use Rattle.stat_laws.proofs.Loops.{repeat_goes}
 use Rattle.stat_laws.proofs.Returns.{returns_goes}
-use Rattle.stat_laws.proofs.Assigning.{assign_goes}
+use Rattle.stat_laws.proofs.Globals.{assign_goes}
 use Rattle.stat_laws.proofs.Values.{local_goes, function_goes, call_goes}
 
 abbrev pub exps : (S : Setting) → ExpLaw S
@@ -30,7 +30,7 @@ module _ (S : Setting) (back : ℕ) where
     stat_goes (CallStat l e) = call_goes S back l e
     stat_goes (Do l block) = do_goes S back l block (block_goes block)
     stat_goes (While l e block) = while_goes S back (exps S) l e block (block_goes block)
-    stat_goes (Repeat l (Falls ss tokens last) e) = repeat_goes S back (exps S) l ss tokens last e (λ outer closed k. stats_goes ss (Rattle.tree_activation.specs.Work.until last e) false outer closed k (λ more. refl))
+    stat_goes (Repeat l (Falls ss tokens last) e) = repeat_goes S back (exps S) l ss tokens last e (λ outer closed k. stats_goes ss (until last e) false outer closed k (λ more. refl))
     stat_goes (Repeat l (Returns ss es tokens last) e) = never (Repeat l (Returns ss es tokens last) e) (λ closing t j named loops placed. placed.0)
     stat_goes (If l arms) = if_goes S back (exps S) l arms (arms_goes arms)
     stat_goes (IfElse l arms block) = if_else_goes S back (exps S) l arms block (arms_goes arms) (block_goes block)
@@ -42,8 +42,8 @@ module _ (S : Setting) (back : ℕ) where
     stat_goes (Label l name) = label_stat_goes S back l name
 
     pub block_goes : (block : Block) → BlockLaw S back block
-    block_goes (Falls ss tokens line) = falls_goes S back ss tokens line (λ outer closed k. stats_goes ss (Rattle.tree_activation.specs.Work.falls_off line) true outer closed k (λ more. refl))
-    block_goes (Returns ss es tokens line) = returns_goes S back ss es tokens line (λ outer closed k. stats_goes ss (Rattle.tree_activation.specs.Work.returns_list line es) false outer closed k (λ more. refl))
+    block_goes (Falls ss tokens line) = falls_goes S back ss tokens line (λ outer closed k. stats_goes ss (falls_off line) true outer closed k (λ more. refl))
+    block_goes (Returns ss es tokens line) = returns_goes S back ss es tokens line (λ outer closed k. stats_goes ss (returns_list line es) false outer closed k (λ more. refl))
 
     pub arms_goes : (arms : Arms) → ArmsLaw S back (exps S) arms
     arms_goes EndArms = no_arms_goes S back (exps S)

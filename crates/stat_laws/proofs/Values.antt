@@ -1,5 +1,5 @@
 -- Declarations of locals, and calls that are statements.
-use Rattle.std.proofs.Common.{◌≡◌, ℕ, zero, suc, ◌+◌, ◌-◌, ◌<◌, ◌≤◌, ◌^◌, lit<, Bool, true, false, cond, ◌||◌, List, [], ◌∷◌, ◌++◌, length, map, Some, None, ⊎_elim, ◌⊎◌, inl, inr, refl, sym, ap, subst, ◌∙◌, arith, length-append}
+use Rattle.std.proofs.Common.{◌≡◌, ℕ, zero, suc, ◌+◌, ◌-◌, ◌<◌, ◌≤◌, lit<, false, cond, List, [], ◌∷◌, ◌++◌, length, Some, ⊎_elim, ◌⊎◌, refl, sym, ap, subst, ◌∙◌, arith, length-append}
 use Rattle.int_core.specs.Value.{Value, nth}
 use Rattle.int_core.specs.Ask.{Captured}
 use Rattle.tree_core.specs.declared.name.Declared.{Declared}
@@ -8,13 +8,12 @@ use Rattle.tree_core.specs.Tree.{Body, Local, LocalFunction, CallStat, Exp, Exps
 use Rattle.tree_activation.specs.Work.{Control, complete, collect, evaluate, give, for_declaration, dropped, mark, Work, Pending, State}
 use Rattle.tree_activation.specs.Work as tree
 use Rattle.tree_activation.specs.Asking.{go, fitted}
-use Rattle.tree_activation.specs.Activation.{step}
-use Rattle.tree_activation.specs.Statements.{is_closed, marks_closed, with_locals}
+use Rattle.tree_activation.specs.Statements.{is_closed, marks_closed}
 use Rattle.code_core.specs.declared.opcode.Opcode.TheVariants.{Tbc}
 use Rattle.machine_core.specs.Talk.{before}
 use Rattle.machine_join.proofs.Lists.{append_nil, nth_old}
 use Rattle.code_of.specs.Coded.{Coded, with_abc}
-use Rattle.code_of.specs.Expressions.{exp_code, exps_code}
+use Rattle.code_of.specs.Expressions.{exps_code}
 use Rattle.code_of.specs.Levels.{has_closed}
 use Rattle.code_of.specs.Parts.{marks_code}
 use Rattle.exp_laws.proofs.Registers.{Rel, HeldBelow, Ascends}
@@ -25,7 +24,6 @@ use Rattle.exp_laws.proofs.Lists.{Holds}
 use Rattle.exp_laws.proofs.ListForms.{nth_behind}
 use Rattle.exp_laws.proofs.FunctionForms.{local_function_goes}
 use Rattle.exp_laws.proofs.Exps.{open_same, exps_same}
-use Rattle.stat_laws.proofs.Standing.{numbers, Standing, below_higher}
 use Rattle.stat_laws.proofs.Labels.{closed_numbers}
 use Rattle.stat_laws.proofs.Blocks.{StatLaw, neither, none_closed}
 

@@ -1,18 +1,15 @@
 -- The code of a function's body means the body.
-use Rattle.std.proofs.Common.{◌≡◌, ℕ, zero, suc, ◌+◌, ◌<◌, ◌≤◌, ◌^◌, lit<, Bool, true, false, cond, List, [], ◌∷◌, ◌++◌, length, map, take, drop, Option, Some, None, refl, sym, ap, subst, ◌∙◌, arith, length-append}
+use Rattle.std.proofs.Common.{◌≡◌, ℕ, zero, suc, ◌+◌, ◌<◌, ◌≤◌, ◌^◌, lit<, Bool, true, false, cond, List, [], ◌∷◌, ◌++◌, length, take, drop, Option, Some, None, refl, sym, ap, subst, ◌∙◌, arith, length-append}
 use Rattle.std.proofs.lemmas.List.{length-map}
 use Rattle.std.specs.Prelude.{slice_get, option_map, pos, negsuc, ℤ}
-use borrow.Author.Tests.{le-leb}
 use Rattle.std.proofs.lemmas.Option.{slice_get-map}
 use Rattle.int_core.specs.Value.{Value, known, nil, nth, bind}
-use Rattle.int_core.specs.Ask.{leaves, returns, Captured, goes_on, held_below, gone_from}
-use Rattle.tree_core.specs.declared.name.Name.{Name}
-use Rattle.tree_core.specs.declared.name.UpName.{UpName}
-use Rattle.tree_core.specs.Tree.{Block, Falls, Returns, Body, BodyOf, Stats, EndStats, Exps}
+use Rattle.int_core.specs.Ask.{returns, Captured, held_below, gone_from}
+use Rattle.tree_core.specs.Tree.{Block, Falls, Returns, Body, BodyOf, EndStats}
 use Rattle.tree_activation.specs.Work.{complete, run, finish, leave_scope, end_of_body, Work, Pending, Passed, falls_off, returns_list, when_captured}
 use Rattle.tree_activation.specs.Work as tree
 use Rattle.tree_activation.specs.Asking as trees
-use Rattle.tree_activation.specs.Activation.{start, step, line_of_end}
+use Rattle.tree_activation.specs.Activation.{line_of_end}
 use Rattle.tree_activation.specs.Statements.{point_of}
 use Rattle.code_core.specs.declared.opcode.Opcode.TheVariants.{Return, VarArgPrep}
 use Rattle.code_core.specs.Instruction.{abc}
@@ -22,14 +19,13 @@ use Rattle.code_core.proofs.FieldLemmas.{opcode_of-abc}
 use Rattle.machine_core.specs.InstructionRows.{next}
 use Rattle.machine_core.specs.Moves as moves
 use Rattle.machine_core.specs.Moves.{line_of}
-use Rattle.machine_core.specs.Talk.{talk_start, talk_step, before}
+use Rattle.machine_core.specs.Talk.{before}
 use Rattle.code_means.specs.Means.{Means}
-use Rattle.code_of.specs.Coded.{Coded, with_abc, words, lines}
+use Rattle.code_of.specs.Coded.{Coded, with_abc, lines}
 use Rattle.code_of.specs.Constants.{of_block}
 use Rattle.code_of.specs.Jumps.{Reach}
 use Rattle.code_of.specs.Levels.{levels_after, closings_after, made_in_stats}
-use Rattle.code_of.specs.Parts.{values_last, return_code}
-use Rattle.code_of.specs.Expressions.{list_field, exps_code}
+use Rattle.code_of.specs.Parts.{return_code}
 use Rattle.code_of.specs.Sizes.{stats_size}
 use Rattle.code_of.specs.Statements.{stats_code, whole_code}
 use Rattle.code_of.specs.CodeOf.{back_field, opening, body_code, code_of}
@@ -38,16 +34,15 @@ use Rattle.exp_laws.proofs.Talking.{Setting, Alike, Agree, go_left, go_right, of
 use Rattle.exp_laws.proofs.Placing.{HasAt, has_front, has_back}
 use Rattle.exp_laws.proofs.Going.{next_there}
 use Rattle.exp_laws.proofs.Steps.{row_step, go_step}
-use Rattle.stat_laws.proofs.Standing.{strong, Standing, GoesOn}
-use Rattle.stat_laws.specs.Scoped.{StatsArePlaced, ReturnIsPlaced}
+use Rattle.stat_laws.proofs.Standing.{strong}
 use Rattle.stat_laws.proofs.Sizes.{stats_sized}
 use Rattle.stat_laws.proofs.Labels.{Jumps}
-use Rattle.stat_laws.proofs.Blocks.{closeds_after, added_none}
+use Rattle.stat_laws.proofs.Blocks.{added_none}
 use Rattle.stat_laws.proofs.Returns.{finishes_goes, return_step, return_ends, no_numbers, known_all, return_some}
 use Rattle.stat_laws.proofs.Values.{nth_fitted}
 use Rattle.stat_laws.proofs.Statements.{stats_goes}
 use Rattle.stat_laws.proofs.Lines.{lines_back, has_all}
-use Rattle.stat_laws.specs.Fits.{is_known, setting, BlockFits, Alone, BodyFits, InBlock}
+use Rattle.stat_laws.specs.Fits.{is_known, setting, BlockFits, BodyFits, InBlock}
 use Rattle.stat_laws.proofs.Raised.{stats_up, return_up}
 
 -- arguments in locals and in registers
@@ -261,9 +256,10 @@ module _ (source : Option (List ℕ)) where
 
       raised : (inner' : Block) → BlockFits (setting source p 0 [] fits.0.small fits.0.short) (length params) inner' → InBlock source p inner' 0 → BlockFits S (length params) inner'
       raised (Falls ss tokens end) h g = (stats_up source p N (cond vararg (drop (length params) arguments) []) fits.0.small fits.0.short below ss true false (length params) 0 [] [] false h.0 g, h.1)
-      raised (Returns ss es tokens end) h g =
-          (stats_up source p N (cond vararg (drop (length params) arguments) []) fits.0.small fits.0.short below ss false false (length params) 0 [] [] false h.0 g.0,
-          return_up source p N (cond vararg (drop (length params) arguments) []) fits.0.small fits.0.short below es (closings_after ss false) (levels_after ss (length params)) (0 + made_in_stats ss) h.1 g.1)
+      raised (Returns ss es tokens end) h g = (
+        stats_up source p N (cond vararg (drop (length params) arguments) []) fits.0.small fits.0.short below ss false false (length params) 0 [] [] false h.0 g.0,
+        return_up source p N (cond vararg (drop (length params) arguments) []) fits.0.small fits.0.short below es (closings_after ss false) (levels_after ss (length params)) (0 + made_in_stats ss) h.1 g.1,
+      )
 
   -- the code of a body means it
   pub means : (body : Body) → BodyFits source body → Means (is_known source) (code_of source body) body

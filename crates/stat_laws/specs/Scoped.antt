@@ -1,14 +1,14 @@
 -- What is assumed of a statement where t locals are in scope and j functions of its function are made before it: names and labels are in scope, and
 -- there are registers enough. It also says which forms are proved: for the others nothing is assumed that holds.
-use Rattle.std.specs.Prelude.{◌≡◌, ℕ, ◌+◌, ◌*◌, ◌<◌, ◌≤◌, ◌^◌, Bool, true, false, cond, ◌&&◌, ◌||◌, List, [], ◌∷◌, ◌++◌, length, Some, None, nat_le, bytes_eq}
+use Rattle.std.specs.Prelude.{◌⊎◌, ◌≡◌, ℕ, ◌+◌, ◌*◌, ◌<◌, ◌≤◌, ◌^◌, Bool, true, false, cond, ◌&&◌, ◌||◌, List, [], ◌∷◌, ◌++◌, length, Some, None, nat_le, bytes_eq}
 use Rattle.tree_core.specs.declared.name.Place.{Place}
-use Rattle.tree_core.specs.declared.name.Place.TheVariants.{Upvalue}
+use Rattle.tree_core.specs.declared.name.Place.TheVariants.{Upvalue, GlobalOf}
 use Rattle.tree_core.specs.declared.name.Place.TheVariants.{Local as LocalPlace}
-use Rattle.tree_core.specs.Tree.{Block, Falls, Returns, Stats, EndStats, MoreStats, Stat, Empty, Local, LocalFunction, Assign, CallStat, Do, While, Repeat, If, IfElse, NumFor, NumForStep, GenFor, Label, Goto, Break, Arms, EndArms, MoreArms, Exp, Var, Call, Method, Exps, EndExps, MoreExps}
+use Rattle.tree_core.specs.Tree.{Block, Falls, Returns, Stats, EndStats, MoreStats, Stat, Empty, Local, LocalFunction, Assign, CallStat, Do, While, Repeat, If, IfElse, NumFor, NumForStep, GenFor, Label, Goto, Break, Arms, EndArms, MoreArms, Var, Call, Method, Exps, EndExps, MoreExps}
 use Rattle.tree_activation.specs.Asking.{upvalues_of}
 use Rattle.tree_activation.specs.Jumps.{are_void}
 use Rattle.code_core.specs.declared.proto.Const.TheVariants.{Str as StrConst}
-use Rattle.code_of.specs.Expressions.{made_by, made_in, count, is_open, ends_open}
+use Rattle.code_of.specs.Expressions.{made_by, made_in, count, is_open}
 use Rattle.code_of.specs.Levels.{made_by_stat, made_in_arms, made_in_stats, made_in_block, level_after, levels_after, levels_in, has_closed, closing_after, closings_after}
 use Rattle.exp_laws.proofs.Talking.{Setting}
 use Rattle.exp_laws.proofs.Placed.{Found, Inner, Captures, IsPlaced, ArePlaced, room_of, room_of_list}
@@ -44,14 +44,23 @@ TargetsArePlaced (MoreExps (Var line name) targets) t = NameIsStored name.place 
 TargetsArePlaced (MoreExps _ targets) t = ⊥
 
 module _ (S : Setting) where
-  -- what `return` gives: a call in the function's place, or a list of known length
+  -- one global name that is assigned, whose `_ENV` is an upvalue
+  abbrev pub GlobalIsStored : Place → List ℕ → Type 0
+  GlobalIsStored (GlobalOf u) text = (u < 2 ^ 8) × Found S.code.own.constants (StrConst text)
+  GlobalIsStored _ text = ⊥
+
+  abbrev pub GlobalIsPlaced : Exps → Type 0
+  GlobalIsPlaced (MoreExps (Var line name) EndExps) = GlobalIsStored name.place name.text
+  GlobalIsPlaced _ = ⊥
+
+  -- what `return` gives: a call in the function's place, or a list
   abbrev pub LastIsPlaced : Exps → (t j : ℕ) → Type 0
   LastIsPlaced (MoreExps (Call line f es) EndExps) t j =
       IsPlaced S f t j × (ArePlaced S es t (j + made_by f) × ((t + room_of S.code.own.constants f 2 ≤ S.code.own.stack) × (t + room_of_list S.code.own.constants 1 es None ≤ S.code.own.stack)))
   LastIsPlaced (MoreExps (Method line object name es) EndExps) t j =
       IsPlaced S object t j × (Found S.code.own.constants (StrConst name.text) × (ArePlaced S es t (j + made_by object)
       × ((t + room_of S.code.own.constants object 2 ≤ S.code.own.stack) × ((t + 1 < S.code.own.stack) × (t + room_of_list S.code.own.constants 2 es None ≤ S.code.own.stack)))))
-  LastIsPlaced es t j = (ends_open es ≡ false) × (ArePlaced S es t j × ((t + room_of_list S.code.own.constants 0 es None ≤ S.code.own.stack) × (count es + 1 < 2 ^ 8)))
+  LastIsPlaced es t j = ArePlaced S es t j × ((t + room_of_list S.code.own.constants 0 es None ≤ S.code.own.stack) × (count es + 1 < 2 ^ 8))
 
   -- no variable to be closed is in scope there
   abbrev pub ReturnIsPlaced : Exps → (closing : Bool) → (t j : ℕ) → Type 0
@@ -64,7 +73,7 @@ module _ (S : Setting) where
         ArePlaced S es t j × ((t + room_of_list S.code.own.constants 0 es (Some (length names)) ≤ S.code.own.stack) × ((t + length names ≤ S.code.own.stack) × ((length names + 1 < 2 ^ 8) × (has_closed names ≡ false))))
     StatIsPlaced (LocalFunction line name body) closing t j named loops = Inner S j body × (Captures (upvalues_of body) (t + 1) × (t < S.code.own.stack))
     StatIsPlaced (Assign line targets es) closing t j named loops =
-        TargetsArePlaced targets t × (ArePlaced S es t (j + made_in targets)
+        (TargetsArePlaced targets t ⊎ GlobalIsPlaced targets) × (ArePlaced S es t (j + made_in targets)
         × ((t + 2 * count targets + room_of_list S.code.own.constants 0 es (Some (count targets)) ≤ S.code.own.stack) × ((t + 2 * count targets + count targets ≤ S.code.own.stack) × (count targets + 1 < 2 ^ 8))))
     StatIsPlaced (CallStat line e) closing t j named loops = (is_open e ≡ true) × (IsPlaced S e t j × (t + room_of S.code.own.constants e 1 ≤ S.code.own.stack))
     StatIsPlaced (Do line block) closing t j named loops = BlockIsPlaced block closing t j named loops
