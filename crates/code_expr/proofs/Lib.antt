@@ -1,0 +1,5 @@
+pub mod Numbers
+pub mod Joining
+pub mod Rows
+pub mod Ends
+pub mod Going

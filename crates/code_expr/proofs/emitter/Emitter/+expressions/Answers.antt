@@ -1,0 +1,180 @@
+use Rattle.std.proofs.Common.{arith, rules, ◌≡◌, ◌+◌, ◌-◌, ◌<◌, [], ◌∷◌, ◌++◌, cond, sym, ap, ◌∙◌, None, length, map}
+use Rattle.tree_core.specs.Tree as tree
+use Rattle.tree_core.specs.Plain.{plain_exp, plain_exps, plain_field}
+use Rattle.code_core.specs.declared.opcode.Opcode.TheVariants.{Test, GetTable, SetTable, OpSelf, ExtraArg}
+use Rattle.code_core.specs.declared.opcode.Opcode.TheVariants.{Call as CallCode}
+use Rattle.code_core.specs.declared.proto.Const.TheVariants.{Str as StrConst}
+use Rattle.code_core.specs.Instruction.{abc, op_ax}
+use Rattle.code_of.specs.Coded.{with_abc}
+use Rattle.code_of.specs.Constants.{loads}
+use Rattle.code_of.specs.Operators.{prefix_code, operator_code}
+use Rattle.code_of.specs.Expressions.{exp_code, exps_code, set_list, list_field, made_by, made_in}
+use Rattle.code_expr.specs.Listing.{listed, followed}
+use Rattle.code_expr.proofs.Joining.{then_made, then_listed, listed_then, jumped}
+use Rattle.code_expr.proofs.Going.{fields_from, next_exp, next_field}
+use Rattle.std.proofs.lemmas.Result.{on_ok_weaker}
+use Rattle.std.proofs.Common.{ap₂}
+use Rattle.tree_core.specs.Plain.{plain_exp_node}
+use Rattle.tree_core.proofs.Rows.{plain-call, plain-method}
+use Rattle.code_expr.proofs.emitter.Emitter.+expressions.Goals as goal
+
+pub expression-returns-in-Call : goal.expression-returns-in-Call
+expression-returns-in-Call t c =
+    let es = tree.exps (plain_exps c.in-Call.arguments.items) in
+    let is : plain_exp c.args.exp.now ≡ tree.Call c.args.exp.now.line (plain_exp c.in-Call.called.value) es =
+    ap (λ node. plain_exp_node node c.args.exp.now.line) c.in-Call.is ∙ plain-call c.args.exp.now.line c.in-Call.called c.in-Call.arguments in
+    on_ok_weaker c.call.result (λ h. h
+    ∙ ap (λ e. followed c.args.self.now (exp_code c.args.self.now.constants e c.args.target c.args.self.now.made c.args.results) (made_by e))
+    (ap (λ e. tree.Call c.args.exp.now.line (plain_exp e) es) c.deref-in-Call.ensures ∙ sym is)) c.call.ensures
+
+pub expression-returns-in-Method : goal.expression-returns-in-Method
+expression-returns-in-Method t c =
+    let es = tree.exps (plain_exps c.in-Method.arguments.items) in
+    let is : plain_exp c.args.exp.now ≡ tree.Method c.args.exp.now.line (plain_exp c.in-Method.object.value) c.in-Method.name es =
+    ap (λ node. plain_exp_node node c.args.exp.now.line) c.in-Method.is ∙ plain-method c.args.exp.now.line c.in-Method.object c.in-Method.name c.in-Method.arguments in
+    on_ok_weaker c.method.result (λ h. h
+    ∙ ap (λ e. followed c.args.self.now (exp_code c.args.self.now.constants e c.args.target c.args.self.now.made c.args.results) (made_by e))
+    (ap (λ e. tree.Method c.args.exp.now.line (plain_exp e) c.in-Method.name es) c.deref-in-Method.ensures ∙ sym is)) c.method.ensures
+
+pub unary-returns : goal.unary-returns
+unary-returns t c =
+    then_listed c.args.self.now c.expression.new.self c.prefix.new.self (exp_code c.args.self.now.constants (plain_exp c.args.operand.now) c.args.target c.args.self.now.made 2) (made_by (plain_exp c.args.operand.now))
+    (λ k. prefix_code c.args.op c.args.target c.args.line) c.in_ok-expression.ensures c.in_ok-prefix.ensures
+
+pub binary-returns : goal.binary-returns
+binary-returns t c =
+    let k = c.args.self.now.constants in
+    let right : c.expression-2.new.self ≡ followed c.expression.new.self (exp_code c.expression.new.self.constants (plain_exp c.args.right.now) (c.args.target + 1) c.expression.new.self.made 2) (made_by (plain_exp c.args.right.now)) =
+    rw c.in_ok-next.ensures at c.in_ok-expression-2.ensures in
+    then_made c.args.self.now c.expression.new.self c.operator.new.self (exp_code k (plain_exp c.args.left.now) c.args.target c.args.self.now.made 2) (made_by (plain_exp c.args.left.now))
+    (λ k j. exp_code k (plain_exp c.args.right.now) (c.args.target + 1) j 2 ++ operator_code c.args.op c.args.target c.args.line) (made_by (plain_exp c.args.right.now)) c.in_ok-expression.ensures
+    (then_listed c.expression.new.self c.expression-2.new.self c.operator.new.self (exp_code c.expression.new.self.constants (plain_exp c.args.right.now) (c.args.target + 1) c.expression.new.self.made 2) (made_by (plain_exp c.args.right.now))
+    (λ k. operator_code c.args.op c.args.target c.args.line) right c.in_ok-operator.ensures)
+
+pub index-returns : goal.index-returns
+index-returns t c =
+    let k = c.args.self.now.constants in
+    let key : c.expression-2.new.self ≡ followed c.expression.new.self (exp_code c.expression.new.self.constants (plain_exp c.args.key.now) (c.args.target + 1) c.expression.new.self.made 2) (made_by (plain_exp c.args.key.now)) =
+    rw c.in_ok-above.ensures at c.in_ok-expression-2.ensures in
+    let get : c.put_abc.new.self ≡ listed c.expression-2.new.self (with_abc GetTable c.args.target c.args.target (c.args.target + 1) c.args.line ∷ []) =
+    rw c.in_ok-above.ensures at c.in_ok-put_abc.ensures in
+    then_made c.args.self.now c.expression.new.self c.put_abc.new.self (exp_code k (plain_exp c.args.object.now) c.args.target c.args.self.now.made 2) (made_by (plain_exp c.args.object.now))
+    (λ k j. exp_code k (plain_exp c.args.key.now) (c.args.target + 1) j 2 ++ with_abc GetTable c.args.target c.args.target (c.args.target + 1) c.args.line ∷ []) (made_by (plain_exp c.args.key.now)) c.in_ok-expression.ensures
+    (then_listed c.expression.new.self c.expression-2.new.self c.put_abc.new.self (exp_code c.expression.new.self.constants (plain_exp c.args.key.now) (c.args.target + 1) c.expression.new.self.made 2) (made_by (plain_exp c.args.key.now))
+    (λ k. with_abc GetTable c.args.target c.args.target (c.args.target + 1) c.args.line ∷ []) key get)
+
+pub either-returns : goal.either-returns
+either-returns t c =
+    jumped c.args.self.now c.expression.new.self c.put_flagged.new.self c.put_open_jump.new.self c.expression-2.new.self c.land.new.self
+    (exp_code c.args.self.now.constants (plain_exp c.args.first.now) c.args.target c.args.self.now.made 2) (made_by (plain_exp c.args.first.now))
+    (abc Test c.args.target 0 0 c.args.decides, c.args.line) c.args.line (λ k j. exp_code k (plain_exp c.args.second.now) c.args.target j 2) (made_by (plain_exp c.args.second.now)) c.in_ok-jump.jump
+    c.in_ok-expression.ensures c.in_ok-put_flagged.ensures c.in_ok-jump.ensures.jump c.in_ok-jump.ensures.place c.in_ok-expression-2.ensures c.land.ensures
+
+pub call-returns : goal.call-returns
+call-returns t c =
+    let k = c.args.self.now.constants in
+    let es = tree.exps (plain_exps c.args.arguments.now.items) in
+    let called = with_abc CallCode c.args.target (list_field 0 es) c.args.results c.args.line in
+    let values : c.list.new.self ≡ followed c.expression.new.self (exps_code c.expression.new.self.constants es None (c.args.target + 1) c.expression.new.self.made c.args.line) (made_in es) =
+    rw c.in_ok-next.ensures at c.in_ok-list.ensures in
+    let call : c.put_abc.new.self ≡ listed c.list.new.self (called ∷ []) = rw c.list_field.ensures at c.in_ok-put_abc.ensures in
+    then_made c.args.self.now c.expression.new.self c.put_abc.new.self (exp_code k (plain_exp c.args.called.now) c.args.target c.args.self.now.made 2) (made_by (plain_exp c.args.called.now))
+    (λ k j. exps_code k es None (c.args.target + 1) j c.args.line ++ called ∷ []) (made_in es) c.in_ok-expression.ensures
+    (then_listed c.expression.new.self c.list.new.self c.put_abc.new.self (exps_code c.expression.new.self.constants es None (c.args.target + 1) c.expression.new.self.made c.args.line) (made_in es)
+    (λ k. called ∷ []) values call)
+
+pub method-returns : goal.method-returns
+method-returns t c =
+    let k = c.args.self.now.constants in
+    let es = tree.exps (plain_exps c.args.arguments.now.items) in
+    let key = StrConst c.args.name.now.text in
+    let get = with_abc OpSelf c.args.target c.args.target (c.args.target + 1) c.args.line in
+    let called = with_abc CallCode c.args.target (list_field 1 es) c.args.results c.args.line in
+    let two : c.in_ok-next.field-0 ≡ c.args.target + 2 = omega (arith, c.in_ok-next.ensures, c.in_ok-above.ensures) in
+    let loaded : c.load_text.new.self ≡ listed c.expression.new.self (loads c.expression.new.self.constants key (c.args.target + 1) c.args.line) =
+    rw c.in_ok-above.ensures at c.in_ok-load_text.ensures in
+    let found : c.put_abc.new.self ≡ listed c.load_text.new.self (get ∷ []) = rw c.in_ok-above.ensures at c.in_ok-put_abc.ensures in
+    let values : c.list.new.self ≡ followed c.put_abc.new.self (exps_code c.put_abc.new.self.constants es None (c.args.target + 2) c.put_abc.new.self.made c.args.line) (made_in es) =
+    rw two at c.in_ok-list.ensures in
+    let call : c.put_abc-2.new.self ≡ listed c.list.new.self (called ∷ []) = rw c.list_field.ensures at c.in_ok-put_abc-2.ensures in
+    then_made c.args.self.now c.expression.new.self c.put_abc-2.new.self (exp_code k (plain_exp c.args.object.now) c.args.target c.args.self.now.made 2) (made_by (plain_exp c.args.object.now))
+    (λ k j. loads k key (c.args.target + 1) c.args.line ++ (get ∷ (exps_code k es None (c.args.target + 2) j c.args.line ++ called ∷ []))) (made_in es) c.in_ok-expression.ensures
+    (listed_then c.expression.new.self c.load_text.new.self c.put_abc-2.new.self (loads c.expression.new.self.constants key (c.args.target + 1) c.args.line)
+    (λ k j. get ∷ (exps_code k es None (c.args.target + 2) j c.args.line ++ called ∷ [])) (made_in es) loaded
+    (listed_then c.load_text.new.self c.put_abc.new.self c.put_abc-2.new.self (get ∷ []) (λ k j. exps_code k es None (c.args.target + 2) j c.args.line ++ called ∷ []) (made_in es) found
+    (then_listed c.put_abc.new.self c.list.new.self c.put_abc-2.new.self (exps_code c.put_abc.new.self.constants es None (c.args.target + 2) c.put_abc.new.self.made c.args.line) (made_in es)
+    (λ k. called ∷ []) values call)))
+
+pub list-loop-exp-preserved : goal.list-loop-exp-preserved
+list-loop-exp-preserved t c =
+    let same = ap length c.deref-exp-items.ensures.value in
+    let inside : c.loop-exp.exp-index < length c.deref-exp-items.result.now = omega (arith, c.loop-exp-test.true, c.loop-exp.auto.exp-index-end) in
+    let size : c.loop-exp.left - 1 + (c.loop-exp.exp-index + 1) ≡ length c.deref-exp-items.result.now = omega (arith, inside, c.loop-exp.invariant.0, same) in (
+      omega (arith, size, same),
+      next_exp c.deref-exp-items.result.now c.loop-exp.exp-index c.exp-item.result c.loop-exp.self c.expression.new.self (c.loop-exp.left - 1) c.loop-exp.register c.in_ok-register.register c.args.line
+          c.in_ok-field_where.field-0 c.loop-exp.wanted c.wanted_where-wanted.result c.fills-fills.result _ inside c.exp-item.is size c.fills-fills.ensures c.in_ok-field_where.ensures c.in_ok-expression.ensures
+          c.wanted_where-wanted.ensures c.in_ok-register.ensures c.loop-exp.invariant.1,
+    )
+
+pub table-loop-field-init : goal.table-loop-field-init
+table-loop-field-init t c =
+    let size : c.len-left.result ≡ length c.args.list.now.items = search rules in (
+      omega (arith, size),
+      ap₂ (λ s l. fields_from s 0 c.args.target c.args.line (tree.fields (map plain_field l)))
+          (c.in_ok-put_ax.ensures ∙ ap (λ s. listed s ((op_ax ExtraArg 0, c.args.line) ∷ [])) c.in_ok-put_abc.ensures) c.deref-field-items.ensures.value,
+    )
+
+pub table-loop-field-preserved : goal.table-loop-field-preserved
+table-loop-field-preserved t c =
+    let same = ap length c.deref-field-items.ensures.value in
+    let inside : c.loop-field.field-index < length c.deref-field-items.result.now = omega (arith, c.loop-field-test.true, c.loop-field.auto.field-index-end) in
+    let size : c.loop-field.left - 1 + (c.loop-field.field-index + 1) ≡ length c.deref-field-items.result.now = omega (arith, inside, c.loop-field.invariant.0, same) in (
+      omega (arith, size, same),
+      next_field c.deref-field-items.result.now c.loop-field.field-index c.field-item.result c.loop-field.self c.field.new.self (c.loop-field.left - 1) c.loop-field.items c.in_ok-items.items c.args.target
+          c.args.line _ inside c.field-item.is size c.in_ok-items.ensures.code c.in_ok-items.ensures.items c.loop-field.invariant.1,
+    )
+
+pub item-returns : goal.item-returns
+item-returns t c =
+    let field : c.item_field.result ≡ cond c.args.whole 0 2 = c.item_field.ensures in
+    let value : c.expression.new.self ≡ followed c.args.self.now (exp_code c.args.self.now.constants (plain_exp c.args.value.now) (c.args.target + 1) c.args.self.now.made (cond c.args.whole 0 2)) (made_by (plain_exp c.args.value.now)) =
+    rw c.in_ok-above.ensures at rw field at c.in_ok-expression.ensures in
+    let stored : c.set_list.new.self ≡ listed c.expression.new.self (set_list c.args.target (cond c.args.whole 0 1) c.args.items c.args.line) =
+    rw c.stored_field.ensures at c.in_ok-set_list.ensures in
+    then_listed c.args.self.now c.expression.new.self c.set_list.new.self (exp_code c.args.self.now.constants (plain_exp c.args.value.now) (c.args.target + 1) c.args.self.now.made (cond c.args.whole 0 2)) (made_by (plain_exp c.args.value.now))
+    (λ k. set_list c.args.target (cond c.args.whole 0 1) c.args.items c.args.line) value stored
+
+pub keyed-returns : goal.keyed-returns
+keyed-returns t c =
+    let k = c.args.self.now.constants in
+    let two : c.in_ok-second.second ≡ c.args.target + 2 = omega (arith, c.in_ok-second.ensures, c.in_ok-first.ensures) in
+    let set = with_abc SetTable c.args.target (c.args.target + 1) (c.args.target + 2) c.args.line in
+    let key : c.expression.new.self ≡ followed c.args.self.now (exp_code k (plain_exp c.args.key.now) (c.args.target + 1) c.args.self.now.made 2) (made_by (plain_exp c.args.key.now)) =
+    rw c.in_ok-first.ensures at c.in_ok-expression.ensures in
+    let value : c.expression-2.new.self ≡ followed c.expression.new.self (exp_code c.expression.new.self.constants (plain_exp c.args.value.now) (c.args.target + 2) c.expression.new.self.made 2) (made_by (plain_exp c.args.value.now)) =
+    rw two at c.in_ok-expression-2.ensures in
+    let stored : c.put_abc.new.self ≡ listed c.expression-2.new.self (set ∷ []) = rw c.in_ok-first.ensures at rw two at c.in_ok-put_abc.ensures in
+    then_made c.args.self.now c.expression.new.self c.put_abc.new.self (exp_code k (plain_exp c.args.key.now) (c.args.target + 1) c.args.self.now.made 2) (made_by (plain_exp c.args.key.now))
+    (λ k j. exp_code k (plain_exp c.args.value.now) (c.args.target + 2) j 2 ++ set ∷ []) (made_by (plain_exp c.args.value.now)) key
+    (then_listed c.expression.new.self c.expression-2.new.self c.put_abc.new.self (exp_code c.expression.new.self.constants (plain_exp c.args.value.now) (c.args.target + 2) c.expression.new.self.made 2) (made_by (plain_exp c.args.value.now))
+    (λ k. set ∷ []) value stored)
+
+-- the second part of a tree is no greater than the greater one
+
+pub binary-expression-requires-2 : goal.binary-expression-requires-2
+binary-expression-requires-2 t c = (omega (arith, c.decreases), tt)
+
+pub index-expression-requires-2 : goal.index-expression-requires-2
+index-expression-requires-2 t c = (omega (arith, c.decreases), tt)
+
+pub either-expression-requires-2 : goal.either-expression-requires-2
+either-expression-requires-2 t c = (omega (arith, c.decreases), tt)
+
+pub keyed-expression-requires-2 : goal.keyed-expression-requires-2
+keyed-expression-requires-2 t c = (omega (arith, c.decreases), tt)
+
+pub call-list-requires : goal.call-list-requires
+call-list-requires t c = (omega (arith, c.decreases), tt)
+
+pub method-list-requires : goal.method-list-requires
+method-list-requires t c = (omega (arith, c.decreases), tt)

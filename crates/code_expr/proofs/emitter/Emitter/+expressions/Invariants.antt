@@ -1,0 +1,69 @@
+-- What is left of a list leads to what the whole list leads to.
+use Rattle.std.proofs.Common.{◌≡◌, ◌+◌, ◌*◌, [], ◌∷◌, length, map, drop, max, List, ℕ}
+use denote.Param.Weighed.{most, w_this}
+use Rattle.tree_core.specs.declared.tree.Exp.{Exp}
+use Rattle.tree_core.specs.declared.tree.Field.{Field}
+use Rattle.tree_core.proofs.tree.Exp.TheLaws.{the_size}
+use Rattle.tree_core.proofs.tree.Field.TheLaws.{the_size as field_size}
+use Rattle.tree_core.specs.Tree.{exps, fields}
+use Rattle.tree_core.specs.Plain.{plain_exps, plain_field}
+use Rattle.code_core.specs.declared.opcode.Opcode.TheVariants.{NewTable, ExtraArg}
+use Rattle.code_core.specs.Instruction.{op_ax}
+use Rattle.code_of.specs.Coded.{with_abc}
+use Rattle.code_expr.specs.Listing.{listed}
+use Rattle.code_expr.proofs.Going.{list_from, fields_from}
+use Rattle.code_expr.proofs.emitter.Emitter.+expressions.Given as goal
+
+abbrev pub invariant-list-loop-exp : goal.invariant-list-loop-exp
+invariant-list-loop-exp l =
+    (l.left + l.exp-index ≡ length l.list.items)
+    × (list_from l.self l.wanted l.register l.line (exps (plain_exps (drop l.exp-index l.exp-items))) ≡ list_from l.fn.self l.fn.wanted l.fn.target l.fn.line (exps (plain_exps l.list.items)))
+
+abbrev pub invariant-table-loop-field : goal.invariant-table-loop-field
+invariant-table-loop-field l =
+    (l.left + l.field-index ≡ length l.list.items)
+    × (fields_from l.self l.items l.target l.line (fields (map plain_field (drop l.field-index l.field-items))) ≡ fields_from (listed (listed l.fn.self (with_abc NewTable l.fn.target 0 0 l.fn.line ∷ [])) ((op_ax ExtraArg 0, l.fn.line) ∷ [])) 0 l.fn.target l.fn.line (fields (map plain_field l.list.items)))
+
+-- a function with two parts of a tree is measured by the greater one
+
+abbrev greatest : List Exp → ℕ
+greatest es = most (λ e. w_this.weight Exp the_size e) es
+
+abbrev greatest_field : List Field → ℕ
+greatest_field fs = most (λ f. w_this.weight Field field_size f) fs
+
+abbrev pub decreases-expression : goal.decreases-expression
+decreases-expression l = 3 * the_size l.exp.now
+
+abbrev pub decreases-unary : goal.decreases-unary
+decreases-unary l = 3 * the_size l.operand.now + 1
+
+abbrev pub decreases-binary : goal.decreases-binary
+decreases-binary l = 3 * max (the_size l.left.now) (the_size l.right.now) + 1
+
+abbrev pub decreases-index : goal.decreases-index
+decreases-index l = 3 * max (the_size l.object.now) (the_size l.key.now) + 1
+
+abbrev pub decreases-either : goal.decreases-either
+decreases-either l = 3 * max (the_size l.first.now) (the_size l.second.now) + 1
+
+abbrev pub decreases-call : goal.decreases-call
+decreases-call l = 3 * max (the_size l.called.now) (greatest l.arguments.now.items) + 2
+
+abbrev pub decreases-method : goal.decreases-method
+decreases-method l = 3 * max (the_size l.object.now) (greatest l.arguments.now.items) + 2
+
+abbrev pub decreases-list : goal.decreases-list
+decreases-list l = 3 * greatest l.list.now.items + 1
+
+abbrev pub decreases-table : goal.decreases-table
+decreases-table l = 3 * greatest_field l.list.now.items + 1
+
+abbrev pub decreases-field : goal.decreases-field
+decreases-field l = 3 * field_size l.field.now
+
+abbrev pub decreases-item : goal.decreases-item
+decreases-item l = 3 * the_size l.value.now + 1
+
+abbrev pub decreases-keyed : goal.decreases-keyed
+decreases-keyed l = 3 * max (the_size l.key.now) (the_size l.value.now) + 1

@@ -1,0 +1,95 @@
+// The constants of expressions, in the order in which their code first names them.
+ghost use Rattle.std.specs.Prelude.{◌≡◌, OnOk, map};
+ghost use Rattle.tree_core.specs.Tree.{exps, fields};
+ghost use Rattle.tree_core.specs.Plain.{plain_exp, plain_exps, plain_field};
+ghost use Rattle.code_of.specs.Constants.{of_name, of_exp, of_exps, of_fields, of_field};
+
+use crate::constants::{Constants, is_small};
+use std::alloc::{AllocError, Global};
+use tree_core::{Exp, ExpNode, Field, Name, Place};
+
+impl Constants {
+    /// Adds the constant that a variable's name takes.
+    fn add_name(&mut self, alloc: Global, name: &Name) -> Result<(), AllocError>
+        ensures { OnOk result (self.new ≡ of_name name.now.place name.now.text self.old) }
+    {
+        match name.place {
+            Place::GlobalIn(_) | Place::GlobalOf(_) => self.add_text(alloc, &name.text),
+            Place::Unset | Place::Local(_) | Place::Upvalue(_) => Ok(()),
+        }
+    }
+
+    /// Adds the constants of an expression.
+    #[cycle(collecting)]
+    #[tactic(auto, using(crate::proofs::Rows::exps_of, crate::proofs::Rows::fields_of))]
+    pub fn add_exp(&mut self, alloc: Global, exp: &Exp) -> Result<(), AllocError>
+        ensures { OnOk result (self.new ≡ of_exp (plain_exp exp.now) self.old) }
+    {
+        match &exp.node {
+            ExpNode::Nil
+            | ExpNode::True
+            | ExpNode::False
+            | ExpNode::Vararg
+            | ExpNode::Function(_) => Ok(()),
+            ExpNode::Int(integer) if is_small(*integer) => Ok(()),
+            ExpNode::Int(integer) => self.add_integer(*integer),
+            ExpNode::Str(bytes) => self.add_text(alloc, bytes),
+            ExpNode::Var(name) => self.add_name(alloc, name),
+            ExpNode::Unary(_, operand) => self.add_exp(alloc, operand),
+            ExpNode::Paren(inner) => self.add_exp(alloc, inner),
+            ExpNode::Index(left, right)
+            | ExpNode::Binary(_, left, right)
+            | ExpNode::And(left, right)
+            | ExpNode::Or(left, right) => {
+                self.add_exp(alloc, left)?;
+                self.add_exp(alloc, right)
+            }
+            ExpNode::Call(called, arguments) => {
+                self.add_exp(alloc, called)?;
+                self.add_exps(alloc, arguments)
+            }
+            ExpNode::Method(object, name, arguments) => {
+                self.add_exp(alloc, object)?;
+                self.add_text(alloc, &name.text)?;
+                self.add_exps(alloc, arguments)
+            }
+            ExpNode::Table(list) => self.add_fields(alloc, list),
+        }
+    }
+
+    /// Adds the constants of a list of expressions.
+    #[cycle(collecting)]
+    pub fn add_exps(&mut self, alloc: Global, list: &Vec<Exp>) -> Result<(), AllocError>
+        ensures { OnOk result (self.new ≡ of_exps (exps (plain_exps list.now.items)) self.old) }
+    {
+        for exp in list.iter() {
+            self.add_exp(alloc, exp)?;
+        }
+        Ok(())
+    }
+
+    /// Adds the constants of a constructor's fields.
+    #[cycle(collecting)]
+    fn add_fields(&mut self, alloc: Global, list: &Vec<Field>) -> Result<(), AllocError>
+        ensures { OnOk result (self.new ≡ of_fields (fields (map plain_field list.now.items)) self.old) }
+    {
+        for field in list.iter() {
+            self.add_field(alloc, field)?;
+        }
+        Ok(())
+    }
+
+    /// Adds the constants of a field.
+    #[cycle(collecting)]
+    fn add_field(&mut self, alloc: Global, field: &Field) -> Result<(), AllocError>
+        ensures { OnOk result (self.new ≡ of_field (plain_field field.now) self.old) }
+    {
+        match field {
+            Field::Item(value) => self.add_exp(alloc, value),
+            Field::Keyed { key, value, .. } => {
+                self.add_exp(alloc, key)?;
+                self.add_exp(alloc, value)
+            }
+        }
+    }
+}

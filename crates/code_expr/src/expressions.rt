@@ -1,0 +1,256 @@
+// Expressions (Lua 5.4 manual, 3.4), whose values go to registers.
+ghost use Rattle.std.specs.Prelude.{◌≡◌, ◌+◌, OnOk, IfOk, map, nat_eq};
+ghost use Rattle.tree_core.specs.Tree.{exps, fields, Call, Method, Index, Binary, Unary, Table};
+ghost use Rattle.tree_core.specs.Plain.{plain_exp, plain_exps, plain_field};
+ghost use Rattle.code_of.specs.Expressions.{exp_code, exps_code, either_code, made_by, made_in, made_in_fields, made_by_field};
+ghost use Rattle.code_expr.specs.Listing.{followed};
+ghost use Rattle.code_expr.specs.Parts.{item_code, keyed_code, field_code, items_after};
+
+use crate::emitter::{Emitter, next};
+use crate::lists::{field_where, fills, item_field, list_field, stored_field, wanted_where};
+use code_core::Opcode;
+use std::alloc::AllocError;
+use tree_core::{BinOp, Exp, ExpNode, Field, Name, UnOp};
+
+impl Emitter {
+    /// Writes an expression, whose value goes to a register. `results` is the field C of a call
+    /// or `...`: one more than the number of values that are wanted, or 0 for all.
+    #[cycle(expressions)]
+    #[tactic(auto, using(crate::proofs::Joining::none_made, crate::proofs::Rows::exps_of, crate::proofs::Rows::fields_of, crate::proofs::Rows::body_line))]
+    pub fn expression(&mut self, exp: &Exp, target: usize, results: usize) -> Result<(), AllocError>
+        ensures { OnOk result (self.new ≡ followed self.old (exp_code self.old.constants (plain_exp exp.now) target self.old.made results) (made_by (plain_exp exp.now))) }
+    {
+        let line = exp.line;
+        match &exp.node {
+            ExpNode::Nil => self.put_abc(Opcode::LoadNil, target, 0, 0, line),
+            ExpNode::True => self.put_abc(Opcode::LoadTrue, target, 0, 0, line),
+            ExpNode::False => self.put_abc(Opcode::LoadFalse, target, 0, 0, line),
+            ExpNode::Int(integer) => self.load_integer(*integer, target, line),
+            ExpNode::Str(bytes) => self.load_text(bytes, target, line),
+            ExpNode::Vararg => self.put_abc(Opcode::VarArg, target, 0, results, line),
+            ExpNode::Function(body) => self.put_closure(target, body.line),
+            ExpNode::Var(name) => self.read_name(name, target, line),
+            ExpNode::Paren(inner) => self.expression(inner, target, 2),
+            ExpNode::Unary(op, operand) => self.unary(*op, operand, target, line),
+            ExpNode::Binary(op, left, right) => self.binary(*op, left, right, target, line),
+            ExpNode::Index(object, key) => self.index(object, key, target, line),
+            ExpNode::And(left, right) => self.either(false, left, right, target, line),
+            ExpNode::Or(left, right) => self.either(true, left, right, target, line),
+            ExpNode::Call(called, arguments) => self.call(called, arguments, target, results, line),
+            ExpNode::Method(object, name, arguments) => {
+                self.method(object, name, arguments, target, results, line)
+            }
+            ExpNode::Table(list) => self.table(list, target, line),
+        }
+    }
+
+    /// Writes a prefix operator and its operand.
+    #[cycle(expressions)]
+    fn unary(&mut self, op: UnOp, operand: &Exp, target: usize, line: u32) -> Result<(), AllocError>
+        ensures { OnOk result (self.new ≡ followed self.old (exp_code self.old.constants (Unary line op (plain_exp operand.now)) target self.old.made 2) (made_by (Unary line op (plain_exp operand.now)))) }
+    {
+        self.expression(operand, target, 2)?;
+        self.prefix(op, target, line)?;
+        Ok(())
+    }
+
+    /// Writes an operator between two operands and these.
+    #[cycle(expressions)]
+    fn binary(
+        &mut self,
+        op: BinOp,
+        left: &Exp,
+        right: &Exp,
+        target: usize,
+        line: u32,
+    ) -> Result<(), AllocError>
+        ensures { OnOk result (self.new ≡ followed self.old (exp_code self.old.constants (Binary line op (plain_exp left.now) (plain_exp right.now)) target self.old.made 2) (made_by (Binary line op (plain_exp left.now) (plain_exp right.now)))) }
+    {
+        self.expression(left, target, 2)?;
+        self.expression(right, next(target)?, 2)?;
+        self.operator(op, target, line)?;
+        Ok(())
+    }
+
+    /// Writes a value that is indexed and its key.
+    #[cycle(expressions)]
+    fn index(&mut self, object: &Exp, key: &Exp, target: usize, line: u32) -> Result<(), AllocError>
+        ensures { OnOk result (self.new ≡ followed self.old (exp_code self.old.constants (Index line (plain_exp object.now) (plain_exp key.now)) target self.old.made 2) (made_by (Index line (plain_exp object.now) (plain_exp key.now)))) }
+    {
+        let above = next(target)?;
+        self.expression(object, target, 2)?;
+        self.expression(key, above, 2)?;
+        self.put_abc(Opcode::GetTable, target, target, above, line)?;
+        Ok(())
+    }
+
+    /// Writes `and` or `or`, where the first operand decides if its truth is `decides`.
+    #[cycle(expressions)]
+    fn either(
+        &mut self,
+        decides: bool,
+        first: &Exp,
+        second: &Exp,
+        target: usize,
+        line: u32,
+    ) -> Result<(), AllocError>
+        ensures { OnOk result (self.new ≡ followed self.old (either_code decides (exp_code self.old.constants (plain_exp first.now) target self.old.made 2) (exp_code self.old.constants (plain_exp second.now) target (self.old.made + made_by (plain_exp first.now)) 2) target line) (made_by (plain_exp first.now) + made_by (plain_exp second.now))) }
+    {
+        self.expression(first, target, 2)?;
+        self.put_flagged(Opcode::Test, target, 0, 0, decides, line)?;
+        let jump = self.put_open_jump(line)?;
+        self.expression(second, target, 2)?;
+        self.land(jump);
+        Ok(())
+    }
+
+    /// Writes a call.
+    #[cycle(expressions)]
+    fn call(
+        &mut self,
+        called: &Exp,
+        arguments: &Vec<Exp>,
+        target: usize,
+        results: usize,
+        line: u32,
+    ) -> Result<(), AllocError>
+        ensures { OnOk result (self.new ≡ followed self.old (exp_code self.old.constants (Call line (plain_exp called.now) (exps (plain_exps arguments.now.items))) target self.old.made results) (made_by (Call line (plain_exp called.now) (exps (plain_exps arguments.now.items))))) }
+    {
+        self.expression(called, target, 2)?;
+        self.list(arguments, None, next(target)?, line)?;
+        self.put_abc(
+            Opcode::Call,
+            target,
+            list_field(0, arguments),
+            results,
+            line,
+        )?;
+        Ok(())
+    }
+
+    /// Writes the call of a method.
+    #[cycle(expressions)]
+    fn method(
+        &mut self,
+        object: &Exp,
+        name: &Name,
+        arguments: &Vec<Exp>,
+        target: usize,
+        results: usize,
+        line: u32,
+    ) -> Result<(), AllocError>
+        ensures { OnOk result (self.new ≡ followed self.old (exp_code self.old.constants (Method line (plain_exp object.now) name.now (exps (plain_exps arguments.now.items))) target self.old.made results) (made_by (Method line (plain_exp object.now) name.now (exps (plain_exps arguments.now.items))))) }
+    {
+        let above = next(target)?;
+        self.expression(object, target, 2)?;
+        self.load_text(&name.text, above, line)?;
+        self.put_abc(Opcode::OpSelf, target, target, above, line)?;
+        self.list(arguments, None, next(above)?, line)?;
+        self.put_abc(
+            Opcode::Call,
+            target,
+            list_field(1, arguments),
+            results,
+            line,
+        )?;
+        Ok(())
+    }
+
+    /// Writes a list of expressions, whose values go to the registers from one on: as many as are
+    /// wanted, or an open list.
+    #[cycle(expressions)]
+    pub fn list(
+        &mut self,
+        list: &Vec<Exp>,
+        wanted: Option<usize>,
+        target: usize,
+        line: u32,
+    ) -> Result<(), AllocError>
+        ensures { OnOk result (self.new ≡ followed self.old (exps_code self.old.constants (exps (plain_exps list.now.items)) wanted target self.old.made line) (made_in (exps (plain_exps list.now.items)))) }
+    {
+        let mut wanted = wanted;
+        let mut register = target;
+        let mut left = list.len();
+        for exp in list.iter() {
+            left -= 1;
+            let fills = fills(exp, left);
+            self.expression(exp, register, field_where(fills, wanted)?)?;
+            wanted = wanted_where(fills, wanted);
+            register = next(register)?;
+        }
+        self.nils(wanted, register, line)?;
+        Ok(())
+    }
+
+    /// Writes a table constructor.
+    #[cycle(expressions)]
+    fn table(&mut self, list: &Vec<Field>, target: usize, line: u32) -> Result<(), AllocError>
+        ensures { OnOk result (self.new ≡ followed self.old (exp_code self.old.constants (Table line (fields (map plain_field list.now.items))) target self.old.made 2) (made_in_fields (fields (map plain_field list.now.items)))) }
+    {
+        self.put_abc(Opcode::NewTable, target, 0, 0, line)?;
+        self.put_ax(Opcode::ExtraArg, 0, line)?;
+        let mut items = 0;
+        let mut left = list.len();
+        for field in list.iter() {
+            left -= 1;
+            items = self.field(field, left, items, target, line)?;
+        }
+        Ok(())
+    }
+
+    /// Writes a field of a constructor behind some items, and answers how many items there are then.
+    #[cycle(expressions)]
+    fn field(
+        &mut self,
+        field: &Field,
+        left: usize,
+        items: usize,
+        target: usize,
+        line: u32,
+    ) -> Result<usize, AllocError>
+        ensures code { OnOk result (self.new ≡ followed self.old (field_code self.old.constants (plain_field field.now) (nat_eq left 0) items target self.old.made line) (made_by_field (plain_field field.now))) }
+        ensures items { IfOk result (λ n. n ≡ items_after (plain_field field.now) items) }
+    {
+        match field {
+            Field::Item(value) => {
+                self.item(value, fills(value, left), items, target, line)?;
+                next(items)
+            }
+            Field::Keyed { line, key, value } => {
+                self.keyed(key, value, target, *line)?;
+                Ok(items)
+            }
+        }
+    }
+
+    /// Writes an item of a constructor, of which all values are wanted or the first one.
+    #[cycle(expressions)]
+    fn item(
+        &mut self,
+        value: &Exp,
+        whole: bool,
+        items: usize,
+        target: usize,
+        line: u32,
+    ) -> Result<(), AllocError>
+        ensures { OnOk result (self.new ≡ followed self.old (item_code self.old.constants (plain_exp value.now) whole items target self.old.made line) (made_by (plain_exp value.now))) }
+    {
+        let above = next(target)?;
+        self.expression(value, above, item_field(whole))?;
+        self.set_list(target, stored_field(whole), items, line)?;
+        Ok(())
+    }
+
+    /// Writes a field of a constructor with its key.
+    #[cycle(expressions)]
+    fn keyed(&mut self, key: &Exp, value: &Exp, target: usize, line: u32) -> Result<(), AllocError>
+        ensures { OnOk result (self.new ≡ followed self.old (keyed_code self.old.constants (plain_exp key.now) (plain_exp value.now) target self.old.made line) (made_by (plain_exp key.now) + made_by (plain_exp value.now))) }
+    {
+        let first = next(target)?;
+        let second = next(first)?;
+        self.expression(key, first, 2)?;
+        self.expression(value, second, 2)?;
+        self.put_abc(Opcode::SetTable, target, first, second, line)?;
+        Ok(())
+    }
+}

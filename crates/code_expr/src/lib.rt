@@ -1,0 +1,18 @@
+// The code of expressions (Lua 5.4 manual, 3.4), written into the code of the function that they stand in.
+#![tactic(auto)]
+
+mod collecting;
+mod constants;
+mod emitter;
+mod expressions;
+mod lists;
+mod names;
+mod operators;
+mod word;
+
+pub use constants::Constants;
+pub use emitter::{Emitter, Step, next};
+pub use lists::{is_open, list_field};
+
+#[cfg(test)]
+mod tests;

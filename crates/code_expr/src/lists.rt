@@ -1,0 +1,116 @@
+// Lists of values, and what a call or `...` at their end fills.
+ghost use Rattle.std.specs.Prelude.{◌≡◌, ◌&&◌, OnOk, IfOk, cond, nat_eq};
+ghost use Rattle.tree_core.specs.Tree.{exps};
+ghost use Rattle.tree_core.specs.Plain.{plain_exp, plain_exps};
+ghost use Rattle.code_of.specs.Expressions.{is_open, list_field, nils_code, set_list};
+ghost use Rattle.code_expr.specs.Listing.{listed};
+ghost use Rattle.code_expr.specs.Parts.{field_where, wanted_where};
+
+use crate::emitter::{Emitter, next};
+use code_core::Opcode;
+use std::alloc::AllocError;
+use tree_core::{Exp, ExpNode};
+
+/// Whether an expression gives any number of values.
+pub fn is_open(exp: &Exp) -> bool
+    ensures { result ≡ is_open (plain_exp exp.now) }
+{
+    matches!(
+        &exp.node,
+        ExpNode::Vararg | ExpNode::Call(_, _) | ExpNode::Method(_, _, _)
+    )
+}
+
+/// Whether an expression stands last, behind which none is left, and gives any number of values.
+pub(crate) fn fills(exp: &Exp, left: usize) -> bool
+    ensures { result ≡ (nat_eq left 0 && is_open (plain_exp exp.now)) }
+{
+    left == 0 && is_open(exp)
+}
+
+/// The field of a list's length with some registers in front: one more than their number, or 0
+/// where the list is open.
+#[tactic(auto, using(crate::proofs::Ends::open_field, crate::proofs::Ends::closed_field, crate::proofs::Ends::empty_field))]
+pub fn list_field(before: u8, list: &Vec<Exp>) -> usize
+    ensures { result ≡ list_field before (exps (plain_exps list.now.items)) }
+{
+    let count = list.len();
+    if count == 0 {
+        return usize::from(before) + 1;
+    }
+    if is_open(&list[count - 1]) {
+        return 0;
+    }
+    usize::from(before) + count + 1
+}
+
+/// The field C of an expression, which may fill what is left of the wanted values.
+pub(crate) fn field_where(fills: bool, wanted: Option<usize>) -> Result<usize, AllocError>
+    ensures { IfOk result (λ field. field ≡ field_where fills wanted) }
+{
+    if !fills {
+        return Ok(2);
+    }
+    match wanted {
+        Some(count) => next(count),
+        None => Ok(0),
+    }
+}
+
+/// How many values are wanted behind an expression, which may fill what is left.
+pub(crate) fn wanted_where(fills: bool, wanted: Option<usize>) -> Option<usize>
+    ensures { result ≡ wanted_where fills wanted }
+{
+    match wanted {
+        Some(count) if !fills => Some(count.saturating_sub(1)),
+        _ => None,
+    }
+}
+
+/// The field C of an item, of which all values are wanted or the first one.
+pub(crate) fn item_field(whole: bool) -> usize
+    ensures { result ≡ cond whole 0 2 }
+{
+    if whole { 0 } else { 2 }
+}
+
+/// The field B of the instruction that stores an item, whose values are all stored or the first one.
+pub(crate) fn stored_field(whole: bool) -> usize
+    ensures { result ≡ cond whole 0 1 }
+{
+    if whole { 0 } else { 1 }
+}
+
+impl Emitter {
+    /// Sets the registers of values that are wanted and not there to nil.
+    pub(crate) fn nils(
+        &mut self,
+        wanted: Option<usize>,
+        target: usize,
+        line: u32,
+    ) -> Result<(), AllocError>
+        ensures { OnOk result (self.new ≡ listed self.old (nils_code wanted target line)) }
+    {
+        match wanted {
+            Some(count) if count > 0 => self.put_abc(Opcode::LoadNil, target, count - 1, 0, line),
+            _ => Ok(()),
+        }
+    }
+
+    /// Stores values from behind a table's register in it, behind some items.
+    pub(crate) fn set_list(
+        &mut self,
+        target: usize,
+        count: usize,
+        items: usize,
+        line: u32,
+    ) -> Result<(), AllocError>
+        ensures { OnOk result (self.new ≡ listed self.old (set_list target count items line)) }
+    {
+        if items < 256 {
+            return self.put_abc(Opcode::SetList, target, count, items, line);
+        }
+        self.put_flagged(Opcode::SetList, target, count, items % 256, true, line)?;
+        self.put_ax(Opcode::ExtraArg, items / 256, line)
+    }
+}
