@@ -185,3 +185,22 @@ closed_by_goto : AskAlike 8 (tree_asks leaves_scopes (number 1 ∷ object a_tabl
     (code_asks leaves_scopes_code (number 1 ∷ object a_table 5 ∷ []) (one (number 4) ∷ values [] ∷ values [] ∷ values [] ∷ []))
 unfolding opcodes number_of int_wrap
 closed_by_goto = (refl, refl)
+
+-- function(f) repeat local x=f() goto test f() ::test:: until x end: the label stands in the scope of x
+abbrev tests_at_once : Body
+tests_at_once = fun ("f" ∷ []) [] (block (
+    Repeat 1 (block (loc_is "x" 1 (call (loc "f" 0) []) ∷ Goto 1 (no_variable "test") ∷ does (call (loc "f" 0) []) ∷ Label 1 (no_variable "test") ∷ [])) (loc "x" 1) ∷ []))
+
+abbrev pub tests_at_once_code : Prototype
+tests_at_once_code = hand 1 false 3 [] [] (variable "f" 0 13 ∷ variable "x" 2 12 ∷ []) []
+    (abc Move 1 0 0 false ∷ abc Call 1 1 2 false ∷ abc Close 2 0 0 false ∷ jump 2 ∷ abc Move 2 0 0 false ∷ abc Call 2 1 1 false
+    ∷ abc Move 2 1 0 false ∷ abc Test 2 0 0 true ∷ jump 2 ∷ abc Close 1 0 0 false ∷ jump_back 11 ∷ abc Close 1 0 0 false ∷ abc Return 1 1 0 false ∷ [])
+
+label_code : Compiles tests_at_once tests_at_once_code
+unfolding opcodes number_of
+label_code = refl
+
+label_before_until : AskAlike 4 (tree_asks tests_at_once (number 1 ∷ []) (one (known nil) ∷ one (number 5) ∷ []))
+    (code_asks tests_at_once_code (number 1 ∷ []) (one (known nil) ∷ one (number 5) ∷ []))
+unfolding opcodes number_of int_wrap
+label_before_until = (refl, refl)

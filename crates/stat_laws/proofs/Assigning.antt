@@ -37,7 +37,6 @@ use Rattle.exp_laws.proofs.Exps.{exps_same}
 use Rattle.exp_laws.proofs.Steps.{row_step, own_step, go_step, move_step}
 use Rattle.stat_laws.proofs.Standing.{Standing, GoesOn}
 use Rattle.stat_laws.specs.Scoped.{NameIsStored, TargetsArePlaced}
-use Rattle.stat_laws.proofs.Blocks.{StatLaw}
 use Rattle.tree_activation.specs.Activation.{step}
 
 -- where the values of a list of targets go

@@ -56,20 +56,33 @@ inner_fits = (record { small = lit< tt; short = lit≤ tt; room = lit≤ tt; pla
 
 this_fits : BodyFits source goes_back
 unfolding opcodes number_of
-this_fits = (record {
-  small = lit< tt;
-  short = lit≤ tt;
-  room = lit≤ tt;
-  placed = (
-    ((((λ e. absurd (cc)), tt), (lit≤ tt, (lit≤ tt, (lit< tt, refl)))),
-    (tt,
-    ((inl (lit< tt, tt), (((lit< tt, (lit< tt, tt)), tt), (lit≤ tt, (lit≤ tt, lit< tt)))),
-    ((lit< tt, (lit≤ tt, ((refl, tt), tt))),
-    ((record { prototype = code_of source gives_x; there = refl; near = lit< tt; upvalues = refl; alike = λ n lt. absurd (omega arith) }, (((λ e. lit< tt), tt), lit< tt)),
-    tt))))),
-    (refl, (lit< tt, ((lit< tt, tt), (lit≤ tt, lit≤ tt))))
-  );
-}, (((tt, tt), (tt, (((tt, tt), ((tt, (tt, tt)), tt)), ((tt, ((tt, tt), tt)), ((refl, inner_fits), tt))))), ((tt, (tt, tt)), tt)))
+this_fits = (
+  record {
+    small = lit< tt;
+    short = lit≤ tt;
+    room = lit≤ tt;
+    placed = (
+      (
+        (((λ e. absurd (cc)), tt), (lit≤ tt, (lit≤ tt, (lit< tt, refl)))),
+        (
+          tt,
+          (
+            (inl (lit< tt, tt), (((lit< tt, (lit< tt, tt)), tt), (lit≤ tt, (lit≤ tt, lit< tt)))),
+            (
+              (lit< tt, (lit≤ tt, ((refl, tt), tt))),
+              (
+                (record { prototype = code_of source gives_x; there = refl; near = lit< tt; upvalues = refl; alike = λ n lt. absurd (omega arith) }, (((λ e. lit< tt), tt), lit< tt)),
+                tt,
+              ),
+            ),
+          ),
+        ),
+      ),
+      (refl, (lit< tt, ((lit< tt, tt), (lit≤ tt, lit≤ tt)))),
+    );
+  },
+  (((tt, tt), (tt, (((tt, tt), ((tt, (tt, tt)), tt)), ((tt, ((tt, tt), tt)), ((refl, inner_fits), tt))))), ((tt, (tt, tt)), tt)),
+)
 
 its_code_means_this : Means true (code_of source goes_back) goes_back
 its_code_means_this = means source goes_back this_fits

@@ -32,7 +32,7 @@ use Rattle.exp_laws.proofs.Placed.{IsPlaced, room_of, room_of_name, room_of_list
 use Rattle.exp_laws.proofs.Going.{Goes, next_there}
 use Rattle.exp_laws.proofs.Tests.{test_on, test_past, jump_step}
 use Rattle.stat_laws.proofs.Closing.{AllBelow, ends_goes}
-use Rattle.stat_laws.proofs.Standing.{strong, numbers, AllFrom, from_lower, from_more, Parted, part, ascends_under, Standing, GoesOn, goes_fewer, goes_from, back_goes, lands_ahead, below_higher}
+use Rattle.stat_laws.proofs.Standing.{strong, numbers, AllFrom, from_lower, from_more, part, ascends_under, Standing, GoesOn, goes_fewer, goes_from, back_goes, lands_ahead, below_higher}
 use Rattle.stat_laws.specs.Scoped.{Named, ArmsArePlaced, BlockIsPlaced}
 use Rattle.stat_laws.proofs.Sizes.{past_sized, block_sized, arms_sized, stats_sized}
 use Rattle.stat_laws.proofs.Labels.{Jumps, jumps_within}

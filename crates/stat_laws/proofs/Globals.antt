@@ -1,16 +1,15 @@
 -- Assignments, also to one global name: its table and its key stand in registers while the value is evaluated.
-use Rattle.std.proofs.Common.{◌≡◌, ⊎_elim, ℕ, ◌+◌, ◌*◌, ◌<◌, ◌≤◌, ◌^◌, lit<, List, [], ◌∷◌, ◌++◌, length, Some, refl, sym, ap, subst, ◌∙◌, arith, length-append, false}
+use Rattle.std.proofs.Common.{◌≡◌, ⊎_elim, ℕ, ◌+◌, ◌*◌, ◌<◌, List, [], ◌∷◌, ◌++◌, length, Some, refl, sym, ap, subst, ◌∙◌, arith, length-append, false}
 use Rattle.int_core.specs.Value.{Value, known, string, nth, write}
 use Rattle.int_core.specs.Ask.{reads_upvalue, Captured}
 use Rattle.tree_core.specs.declared.name.Name.{Name}
 use Rattle.tree_core.specs.declared.name.Place.{Place}
 use Rattle.tree_core.specs.declared.name.Place.TheVariants.{Unset, Upvalue, GlobalIn, GlobalOf}
 use Rattle.tree_core.specs.declared.name.Place.TheVariants.{Local as LocalPlace}
-use Rattle.tree_core.specs.Tree.{Assign, Exp, Nil, True, False, Int, Str, Vararg, Function, Var, Index, Call, Method, Unary, Binary, And, Or, Paren, Table, Exps, EndExps, MoreExps}
+use Rattle.tree_core.specs.Tree.{Assign, Nil, True, False, Int, Str, Vararg, Function, Var, Index, Call, Method, Unary, Binary, And, Or, Paren, Table, Exps, EndExps, MoreExps}
 use Rattle.tree_activation.specs.Work.{complete, collect, aim, store, to_field, for_assignment, Work, Pending, State}
 use Rattle.tree_activation.specs.Work as tree
 use Rattle.tree_activation.specs.Asking.{first}
-use Rattle.tree_activation.specs.Activation.{step}
 use Rattle.tree_activation.specs.Statements.{aims_at_name}
 use Rattle.code_core.specs.declared.opcode.Opcode.TheVariants.{GetUpval, SetTable}
 use Rattle.code_core.specs.declared.proto.Const.TheVariants.{Str as StrConst}
@@ -32,7 +31,6 @@ use Rattle.exp_laws.proofs.NameForms.{load_right}
 use Rattle.exp_laws.proofs.TableForms.{store_goes}
 use Rattle.exp_laws.proofs.Exps.{exps_same}
 use Rattle.exp_laws.proofs.Steps.{to_register_step, upvalue_step}
-use Rattle.stat_laws.proofs.Standing.{Standing}
 use Rattle.stat_laws.specs.Scoped.{GlobalIsStored, GlobalIsPlaced}
 use Rattle.stat_laws.proofs.Blocks.{StatLaw}
 use Rattle.stat_laws.proofs.Assigning.{AssignLaw, names_goes}

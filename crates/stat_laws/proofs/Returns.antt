@@ -1,10 +1,10 @@
 -- Leaving a function with values: `return`, and the end of its block.
-use Rattle.std.proofs.Common.{◌≡◌, ℕ, zero, suc, ◌+◌, ◌-◌, ◌<◌, ◌≤◌, ◌^◌, max, Bool, true, false, cond, List, [], ◌∷◌, ◌++◌, length, drop, Some, None, refl, sym, ap, ap₂, subst, ◌∙◌, arith, append_assoc, length-append}
+use Rattle.std.proofs.Common.{◌≡◌, ℕ, zero, suc, ◌+◌, ◌-◌, ◌<◌, ◌≤◌, ◌^◌, Bool, true, false, cond, List, [], ◌∷◌, ◌++◌, length, drop, Some, None, refl, sym, ap, ap₂, subst, ◌∙◌, arith, append_assoc, length-append}
 use borrow.Author.Tests.{le-leb}
 use Rattle.std.specs.Prelude.{◌==◌}
-use Rattle.int_core.specs.Value.{Value, known, nil, nth, range}
+use Rattle.int_core.specs.Value.{Value, nth, range}
 use Rattle.int_core.specs.Ask.{leaves, returns, Captured, held_below, gone_from, shared_by}
-use Rattle.tree_core.specs.Tree.{Body, Block, Falls, Returns, Stats, EndStats, Exp, Nil, True, False, Int, Str, Vararg, Function, Var, Index, Call, Method, Unary, Binary, And, Or, Paren, Table, Exps, EndExps, MoreExps, MoreStats}
+use Rattle.tree_core.specs.Tree.{Returns, Stats, EndStats, Nil, True, False, Int, Str, Vararg, Function, Var, Index, Call, Method, Unary, Binary, And, Or, Paren, Table, Exps, EndExps, MoreExps, MoreStats}
 use Rattle.tree_activation.specs.Work.{complete, collect, evaluate, callee_of, method_of, for_return, finish, leave_scope, run, Work, Pending, Passed, returns_list, Activation, State}
 use Rattle.tree_activation.specs.Work as tree
 use Rattle.tree_activation.specs.Activation.{step}
@@ -23,7 +23,7 @@ use Rattle.machine_core.specs.Talk as code
 use Rattle.machine_core.specs.Talk.{talk, talk_step, says_so, before, amid}
 use Rattle.machine_join.proofs.Lists.{eq_not, lt_not}
 use Rattle.code_of.specs.Coded.{Coded, with_abc}
-use Rattle.code_of.specs.Expressions.{made_by, count, is_last_open, ends_open, list_field, one_less, exp_code, exps_code}
+use Rattle.code_of.specs.Expressions.{made_by, count, list_field, exp_code, exps_code}
 use Rattle.code_of.specs.Constants.{loads}
 use Rattle.code_core.specs.declared.proto.Const.TheVariants.{Str as StrConst}
 use Rattle.code_of.specs.Jumps.{Reach}
@@ -36,9 +36,7 @@ use Rattle.exp_laws.proofs.Talking.{Setting, Agree, go_left, both_ask, of_tree, 
 use Rattle.exp_laws.proofs.Placing.{HasAt, has_front, has_back}
 use Rattle.exp_laws.proofs.Lists.{Holds, range_held}
 use Rattle.exp_laws.proofs.Calls.{read_values_step}
-use Rattle.exp_laws.proofs.Placed.{room_of, room_of_list, IsPlaced, ArePlaced}
-use Rattle.exp_laws.proofs.ListForms.{Listed}
-use Rattle.exp_laws.proofs.Exps.{exps_same}
+use Rattle.exp_laws.proofs.Placed.{room_of_list, IsPlaced, ArePlaced}
 use Rattle.exp_laws.proofs.Steps.{row_step, own_step}
 use Rattle.exp_laws.proofs.LastCalls.{call_last_same, method_last_same}
 use Rattle.stat_laws.proofs.Standing.{numbers, GoesOn}
@@ -46,7 +44,7 @@ use Rattle.stat_laws.specs.Scoped.{LastIsPlaced, ReturnIsPlaced}
 use Rattle.stat_laws.proofs.Sizes.{stats_sized}
 use Rattle.stat_laws.proofs.Labels.{closed_after}
 use Rattle.stat_laws.proofs.Blocks.{closeds_after, known_after, added_none, StatsLaw}
-use Rattle.stat_laws.proofs.Forms.{room_any, BlockLaw, below_level}
+use Rattle.stat_laws.proofs.Forms.{BlockLaw, below_level}
 use Rattle.exp_laws.proofs.Returns.{return_list_same}
 
 held_zero : (held : List (ℕ × ℕ)) → held_below 0 held ≡ []

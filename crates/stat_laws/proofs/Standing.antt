@@ -3,7 +3,7 @@ use Rattle.std.proofs.Common.{◌≡◌, ℕ, zero, suc, ◌+◌, ◌-◌, ◌<�
 use borrow.Author.Tests.{le-leb, leb-true}
 use Rattle.std.specs.Prelude.{nat_le}
 use Rattle.int_core.specs.Value.{Value, known, nil, bind}
-use Rattle.int_core.specs.Ask.{pays, values_in, Captured, Answer, Next, goes_on, stuck, brought}
+use Rattle.int_core.specs.Ask.{pays, values_in, Captured, Next, goes_on, stuck, brought}
 use Rattle.tree_activation.specs.Work.{Control, pay, leave_scope, Work, Pending}
 use Rattle.tree_activation.specs.Work as tree
 use Rattle.tree_activation.specs.Asking.{go, asks_quickly}

@@ -27,7 +27,7 @@ use Rattle.exp_laws.proofs.Exps.{open_same, exps_same}
 use Rattle.stat_laws.proofs.Labels.{closed_numbers}
 use Rattle.stat_laws.proofs.Blocks.{StatLaw, neither, none_closed}
 
-length_fitted : (n : ℕ) (vs : List Value) → length (fitted n vs) ≡ n
+pub length_fitted : (n : ℕ) (vs : List Value) → length (fitted n vs) ≡ n
 length_fitted zero vs = refl
 length_fitted (suc n) [] = ap suc (length_fitted n [])
 length_fitted (suc n) (v ∷ vs) = ap suc (length_fitted n vs)

@@ -39,18 +39,13 @@ use Rattle.stat_laws.proofs.Sizes.{stats_sized}
 use Rattle.stat_laws.proofs.Labels.{Jumps}
 use Rattle.stat_laws.proofs.Blocks.{added_none}
 use Rattle.stat_laws.proofs.Returns.{finishes_goes, return_step, return_ends, no_numbers, known_all, return_some}
-use Rattle.stat_laws.proofs.Values.{nth_fitted}
+use Rattle.stat_laws.proofs.Values.{length_fitted, nth_fitted}
 use Rattle.stat_laws.proofs.Statements.{stats_goes}
 use Rattle.stat_laws.proofs.Lines.{lines_back, has_all}
 use Rattle.stat_laws.specs.Fits.{is_known, setting, BlockFits, BodyFits, InBlock}
 use Rattle.stat_laws.proofs.Raised.{stats_up, return_up}
 
 -- arguments in locals and in registers
-
-length_fitted : (n : ℕ) (vs : List Value) → length (trees.fitted n vs) ≡ n
-length_fitted zero vs = refl
-length_fitted (suc n) [] = ap suc (length_fitted n [])
-length_fitted (suc n) (v ∷ vs) = ap suc (length_fitted n vs)
 
 length_registers : (n : ℕ) (vs : List Value) → length (moves.fitted n vs) ≡ n
 length_registers zero vs = refl
