@@ -1,7 +1,7 @@
 -- Lists that are gone through one by one.
-use Rattle.std.proofs.Common.{arith, ℕ, zero, suc, ◌+◌, ◌-◌, ◌≡◌, ◌≤◌, ◌<◌, List, [], ◌∷◌, ◌++◌, refl, sym, ap, ap₂, ◌∙◌, length, map, take, drop, reverse}
+use Rattle.std.proofs.Common.{arith, ℕ, suc, ◌+◌, ◌≡◌, ◌≤◌, ◌<◌, List, [], ◌∷◌, sym, ap, ◌∙◌, length, map, take, drop, reverse}
 use Rattle.std.specs.Prelude.{slice_index_or}
-use Rattle.std.proofs.lemmas.List.{drop_more, drop_all, drop-map, get_or-map, length-map, reverse-append}
+use Rattle.std.proofs.lemmas.List.{drop_more, drop_all, get_or-map, length-map, reverse-append}
 use Rattle.std.proofs.Math.Seq.{take-suc}
 
 -- an item of a list begins what is left of it
@@ -29,6 +29,9 @@ mapped f xs i x h is = ap f is ∙ sym (get_or-map f xs i x (f x) h)
 
 pub within : {X Y : Type 0} (f : X → Y) (xs : List X) (i : ℕ) → i < length xs → i < length (map f xs)
 within f xs i h = rw (length-map xs f) h
+
+pub gone : {X Y : Type 0} (f : X → Y) (xs : List X) (i : ℕ) → length xs ≤ i → length (map f xs) ≤ i
+gone f xs i h = rw (length-map xs f) h
 
 pub passed : {X : Type 0} (xs : List X) (i : ℕ) (x : X) → i < length xs → x ≡ slice_index_or xs i x → x ∷ reverse (take i xs) ≡ reverse (take (i + 1) xs)
 passed xs i x h is =

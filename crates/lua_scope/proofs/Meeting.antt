@@ -1,5 +1,5 @@
 -- Lists of violations that are met one after the other.
-use Rattle.std.proofs.Common.{arith, ℕ, Bool, ◌+◌, ◌≡◌, true, false, List, [], ◌∷◌, ◌++◌, Option, refl, sym, ap, ◌∙◌, length, map, min, drop}
+use Rattle.std.proofs.Common.{arith, ℕ, Bool, ◌+◌, ◌≡◌, true, false, List, [], ◌∷◌, ◌++◌, Option, refl, ap, ◌∙◌, length, min}
 use Rattle.std.specs.Prelude.{nat_lt}
 use Rattle.std.proofs.lemmas.Grind.{common_steps}
 use Rattle.scope_core.specs.declared.violation.Violation.{Violation}

@@ -6,7 +6,7 @@ use Rattle.tree_core.specs.declared.tree.Exp.{Exp}
 use Rattle.tree_core.specs.declared.tree.Field.{Field}
 use Rattle.tree_core.specs.declared.tree.Arm.{Arm}
 use Rattle.tree_core.specs.Tree as tree
-use Rattle.tree_core.specs.Plain.{plain_exps, plain_exp_row, plain_field, plain_field_row, plain_arm, plain_arm_row}
+use Rattle.tree_core.specs.Plain.{plain_exps, plain_exp_row, plain_stat, plain_field, plain_field_row, plain_arm, plain_arm_row}
 use Rattle.tree_core.specs.Plain.{plain_block, block_of}
 use Rattle.tree_core.specs.declared.tree.Block.{Block, out-Block}
 use Rattle.scope_core.specs.Rules.{tokens_of}
@@ -27,3 +27,15 @@ tokens_kept ss (Some es) tokens line = refl
 
 pub block_tokens : (b : Block) → tokens_of (plain_block b) ≡ (out-Block b).tokens
 block_tokens b = ap tokens_of (rows.block_rows b) ∙ tokens_kept _ _ _ _
+
+-- a block that ends by a `return`, and one that does not
+
+pub with_result : (b : Block) (es : Vec Exp Global) → (out-Block b).result ≡ Some es → plain_block b ≡ tree.Returns (tree.stats (map plain_stat (out-Block b).stats.items)) (tree.exps (plain_exps es.items)) (out-Block b).tokens (out-Block b).line
+with_result b es is =
+    rows.block_rows b
+    ∙ ap (λ r. block_of (map plain_stat (out-Block b).stats.items) (option_map (λ xs. plain_exps xs.items) r) (out-Block b).tokens (out-Block b).line) is
+
+pub without_result : (b : Block) → (out-Block b).result ≡ None → plain_block b ≡ tree.Falls (tree.stats (map plain_stat (out-Block b).stats.items)) (out-Block b).tokens (out-Block b).line
+without_result b is =
+    rows.block_rows b
+    ∙ ap (λ r. block_of (map plain_stat (out-Block b).stats.items) (option_map (λ xs. plain_exps xs.items) r) (out-Block b).tokens (out-Block b).line) is

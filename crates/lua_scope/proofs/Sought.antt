@@ -1,10 +1,9 @@
 -- Blocks and statements that are looked through one by one.
-use Rattle.std.proofs.Common.{arith, rules, ℕ, ◌+◌, ◌-◌, ◌≡◌, ◌≤◌, ◌<◌, Bool, true, false, List, [], ◌∷◌, refl, sym, ap, ◌∙◌, length, map, take, drop, reverse}
-use Rattle.std.specs.Prelude.{slice_index_or, ◌&&◌, ◌||◌}
+use Rattle.std.proofs.Common.{arith, ℕ, ◌+◌, ◌-◌, ◌≡◌, ◌≤◌, ◌<◌, true, false, List, [], ◌∷◌, ap, ◌∙◌, length, map, take, drop, reverse}
+use Rattle.std.specs.Prelude.{slice_index_or, ◌||◌}
 use Rattle.std.specs.List.{list_any}
 use Rattle.std.proofs.lemmas.List.{get_or-map, length-map, drop_more, drop_all}
 use Rattle.tree_core.specs.declared.tree.Stat.{Stat}
-use Rattle.tree_core.specs.Tree as tree
 use Rattle.tree_core.specs.Plain.{plain_stat}
 use Rattle.scope_core.specs.Rules as rules
 use Rattle.scope_core.specs.Rules.{is_label, find_label, find_in, find_behind, only_labels, is_empty_or_label, declares_variable, stands_before, or_further}

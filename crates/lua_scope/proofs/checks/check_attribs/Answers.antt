@@ -1,4 +1,4 @@
-use Rattle.std.proofs.Common.{arith, rules, ◌≡◌, Bool, List, ap, ap₂, ◌∙◌}
+use Rattle.std.proofs.Common.{arith, Bool, List, ap, ap₂, ◌∙◌}
 use Rattle.std.specs.Prelude.{Option, ◌||◌}
 use Rattle.tree_core.specs.declared.name.Declared.{Declared}
 use Rattle.scope_core.specs.declared.violation.Violation.{Violation}

@@ -1,8 +1,7 @@
-use Rattle.std.proofs.Common.{◌≡◌, ap, sym, ◌∙◌}
-use Rattle.tree_core.specs.Tree as tree
-use Rattle.tree_core.specs.Plain.{plain_exps, plain_stat, plain_stat_node}
+use Rattle.std.proofs.Common.{ap, sym, ◌∙◌}
+use Rattle.tree_core.specs.Plain.{plain_stat_node}
 use Rattle.tree_core.proofs.Rows.{plain-assign}
-use Rattle.scope_core.specs.Rules.{stat_violations, target_violations}
+use Rattle.scope_core.specs.Rules.{stat_violations}
 use Rattle.lua_scope.specs.Met.{meet_all}
 use Rattle.lua_scope.specs.Blocks.{scope_at}
 use Rattle.lua_scope.proofs.checks.check_form.Goals as goal

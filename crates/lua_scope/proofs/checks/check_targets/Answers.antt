@@ -1,4 +1,4 @@
-use Rattle.std.proofs.Common.{arith, List, ap, ◌∙◌}
+use Rattle.std.proofs.Common.{arith, List}
 use Rattle.std.specs.Prelude.{Option}
 use Rattle.tree_core.specs.declared.tree.Exp.{Exp}
 use Rattle.tree_core.specs.Tree as tree
