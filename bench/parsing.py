@@ -2,8 +2,8 @@
 """Times the program on sources of 64 KiB, 256 KiB and 1 MiB of whole Lua.
 
 Such a source has forms that the program does not run yet, so a run ends with status 5 once the source is
-read, cut into tokens and parsed. What is told is the least time of several runs, and that time for each
-byte: where parsing is linear the last column stays the same.
+read, cut into tokens and parsed. What is told is the least time of several runs, by the clock and on the
+processor, and the latter for each byte: where parsing is linear that number stays the same.
 
     bench/parsing.py [--runs N] [--keep FOLDER] [PROGRAM]
 
@@ -12,6 +12,7 @@ PROGRAM is crates/luaris/out/luaris beside this folder if none is given; ./luari
 import argparse
 import pathlib
 import random
+import resource
 import subprocess
 import sys
 import tempfile
@@ -134,17 +135,23 @@ def source_of(size):
     return "".join(parts) + "--" + "-" * (left - 3) + "\n"
 
 
-def least_time(program, file, runs):
-    """The least time of so many runs, in seconds, and what the last one wrote to standard error."""
-    least = None
+def processor_time():
+    """The time that the programs called so far had on the processor, in seconds."""
+    used = resource.getrusage(resource.RUSAGE_CHILDREN)
+    return used.ru_utime + used.ru_stime
+
+
+def least_times(program, file, runs):
+    """The least times of so many runs by the clock and on the processor, in seconds, and what the last one wrote to standard error."""
+    clock, processor = [], []
     for _ in range(runs):
-        begin = time.perf_counter()
+        began, used = time.perf_counter(), processor_time()
         done = subprocess.run([program, "run", str(file)], stdin=subprocess.DEVNULL, capture_output=True)
-        taken = time.perf_counter() - begin
+        clock.append(time.perf_counter() - began)
+        processor.append(processor_time() - used)
         if done.returncode != REFUSED:
             sys.exit(f"{file}: status {done.returncode}, {done.stderr.decode(errors='replace')}")
-        least = taken if least is None else min(least, taken)
-    return least, done.stderr.decode().strip()
+    return min(clock), min(processor), done.stderr.decode().strip()
 
 
 def main():
@@ -157,12 +164,12 @@ def main():
     with tempfile.TemporaryDirectory() as folder:
         folder = given.keep or pathlib.Path(folder)
         folder.mkdir(parents=True, exist_ok=True)
-        print(f"{'bytes':>9} {'least ms':>10} {'ns a byte':>10}  told")
+        print(f"{'bytes':>9} {'clock ms':>9} {'processor ms':>13} {'ns a byte':>10}  told")
         for size in SIZES:
             file = folder / f"source_{size}.lua"
             file.write_text(source_of(size))
-            least, told = least_time(given.program, file, given.runs)
-            print(f"{size:>9} {least * 1e3:>10.1f} {least * 1e9 / size:>10.1f}  {told}")
+            clock, processor, told = least_times(given.program, file, given.runs)
+            print(f"{size:>9} {clock * 1e3:>9.1f} {processor * 1e3:>13.1f} {processor * 1e9 / size:>10.1f}  {told}")
 
 
 if __name__ == "__main__":
