@@ -155,7 +155,8 @@ fn nested(alloc: Global, locals: usize, sums: usize) -> Result<Vec<u8>, AllocErr
         source.extend_from_slice(b"1+(")?;
     }
     source.extend_from_slice(b"1")?;
-    source.extend_from_slice(vec![in alloc; b')'; sums + 1]?.as_slice())?;
+    source.extend_from_slice(vec![in alloc; b')'; sums]?.as_slice())?;
+    source.extend_from_slice(b")")?;
     Ok(source)
 }
 
@@ -164,7 +165,8 @@ fn bracketed(alloc: Global, depth: usize) -> Result<Vec<u8>, AllocError> {
     let mut source = Vec::from_slice(alloc, b"print(")?;
     source.extend_from_slice(vec![in alloc; b'('; depth]?.as_slice())?;
     source.extend_from_slice(b"1")?;
-    source.extend_from_slice(vec![in alloc; b')'; depth + 1]?.as_slice())?;
+    source.extend_from_slice(vec![in alloc; b')'; depth]?.as_slice())?;
+    source.extend_from_slice(b")")?;
     Ok(source)
 }
 
