@@ -16,7 +16,7 @@ use Rattle.tree_core.specs.declared.tree.Block.{Block, out-Block}
 use Rattle.tree_core.specs.Plain.{plain_exp, plain_exps, plain_stat, plain_block, block_of}
 use Rattle.std.proofs.lemmas.List.{drop_all}
 use Rattle.scope_core.specs.Held.{held, held_behind}
-use Rattle.luaris.proofs.Left.{front}
+use Rattle.lua_scope.proofs.Looping.{front}
 use Rattle.luaris.specs.declared.chunk.Chunk.{Chunk}
 use Rattle.luaris.specs.declared.operator.Operator.{Operator}
 use Rattle.luaris.specs.Expression.{Expression, Numeral, Variable, Operation, expression_of, operator_of, operation, variable, last_place}

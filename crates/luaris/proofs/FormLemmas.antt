@@ -15,7 +15,7 @@ use Rattle.tree_core.proofs.Rows.{plain-block}
 use Rattle.std.proofs.lemmas.List.{drop_all}
 use Rattle.std.specs.declared.vec.Vec.{Vec}
 use Rattle.std.specs.declared.alloc.Global.{Global}
-use Rattle.luaris.proofs.Left.{front}
+use Rattle.lua_scope.proofs.Looping.{front}
 use Rattle.luaris.specs.declared.operator.Operator.{Operator}
 use Rattle.luaris.specs.Expression.{Expression, operation, outside, expression_of}
 use Rattle.luaris.specs.Script.{Statement, Declare, Print, print_name, only, only_value, has_attribute, with_expression, declaration, printing, statement_of, names_behind, preceded, statements_of, script_of}

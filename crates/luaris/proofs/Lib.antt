@@ -1,5 +1,4 @@
 pub mod ScopeLemmas
-pub mod Left
 pub mod FormLemmas
 pub mod Registers
 pub mod Rows
@@ -7,7 +6,7 @@ pub mod Runs
 pub mod ScriptRuns
 pub mod Straightness
 pub mod Emitting
-pub mod CrowdLemmas
+pub mod Placing
 pub mod OutputLemmas
 pub mod WorkLemmas
 pub mod ReportLemmas

@@ -1,6 +1,7 @@
 -- What the code of a source writes is its output, and why a source is refused.
 use Rattle.std.proofs.Common.{◌≡◌, ◌⊎◌, inl, inr, ℕ, ◌+◌, ◌≤◌, ◌<◌, ◌^◌, List, [], ◌∷◌, ◌++◌, length, Option, Some, None, Result, Ok, Err, refl, sym, ap, subst, ◌∙◌, arith, append-nil}
 use Rattle.std.specs.Prelude.{codes}
+use Rattle.std.specs.List.{Contains}
 use Rattle.std.specs.Result.{result_err}
 use Rattle.lua_lex.specs.declared.token.Token.{Token}
 use Rattle.lua_lex.specs.declared.source.LexFault.{LexFault}
@@ -12,18 +13,24 @@ use Rattle.lua_lex.specs.Answers.{OnRefused}
 use Rattle.lua_parse.specs.Answers.{IsOnlyTree, IsRefusal, Refuses}
 use Rattle.lua_parse.specs.declared.fault.ParseFault.{ParseFault}
 use Rattle.lua_parse.specs.declared.fault.ParseFault.TheVariants as parser
+use Rattle.scope_core.specs.declared.resolved.ScopeFault.{ScopeFault}
+use Rattle.scope_core.specs.declared.resolved.ScopeFault.TheVariants as scope
+use Rattle.scope_core.specs.Answers.{IsFaultOf}
+use Rattle.scope_core.specs.declared.violation.Violation.{Violation}
+use Rattle.scope_core.specs.Rules.{violations}
+use Rattle.scope_core.specs.Least.{IsLeast}
+use Rattle.scope_core.specs.Places.{placed}
 use Rattle.luaris.specs.declared.chunk.Chunk.{Chunk}
 use Rattle.luaris.specs.Script.{Statement, script_of, statements_of, printed}
-use Rattle.luaris.specs.Holding.{crowded}
 use Rattle.luaris.specs.Code.{constants_of_script, output_from, first_word, empty_registers}
 use Rattle.luaris.specs.Answers.{IsChunkOf, IsCompiled, BlockHoldsFew}
 use Rattle.luaris.specs.Straight.{HasTree, Straight, RefusedOn, Violates, bad_token, no_tree, not_built, IsNoScript}
-use Rattle.luaris.specs.Faults.{fault_of_lexer, fault_of_parser}
+use Rattle.luaris.specs.Faults.{fault_of_lexer, fault_of_parser, fault_of_rules}
 use Rattle.luaris.specs.Outcomes.{IsOutput, IsRefusedFor, SourceAnswers}
 use Rattle.luaris.proofs.Registers.{Hold}
 use Rattle.luaris.proofs.ScriptRuns.{Runs, script_runs, prints_values}
 use Rattle.luaris.proofs.Straightness.{script_reaches, never_outside}
-use Rattle.luaris.proofs.CrowdLemmas.{block_holds_few}
+use Rattle.luaris.proofs.Placing.{inner_of, same_script, lawful_holds_few}
 
 -- the source has this tree alone
 pub record IsRead (source : List ℕ) (tokens : List (Token × ℕ)) (own : tree.Block) : Type 0 where
@@ -70,13 +77,16 @@ refused_form source tokens own line read found =
       cause = not_built own (has_tree read) is;
     }
 
-pub refused_crowd : (source : List ℕ) (tokens : List (Token × ℕ)) (own : tree.Block) (line : ℕ) → IsRead source tokens own → None ≡ result_err (script_of own) → Some line ≡ crowded own → IsRefusedFor source (Violates source 11 line)
-refused_crowd source tokens own line read built found =
+pub refused_rule : (source : List ℕ) (tokens : List (Token × ℕ)) (own : tree.Block) (rule line : ℕ) → IsRead source tokens own → None ≡ result_err (script_of own) → IsLeast (violations own) (record { line = line; rule = rule }) → IsRefusedFor source (Violates source rule line)
+refused_rule source tokens own rule line read built least =
     let script = of_none (script_of own) built in
     record {
-      none = λ values straight. absurd (let bad : Some line ≡ None = found ∙ ap crowded (sym (same_tree read straight.has_tree)) ∙ straight.uncrowded in cc);
+      none = λ values straight.
+          let lawful : violations own ≡ [] = ap violations (sym (same_tree read straight.has_tree)) ∙ straight.lawful in
+          let bad : Contains [] (record { line = line; rule = rule }) = subst (λ l. Contains l (record { line = line; rule = rule })) lawful least.there in
+          absurd (let within = bad.1 in omega (arith, within));
       short = read.short;
-      cause = record { tree = own; script = script.0; has_tree = has_tree read; script_is = script.1; rule_is = refl; first = sym found };
+      cause = record { tree = own; script = script.0; has_tree = has_tree read; script_is = script.1; least = least };
     }
 
 -- what each step's fault says of the source
@@ -91,6 +101,10 @@ pub parser_fault : (source : List ℕ) (tokens : List (Token × ℕ)) (reason : 
 parser_fault source tokens (parser.Refused line) short tokens_are only refusal = refused_tokens source tokens line short tokens_are only refusal
 parser_fault source tokens parser.Memory short tokens_are only refusal = tt
 
+pub rules_fault : (source : List ℕ) (tokens : List (Token × ℕ)) (own : tree.Block) (reason : ScopeFault) → IsRead source tokens own → None ≡ result_err (script_of own) → IsFaultOf own reason → SourceAnswers source (Err (fault_of_rules reason))
+rules_fault source tokens own (scope.Refused rule line) read built least = refused_rule source tokens own rule line read built least
+rules_fault source tokens own scope.Memory read built least = tt
+
 -- the output
 
 empty_hold : Hold [] empty_registers
@@ -100,20 +114,25 @@ block_reaches : (b : tree.Block) (script : List Statement) → script_of b ≡ O
 block_reaches (tree.Falls ss tokens line) script is few = script_reaches [] ss script is few
 block_reaches (tree.Returns ss values tokens line) script is few = never_outside (statements_of [] ss) line script is
 
-pub output_is : (source : List ℕ) (tokens : List (Token × ℕ)) (own : tree.Block) (chunk : Chunk) (text : List ℕ) → IsRead source tokens own → None ≡ result_err (script_of own) → None ≡ crowded own → IsCompiled own chunk → text ≡ output_from chunk.constants.items first_word chunk.code.items empty_registers ++ codes "return\n" → IsOutput source text
-output_is source tokens own chunk text read built uncrowded is text_is =
+inner_script : (b : tree.Block) → script_of (inner_of (placed b)) ≡ script_of b
+inner_script b = same_script _ b
+
+pub output_is : (source : List ℕ) (tokens : List (Token × ℕ)) (own inner : tree.Block) (chunk : Chunk) (text : List ℕ) → IsRead source tokens own → None ≡ result_err (script_of own) → violations own ≡ [] → inner ≡ inner_of (placed own) → IsCompiled inner chunk → text ≡ output_from chunk.constants.items first_word chunk.code.items empty_registers ++ codes "return\n" → IsOutput source text
+output_is source tokens own inner chunk text read built lawful inner_is is text_is =
     let found = of_none (script_of own) built in
     let script : List Statement = found.0 in
-    let reaches = block_reaches own script found.1 (block_holds_few own uncrowded) in
+    let script_is : script_of inner ≡ Ok script = ap script_of inner_is ∙ inner_script own ∙ found.1 in
+    let few : BlockHoldsFew inner = subst BlockHoldsFew (sym inner_is) (lawful_holds_few own lawful) in
+    let reaches = block_reaches inner script script_is few in
     let values = prints_values [] script reaches [] refl in
-    let made = is.is_chunk script found.1 in
+    let made = is.is_chunk script script_is in
     let whole : chunk.constants.items ≡ [] ++ (constants_of_script script ++ []) = made.constants ∙ sym (append-nil (constants_of_script script)) in
     let room = is.few in
     let size = ap length made.constants in
     let runs = script_runs [] script reaches [] chunk.constants.items [] [] first_word empty_registers 0 values.0 refl whole refl (omega (arith, room, size)) empty_hold values.1 in
     record {
       values = values.0;
-      straight = record { tree = own; script = script; short = read.short; has_tree = has_tree read; script_is = found.1; uncrowded = sym uncrowded; prints = values.1 };
+      straight = record { tree = own; script = script; short = read.short; has_tree = has_tree read; script_is = found.1; lawful = lawful; prints = values.1 };
       text_is = text_is ∙ ap (λ l. l ++ codes "return\n") (ap (λ code. output_from chunk.constants.items first_word code empty_registers) made.code ∙ runs);
       only = λ values' straight.
           let same : straight.tree ≡ own = same_tree read straight.has_tree in

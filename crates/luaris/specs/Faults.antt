@@ -4,6 +4,8 @@ use Rattle.lua_lex.specs.declared.source.LexFault.{LexFault}
 use Rattle.lua_lex.specs.declared.source.LexFault.TheVariants.{Refused as LexRefused, Limit as LexLimit, Memory as LexMemory}
 use Rattle.lua_parse.specs.declared.fault.ParseFault.{ParseFault}
 use Rattle.lua_parse.specs.declared.fault.ParseFault.TheVariants.{Refused as ParseRefused, Memory as ParseMemory}
+use Rattle.scope_core.specs.declared.resolved.ScopeFault.{ScopeFault}
+use Rattle.scope_core.specs.declared.resolved.ScopeFault.TheVariants.{Refused as RuleBroken, Memory as RulesMemory}
 use Rattle.luaris.specs.declared.fault.SourceFault.{SourceFault}
 use Rattle.luaris.specs.declared.fault.SourceFault.TheVariants.{Refused, Rule, Limit, Memory}
 use Rattle.io_edge.specs.declared.fault.FileFault.{FileFault}
@@ -24,6 +26,10 @@ fault_of_lexer LexMemory = Memory
 abbrev pub fault_of_parser : ParseFault → SourceFault
 fault_of_parser (ParseRefused line) = Refused line
 fault_of_parser ParseMemory = Memory
+
+abbrev pub fault_of_rules : ScopeFault → SourceFault
+fault_of_rules (RuleBroken rule line) = Rule rule line
+fault_of_rules RulesMemory = Memory
 
 abbrev pub fault_of_source : SourceFault → Fault
 fault_of_source (Refused line) = fault.Refused line

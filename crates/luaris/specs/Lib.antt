@@ -1,6 +1,5 @@
 pub mod Expression
 pub mod Script
-pub mod Holding
 pub mod Code
 pub mod Answers
 pub mod Straight

@@ -1,6 +1,6 @@
 // Why a script is not run to its end.
 ghost use Rattle.std.specs.Prelude.{◌≡◌};
-ghost use Rattle.luaris.specs.Faults.{fault_of_lexer, fault_of_parser, fault_of_source, fault_of_file, fault_of_chunk, fault_of_check};
+ghost use Rattle.luaris.specs.Faults.{fault_of_lexer, fault_of_parser, fault_of_rules, fault_of_source, fault_of_file, fault_of_chunk, fault_of_check};
 ghost use Rattle.luaris.specs.Report.{status_of_fault};
 
 use chunk_check::CheckFault;
@@ -8,6 +8,7 @@ use chunk_format::ChunkFault;
 use io_edge::{Failed, FileFault};
 use lua_lex::LexFault;
 use lua_parse::ParseFault;
+use scope_core::ScopeFault;
 use std::alloc::{AllocError, AllocFailed};
 use thiserror::Error;
 
@@ -17,7 +18,7 @@ pub enum SourceFault {
     /// A place of it begins no token, a token cannot stand where it does, or a form is not built.
     #[error("source refused at line {line}")]
     Refused { line: u32 },
-    /// It breaks the rule of this number.
+    /// It breaks a static rule.
     #[error("source refused by rule {rule} at line {line}")]
     Rule { rule: u8, line: u32 },
     /// It has more than 1,048,576 bytes.
@@ -38,7 +39,7 @@ pub enum Fault {
     /// not built.
     #[error("source refused at line {line}")]
     Refused { line: u32 },
-    /// The source breaks the rule of this number.
+    /// The source breaks a static rule.
     #[error("source refused by rule {rule} at line {line}")]
     Rule { rule: u8, line: u32 },
     /// The source has more than 1,048,576 bytes.
@@ -188,6 +189,17 @@ impl From<ParseFault> for SourceFault {
         match fault {
             ParseFault::Refused { line } => SourceFault::Refused { line },
             ParseFault::Memory => SourceFault::Memory,
+        }
+    }
+}
+
+impl From<ScopeFault> for SourceFault {
+    ghost from_gives = { λ fault made. made ≡ fault_of_rules fault };
+
+    fn from(fault: ScopeFault) -> SourceFault {
+        match fault {
+            ScopeFault::Refused { rule, line } => SourceFault::Rule { rule, line },
+            ScopeFault::Memory => SourceFault::Memory,
         }
     }
 }

@@ -4,7 +4,6 @@
 mod chunk;
 mod chunk_report;
 mod compile;
-mod crowd;
 mod fault;
 mod form;
 mod machine;

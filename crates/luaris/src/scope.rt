@@ -1,5 +1,5 @@
 // The declared names of a script; each has the register of its place.
-ghost use Rattle.std.specs.Prelude.{◌≡◌, ◌<◌, ◌≤◌, [], ◌++◌, map, min, List, ℕ, length, OnOk, IfSome};
+ghost use Rattle.std.specs.Prelude.{◌≡◌, ◌<◌, ◌≤◌, [], ◌++◌, map, List, ℕ, length, OnOk, IfSome};
 ghost use Rattle.tree_core.specs.Plain.{plain_stat};
 ghost use Rattle.luaris.specs.Expression.{last_place};
 ghost use Rattle.luaris.specs.Script.{names_behind};
@@ -39,13 +39,6 @@ impl Scope {
         ensures { result ≡ length self.now }
     {
         self.names.len() as u8
-    }
-
-    /// The same, where more than 1000 count as 1000.
-    pub fn count(&self) -> u32
-        ensures { result ≡ min (length self.now) 1000 }
-    {
-        self.names.len().min(1000) as u32
     }
 
     /// Declares the names that a statement declares.

@@ -2,16 +2,13 @@
 ghost use Rattle.luaris.specs.Outcomes.{SourceAnswers};
 
 use crate::compile::compile;
-use crate::crowd::first_crowded;
 use crate::fault::SourceFault;
 use crate::form::first_outside;
 use crate::machine::run;
 use lua_lex::tokens;
 use lua_parse::parse;
+use lua_scope::resolve;
 use std::alloc::Global;
-
-/// The number of the rule on values that are held at once.
-const HELD_VALUES: u8 = 11;
 
 /// What a straight script writes: each printed value in a line, and the report that it returned.
 pub fn output(alloc: Global, source: &[u8]) -> Result<Vec<u8>, SourceFault>
@@ -23,14 +20,8 @@ pub fn output(alloc: Global, source: &[u8]) -> Result<Vec<u8>, SourceFault>
     if let Some(line) = outside {
         return Err(SourceFault::Refused { line });
     }
-    let crowded = first_crowded(alloc, &block)?;
-    if let Some(line) = crowded {
-        return Err(SourceFault::Rule {
-            rule: HELD_VALUES,
-            line,
-        });
-    }
-    let chunk = compile(alloc, &block)?;
+    let resolved = resolve(alloc, block)?;
+    let chunk = compile(alloc, &resolved.main.block)?;
     let mut printed = Vec::new(alloc);
     run(&chunk, &mut printed)?;
     printed.extend_from_slice(b"return\n")?;

@@ -188,7 +188,7 @@ fn limits_are_where_they_are_said_to_be(rt: HostRuntime) -> Result<(), Fail> {
         (nested(alloc, 49, 199)?, 0, "200\nreturn\n", ""),
         (nested(alloc, 50, 199)?, 5, "", "by rule 11 at line 51"),
         (nested(alloc, 200, 48)?, 0, "49\nreturn\n", ""),
-        (nested(alloc, 201, 48)?, 5, "", "by rule 11 at line 202"),
+        (nested(alloc, 201, 0)?, 5, "", "by rule 9 at line 201"),
     ];
     for (source, status, printed, place) in &cases {
         let mut told = String::new(alloc);
