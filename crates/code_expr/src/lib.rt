@@ -13,6 +13,3 @@ mod word;
 pub use constants::Constants;
 pub use emitter::{Emitter, Step, next};
 pub use lists::{is_open, list_field};
-
-#[cfg(test)]
-mod tests;
