@@ -20,7 +20,7 @@ use Rattle.lua_scope.proofs.Looping.{front}
 use Rattle.luaris.specs.declared.chunk.Chunk.{Chunk}
 use Rattle.luaris.specs.declared.operator.Operator.{Operator}
 use Rattle.luaris.specs.Expression.{Expression, Numeral, Variable, Operation, expression_of, operator_of, operation, variable, last_place}
-use Rattle.luaris.specs.Script.{Statement, Declare, Print, print_name, only, only_value, has_attribute, with_expression, declaration, printing, statement_of, names_behind, preceded, statements_of, script_of}
+use Rattle.luaris.specs.Script.{Statement, Declare, Print, print_name, is_taken, only, only_value, has_attribute, with_expression, declaration, printing, statement_of, names_behind, preceded, statements_of, script_of}
 use Rattle.luaris.specs.Code.{load, code_of, constants_of, opcode_for, names_after, code_of_statement, constants_of_statement, code_of_script, constants_of_script}
 use Rattle.luaris.proofs.FormLemmas.{one_value, result_of_block, by_statements}
 use Rattle.luaris.specs.Answers.{IsEmitted, Emits, EmitsValue, EmitsCall, IsStatementEmitted, EmitsStatement, HoldsFew, BlockHoldsFew, IsChunkOf, IsCompiled}
@@ -100,7 +100,7 @@ declared_by_tests names old new line d false true r emits statement is = absurd 
 declared_by_tests names old new line d true is_print r emits statement is = absurd (cc)
 
 declared_by_parts : (names : List (List ℕ)) (old new : Chunk) (line : ℕ) (o : Option Declared) (v : Option tree.Exp) → ((value : tree.Exp) (e : Expression) → v ≡ Some value → expression_of names value ≡ Ok e → IsEmitted names (length names) old new e) → (statement : Statement) → declaration names line o v ≡ Ok statement → IsStatementEmitted names old new statement
-declared_by_parts names old new line (Some d) (Some value) emits statement is = declared_by_tests names old new line d (has_attribute d.attrib) (bytes_eq d.name.text print_name) (expression_of names value) (λ e known. emits value e refl known) statement is
+declared_by_parts names old new line (Some d) (Some value) emits statement is = declared_by_tests names old new line d (has_attribute d.attrib) (is_taken d.name.text) (expression_of names value) (λ e known. emits value e refl known) statement is
 declared_by_parts names old new line (Some d) None emits statement is = absurd (cc)
 declared_by_parts names old new line None v emits statement is = absurd (cc)
 
@@ -155,7 +155,7 @@ begins all chunk holds code constants = record {
 
 -- the declared names are those of the trees' statements
 names_are : (names : List (List ℕ)) (s : tree.Stat) (statement : Statement) → statement_of names s ≡ Ok statement → names_after names statement ≡ names_behind names s
-names_are names (tree.Local line (d ∷ []) (tree.MoreExps value tree.EndExps)) statement is = by (has_attribute d.attrib) (bytes_eq d.name.text print_name) (expression_of names value) is
+names_are names (tree.Local line (d ∷ []) (tree.MoreExps value tree.EndExps)) statement is = by (has_attribute d.attrib) (is_taken d.name.text) (expression_of names value) is
   where
     by : (attribute is_print : Bool) (r : Result Expression ℕ) → (if attribute then Err line else if is_print then Err d.name.line else with_expression (Declare d.name.text) r) ≡ Ok statement → names_after names statement ≡ names ++ d.name.text ∷ []
     by false false (Ok e) is = let same : Declare d.name.text e ≡ statement = cc in ap (names_after names) (sym same)

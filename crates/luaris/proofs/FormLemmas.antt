@@ -18,7 +18,7 @@ use Rattle.std.specs.declared.alloc.Global.{Global}
 use Rattle.lua_scope.proofs.Looping.{front}
 use Rattle.luaris.specs.declared.operator.Operator.{Operator}
 use Rattle.luaris.specs.Expression.{Expression, operation, outside, expression_of}
-use Rattle.luaris.specs.Script.{Statement, Declare, Print, print_name, only, only_value, has_attribute, with_expression, declaration, printing, statement_of, names_behind, preceded, statements_of, script_of}
+use Rattle.luaris.specs.Script.{Statement, Declare, Print, print_name, is_taken, only, only_value, has_attribute, with_expression, declaration, printing, statement_of, names_behind, preceded, statements_of, script_of}
 
 -- expressions
 
@@ -60,10 +60,10 @@ no_value names line o (Some e) is = absurd (cc)
 pub with_attribute : (names : List (List ℕ)) (line : ℕ) (o : Option Declared) (v : Option tree.Exp) (d : Declared) (e : tree.Exp) → Some d ≡ o → Some e ≡ v → true ≡ has_attribute d.attrib → Some line ≡ result_err (declaration names line o v)
 with_attribute names line o v d e named valued is = rw (← named, ← valued, ← is) refl
 
-pub named_print : (names : List (List ℕ)) (line : ℕ) (o : Option Declared) (v : Option tree.Exp) (d : Declared) (e : tree.Exp) → Some d ≡ o → Some e ≡ v → false ≡ has_attribute d.attrib → true ≡ bytes_eq d.name.text print_name → Some d.name.line ≡ result_err (declaration names line o v)
+pub named_print : (names : List (List ℕ)) (line : ℕ) (o : Option Declared) (v : Option tree.Exp) (d : Declared) (e : tree.Exp) → Some d ≡ o → Some e ≡ v → false ≡ has_attribute d.attrib → true ≡ is_taken d.name.text → Some d.name.line ≡ result_err (declaration names line o v)
 named_print names line o v d e named valued plain is = rw (← named, ← valued, ← plain, ← is) refl
 
-pub declared_value : (names : List (List ℕ)) (line : ℕ) (o : Option Declared) (v : Option tree.Exp) (d : Declared) (e : tree.Exp) → Some d ≡ o → Some e ≡ v → false ≡ has_attribute d.attrib → false ≡ bytes_eq d.name.text print_name → result_err (expression_of names e) ≡ result_err (declaration names line o v)
+pub declared_value : (names : List (List ℕ)) (line : ℕ) (o : Option Declared) (v : Option tree.Exp) (d : Declared) (e : tree.Exp) → Some d ≡ o → Some e ≡ v → false ≡ has_attribute d.attrib → false ≡ is_taken d.name.text → result_err (expression_of names e) ≡ result_err (declaration names line o v)
 declared_value names line o v d e named valued plain other = rw (← named, ← valued, ← plain, ← other) (same_fault (λ x. Declare d.name.text x) (expression_of names e))
 
 pub no_argument : (names : List (List ℕ)) (line : ℕ) (called : tree.Exp) (v : Option tree.Exp) → None ≡ v → Some line ≡ result_err (printing names line called v)

@@ -17,7 +17,7 @@ use Rattle.scope_core.specs.Held.{held_stat}
 use Rattle.scope_core.specs.Places.{placed, main_upvalues, placed_exp, placed_exps, placed_declared, placed_stat, placed_stats, placed_block, local_placed}
 use Rattle.scope_core.specs.Rules.{locals, breach, stat_line, stat_violations, held_violations, part_violations, violations}
 use Rattle.luaris.specs.Expression.{expression_of, operation, operator_of, outside, variable}
-use Rattle.luaris.specs.Script.{Statement, Declare, Print, print_name, only, only_value, has_attribute, with_expression, declaration, printing, statement_of, names_behind, preceded, statements_of, script_of}
+use Rattle.luaris.specs.Script.{Statement, Declare, Print, print_name, is_taken, only, only_value, has_attribute, with_expression, declaration, printing, statement_of, names_behind, preceded, statements_of, script_of}
 use Rattle.luaris.specs.Answers.{HoldsFew, BlockHoldsFew}
 
 -- the same script
@@ -43,7 +43,7 @@ same_expression names frames (tree.Table line fields) = refl
 
 same_declaration : (names : List (List ℕ)) (line : ℕ) (frames : List Frame) (ds : List Declared) (values : tree.Exps) → declaration names line (only (placed_declared frames ds)) (only_value (placed_exps frames values)) ≡ declaration names line (only ds) (only_value values)
 same_declaration names line frames (d ∷ []) (tree.MoreExps value tree.EndExps) =
-    ap (λ r. if has_attribute d.attrib then Err line else if bytes_eq d.name.text print_name then Err d.name.line else with_expression (Declare d.name.text) r) (same_expression names frames value)
+    ap (λ r. if has_attribute d.attrib then Err line else if is_taken d.name.text then Err d.name.line else with_expression (Declare d.name.text) r) (same_expression names frames value)
 same_declaration names line frames [] values = refl
 same_declaration names line frames (d ∷ []) tree.EndExps = refl
 same_declaration names line frames (d ∷ []) (tree.MoreExps value (tree.MoreExps other values)) = refl

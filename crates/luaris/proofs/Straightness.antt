@@ -10,7 +10,7 @@ use Rattle.tree_core.specs.Tree as tree
 use Rattle.scope_core.specs.Held.{held, held_stat, held_name, held_behind, count}
 use Rattle.luaris.specs.declared.operator.Operator.{Operator}
 use Rattle.luaris.specs.Expression.{Expression, Numeral, Variable, Operation, expression_of, operator_of, operation, outside, variable, last_place}
-use Rattle.luaris.specs.Script.{Statement, Declare, Print, print_name, only, only_value, has_attribute, with_expression, declaration, printing, statement_of, names_behind, preceded, statements_of}
+use Rattle.luaris.specs.Script.{Statement, Declare, Print, print_name, is_taken, only, only_value, has_attribute, with_expression, declaration, printing, statement_of, names_behind, preceded, statements_of}
 use Rattle.luaris.specs.Answers.{HoldsFew}
 use Rattle.luaris.proofs.Runs.{need}
 use Rattle.luaris.proofs.ScriptRuns.{AllDeclared, Runs}
@@ -71,7 +71,7 @@ fits names (tree.Table line fields) e is = absurd (cc)
 
 -- a statement, and what stands behind it
 statement_runs : (names : List (List ℕ)) (s : tree.Stat) (first : Statement) → statement_of names s ≡ Ok first → length names + held_stat s ≤ 250 → (script : List Statement) → Runs (names_behind names s) script → Runs names (first ∷ script)
-statement_runs names (tree.Local line (d ∷ []) (tree.MoreExps value tree.EndExps)) first is few script later = by (has_attribute d.attrib) (bytes_eq d.name.text print_name) (expression_of names value) refl is
+statement_runs names (tree.Local line (d ∷ []) (tree.MoreExps value tree.EndExps)) first is few script later = by (has_attribute d.attrib) (is_taken d.name.text) (expression_of names value) refl is
   where
     by : (attribute is_print : Bool) (r : Result Expression ℕ) → expression_of names value ≡ r → (if attribute then Err line else if is_print then Err d.name.line else with_expression (Declare d.name.text) r) ≡ Ok first → Runs names (first ∷ script)
     by false false (Ok e) value_is is =

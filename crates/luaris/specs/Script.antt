@@ -1,5 +1,5 @@
 -- Straight scripts: the statements that a tree is, and the values that they print (Lua 5.4 manual, 3.3).
-use Rattle.std.specs.Prelude.{ℕ, ℤ, List, [], ◌∷◌, ◌++◌, map, Bool, true, false, not, if◌then◌else◌, Option, Some, None, option_and_then, Result, Ok, Err, codes}
+use Rattle.std.specs.Prelude.{ℕ, ℤ, List, [], ◌∷◌, ◌++◌, map, Bool, true, false, not, ◌||◌, if◌then◌else◌, Option, Some, None, option_and_then, Result, Ok, Err, codes}
 use Rattle.std.specs.Option.{option_map}
 use Rattle.std.specs.Str.{bytes_eq}
 use Rattle.std.specs.Fmt.{signed_decimal}
@@ -21,6 +21,10 @@ pub data Statement : Type 0 where
 abbrev pub print_name : List ℕ
 print_name = codes "print"
 
+-- names that no straight script declares: behind a declared `print` the name means a variable, and behind a declared `_ENV` a field of its value
+abbrev pub is_taken : List ℕ → Bool
+is_taken text = bytes_eq text print_name || bytes_eq text (codes "_ENV")
+
 -- the one item of a list that has one
 
 abbrev pub only : {A : Type 0} → List A → Option A
@@ -39,11 +43,11 @@ abbrev pub with_expression : (Expression → Statement) → Result Expression �
 with_expression form (Ok expression) = Ok (form expression)
 with_expression form (Err line) = Err line
 
--- `local` one name, with no attribute and other than `print`, and one value
+-- `local` one name, with no attribute and not taken, and one value
 abbrev pub declaration : (names : List (List ℕ)) → (line : ℕ) → Option Declared → Option Exp → Result Statement ℕ
 declaration names line (Some declared) (Some value) =
     if has_attribute declared.attrib then Err line
-    else if bytes_eq declared.name.text print_name then Err declared.name.line
+    else if is_taken declared.name.text then Err declared.name.line
     else with_expression (Declare declared.name.text) (expression_of names value)
 declaration names line _ _ = Err line
 

@@ -5,7 +5,7 @@ ghost use Rattle.std.specs.Result.{result_err};
 ghost use Rattle.std.specs.Str.{bytes_eq};
 ghost use Rattle.tree_core.specs.Plain.{plain_block, plain_stat, plain_exp};
 ghost use Rattle.luaris.specs.Expression.{expression_of};
-ghost use Rattle.luaris.specs.Script.{print_name, only, has_attribute, declaration, printing, calling, statement_of, script_of};
+ghost use Rattle.luaris.specs.Script.{print_name, is_taken, only, has_attribute, declaration, printing, calling, statement_of, script_of};
 
 use crate::operator::operator_of;
 use crate::scope::Scope;
@@ -70,7 +70,7 @@ fn outside_in_local(
     if has_attribute(&declared.attrib) {
         return Some(line);
     }
-    if is_print(&declared.name) {
+    if is_taken(&declared.name) {
         return Some(declared.name.line);
     }
     outside_in_exp(scope, value)
@@ -172,4 +172,11 @@ fn is_print(name: &Name) -> bool
     ensures { result ≡ bytes_eq name.now.text print_name }
 {
     name.text.as_slice() == b"print".as_slice()
+}
+
+/// Whether no straight script declares the name.
+fn is_taken(name: &Name) -> bool
+    ensures { result ≡ is_taken name.now.text }
+{
+    is_print(name) || name.text.as_slice() == b"_ENV".as_slice()
 }

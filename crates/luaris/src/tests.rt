@@ -120,6 +120,7 @@ static REFUSALS: [(&str, &str); 33] = [
     ("local\nx, y = 1, 2", "at line 1"),
     ("local\nx <const> = 1", "at line 1"),
     ("local\nprint = x", "at line 2"),
+    ("local x = 1\nlocal\n\n_ENV = x", "at line 4"),
     ("local x\n= x", "at line 2"),
     ("print(1 + 2\n< 3)", "at line 2"),
     ("print(#x\n< 3)", "at line 1"),
