@@ -1,0 +1,137 @@
+// The words of expressions, worked out by hand from the opcodes and fields that lopcodes.h of Lua 5.4 has.
+use crate::{Constants, Emitter};
+use lua_lex::tokens;
+use lua_parse::parse;
+use lua_scope::resolve;
+use std::alloc::{AllocError, Global};
+use std::test::Fail;
+use tree_core::Exp;
+
+// Sources that return an expression, the register for its value, and the words of its code.
+static WORDS: [(&[u8], u8, &[u32]); 16] = [
+    (b"return nil", 3, &[0x188]),
+    (b"return 5", 0, &[0x8002_0001]),
+    (b"return 65537", 1, &[0x83]),
+    (
+        b"return 1 + 2",
+        0,
+        &[0x8000_0001, 0x8000_8081, 0x0100_0022, 0x0601_002e],
+    ),
+    (b"return 'a' .. 'b'", 0, &[0x03, 0x8083, 0x0002_0035]),
+    (b"return not true", 0, &[0x07, 0x33]),
+    (b"return _ENV", 0, &[0x09]),
+    (b"return function() end", 2, &[0x014f]),
+    (b"return (print('hi'))", 0, &[0x0b, 0x8083, 0x0202_0044]),
+    (
+        b"return (f(g()))",
+        0,
+        &[0x0b, 0x0100_008b, 0x0001_00c4, 0x0200_0044],
+    ),
+    (
+        b"local x, y return x and y",
+        2,
+        &[0x0100, 0x0142, 0x8000_0038, 0x0001_0100],
+    ),
+    (
+        b"local x return true or x",
+        1,
+        &[0x87, 0x80c2, 0x8000_0038, 0x80],
+    ),
+    (
+        b"local x, y return x < y",
+        2,
+        &[
+            0x0100,
+            0x0001_0180,
+            0x0003_813a,
+            0x8000_0038,
+            0x0106,
+            0x0107,
+        ],
+    ),
+    (
+        b"local x, y return x > y",
+        2,
+        &[
+            0x0100,
+            0x0001_0180,
+            0x0002_81ba,
+            0x8000_0038,
+            0x0106,
+            0x0107,
+        ],
+    ),
+    (
+        b"local x, y return #x:m(y)",
+        2,
+        &[
+            0x0100,
+            0x0183,
+            0x0302_0114,
+            0x0001_0200,
+            0x0203_0144,
+            0x0002_0134,
+        ],
+    ),
+    (b"return {...}", 0, &[0x13, 0x52, 0xd0, 0x4e]),
+];
+
+// The expressions behind the `return` of a source.
+fn returned(alloc: Global, source: &[u8]) -> Result<Vec<Exp>, Fail> {
+    let list = tokens(alloc, source)?;
+    let Ok(block) = parse(alloc, &list) else {
+        return Err(Fail::from("no tree"));
+    };
+    let Ok(resolved) = resolve(alloc, block) else {
+        return Err(Fail::from("against the rules"));
+    };
+    match resolved.main.block.result {
+        Some(list) => Ok(list),
+        None => Err(Fail::from("no return")),
+    }
+}
+
+fn words(emitter: &Emitter, alloc: Global) -> Result<Vec<u32>, AllocError> {
+    let mut words = Vec::new(alloc);
+    for step in emitter.steps().iter() {
+        words.push(step.instruction.0)?;
+    }
+    Ok(words)
+}
+
+fn expression_words(alloc: Global, exp: &Exp, target: usize) -> Result<Vec<u32>, AllocError> {
+    let mut constants = Constants::new(alloc);
+    constants.add_exp(alloc, exp)?;
+    let mut emitter = Emitter::new(alloc, constants);
+    emitter.expression(exp, target, 2)?;
+    words(&emitter, alloc)
+}
+
+#[test]
+fn expressions_have_their_words(rt: HostRuntime) -> Result<(), Fail> {
+    for (source, target, expected) in WORDS.iter().copied() {
+        let list = returned(rt.alloc(), source)?;
+        let Some(exp) = list.first() else {
+            return Err(Fail::from("an empty list"));
+        };
+        let words = expression_words(rt.alloc(), exp, usize::from(target))?;
+        assert_eq!(rt; words.as_slice(), expected);
+    }
+    Ok(())
+}
+
+// a local, a string, and all arguments
+#[test]
+fn open_lists_end_by_all_values(rt: HostRuntime) -> Result<(), Fail> {
+    let alloc = rt.alloc();
+    let list = returned(alloc, b"local x return x, 'a', ...")?;
+    let mut constants = Constants::new(alloc);
+    constants.add_exps(alloc, &list)?;
+    let mut emitter = Emitter::new(alloc, constants);
+    emitter.list(&list, None, 1, 1)?;
+    assert_eq!(rt;
+        words(&emitter, alloc)?.as_slice(),
+        [0x80, 0x0103, 0x01d0].as_slice()
+    );
+    Ok(())
+}
