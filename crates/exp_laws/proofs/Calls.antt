@@ -44,11 +44,11 @@ abbrev pub told_of : (field : ℕ) → List Value → Shape
 told_of zero args = is_known (integer (pos (length args)))
 told_of (suc count) args = is_known nil
 
-module _ (p : Prototype) where
-  behind_fits : (from count size : ℕ) → from + count ≤ size → behind from count ≤ size
-  behind_fits from zero size h = omega arith
-  behind_fits from (suc count) size h = h
+pub behind_fits : (from count size : ℕ) → from + count ≤ size → behind from count ≤ size
+behind_fits from zero size h = omega arith
+behind_fits from (suc count) size h = h
 
+module _ (p : Prototype) where
   pub read_values_step : (from field : ℕ) (k : ℕ → Shape → Text) (env args : List Value) (a : Activation) (c : Captured) → Passed p field from args a
       → talk p (read_values from field k) env a c ≡ talk p (k (length env) (told_of field args)) (env ++ args) a c
   read_values_step from zero k env args a c h =

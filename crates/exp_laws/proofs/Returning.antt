@@ -18,7 +18,7 @@ use Rattle.machine_core.specs.InstructionRows.{rest_at, rest_by, returned_so, af
 use Rattle.machine_core.specs.InstructionRows as rows
 use Rattle.machine_core.specs.Talk as code
 use Rattle.machine_core.specs.Talk.{talk, talk_step, says_so, heard, amid}
-use Rattle.machine_join.proofs.Lists.{without_last_is, length_more, lt_true}
+use Rattle.machine_join.proofs.Lists.{append_nil, without_last_is, length_more, lt_true}
 use Rattle.exp_laws.proofs.Registers.{Rel, marked_in, last_nth}
 use Rattle.exp_laws.proofs.Talking.{Setting, Here, Agree, go_left, both_ask, of_tree, of_code}
 use Rattle.exp_laws.proofs.Lists.{Holds, range_held}
@@ -29,10 +29,6 @@ use Rattle.exp_laws.proofs.Leaving as leaving
 drop_front : (xs ys : List Value) → drop (length xs) (xs ++ ys) ≡ ys
 drop_front [] ys = refl
 drop_front (x ∷ xs) ys = drop_front xs ys
-
-append_none : (xs : List Value) → xs ++ [] ≡ xs
-append_none [] = refl
-append_none (x ∷ xs) = ap (λ l. x ∷ l) (append_none xs)
 
 or_left : (b c : Bool) → b ≡ true → (b || c) ≡ true
 or_left true c e = refl
@@ -94,7 +90,7 @@ module _ (S : Setting) (from : ℕ) (vs : List Value) where
       → talk S.code (rows.returns from count) had a c ≡ says_so (leaves (returns vs)) S.code a c (λ x b d. amid text.trap [] b d)
   returns_none had a c is wide held =
       ap (λ o. talk S.code (closing_text (length had) o) (had ++ value_if a.registers o) a c) is
-      ∙ ap (λ l. talk S.code (closing_text (length had) None) l a c) (append_none had)
+      ∙ ap (λ l. talk S.code (closing_text (length had) None) l a c) (append_nil had)
       ∙ own_step S.code (read_registers from count) (λ w _. text.leave (text.results w)) had a c (le-leb (behind from count) (length a.registers) wide)
       ∙ ap (λ l. says_so (leaves (returns (drop (length had) (had ++ l)))) S.code a c (λ x b d. amid text.trap [] b d)) (range_held from vs a.registers held)
       ∙ ap (λ l. says_so (leaves (returns l)) S.code a c (λ x b d. amid text.trap [] b d)) (drop_front had vs)

@@ -12,7 +12,6 @@ use Rattle.code_core.specs.Prototype.{Prototype}
 use Rattle.code_core.specs.Check.{at}
 use Rattle.code_core.proofs.FieldLemmas.{opcode_of-abc, a_of-abc, b_of-abc}
 use Rattle.machine_core.specs.World.{Activation}
-use Rattle.machine_core.specs.Text.{behind}
 use Rattle.machine_core.specs.InstructionRows.{read_values, counted}
 use Rattle.machine_core.specs.InstructionRows as rows
 use Rattle.machine_core.specs.Talk.{before, talk, talk_step}
@@ -23,7 +22,7 @@ use Rattle.exp_laws.proofs.Registers.{Rel}
 use Rattle.exp_laws.proofs.Talking.{Setting, Agree, go_left, of_tree, of_code}
 use Rattle.exp_laws.proofs.Placing.{HasAt, has_front, has_back}
 use Rattle.exp_laws.proofs.Steps.{row_step}
-use Rattle.exp_laws.proofs.Calls.{Passed, told_of, read_values_step}
+use Rattle.exp_laws.proofs.Calls.{Passed, behind_fits, told_of, read_values_step}
 use Rattle.exp_laws.proofs.Placed.{ArePlaced, room_of_list}
 use Rattle.exp_laws.proofs.ListForms.{GoesListed, passed_all}
 use Rattle.exp_laws.proofs.Exps.{room_count, exps_same}
@@ -44,10 +43,6 @@ return_step p t b back vs a c here t_fits b_fits passed =
     (ap₂ (λ d e. read_values d e (λ _ s. rows.returns d (cond (e == 0) (counted s) (e - 1)))) (a_of-abc Return t b back false t_fits) (b_of-abc Return t b back false t_fits b_fits))
     ∙ read_values_step p t b (λ _ s. rows.returns t (cond (b == 0) (counted s) (b - 1))) [] vs a c passed
     ∙ ap (λ n. talk p (rows.returns t n) vs a c) (returned p b t vs a passed)
-
-behind_fits : (from n size : ℕ) → from + n ≤ size → behind from n ≤ size
-behind_fits from zero size h = omega arith
-behind_fits from (suc n) size h = h
 
 module _ (S : Setting) (pending : List Pending) where
   pub return_list_same : (es : Exps) (line t j back n pc opened : ℕ) (env regs : List Value) (c : Captured) (k : List Work) → n ≤ S.bound
