@@ -16,6 +16,7 @@ pub mod Exps
 pub mod LastCalls
 pub mod Returning
 pub mod Returns
+pub mod Marking
 pub mod Steps
 pub mod Calls
 pub mod Tables

@@ -1,7 +1,8 @@
 -- A tree and its code that talk alike: steps of either side, and asks of both.
 use Rattle.std.proofs.Common.{◌≡◌, ℕ, zero, suc, ◌<◌, ◌≤◌, ◌^◌, Bool, true, false, cond, List, length, Option, Some, None, sym, ap, subst}
+use Rattle.std.specs.Prelude.{codes}
 use Rattle.int_core.specs.Value.{Value}
-use Rattle.int_core.specs.Ask.{Ask, reads_upvalue, writes_upvalue, makes_table, makes_function, fills_table, pays, opens, operates, calls, calls_last, marks, closes, raises, leaves, Captured, Answer, Next, goes_on, says, stuck, on_from, runs, AskLike, NextLike, FitsAsk}
+use Rattle.int_core.specs.Ask.{Ask, reads_upvalue, writes_upvalue, makes_table, makes_function, fills_table, pays, opens, operates, calls, calls_last, marks, closes, raises, leaves, Captured, Answer, Next, goes_on, says, stuck, on_from, runs, AskLike, NextLike, FitsAsk, IsChecked}
 use Rattle.tree_core.specs.Tree.{Body}
 use Rattle.tree_activation.specs.Work.{when_captured}
 use Rattle.tree_activation.specs.Work as tree
@@ -122,6 +123,22 @@ module _ (S : Setting) where
       → Agree (suc n) s t
   both_ask n s t q r line other shared also f g e d like plain lined same next =
       both_say n s t (says q (Some line) shared f) (says r other also g) e d (ask_line n q r line other shared also f g like plain lined same next)
+
+  -- both mark a variable; its name is told where lines are known
+  mark_line : (n : ℕ) (v w : Value) (name named : List ℕ) (line : ℕ) (other : Option ℕ) (shared also : List (ℕ × Value)) (f : Answer → tree.State) (g : Answer → code.State)
+      → v ≡ w → named ≡ cond S.lines name (codes "?") → other ≡ cond S.lines (Some line) None → shared ≡ also → ((x : Answer) → IsChecked x.reply → Agree n (f x) (g x))
+      → NextAgree n (as_known S.lines (says (marks v name) (Some line) shared f)) (says (marks w named) other also g)
+  mark_line n v w name named line other shared also f g like told lined same next = by S.lines told lined
+    where
+      by : (b : Bool) → named ≡ cond b name (codes "?") → other ≡ cond b (Some line) None → NextAgree n (as_known b (says (marks v name) (Some line) shared f)) (says (marks w named) other also g)
+      by true told e = ((like, sym told), (sym e, (same, λ x fits. next x fits.reply)))
+      by false told e = ((like, sym told), (sym e, (same, λ x fits. next x fits.reply)))
+
+  pub both_mark : (n : ℕ) (s : tree.State) (t : code.State) (v w : Value) (name named : List ℕ) (line : ℕ) (other : Option ℕ) (shared also : List (ℕ × Value)) (f : Answer → tree.State) (g : Answer → code.State)
+      → step s ≡ says (marks v name) (Some line) shared f → talk_step S.code t ≡ says (marks w named) other also g
+      → v ≡ w → named ≡ cond S.lines name (codes "?") → other ≡ cond S.lines (Some line) None → shared ≡ also → ((x : Answer) → IsChecked x.reply → Agree n (f x) (g x)) → Agree (suc n) s t
+  both_mark n s t v w name named line other shared also f g e d like told lined same next =
+      both_say n s t (says (marks v name) (Some line) shared f) (says (marks w named) other also g) e d (mark_line n v w name named line other shared also f g like told lined same next)
 
   -- the two activations. Code has marked just those variables to be closed that need it
   module _ (pending : List tree.Pending) where
