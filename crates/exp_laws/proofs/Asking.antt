@@ -17,7 +17,8 @@ use Rattle.machine_core.specs.Talk as code
 use Rattle.machine_core.specs.Talk.{talk, talk_step, says_so, heard, amid}
 use Rattle.lua_meaning.specs.World.{without_name}
 use Rattle.exp_laws.proofs.Registers.{Rel, After, told, share_same, after_none, after_share, after_hold}
-use Rattle.exp_laws.proofs.Talking.{Setting, Here, Agree, InnerAlike, down, go_left, both_ask, of_tree, of_code}
+use Rattle.exp_laws.specs.Setting.{Setting, InnerAlike}
+use Rattle.exp_laws.proofs.Talking.{Here, Agree, down, go_left, both_ask, of_tree, of_code}
 use Rattle.exp_laws.proofs.Leaving.{leaves_alike, faults_alike}
 
 module _ (S : Setting) (pending : List Pending) where

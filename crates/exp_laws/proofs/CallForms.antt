@@ -20,12 +20,13 @@ use Rattle.machine_core.specs.Talk.{before, amid, talk, talk_step, says_so, hear
 use Rattle.machine_join.proofs.Lists.{nth_write_same, nth_write_other, lt_true}
 use Rattle.code_of.specs.Coded.{with_abc}
 use Rattle.exp_laws.proofs.Registers.{Rel, After, after_none, after_then, lower, after_above, after_put}
-use Rattle.exp_laws.proofs.Talking.{Setting, Agree, go_left, go_right, of_tree, of_code}
+use Rattle.exp_laws.specs.Setting.{Setting}
+use Rattle.exp_laws.proofs.Talking.{Agree, go_left, go_right, of_tree, of_code}
 use Rattle.exp_laws.proofs.Placing.{HasAt, here_abc}
 use Rattle.exp_laws.proofs.Lists.{write_all_wide, write_all_more, write_all_below, write_all_holds, write_range_holds, drops_none}
 use Rattle.exp_laws.proofs.Leaving.{length_blanked, blanked_keeps}
 use Rattle.exp_laws.proofs.Asking.{asks_alike}
-use Rattle.exp_laws.proofs.Placed.{room_of_values}
+use Rattle.exp_laws.specs.Placed.{room_of_values}
 use Rattle.exp_laws.proofs.Going.{Filled, GoesFilled, next_there}
 use Rattle.exp_laws.proofs.Steps.{to_register_step, value_rest}
 use Rattle.exp_laws.proofs.Calls.{filled, left_open, Passed, values_step, open_mark, call_step, call_rest, varargs_step, self_step}

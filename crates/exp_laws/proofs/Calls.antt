@@ -23,7 +23,7 @@ use Rattle.exp_laws.proofs.Lists.{Holds, range_held}
 use Rattle.exp_laws.proofs.Steps.{row_step, own_step, go_step}
 use Rattle.exp_laws.proofs.Arithmetic.{front_of}
 use Rattle.exp_laws.proofs.Tests.{k_of-abc}
-use Rattle.exp_laws.proofs.Placed.{room_of_values}
+use Rattle.exp_laws.specs.Placed.{room_of_values}
 
 -- values that an instruction with this field B or C leaves in registers, and how long the open list then is
 

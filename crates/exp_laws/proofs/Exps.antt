@@ -20,7 +20,8 @@ use Rattle.code_of.specs.Constants.{is_small, loads}
 use Rattle.code_of.specs.Operators.{prefix_code, operator_code}
 use Rattle.code_of.specs.Expressions.{made_by, count, is_open, ends_open, Wanted, results_field, one_less, field_of, wanted_after, list_field, exp_code, exps_code}
 use Rattle.exp_laws.proofs.Registers.{Rel, After, after_then, lower, after_put}
-use Rattle.exp_laws.proofs.Talking.{Setting, Agree, go_left, of_tree, of_code}
+use Rattle.exp_laws.specs.Setting.{Setting}
+use Rattle.exp_laws.proofs.Talking.{Agree, go_left, of_tree, of_code}
 use Rattle.exp_laws.proofs.Placing.{HasAt, has_front, has_back}
 use Rattle.exp_laws.proofs.Steps.{true_step, false_step}
 use Rattle.exp_laws.proofs.Lists.{Holds, held_first}
@@ -29,7 +30,8 @@ use Rattle.exp_laws.proofs.CallForms.{varargs_goes, call_goes, method_goes}
 use Rattle.exp_laws.proofs.ListForms.{GoesListed, Listed, total, listed_at, listed_after, listed_less, passed, nils_goes, held_both}
 use Rattle.exp_laws.proofs.FunctionForms.{function_goes}
 use Rattle.exp_laws.proofs.Loads.{nil_step}
-use Rattle.exp_laws.proofs.Placed.{IsPlaced, ArePlaced, room_of, room_of_list, room_of_values, name_room}
+use Rattle.exp_laws.specs.Placed.{IsPlaced, ArePlaced, room_of, room_of_list, room_of_values}
+use Rattle.exp_laws.proofs.Rooms.{name_room}
 use Rattle.exp_laws.proofs.Going.{Given, Filled, Goes, GoesFilled, at_place, goes_at, goes_after, one_goes}
 use Rattle.exp_laws.proofs.NameForms.{load_right, constant_goes, integer_goes, index_goes, name_goes}
 use Rattle.exp_laws.proofs.OperatorForms.{unary_goes, binary_goes, decides_goes}

@@ -25,10 +25,11 @@ use Rattle.machine_core.specs.Talk.{before, amid, talk, talk_step, says_so, name
 use Rattle.code_of.specs.Coded.{with_abc, with_abx}
 use Rattle.code_of.specs.CodeOf.{upvalue}
 use Rattle.exp_laws.proofs.Registers.{Rel, After, after_none, after_then, rel_more, rel_write}
-use Rattle.exp_laws.proofs.Talking.{Setting, Here, Agree, InnerAlike, go_left, go_right, both_stuck, of_tree, of_code}
+use Rattle.exp_laws.specs.Setting.{Setting, InnerAlike}
+use Rattle.exp_laws.proofs.Talking.{Here, Agree, go_left, go_right, both_stuck, of_tree, of_code}
 use Rattle.exp_laws.proofs.Placing.{HasAt, here_abx}
 use Rattle.exp_laws.proofs.Asking.{one_alike, opens_alike}
-use Rattle.exp_laws.proofs.Placed.{Captures, Inner}
+use Rattle.exp_laws.specs.Placed.{Captures, Inner}
 use Rattle.exp_laws.proofs.Going.{next_there, at_place, Goes, answer_goes}
 use Rattle.exp_laws.proofs.Steps.{row_step, to_register_step}
 use Rattle.exp_laws.proofs.Loads.{nil_step}

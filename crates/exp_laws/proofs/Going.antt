@@ -19,7 +19,8 @@ use Rattle.machine_core.specs.Talk.{before, amid, talk_step, says_so, heard}
 use Rattle.machine_join.proofs.Lists.{nth_write_same}
 use Rattle.code_of.specs.Coded.{Coded}
 use Rattle.exp_laws.proofs.Registers.{Rel, After, after_then, after_put}
-use Rattle.exp_laws.proofs.Talking.{Setting, Here, Agree, go_left, go_right, of_tree, of_code}
+use Rattle.exp_laws.specs.Setting.{Setting}
+use Rattle.exp_laws.proofs.Talking.{Here, Agree, go_left, go_right, of_tree, of_code}
 use Rattle.exp_laws.proofs.Placing.{HasAt}
 use Rattle.exp_laws.proofs.Lists.{Holds}
 use Rattle.exp_laws.proofs.Asking.{asks_alike}

@@ -19,7 +19,8 @@ use Rattle.machine_core.specs.Talk as code
 use Rattle.machine_core.specs.Talk.{talk, talk_step, says_so, heard, before, amid, captured_done}
 use Rattle.machine_join.proofs.Lists.{last_is, without_last_is, get_new, length_more, eq_refl, eq_true, lt_not}
 use Rattle.exp_laws.proofs.Registers.{Rel, marked_in, Ascends, held_same}
-use Rattle.exp_laws.proofs.Talking.{Setting, Here, Agree, go_left, both_ask, of_tree, of_code}
+use Rattle.exp_laws.specs.Setting.{Setting}
+use Rattle.exp_laws.proofs.Talking.{Here, Agree, go_left, both_ask, of_tree, of_code}
 
 -- cells cut loose
 

@@ -21,7 +21,8 @@ use Rattle.machine_core.specs.InstructionRows as rows
 use Rattle.machine_core.specs.Talk.{before, amid, talk, talk_step, marked}
 use Rattle.code_of.specs.Coded.{with_abc}
 use Rattle.exp_laws.proofs.Registers.{Rel, marked_in, Ascends, told, share_same, after_share}
-use Rattle.exp_laws.proofs.Talking.{Setting, Agree, down, go_left, go_right, both_mark, of_tree, of_code}
+use Rattle.exp_laws.specs.Setting.{Setting}
+use Rattle.exp_laws.proofs.Talking.{Agree, down, go_left, go_right, both_mark, of_tree, of_code}
 use Rattle.exp_laws.proofs.Placing.{HasAt, here_abc}
 use Rattle.exp_laws.proofs.Leaving.{marked_more, marked_fewer, faults_alike}
 use Rattle.exp_laws.proofs.Going.{next_there}

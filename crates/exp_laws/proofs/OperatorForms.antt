@@ -23,7 +23,8 @@ use Rattle.machine_core.specs.Talk.{before, amid, talk, talk_step, says_so, hear
 use Rattle.code_of.specs.Coded.{Coded, with_abc, jump_over}
 use Rattle.code_of.specs.Operators.{prefix_opcode, prefix_code, operator_code, arithmetic_code, truth_code}
 use Rattle.exp_laws.proofs.Registers.{Rel, After}
-use Rattle.exp_laws.proofs.Talking.{Setting, Agree, go_left, go_right, of_tree, of_code}
+use Rattle.exp_laws.specs.Setting.{Setting}
+use Rattle.exp_laws.proofs.Talking.{Agree, go_left, go_right, of_tree, of_code}
 use Rattle.exp_laws.proofs.Placing.{HasAt, here_abc}
 use Rattle.exp_laws.proofs.Leaving.{faults_alike}
 use Rattle.exp_laws.proofs.Asking.{asks_alike}

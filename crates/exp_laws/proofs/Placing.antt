@@ -6,7 +6,8 @@ use Rattle.code_core.specs.Check.{at}
 use Rattle.code_core.proofs.FieldLemmas.{opcode_of-abc, opcode_of-abx}
 use Rattle.machine_core.specs.Moves.{line_of}
 use Rattle.code_of.specs.Coded.{Coded}
-use Rattle.exp_laws.proofs.Talking.{Setting, Here}
+use Rattle.exp_laws.specs.Setting.{Setting}
+use Rattle.exp_laws.proofs.Talking.{Here}
 
 abbrev pub HasAt : Setting → ℕ → List Coded → Type 0
 HasAt S pc [] = Unit {0}

@@ -20,7 +20,8 @@ use Rattle.machine_core.specs.Talk as code
 use Rattle.machine_core.specs.Talk.{talk, talk_step, says_so, heard, amid}
 use Rattle.machine_join.proofs.Lists.{append_nil, without_last_is, length_more, lt_true}
 use Rattle.exp_laws.proofs.Registers.{Rel, marked_in, last_nth}
-use Rattle.exp_laws.proofs.Talking.{Setting, Here, Agree, go_left, both_ask, of_tree, of_code}
+use Rattle.exp_laws.specs.Setting.{Setting}
+use Rattle.exp_laws.proofs.Talking.{Here, Agree, go_left, both_ask, of_tree, of_code}
 use Rattle.exp_laws.proofs.Lists.{Holds, range_held}
 use Rattle.exp_laws.proofs.Steps.{own_step}
 use Rattle.exp_laws.proofs.Leaving.{none_below, gone_all, brought_none, length_blanked, blanked_keeps, Snoc, empty, snoc, marked_more, marked_fewer, last_marked, is_pending_last, is_pending_more, Left, left_from, cut, cut_same, leave_one, leaves_so, faults_so}

@@ -19,11 +19,12 @@ use Rattle.machine_join.proofs.Lists.{eq_not}
 use Rattle.code_of.specs.Coded.{with_abc}
 use Rattle.code_of.specs.Expressions.{count, ends_open, list_field, exps_code}
 use Rattle.exp_laws.proofs.Registers.{Rel}
-use Rattle.exp_laws.proofs.Talking.{Setting, Agree, go_left, of_tree, of_code}
+use Rattle.exp_laws.specs.Setting.{Setting}
+use Rattle.exp_laws.proofs.Talking.{Agree, go_left, of_tree, of_code}
 use Rattle.exp_laws.proofs.Placing.{HasAt, has_front, has_back}
 use Rattle.exp_laws.proofs.Steps.{row_step}
 use Rattle.exp_laws.proofs.Calls.{Passed, behind_fits, told_of, read_values_step}
-use Rattle.exp_laws.proofs.Placed.{ArePlaced, room_of_list}
+use Rattle.exp_laws.specs.Placed.{ArePlaced, room_of_list}
 use Rattle.exp_laws.proofs.ListForms.{GoesListed, passed_all}
 use Rattle.exp_laws.proofs.Exps.{room_count, exps_same}
 use Rattle.exp_laws.proofs.Returning.{returns_alike}

@@ -17,7 +17,8 @@ use Rattle.machine_core.specs.Talk.{before, amid, talk, says_so, heard}
 use Rattle.code_of.specs.Coded.{Coded, with_abc}
 use Rattle.code_of.specs.Expressions.{set_list}
 use Rattle.exp_laws.proofs.Registers.{Rel, After, after_then, after_above}
-use Rattle.exp_laws.proofs.Talking.{Setting, Agree, go_right, of_tree, of_code}
+use Rattle.exp_laws.specs.Setting.{Setting}
+use Rattle.exp_laws.proofs.Talking.{Agree, go_right, of_tree, of_code}
 use Rattle.exp_laws.proofs.Placing.{HasAt, here_abc}
 use Rattle.exp_laws.proofs.Asking.{asks_alike, quick_alike}
 use Rattle.exp_laws.proofs.Going.{next_there}

@@ -1,5 +1,5 @@
 -- A tree and its code that talk alike: steps of either side, and asks of both.
-use Rattle.std.proofs.Common.{◌≡◌, ℕ, zero, suc, ◌<◌, ◌≤◌, ◌^◌, Bool, true, false, cond, List, length, Option, Some, None, sym, ap, subst}
+use Rattle.std.proofs.Common.{◌≡◌, ℕ, zero, suc, Bool, true, false, cond, List, Option, Some, None, sym, ap, subst}
 use Rattle.std.specs.Prelude.{codes}
 use Rattle.int_core.specs.Value.{Value}
 use Rattle.int_core.specs.Ask.{Ask, reads_upvalue, writes_upvalue, makes_table, makes_function, fills_table, pays, opens, operates, calls, calls_last, marks, closes, raises, leaves, Captured, Answer, Next, goes_on, says, stuck, on_from, runs, AskLike, NextLike, FitsAsk, IsChecked}
@@ -18,19 +18,8 @@ use Rattle.machine_core.specs.Talk.{talk_start, talk_step}
 use Rattle.machine_core.specs.World as world
 use Rattle.lua_meaning.specs.World.{as_known, without_name}
 use Rattle.code_means.specs.Means.{Same}
+use Rattle.exp_laws.specs.Setting.{Alike, Setting, InnerAlike}
 use Rattle.exp_laws.proofs.Registers.{marked_in}
-
-abbrev pub Alike : Bool → ℕ → Body → Prototype → Type 0
-Alike lines n b q = (arguments : List Value) → Same lines n q (start when_captured b arguments) (talk_start q arguments)
-
--- a function under way: its code, whether lines are known, and the arguments that `...` gives. Inner functions are alike through fewer than `bound` asks
-pub record Setting : Type 0 where
-  pub lines : Bool
-  pub code : Prototype
-  pub varargs : List Value
-  pub bound : ℕ
-  pub small : code.own.stack < 2 ^ 8
-  pub short : length code.own.code ≤ 2 ^ 24
 
 ask_mono : {A B : Type 0} (R S : A → B → Type 0) → ((a : A) (b : B) → R a b → S a b) → (q : Ask A) (r : Ask B) → AskLike R q r → AskLike S q r
 ask_mono R S f (reads_upvalue u) (reads_upvalue v) h = h
@@ -62,11 +51,8 @@ module _ (S : Setting) where
   abbrev pub Agree : ℕ → tree.State → code.State → Type 0
   Agree n s t = Same S.lines n S.code s t
 
-  abbrev pub InnerAlike : ℕ → Body → Prototype → Type 0
-  InnerAlike n b q = Alike S.lines n b q
-
   abbrev pub NextAgree : ℕ → Next Body tree.State → Next Prototype code.State → Type 0
-  NextAgree n x y = NextLike (InnerAlike n) (Agree n) x y
+  NextAgree n x y = NextLike (InnerAlike S n) (Agree n) x y
 
   -- through fewer asks
   pub down : (n : ℕ) (s : tree.State) (t : code.State) → Agree (suc n) s t → Agree n s t
@@ -109,7 +95,7 @@ module _ (S : Setting) where
 
   -- both ask, on one line and with the same shared values
   ask_line : (n : ℕ) (q : Ask Body) (r : Ask Prototype) (line : ℕ) (other : Option ℕ) (shared also : List (ℕ × Value)) (f : Answer → tree.State) (g : Answer → code.State)
-      → AskLike (InnerAlike n) q r → without_name q ≡ q → other ≡ cond S.lines (Some line) None → shared ≡ also → ((x : Answer) → FitsAsk q shared x → Agree n (f x) (g x))
+      → AskLike (InnerAlike S n) q r → without_name q ≡ q → other ≡ cond S.lines (Some line) None → shared ≡ also → ((x : Answer) → FitsAsk q shared x → Agree n (f x) (g x))
       → NextAgree n (as_known S.lines (says q (Some line) shared f)) (says r other also g)
   ask_line n q r line other shared also f g like plain lined same next = by S.lines lined
     where
@@ -119,7 +105,7 @@ module _ (S : Setting) where
 
   pub both_ask : (n : ℕ) (s : tree.State) (t : code.State) (q : Ask Body) (r : Ask Prototype) (line : ℕ) (other : Option ℕ) (shared also : List (ℕ × Value)) (f : Answer → tree.State) (g : Answer → code.State)
       → step s ≡ says q (Some line) shared f → talk_step S.code t ≡ says r other also g
-      → AskLike (InnerAlike n) q r → without_name q ≡ q → other ≡ cond S.lines (Some line) None → shared ≡ also → ((x : Answer) → FitsAsk q shared x → Agree n (f x) (g x))
+      → AskLike (InnerAlike S n) q r → without_name q ≡ q → other ≡ cond S.lines (Some line) None → shared ≡ also → ((x : Answer) → FitsAsk q shared x → Agree n (f x) (g x))
       → Agree (suc n) s t
   both_ask n s t q r line other shared also f g e d like plain lined same next =
       both_say n s t (says q (Some line) shared f) (says r other also g) e d (ask_line n q r line other shared also f g like plain lined same next)

@@ -27,9 +27,10 @@ use Rattle.code_of.specs.Coded.{Coded}
 use Rattle.code_of.specs.Expressions.{made_in, count, exps_code}
 use Rattle.code_of.specs.Parts.{assign_code, name_target, targets_code, name_store, stores_code}
 use Rattle.exp_laws.proofs.Registers.{Rel, HeldBelow, Ascends}
-use Rattle.exp_laws.proofs.Talking.{Setting, Agree, go_left, go_right, of_tree, of_code}
+use Rattle.exp_laws.specs.Setting.{Setting}
+use Rattle.exp_laws.proofs.Talking.{Agree, go_left, go_right, of_tree, of_code}
 use Rattle.exp_laws.proofs.Placing.{HasAt, has_front, has_back, here_abc}
-use Rattle.exp_laws.proofs.Placed.{ArePlaced, room_of_list}
+use Rattle.exp_laws.specs.Placed.{ArePlaced, room_of_list}
 use Rattle.exp_laws.proofs.Lists.{Holds}
 use Rattle.exp_laws.proofs.Going.{next_there}
 use Rattle.exp_laws.proofs.Asking.{quick_alike}

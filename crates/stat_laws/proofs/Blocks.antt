@@ -14,7 +14,8 @@ use Rattle.code_of.specs.Jumps.{Visible, Reach}
 use Rattle.code_of.specs.Levels.{made_by_stat, level_after, levels_after, has_closed, closing_after}
 use Rattle.code_of.specs.Sizes.{stat_size, stats_size}
 use Rattle.code_of.specs.Statements.{visible, labels_ahead, passed_after, stat_code, stats_code}
-use Rattle.exp_laws.proofs.Talking.{Setting, Agree, go_left, of_tree, of_code}
+use Rattle.exp_laws.specs.Setting.{Setting}
+use Rattle.exp_laws.proofs.Talking.{Agree, go_left, of_tree, of_code}
 use Rattle.exp_laws.proofs.Placing.{HasAt, has_front, has_back}
 use Rattle.stat_laws.proofs.Closing.{AllBelow}
 use Rattle.stat_laws.proofs.Standing.{strong, AllFrom, from_lower, from_more, below_higher, Standing, GoesOn, goes_from}

@@ -26,7 +26,8 @@ use Rattle.machine_join.proofs.Lists.{nth_get, get_new, length_more, last_is, wi
 use Rattle.code_of.specs.Coded.{with_abc}
 use Rattle.code_of.specs.Parts.{close_code}
 use Rattle.exp_laws.proofs.Registers.{Rel, HeldBelow, Ascends, marked_in}
-use Rattle.exp_laws.proofs.Talking.{Setting, Here, Agree, NextAgree, go_left, go_right, of_tree, of_code}
+use Rattle.exp_laws.specs.Setting.{Setting}
+use Rattle.exp_laws.proofs.Talking.{Here, Agree, NextAgree, go_left, go_right, of_tree, of_code}
 use Rattle.exp_laws.proofs.Placing.{HasAt, here_abc}
 use Rattle.exp_laws.proofs.Leaving.{Snoc, empty, behind, snoc, marked_more, marked_fewer}
 use Rattle.exp_laws.proofs.Asking.{asks_alike}

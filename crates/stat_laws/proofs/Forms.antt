@@ -26,9 +26,10 @@ use Rattle.code_of.specs.Sizes.{arms_size, stats_size, block_size}
 use Rattle.code_of.specs.Statements.{in_loop, arms_code, stats_code, block_code}
 use Rattle.machine_join.proofs.Lists.{append_nil}
 use Rattle.exp_laws.proofs.Registers.{Rel, Ascends}
-use Rattle.exp_laws.proofs.Talking.{Setting, Agree, go_left, go_right, of_tree, of_code}
+use Rattle.exp_laws.specs.Setting.{Setting}
+use Rattle.exp_laws.proofs.Talking.{Agree, go_left, go_right, of_tree, of_code}
 use Rattle.exp_laws.proofs.Placing.{HasAt, has_front, has_back}
-use Rattle.exp_laws.proofs.Placed.{IsPlaced, room_of, room_of_name, room_of_list, room_of_values}
+use Rattle.exp_laws.specs.Placed.{IsPlaced, room_of, room_of_name, room_of_list, room_of_values}
 use Rattle.exp_laws.proofs.Going.{Goes, next_there}
 use Rattle.exp_laws.proofs.Tests.{test_on, test_past, jump_step}
 use Rattle.stat_laws.proofs.Closing.{AllBelow, ends_goes}

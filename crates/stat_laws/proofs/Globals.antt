@@ -22,9 +22,10 @@ use Rattle.code_of.specs.Constants.{loads}
 use Rattle.code_of.specs.Expressions.{made_in, count, exps_code}
 use Rattle.code_of.specs.Parts.{name_target, name_store}
 use Rattle.exp_laws.proofs.Registers.{Rel, after_put}
-use Rattle.exp_laws.proofs.Talking.{Setting, Agree, go_left, go_right, of_tree, of_code}
+use Rattle.exp_laws.specs.Setting.{Setting}
+use Rattle.exp_laws.proofs.Talking.{Agree, go_left, go_right, of_tree, of_code}
 use Rattle.exp_laws.proofs.Placing.{HasAt, has_front, has_back, here_abc}
-use Rattle.exp_laws.proofs.Placed.{ArePlaced}
+use Rattle.exp_laws.specs.Placed.{ArePlaced}
 use Rattle.exp_laws.proofs.Going.{next_there}
 use Rattle.exp_laws.proofs.Asking.{one_alike}
 use Rattle.exp_laws.proofs.NameForms.{load_right}

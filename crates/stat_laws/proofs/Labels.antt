@@ -19,7 +19,8 @@ use Rattle.code_of.specs.Levels.{made_by_stat, level_after, closing_after}
 use Rattle.code_of.specs.Sizes.{stat_size}
 use Rattle.code_of.specs.Statements.{visible, labels_ahead, passed_after}
 use Rattle.exp_laws.proofs.Registers.{Rel}
-use Rattle.exp_laws.proofs.Talking.{Setting, Agree, of_tree, of_code}
+use Rattle.exp_laws.specs.Setting.{Setting}
+use Rattle.exp_laws.proofs.Talking.{Agree, of_tree, of_code}
 use Rattle.exp_laws.proofs.Placing.{HasAt}
 use Rattle.stat_laws.proofs.Closing.{AllBelow}
 use Rattle.stat_laws.specs.Scoped.{Named, legal, names_ahead, names_passed}

@@ -9,7 +9,7 @@ use Rattle.machine_core.specs.Moves.{line_of}
 use Rattle.machine_join.proofs.Lists.{eq_not, eq_refl, length_more}
 use Rattle.code_of.specs.Coded.{Coded, words}
 use Rattle.code_of.specs.CodeOf.{is_near, changes, far_lines}
-use Rattle.exp_laws.proofs.Talking.{Setting}
+use Rattle.exp_laws.specs.Setting.{Setting}
 use Rattle.exp_laws.proofs.Placing.{HasAt}
 
 abbrev AllBefore : List AbsLine → ℕ → Type 0

@@ -19,9 +19,10 @@ use Rattle.code_of.specs.Parts.{close_code}
 use Rattle.code_of.specs.Sizes.{stats_size}
 use Rattle.code_of.specs.Statements.{in_loop, stats_code}
 use Rattle.exp_laws.proofs.Registers.{Rel, Ascends}
-use Rattle.exp_laws.proofs.Talking.{Setting, Agree, go_left, of_tree, of_code}
+use Rattle.exp_laws.specs.Setting.{Setting}
+use Rattle.exp_laws.proofs.Talking.{Agree, go_left, of_tree, of_code}
 use Rattle.exp_laws.proofs.Placing.{HasAt, has_front, has_back}
-use Rattle.exp_laws.proofs.Placed.{IsPlaced}
+use Rattle.exp_laws.specs.Placed.{IsPlaced}
 use Rattle.stat_laws.proofs.Closing.{AllBelow, GoesLeft, ends_goes}
 use Rattle.stat_laws.proofs.Standing.{strong, numbers, part, ascends_under, Standing, GoesOn, goes_fewer, back_goes}
 use Rattle.stat_laws.proofs.Sizes.{close_sized, stats_sized}

@@ -8,8 +8,8 @@ use Rattle.code_core.specs.Prototype.{Prototype, list_of}
 use Rattle.code_of.specs.CodeOf.{code_of, upvalue}
 use Rattle.code_of.specs.Expressions.{made_by, made_in}
 use Rattle.code_of.specs.Levels.{made_by_stat, made_in_arms, made_in_stats, made_in_block, level_after, levels_after, levels_in, closing_after, closings_after}
-use Rattle.exp_laws.proofs.Talking.{Setting, Alike}
-use Rattle.exp_laws.proofs.Placed.{Inner, IsPlaced, ArePlaced, FieldsArePlaced}
+use Rattle.exp_laws.specs.Setting.{Setting, Alike}
+use Rattle.exp_laws.specs.Placed.{Inner, IsPlaced, ArePlaced, FieldsArePlaced}
 use Rattle.stat_laws.specs.Scoped.{Named, names_ahead, names_passed, LastIsPlaced, ReturnIsPlaced, StatIsPlaced, ArmsArePlaced, StatsArePlaced, BlockIsPlaced, OpenIsPlaced}
 use Rattle.stat_laws.specs.Fits.{is_known, setting, BodyFits, InExp, InExps, InFields, InStat, InArms, InStats, InBlock}
 

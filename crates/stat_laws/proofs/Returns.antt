@@ -32,11 +32,12 @@ use Rattle.code_of.specs.Parts.{values_last, return_code}
 use Rattle.code_of.specs.Sizes.{stats_size, block_size}
 use Rattle.code_of.specs.Statements.{stats_code}
 use Rattle.exp_laws.proofs.Registers.{Rel, held_same}
-use Rattle.exp_laws.proofs.Talking.{Setting, Agree, go_left, both_ask, of_tree, of_code}
+use Rattle.exp_laws.specs.Setting.{Setting}
+use Rattle.exp_laws.proofs.Talking.{Agree, go_left, both_ask, of_tree, of_code}
 use Rattle.exp_laws.proofs.Placing.{HasAt, has_front, has_back}
 use Rattle.exp_laws.proofs.Lists.{Holds, range_held}
 use Rattle.exp_laws.proofs.Calls.{read_values_step}
-use Rattle.exp_laws.proofs.Placed.{room_of_list, IsPlaced, ArePlaced}
+use Rattle.exp_laws.specs.Placed.{room_of_list, IsPlaced, ArePlaced}
 use Rattle.exp_laws.proofs.Steps.{row_step, own_step}
 use Rattle.exp_laws.proofs.LastCalls.{call_last_same, method_last_same}
 use Rattle.stat_laws.proofs.Standing.{numbers, GoesOn}

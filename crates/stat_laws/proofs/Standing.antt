@@ -20,7 +20,8 @@ use Rattle.machine_core.specs.Talk.{talk, talk_step, says_so, before, amid}
 use Rattle.code_of.specs.Coded.{with_abc, jump_over, jump_back}
 use Rattle.code_of.specs.Jumps.{Landing, jump_code}
 use Rattle.exp_laws.proofs.Registers.{Rel, Ascends, told, share_same, after_share}
-use Rattle.exp_laws.proofs.Talking.{Setting, Agree, go_left, go_right, both_ask, of_tree, of_code}
+use Rattle.exp_laws.specs.Setting.{Setting}
+use Rattle.exp_laws.proofs.Talking.{Agree, go_left, go_right, both_ask, of_tree, of_code}
 use Rattle.exp_laws.proofs.Placing.{HasAt, here_abc}
 use Rattle.exp_laws.proofs.Going.{next_there}
 use Rattle.exp_laws.proofs.Steps.{row_step}

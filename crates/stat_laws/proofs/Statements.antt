@@ -3,7 +3,7 @@ use Rattle.std.proofs.Common.{◌≡◌, ℕ, Bool, true, false, ◌&&◌, List,
 use Rattle.tree_core.specs.Tree.{Block, Falls, Returns, Stats, EndStats, MoreStats, Stat, Empty, Local, LocalFunction, Assign, CallStat, Do, While, Repeat, If, IfElse, NumFor, NumForStep, GenFor, Label, Goto, Break, Arms, EndArms, MoreArms}
 use Rattle.tree_activation.specs.Work.{Work, End, falls_off, returns_list, until}
 use Rattle.tree_activation.specs.Jumps.{are_void, is_at_end}
-use Rattle.exp_laws.proofs.Talking.{Setting}
+use Rattle.exp_laws.specs.Setting.{Setting}
 use Rattle.exp_laws.proofs.Exps.{exp_same}
 use Rattle.stat_laws.specs.Scoped.{Named, StatIsPlaced}
 use Rattle.stat_laws.proofs.Blocks.{StatLaw, StatsLaw, none_goes, label_goes, more_goes}

@@ -17,9 +17,10 @@ use Rattle.code_of.specs.Expressions.{exps_code}
 use Rattle.code_of.specs.Levels.{has_closed}
 use Rattle.code_of.specs.Parts.{marks_code}
 use Rattle.exp_laws.proofs.Registers.{Rel, HeldBelow, Ascends}
-use Rattle.exp_laws.proofs.Talking.{Setting, Agree, go_left, of_tree, of_code}
+use Rattle.exp_laws.specs.Setting.{Setting}
+use Rattle.exp_laws.proofs.Talking.{Agree, go_left, of_tree, of_code}
 use Rattle.exp_laws.proofs.Placing.{HasAt, has_front}
-use Rattle.exp_laws.proofs.Placed.{IsPlaced, ArePlaced}
+use Rattle.exp_laws.specs.Placed.{IsPlaced, ArePlaced}
 use Rattle.exp_laws.proofs.Lists.{Holds}
 use Rattle.exp_laws.proofs.ListForms.{nth_behind}
 use Rattle.exp_laws.proofs.FunctionForms.{local_function_goes}

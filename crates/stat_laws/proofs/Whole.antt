@@ -30,7 +30,8 @@ use Rattle.code_of.specs.Sizes.{stats_size}
 use Rattle.code_of.specs.Statements.{stats_code, whole_code}
 use Rattle.code_of.specs.CodeOf.{back_field, opening, body_code, code_of}
 use Rattle.exp_laws.proofs.Registers.{Rel}
-use Rattle.exp_laws.proofs.Talking.{Setting, Alike, Agree, go_left, go_right, of_tree, of_code}
+use Rattle.exp_laws.specs.Setting.{Setting, Alike}
+use Rattle.exp_laws.proofs.Talking.{Agree, go_left, go_right, of_tree, of_code}
 use Rattle.exp_laws.proofs.Placing.{HasAt, has_front, has_back}
 use Rattle.exp_laws.proofs.Going.{next_there}
 use Rattle.exp_laws.proofs.Steps.{row_step, go_step}

@@ -7,7 +7,7 @@ use Rattle.code_core.specs.Prototype.{Prototype, list_of}
 use Rattle.code_of.specs.CodeOf.{code_of}
 use Rattle.code_of.specs.Expressions.{made_by, made_in, made_by_field}
 use Rattle.code_of.specs.Levels.{made_by_stat, made_in_arms, made_in_stats, made_in_block, levels_after, closings_after}
-use Rattle.exp_laws.proofs.Talking.{Setting}
+use Rattle.exp_laws.specs.Setting.{Setting}
 use Rattle.stat_laws.specs.Scoped.{StatsArePlaced, ReturnIsPlaced}
 
 abbrev pub is_known : Option (List ℕ) → Bool

@@ -10,8 +10,8 @@ use Rattle.tree_activation.specs.Jumps.{are_void}
 use Rattle.code_core.specs.declared.proto.Const.TheVariants.{Str as StrConst}
 use Rattle.code_of.specs.Expressions.{made_by, made_in, count, is_open}
 use Rattle.code_of.specs.Levels.{made_by_stat, made_in_arms, made_in_stats, made_in_block, level_after, levels_after, levels_in, has_closed, closing_after, closings_after}
-use Rattle.exp_laws.proofs.Talking.{Setting}
-use Rattle.exp_laws.proofs.Placed.{Found, Inner, Captures, IsPlaced, ArePlaced, room_of, room_of_list}
+use Rattle.exp_laws.specs.Setting.{Setting}
+use Rattle.exp_laws.specs.Placed.{Found, Inner, Captures, IsPlaced, ArePlaced, room_of, room_of_list}
 
 -- names that a `goto` may have: those of the labels around it, and whether it may go there without entering the scope of a local
 

@@ -1,7 +1,6 @@
 -- What is assumed of an expression where `size` locals are in scope and j functions of its function are made before it: names are in scope, fields
 -- are wide enough, constants and inner functions have their numbers. And how many registers from its own on its code names.
-use Rattle.std.proofs.Common.{◌≡◌, ℕ, zero, suc, ◌+◌, ◌<◌, ◌≤◌, ◌^◌, arith, max, Bool, true, false, cond, ℤ, List, [], ◌∷◌, map, Some, None}
-use Rattle.std.specs.Prelude.{nat_lt, slice_get}
+use Rattle.std.specs.Prelude.{◌≡◌, ℕ, zero, suc, ◌+◌, ◌<◌, ◌^◌, max, true, false, cond, ℤ, List, [], ◌∷◌, map, Some, None, nat_lt, slice_get}
 use Rattle.tree_core.specs.declared.name.Place.{Place}
 use Rattle.tree_core.specs.declared.name.Place.TheVariants.{Unset, Upvalue, GlobalIn, GlobalOf}
 use Rattle.tree_core.specs.declared.name.Place.TheVariants.{Local as LocalPlace}
@@ -14,7 +13,7 @@ use Rattle.code_core.specs.Prototype.{Prototype, list_of}
 use Rattle.code_of.specs.Constants.{is_small, number_in}
 use Rattle.code_of.specs.Expressions.{made_by, Wanted, field_of, wanted_after, is_last_item}
 use Rattle.code_of.specs.CodeOf.{upvalue}
-use Rattle.exp_laws.proofs.Talking.{Setting, InnerAlike}
+use Rattle.exp_laws.specs.Setting.{Setting, InnerAlike}
 
 -- a constant has its number in the table
 pub record Found (cs : List Const) (x : Const) : Type 0 where
@@ -119,14 +118,3 @@ module _ (cs : List Const) where
     room_of_fields EndFields = 0
     room_of_fields (MoreFields (Item e) fs) = max (room_of e (cond (is_last_item e fs) 0 2)) (room_of_fields fs)
     room_of_fields (MoreFields (Keyed line e d) fs) = max (max (room_of e 2) (1 + room_of d 2)) (room_of_fields fs)
-
-either_some : (b : Bool) → 1 ≤ cond b 1 2
-either_some true = omega arith
-either_some false = omega arith
-
-pub name_room : (cs : List Const) (place : Place) (text : List ℕ) → 1 ≤ room_of_name cs place text
-name_room cs Unset text = omega arith
-name_room cs (LocalPlace n) text = omega arith
-name_room cs (Upvalue u) text = omega arith
-name_room cs (GlobalIn n) text = omega arith
-name_room cs (GlobalOf u) text = either_some (nat_lt (number_in cs (StrConst text)) 256)

@@ -1,0 +1,21 @@
+-- Each name takes a register at least.
+use Rattle.std.proofs.Common.{ℕ, ◌≤◌, arith, Bool, true, false, cond, List}
+use Rattle.std.specs.Prelude.{nat_lt}
+use Rattle.tree_core.specs.declared.name.Place.{Place}
+use Rattle.tree_core.specs.declared.name.Place.TheVariants.{Unset, Upvalue, GlobalIn, GlobalOf}
+use Rattle.tree_core.specs.declared.name.Place.TheVariants.{Local as LocalPlace}
+use Rattle.code_core.specs.declared.proto.Const.{Const}
+use Rattle.code_core.specs.declared.proto.Const.TheVariants.{Str as StrConst}
+use Rattle.code_of.specs.Constants.{number_in}
+use Rattle.exp_laws.specs.Placed.{room_of_name}
+
+either_some : (b : Bool) → 1 ≤ cond b 1 2
+either_some true = omega arith
+either_some false = omega arith
+
+pub name_room : (cs : List Const) (place : Place) (text : List ℕ) → 1 ≤ room_of_name cs place text
+name_room cs Unset text = omega arith
+name_room cs (LocalPlace n) text = omega arith
+name_room cs (Upvalue u) text = omega arith
+name_room cs (GlobalIn n) text = omega arith
+name_room cs (GlobalOf u) text = either_some (nat_lt (number_in cs (StrConst text)) 256)
