@@ -3,9 +3,10 @@ use crate::{Constants, Emitter};
 use lua_lex::tokens;
 use lua_parse::parse;
 use lua_scope::resolve;
+use scope_core::Resolved;
 use std::alloc::{AllocError, Global};
 use std::test::Fail;
-use tree_core::Exp;
+use tree_core::{Block, Body, Exp};
 
 // Sources that return an expression, the register for its value, and the words of its code.
 static WORDS: [(&[u8], u8, &[u32]); 16] = [
@@ -82,10 +83,12 @@ fn returned(alloc: Global, source: &[u8]) -> Result<Vec<Exp>, Fail> {
     let Ok(block) = parse(alloc, &list) else {
         return Err(Fail::from("no tree"));
     };
-    let Ok(resolved) = resolve(alloc, block) else {
+    let Ok(Resolved { main }) = resolve(alloc, block) else {
         return Err(Fail::from("against the rules"));
     };
-    match resolved.main.block.result {
+    let Body { block, .. } = main;
+    let Block { result, .. } = block;
+    match result {
         Some(list) => Ok(list),
         None => Err(Fail::from("no return")),
     }
