@@ -93,7 +93,7 @@ fn straight_scripts_print(rt: HostRuntime) -> Result<(), Fail> {
 }
 
 /// Sources, and what standard error is told of each.
-static REFUSALS: [(&str, &str); 33] = [
+static REFUSALS: [(&str, &str); 34] = [
     // A place that begins no token.
     ("print(9223372036854775808)", "at line 1"),
     ("print(1/2)", "at line 1"),
