@@ -38,6 +38,14 @@ abbrev pub Ascends : (from : ℕ) → List Pending → (to : ℕ) → Type 0
 Ascends from [] to = Unit {0}
 Ascends from (p ∷ ps) to = (from ≤ p.number) × ((p.number < to) × Ascends (suc p.number) ps to)
 
+pub held_higher : (held : List (ℕ × ℕ)) (m n : ℕ) → m ≤ n → HeldBelow held m → HeldBelow held n
+held_higher [] m n le h = tt
+held_higher (x ∷ held) m n le h = let f = h.0 in (omega (arith, f), held_higher held m n le h.1)
+
+pub ascends_higher : (from to high : ℕ) (ps : List Pending) → to ≤ high → Ascends from ps to → Ascends from ps high
+ascends_higher from to high [] le h = tt
+ascends_higher from to high (p ∷ ps) le h = let f = h.1.0 in (h.0, (omega (arith, f), ascends_higher (suc p.number) to high ps le h.1.1))
+
 -- the locals are the registers of their numbers, captured ones and those to be closed are locals, and there are at least so many registers
 pub record Rel (stack : ℕ) (pending : List Pending) (env : List Value) (c : Captured) (regs : List Value) : Type 0 where
   pub agree : (r : ℕ) → r < length env → nth env r ≡ nth regs r
@@ -163,14 +171,6 @@ module _ (stack : ℕ) (pending : List Pending) where
         rel = record { agree = a.rel.agree; held = (omega (arith, e), a.rel.held); ascends = a.rel.ascends; fits = a.rel.fits; room = a.rel.room };
         keeps = a.keeps;
       }
-
-  held_higher : (held : List (ℕ × ℕ)) (m n : ℕ) → m ≤ n → HeldBelow held m → HeldBelow held n
-  held_higher [] m n le h = tt
-  held_higher (x ∷ held) m n le h = let f = h.0 in (omega (arith, f), held_higher held m n le h.1)
-
-  ascends_higher : (from to high : ℕ) (ps : List Pending) → to ≤ high → Ascends from ps to → Ascends from ps high
-  ascends_higher from to high [] le h = tt
-  ascends_higher from to high (p ∷ ps) le h = let f = h.1.0 in (h.0, (omega (arith, f), ascends_higher (suc p.number) to high ps le h.1.1))
 
   -- a local is declared, whose value goes to the register behind those of the others
   pub rel_more : (env regs : List Value) (c : Captured) (v : Value) (t : ℕ) → length env ≡ t → t < stack → Rel stack pending env c regs → Rel stack pending (env ++ v ∷ []) c (write t v regs)

@@ -16,7 +16,7 @@ use Rattle.code_of.specs.Coded.{Coded, with_abc}
 use Rattle.code_of.specs.Expressions.{exps_code}
 use Rattle.code_of.specs.Levels.{has_closed}
 use Rattle.code_of.specs.Parts.{marks_code}
-use Rattle.exp_laws.proofs.Registers.{Rel, HeldBelow, Ascends}
+use Rattle.exp_laws.proofs.Registers.{Rel, held_higher, ascends_higher}
 use Rattle.exp_laws.specs.Setting.{Setting}
 use Rattle.exp_laws.proofs.Talking.{Agree, go_left, of_tree, of_code}
 use Rattle.exp_laws.proofs.Placing.{HasAt, has_front}
@@ -39,14 +39,6 @@ nth_fitted (suc n) [] zero h = refl
 nth_fitted (suc n) [] (suc i) h = nth_fitted n [] i (omega arith)
 nth_fitted (suc n) (v ∷ vs) zero h = refl
 nth_fitted (suc n) (v ∷ vs) (suc i) h = nth_fitted n vs i (omega arith)
-
-held_higher : (held : List (ℕ × ℕ)) (m n : ℕ) → m ≤ n → HeldBelow held m → HeldBelow held n
-held_higher [] m n le h = tt
-held_higher (x ∷ held) m n le h = let f = h.0 in (omega (arith, f), held_higher held m n le h.1)
-
-ascends_higher : (from to high : ℕ) (ps : List Pending) → to ≤ high → Ascends from ps to → Ascends from ps high
-ascends_higher from to high [] le h = tt
-ascends_higher from to high (p ∷ ps) le h = let f = h.1.0 in (h.0, (omega (arith, f), ascends_higher (suc p.number) to high ps le h.1.1))
 
 split_at : (r n : ℕ) → (r < n) ⊎ (n ≤ r)
 split_at r n = grind arith
