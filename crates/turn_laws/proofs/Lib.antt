@@ -1,0 +1,3 @@
+pub mod Measure
+mod Falling
+pub mod Steps
