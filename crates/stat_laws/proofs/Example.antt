@@ -1,11 +1,11 @@
 -- Bodies that the law covers, so that its premise is no empty one.
-use Rattle.std.proofs.Common.{ℕ, List, lit<, lit≤, true, [], ◌∷◌, Option, Some, refl, inl, arith}
+use Rattle.std.proofs.Common.{ℕ, List, lit<, lit≤, true, [], ◌∷◌, Option, Some, refl, arith}
 use Rattle.std.specs.Prelude.{codes}
 use Rattle.code_core.specs.Opcode.{opcodes, number_of}
 use Rattle.tree_core.specs.declared.name.Place.TheVariants.{Local as LocalPlace}
-use Rattle.tree_core.specs.Tree.{Body, LocalFunction, While, Label, Goto, Break}
+use Rattle.tree_core.specs.Tree.{Body, Index, LocalFunction, While, Label, Goto, Break}
 use Rattle.code_means.specs.Means.{Means}
-use Rattle.code_means.proofs.Forms.{name, no_variable, of_local, loc, outer, int, call, block, returning, loc_is, assign, when, fun}
+use Rattle.code_means.proofs.Forms.{name, no_variable, of_local, loc, outer, int, call, block, returning, loc_is, assigns, assign, global, when, fun}
 use Rattle.code_of.specs.CodeOf.{code_of}
 use Rattle.stat_laws.specs.Fits.{BodyFits}
 use Rattle.stat_laws.proofs.Whole.{means}
@@ -67,7 +67,7 @@ this_fits = (
         (
           tt,
           (
-            (inl (lit< tt, tt), (((lit< tt, (lit< tt, tt)), tt), (lit≤ tt, (lit≤ tt, lit< tt)))),
+            ((tt, (lit< tt, (lit≤ tt, tt))), (((lit< tt, (lit< tt, tt)), tt), (lit≤ tt, (lit≤ tt, lit< tt)))),
             (
               (lit< tt, (lit≤ tt, ((refl, tt), tt))),
               (
@@ -86,3 +86,32 @@ this_fits = (
 
 its_code_means_this : Means true (code_of source goes_back) goes_back
 its_code_means_this = means source goes_back this_fits
+
+-- function(t,k) t[k],n,k=1,k,t end
+abbrev stores_many : Body
+stores_many = fun ("t" ∷ "k" ∷ []) (of_local "_ENV" 0 ∷ []) (block (
+    assigns (Index 1 (loc "t" 0) (loc "k" 1) ∷ global "n" ∷ loc "k" 1 ∷ []) (int 1 ∷ loc "k" 1 ∷ loc "t" 0 ∷ []) ∷ []))
+
+many_fit : BodyFits source stores_many
+unfolding opcodes number_of
+many_fit = (
+  record {
+    small = lit< tt;
+    short = lit≤ tt;
+    room = lit≤ tt;
+    placed = (
+      (
+        (
+          (tt, ((lit< tt, lit< tt), (lit≤ tt, (tt, ((lit< tt, record { near = lit< tt; there = refl }), (lit≤ tt, (tt, (lit< tt, (lit≤ tt, tt))))))))),
+          (((λ e. absurd (cc)), (lit< tt, (lit< tt, tt))), (lit≤ tt, (lit≤ tt, lit< tt))),
+        ),
+        tt,
+      ),
+      (refl, lit≤ tt),
+    );
+  },
+  ((((tt, tt), (tt, (tt, tt))), (tt, (tt, (tt, tt)))), tt),
+)
+
+its_code_means_many : Means true (code_of source stores_many) stores_many
+its_code_means_many = means source stores_many many_fit

@@ -7,8 +7,8 @@ mod Forms
 mod Loops
 mod Returns
 mod Values
+mod Targets
 mod Assigning
-mod Globals
 mod Statements
 mod Lines
 mod Raised

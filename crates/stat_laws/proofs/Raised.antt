@@ -10,7 +10,7 @@ use Rattle.code_of.specs.Expressions.{made_by, made_in}
 use Rattle.code_of.specs.Levels.{made_by_stat, made_in_arms, made_in_stats, made_in_block, level_after, levels_after, levels_in, closing_after, closings_after}
 use Rattle.exp_laws.specs.Setting.{Setting, Alike}
 use Rattle.exp_laws.specs.Placed.{Inner, IsPlaced, ArePlaced, FieldsArePlaced}
-use Rattle.stat_laws.specs.Scoped.{Named, names_ahead, names_passed, LastIsPlaced, ReturnIsPlaced, StatIsPlaced, ArmsArePlaced, StatsArePlaced, BlockIsPlaced, OpenIsPlaced}
+use Rattle.stat_laws.specs.Scoped.{Named, names_ahead, names_passed, TargetsArePlaced, LastIsPlaced, ReturnIsPlaced, StatIsPlaced, ArmsArePlaced, StatsArePlaced, BlockIsPlaced, OpenIsPlaced}
 use Rattle.stat_laws.specs.Fits.{is_known, setting, BodyFits, InExp, InExps, InFields, InStat, InArms, InStats, InBlock}
 
 upvalues_same : (source : Option (List ℕ)) (body : Body) → (code_of source body).own.upvalues ≡ map upvalue (upvalues_of body)
@@ -57,6 +57,10 @@ module _ (source : Option (List ℕ)) (p : Prototype) (bound : ℕ) (varargs : L
     fields_up (MoreFields (Keyed l e d) fs) items t j h g =
         let same : j + (made_by e + made_by d) ≡ j + made_by e + made_by d = omega arith in
         (exp_up e t j h.0 g.0.0, (exp_up d t (j + made_by e) h.1.0 g.0.1, fields_up fs items t (j + made_by e + made_by d) h.1.1 (subst (InFields source p fs) same g.1)))
+
+  targets_up : (ts : Exps) (r t j : ℕ) → TargetsArePlaced low ts r t j → InExps source p ts j → TargetsArePlaced high ts r t j
+  targets_up EndExps r t j h g = tt
+  targets_up (MoreExps e ts) r t j h g = (h.0, (exp_up e t j h.1.0 g.0, (h.1.1.0, targets_up ts (r + 2) t (j + made_by e) h.1.1.1 g.1)))
 
   last_up : (es : Exps) (t j : ℕ) → LastIsPlaced low es t j → InExps source p es j → LastIsPlaced high es t j
   last_up EndExps t j h g = h
@@ -112,7 +116,7 @@ module _ (source : Option (List ℕ)) (p : Prototype) (bound : ℕ) (varargs : L
     stat_up (Goto l name) closing t j named loops h g = h
     stat_up (Break l) closing t j named loops h g = h
     stat_up (LocalFunction l name body) closing t j named loops h g = (inner_up j body h.0 g.0 g.1, h.1)
-    stat_up (Assign l targets es) closing t j named loops h g = (h.0, (exps_up es t (j + made_in targets) h.1.0 g.1, h.1.1))
+    stat_up (Assign l targets es) closing t j named loops h g = (targets_up targets t t j h.0 g.0, (exps_up es t (j + made_in targets) h.1.0 g.1, h.1.1))
     stat_up (NumFor l name from limit block) closing t j named loops h g = h
     stat_up (NumForStep l name from limit step block) closing t j named loops h g = h
     stat_up (GenFor l names es block) closing t j named loops h g = h

@@ -10,7 +10,7 @@ use Rattle.stat_laws.proofs.Blocks.{StatLaw, StatsLaw, none_goes, label_goes, mo
 use Rattle.stat_laws.proofs.Forms.{ExpLaw, BlockLaw, falls_goes, do_goes, goto_goes, break_goes, empty_stat_goes, label_stat_goes, while_goes, ArmsLaw, no_arms_goes, more_arms_goes, if_goes, if_else_goes}
 use Rattle.stat_laws.proofs.Loops.{repeat_goes}
 use Rattle.stat_laws.proofs.Returns.{returns_goes}
-use Rattle.stat_laws.proofs.Globals.{assign_goes}
+use Rattle.stat_laws.proofs.Assigning.{assign_goes}
 use Rattle.stat_laws.proofs.Values.{local_goes, function_goes, call_goes}
 
 abbrev pub exps : (S : Setting) → ExpLaw S

@@ -1,10 +1,7 @@
 -- What is assumed of a statement where t locals are in scope and j functions of its function are made before it: names and labels are in scope, and
 -- there are registers enough. It also says which forms are proved: for the others nothing is assumed that holds.
-use Rattle.std.specs.Prelude.{◌⊎◌, ◌≡◌, ℕ, ◌+◌, ◌*◌, ◌<◌, ◌≤◌, ◌^◌, Bool, true, false, cond, ◌&&◌, ◌||◌, List, [], ◌∷◌, ◌++◌, length, Some, None, nat_le, bytes_eq}
-use Rattle.tree_core.specs.declared.name.Place.{Place}
-use Rattle.tree_core.specs.declared.name.Place.TheVariants.{Upvalue, GlobalOf}
-use Rattle.tree_core.specs.declared.name.Place.TheVariants.{Local as LocalPlace}
-use Rattle.tree_core.specs.Tree.{Block, Falls, Returns, Stats, EndStats, MoreStats, Stat, Empty, Local, LocalFunction, Assign, CallStat, Do, While, Repeat, If, IfElse, NumFor, NumForStep, GenFor, Label, Goto, Break, Arms, EndArms, MoreArms, Var, Call, Method, Exps, EndExps, MoreExps}
+use Rattle.std.specs.Prelude.{◌≡◌, ℕ, ◌+◌, ◌*◌, ◌<◌, ◌≤◌, ◌^◌, Bool, true, false, cond, ◌&&◌, ◌||◌, List, [], ◌∷◌, ◌++◌, length, Some, None, nat_le, bytes_eq}
+use Rattle.tree_core.specs.Tree.{Block, Falls, Returns, Stats, EndStats, MoreStats, Stat, Empty, Local, LocalFunction, Assign, CallStat, Do, While, Repeat, If, IfElse, NumFor, NumForStep, GenFor, Label, Goto, Break, Arms, EndArms, MoreArms, Exp, Var, Index, Call, Method, Exps, EndExps, MoreExps}
 use Rattle.tree_activation.specs.Asking.{upvalues_of}
 use Rattle.tree_activation.specs.Jumps.{are_void}
 use Rattle.code_core.specs.declared.proto.Const.TheVariants.{Str as StrConst}
@@ -32,26 +29,18 @@ abbrev pub names_passed : Stat → List Named → List Named
 names_passed (Label line name) named = (name.text, true) ∷ named
 names_passed _ named = named
 
--- a name that is assigned: a local in scope, or an upvalue
-abbrev pub NameIsStored : Place → (t : ℕ) → Type 0
-NameIsStored (LocalPlace n) t = n < t
-NameIsStored (Upvalue u) t = u < 2 ^ 8
-NameIsStored _ t = ⊥
-
-abbrev pub TargetsArePlaced : Exps → (t : ℕ) → Type 0
-TargetsArePlaced EndExps t = Unit {0}
-TargetsArePlaced (MoreExps (Var line name) targets) t = NameIsStored name.place t × TargetsArePlaced targets t
-TargetsArePlaced (MoreExps _ targets) t = ⊥
+-- what can be assigned: a name or an index
+abbrev pub IsTarget : Exp → Type 0
+IsTarget (Var line name) = Unit {0}
+IsTarget (Index line object key) = Unit {0}
+IsTarget _ = ⊥
 
 module _ (S : Setting) where
-  -- one global name that is assigned, whose `_ENV` is an upvalue
-  abbrev pub GlobalIsStored : Place → List ℕ → Type 0
-  GlobalIsStored (GlobalOf u) text = (u < 2 ^ 8) × Found S.code.own.constants (StrConst text)
-  GlobalIsStored _ text = ⊥
-
-  abbrev pub GlobalIsPlaced : Exps → Type 0
-  GlobalIsPlaced (MoreExps (Var line name) EndExps) = GlobalIsStored name.place name.text
-  GlobalIsPlaced _ = ⊥
+  -- targets whose tables and keys go to the registers from r on, two for each
+  abbrev pub TargetsArePlaced : Exps → (r t j : ℕ) → Type 0
+  TargetsArePlaced EndExps r t j = Unit {0}
+  TargetsArePlaced (MoreExps e targets) r t j =
+      IsTarget e × (IsPlaced S e t j × ((r + room_of S.code.own.constants e 2 ≤ S.code.own.stack) × TargetsArePlaced targets (r + 2) t (j + made_by e)))
 
   -- what `return` gives: a call in the function's place, or a list
   abbrev pub LastIsPlaced : Exps → (t j : ℕ) → Type 0
@@ -73,7 +62,7 @@ module _ (S : Setting) where
         ArePlaced S es t j × ((t + room_of_list S.code.own.constants 0 es (Some (length names)) ≤ S.code.own.stack) × ((t + length names ≤ S.code.own.stack) × ((length names + 1 < 2 ^ 8) × (has_closed names ≡ false))))
     StatIsPlaced (LocalFunction line name body) closing t j named loops = Inner S j body × (Captures (upvalues_of body) (t + 1) × (t < S.code.own.stack))
     StatIsPlaced (Assign line targets es) closing t j named loops =
-        (TargetsArePlaced targets t ⊎ GlobalIsPlaced targets) × (ArePlaced S es t (j + made_in targets)
+        TargetsArePlaced targets t t j × (ArePlaced S es t (j + made_in targets)
         × ((t + 2 * count targets + room_of_list S.code.own.constants 0 es (Some (count targets)) ≤ S.code.own.stack) × ((t + 2 * count targets + count targets ≤ S.code.own.stack) × (count targets + 1 < 2 ^ 8))))
     StatIsPlaced (CallStat line e) closing t j named loops = (is_open e ≡ true) × (IsPlaced S e t j × (t + room_of S.code.own.constants e 1 ≤ S.code.own.stack))
     StatIsPlaced (Do line block) closing t j named loops = BlockIsPlaced block closing t j named loops
