@@ -38,7 +38,7 @@ use Rattle.exp_laws.proofs.Steps.{row_step, go_step}
 use Rattle.stat_laws.proofs.Standing.{strong}
 use Rattle.stat_laws.proofs.Sizes.{stats_sized}
 use Rattle.stat_laws.proofs.Labels.{Jumps}
-use Rattle.stat_laws.proofs.Blocks.{added_none}
+use Rattle.stat_laws.proofs.Blocks.{added_none, no_some, closeds_after}
 use Rattle.stat_laws.proofs.Returns.{finishes_goes, return_step, return_ends, no_numbers, known_all, return_some}
 use Rattle.stat_laws.proofs.Values.{length_fitted, nth_fitted}
 use Rattle.stat_laws.proofs.Statements.{stats_goes}
@@ -121,10 +121,10 @@ module _ (S : Setting) (back : ℕ) where
         base_under = tt;
         under = tt;
         outer_low = omega arith;
-        known = λ e. refl;
+        known = refl;
         ends = record {
           full = λ labels m le ps env1 regs1 c1 opened1 st. end_goes n (levels_after ss params) line line (pc + size_of) labels refl at_last (omega (arith, fits.1.1, S.small)) m le ps env1 regs1 c1 opened1
-              (no_numbers ps (st.numbered ∙ known_all ss params false [] (λ e. refl) fits.1.0)) (omega (arith, fits.1.1, st.rel.room)) st.rel;
+              (no_numbers ps (st.numbered ∙ no_some (closeds_after ss params []) (sym (known_all ss params false [] refl) ∙ fits.1.0))) (omega (arith, fits.1.1, st.rel.room)) st.rel;
           low = λ is labels m le ps env1 regs1 c1 opened1 st. end_goes n (levels_after ss params) line line (pc + size_of) labels refl at_last (omega (arith, fits.1.1, S.small)) m le ps env1 regs1 c1 opened1
               (no_numbers ps st.numbered) (omega (arith, fits.1.1, st.rel.room)) st.rel;
         };
@@ -161,9 +161,9 @@ module _ (S : Setting) (back : ℕ) where
         base_under = tt;
         under = tt;
         outer_low = omega arith;
-        known = λ e. refl;
+        known = refl;
         ends = record {
-          full = return_ends S back ss es line n false [] 0 params 0 pc start_reach (end_of_body line ∷ []) fewer has fits.1 (omega (arith, inside, sum, sized)) (λ e. refl);
+          full = return_ends S back ss es line n false [] 0 params 0 pc start_reach (end_of_body line ∷ []) fewer has fits.1 (omega (arith, inside, sum, sized)) refl;
           low = λ is. absurd (cc);
         };
       })).0 n (omega arith) [] env regs no_cells opened (record { numbered = refl; size = size; rel = rel })
