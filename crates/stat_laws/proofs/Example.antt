@@ -109,7 +109,7 @@ many_fit = (
         ),
         tt,
       ),
-      (refl, lit≤ tt),
+      lit≤ tt,
     );
   },
   ((((tt, tt), (tt, (tt, tt))), (tt, (tt, (tt, tt)))), tt),

@@ -1,9 +1,8 @@
 -- Leaving a function with values: `return`, and the end of its block.
-use Rattle.std.proofs.Common.{◌≡◌, ℕ, zero, suc, ◌+◌, ◌-◌, ◌<◌, ◌≤◌, ◌^◌, Bool, true, false, cond, List, [], ◌∷◌, ◌++◌, length, drop, Some, None, refl, sym, ap, ap₂, subst, ◌∙◌, arith, append_assoc, length-append}
-use borrow.Author.Tests.{le-leb}
+use Rattle.std.proofs.Common.{◌≡◌, ℕ, ◌+◌, ◌-◌, ◌<◌, ◌≤◌, ◌^◌, lit<, Bool, true, false, cond, List, [], ◌∷◌, ◌++◌, length, Some, None, refl, sym, ap, ap₂, subst, ◌∙◌, arith, append_assoc, length-append}
 use Rattle.std.specs.Prelude.{◌==◌}
-use Rattle.int_core.specs.Value.{Value, nth, range}
-use Rattle.int_core.specs.Ask.{goes_on, leaves, returns, Captured, held_below, gone_from, shared_by}
+use Rattle.int_core.specs.Value.{Value}
+use Rattle.int_core.specs.Ask.{goes_on, Captured}
 use Rattle.tree_core.specs.Tree.{Returns, Stats, EndStats, Nil, True, False, Int, Str, Vararg, Function, Var, Index, Call, Method, Unary, Binary, And, Or, Paren, Table, Exps, EndExps, MoreExps, MoreStats}
 use Rattle.tree_activation.specs.Work.{complete, collect, evaluate, callee_of, method_of, for_return, finish, leave_scope, run, Work, Pending, Passed, returns_list, Activation, State}
 use Rattle.tree_activation.specs.Work as tree
@@ -13,15 +12,10 @@ use Rattle.code_core.specs.declared.opcode.Opcode.TheVariants.{OpSelf, TailCall,
 use Rattle.code_core.specs.Instruction.{abc}
 use Rattle.code_core.specs.Check.{at}
 use Rattle.code_core.specs.declared.proto.Const.{Const}
-use Rattle.machine_core.specs.Moves.{line_of}
 use Rattle.code_core.proofs.FieldLemmas.{opcode_of-abc, a_of-abc, b_of-abc}
-use Rattle.machine_core.specs.Text as text
-use Rattle.machine_core.specs.Text.{read_registers, list_end, behind}
 use Rattle.machine_core.specs.InstructionRows as rows
 use Rattle.machine_core.specs.InstructionRows.{read_values, counted}
-use Rattle.machine_core.specs.Talk as code
-use Rattle.machine_core.specs.Talk.{talk, talk_step, says_so, before, amid}
-use Rattle.machine_join.proofs.Lists.{eq_not, lt_not}
+use Rattle.machine_core.specs.Talk.{talk, talk_step, before}
 use Rattle.code_of.specs.Coded.{Coded, with_abc}
 use Rattle.code_of.specs.Expressions.{made_by, count, list_field, exp_code, exps_code}
 use Rattle.code_of.specs.Constants.{loads}
@@ -31,14 +25,13 @@ use Rattle.code_of.specs.Levels.{level_after, levels_after, closing_after, closi
 use Rattle.code_of.specs.Parts.{values_last, return_code}
 use Rattle.code_of.specs.Sizes.{stats_size, block_size}
 use Rattle.code_of.specs.Statements.{stats_code}
-use Rattle.exp_laws.proofs.Registers.{Rel, held_same}
+use Rattle.exp_laws.proofs.Registers.{Rel}
 use Rattle.exp_laws.specs.Setting.{Setting}
-use Rattle.exp_laws.proofs.Talking.{Agree, go_left, both_ask, of_tree, of_code}
+use Rattle.exp_laws.proofs.Talking.{Agree, go_left, of_tree, of_code}
 use Rattle.exp_laws.proofs.Placing.{HasAt, has_front, has_back}
-use Rattle.exp_laws.proofs.Lists.{Holds, range_held}
 use Rattle.exp_laws.proofs.Calls.{read_values_step}
 use Rattle.exp_laws.specs.Placed.{room_of_list, IsPlaced, ArePlaced}
-use Rattle.exp_laws.proofs.Steps.{row_step, own_step}
+use Rattle.exp_laws.proofs.Steps.{row_step}
 use Rattle.exp_laws.proofs.LastCalls.{call_last_same, method_last_same}
 use Rattle.stat_laws.proofs.Standing.{numbers, GoesOn}
 use Rattle.stat_laws.specs.Scoped.{ListIsPlaced, LastIsPlaced, ReturnIsPlaced}
@@ -47,19 +40,6 @@ use Rattle.stat_laws.proofs.Labels.{closed_after}
 use Rattle.stat_laws.proofs.Blocks.{has_some, no_some, closeds_after, known_after, added_none, StatsLaw}
 use Rattle.stat_laws.proofs.Forms.{BlockLaw, below_level}
 use Rattle.exp_laws.proofs.Returns.{return_list_same}
-
-held_zero : (held : List (ℕ × ℕ)) → held_below 0 held ≡ []
-held_zero [] = refl
-held_zero (h ∷ held) = ap (λ b. cond b (h ∷ held_below 0 held) (held_below 0 held)) (lt_not h.0 0 (λ l. omega arith)) ∙ held_zero held
-
-gone_zero : (held : List (ℕ × ℕ)) (xs : List Value) → gone_from 0 held xs ≡ shared_by held xs
-gone_zero [] xs = refl
-gone_zero (h ∷ held) xs =
-    ap (λ b. cond b (gone_from 0 held xs) ((h.1, nth xs h.0) ∷ gone_from 0 held xs)) (lt_not h.0 0 (λ l. omega arith)) ∙ ap (λ l. (h.1, nth xs h.0) ∷ l) (gone_zero held xs)
-
-drop_front : (xs ys : List Value) → drop (length xs) (xs ++ ys) ≡ ys
-drop_front [] ys = refl
-drop_front (x ∷ xs) ys = drop_front xs ys
 
 pub no_numbers : (ps : List Pending) → numbers ps ≡ [] → ps ≡ []
 no_numbers [] e = refl
@@ -124,38 +104,14 @@ return_some cs false (MoreExps (Call l f args) (MoreExps d es)) t j line back = 
 return_some cs false (MoreExps (Method l o name args) (MoreExps d es)) t j line back = last_some cs (MoreExps (Method l o name args) (MoreExps d es)) t j line back
 return_some cs true es t j line back = last_some cs es t j line back
 
-behind_within : (from m size : ℕ) → from + m ≤ size → behind from m ≤ size
-behind_within from zero size h = omega arith
-behind_within from (suc m) size h = h
-
-nonzero : (n : ℕ) → (suc n == 0) ≡ false
-nonzero n = eq_not (suc n) 0 (λ e. absurd (omega (arith, e)))
-
 module _ (S : Setting) where
-  -- an activation that has left its scopes ends with values
-  pub finishes_goes : (n line pc opened : ℕ) (vs env regs : List Value) (c : Captured) (k : List Work) (t : code.State) → Rel S.code.own.stack [] env c regs → line_of S.code pc ≡ cond S.lines (Some line) None
-      → talk_step S.code t ≡ says_so (leaves (returns vs)) S.code (of_code S [] pc regs opened) c (λ x b d. amid text.trap [] b d)
-      → Agree S n (tree.at (finish line (returns vs)) (of_tree S [] [] (record { held = held_below 0 c.held; gone = gone_from 0 c.held env ++ c.gone })) k) t
-  finishes_goes zero line pc opened vs env regs c k t rel lined e = tt
-  finishes_goes (suc n) line pc opened vs env regs c k t rel lined e =
-      both_ask S n _ t (leaves (returns vs)) (leaves (returns vs)) line _ _ _ _ _ refl e refl refl lined
-      (ap (λ h. shared_by h [] ++ (gone_from 0 c.held env ++ c.gone)) (held_zero c.held) ∙ ap (λ g. g ++ c.gone) (gone_zero c.held env ∙ held_same S.code.own.stack [] env c regs rel))
-      (λ x fits. absurd fits.reply)
-
-  -- RETURN of so many registers
-  pub return_step : (t m back pc opened : ℕ) (vs regs : List Value) (c : Captured) → at S.code pc ≡ Some (abc Return t (suc m) back false) → t < 2 ^ 8 → suc m < 2 ^ 8 → length vs ≡ m → t + m ≤ length regs → Holds t (length vs) vs regs
-      → talk_step S.code (before (of_code S [] pc regs opened) c) ≡ says_so (leaves (returns vs)) S.code (of_code S [] pc regs opened) c (λ x b d. amid text.trap [] b d)
-  return_step t m back pc opened vs regs c here small few size width held =
-      let a = of_code S [] pc regs opened in
-      let w = abc Return t (suc m) back false in
-      let same : range t m regs ≡ vs = ap (λ n. range t n regs) (sym size) ∙ range_held t vs regs held in
-      row_step S.code w Return (read_values t (suc m) (λ _ s. rows.returns t m)) a c here (opcode_of-abc Return t (suc m) back false)
-      (ap₂ (λ x y. read_values x y (λ _ s. rows.returns x (cond (y == 0) (counted s) (y - 1)))) (a_of-abc Return t (suc m) back false small) (b_of-abc Return t (suc m) back false small few)
-      ∙ ap (λ b. read_values t (suc m) (λ _ s. rows.returns t (cond b (counted s) (suc m - 1)))) (nonzero m)
-      ∙ (let one : suc m - 1 ≡ m = omega arith in ap (λ q. read_values t (suc m) (λ _ s. rows.returns t q)) one))
-      ∙ read_values_step S.code t (suc m) (λ _ s. rows.returns t m) [] vs a c (size, (width, held))
-      ∙ own_step S.code (read_registers t m) (λ v _. text.leave (text.results v)) (([] ++ vs) ++ []) a c (le-leb (behind t m) (length regs) (behind_within t m (length regs) width))
-      ∙ ap (λ l. says_so (leaves (returns l)) S.code a c (λ x b d. amid text.trap [] b d)) (drop_front (([] ++ vs) ++ []) (range t m regs) ∙ same)
+  -- RETURN of no values
+  pub return_step : (t back pc opened : ℕ) (ps : List Pending) (regs : List Value) (c : Captured) → at S.code pc ≡ Some (abc Return t 1 back false) → t < 2 ^ 8 → t + 0 ≤ length regs
+      → talk_step S.code (before (of_code S ps pc regs opened) c) ≡ talk S.code (rows.returns t 0) [] (of_code S ps pc regs opened) c
+  return_step t back pc opened ps regs c here small width =
+      row_step S.code (abc Return t 1 back false) Return (read_values t 1 (λ _ s. rows.returns t 0)) (of_code S ps pc regs opened) c here (opcode_of-abc Return t 1 back false)
+      (ap₂ (λ x y. read_values x y (λ _ s. rows.returns x (cond (y == 0) (counted s) (y - 1)))) (a_of-abc Return t 1 back false small) (b_of-abc Return t 1 back false small (lit< tt)))
+      ∙ read_values_step S.code t 1 (λ _ s. rows.returns t 0) [] [] (of_code S ps pc regs opened) c (refl, (width, (λ i lt. absurd (omega arith))))
 
   without_last : (a : List Coded) (x y : Coded) (pc : ℕ) → HasAt S pc (a ++ x ∷ y ∷ []) → HasAt S pc (a ++ x ∷ [])
   without_last [] x y pc h = (h.0, (h.1.0, tt))
