@@ -71,12 +71,12 @@ numbers_both : (ps qs : List Pending) → numbers (ps ++ qs) ≡ numbers ps ++ n
 numbers_both [] qs = refl
 numbers_both (p ∷ ps) qs = ap (λ l. p.number ∷ l) (numbers_both ps qs)
 
--- the variables of a declaration that are to be closed are marked in their order, those from the number m on
 module _ (S : Setting) where
   abbrev GoesMarked : (n size : ℕ) (closed : List ℕ) (pc opened : ℕ) (k : List Work) → Type 0
   GoesMarked n size closed pc opened k =
       (ps : List Pending) (env regs : List Value) (c : Captured) → numbers ps ≡ closed → length env ≡ size → Rel S.code.own.stack ps env c regs → Agree S n (tree.at complete (of_tree S ps env c) k) (before (of_code S ps pc regs opened) c)
 
+  -- the variables of a declaration that are to be closed are marked in their order; the first of the names has the number m
   marks_goes : (names : List Declared) (m r n size pc opened : ℕ) (closed : List ℕ) (ps : List Pending) (env regs : List Value) (c : Captured) (k : List Work) → m ≡ r → r + length names ≤ size → HasAt S pc (marks_code names r) → AreNamed S.lines S.code names r
       → pc + length (marks_code names r) < length S.code.own.code → AllBelow closed r → numbers ps ≡ closed → length env ≡ size → Rel S.code.own.stack ps env c regs → GoesMarked n size (closed ++ closed_numbers names r) (pc + length (marks_code names r)) opened k
       → Agree S n (tree.at (marks_closed m names complete) (of_tree S ps env c) k) (before (of_code S ps pc regs opened) c)
@@ -87,9 +87,6 @@ module _ (S : Setting) where
       by (is_closed d.attrib) has named.0 inside goes
       (λ pc' closed' ps' env' regs' c' has' inside' under' numbered' wide' rel' goes'. marks_goes names (suc m) (r + 1) n size pc' opened closed' ps' env' regs' c' k (omega (arith, same)) (omega (arith, room)) has' named.1 inside' under' numbered' wide' rel' goes')
     where
-      rest : List Coded
-      rest = marks_code names (r + 1)
-
       Rest : Type 0
       Rest =
           (pc' : ℕ) (closed' : List ℕ) (ps' : List Pending) (env' regs' : List Value) (c' : Captured) → HasAt S pc' (marks_code names (r + 1)) → pc' + length (marks_code names (r + 1)) < length S.code.own.code → AllBelow closed' (r + 1) → numbers ps' ≡ closed'
