@@ -52,7 +52,7 @@ numbers_below (d ∷ names) t =
     by true later = (omega arith, later)
     by false later = later
 
-below_more : (ms ns : List ℕ) (n : ℕ) → AllBelow ms n → AllBelow ns n → AllBelow (ms ++ ns) n
+pub below_more : (ms ns : List ℕ) (n : ℕ) → AllBelow ms n → AllBelow ns n → AllBelow (ms ++ ns) n
 below_more [] ns n h g = g
 below_more (m ∷ ms) ns n h g = (h.0, below_more ms ns n h.1 g)
 
@@ -112,35 +112,44 @@ pub added_all : (ss : Stats) (t : ℕ) (closed : List ℕ) → Added t closed (c
 added_all EndStats t closed = added_none t closed
 added_all (MoreStats s ss) t closed = added_then t (level_after s t) closed (closed_after s t closed) (closeds_after ss (level_after s t) (closed_after s t closed)) (level_rises s t) (added_by s t closed) (added_all ss (level_after s t) (closed_after s t closed))
 
-pub neither : (b c : Bool) → (b || c) ≡ false → (b ≡ false) × (c ≡ false)
-neither false false e = (refl, refl)
-neither false true e = absurd (cc)
-neither true c e = absurd (cc)
+abbrev pub has_some : List ℕ → Bool
+has_some [] = false
+has_some (x ∷ xs) = true
 
-pub none_closed : (names : List Declared) (t : ℕ) → has_closed names ≡ false → closed_numbers names t ≡ []
-none_closed [] t e = refl
-none_closed (d ∷ names) t e =
-    let h = neither (is_closed d.attrib) (has_closed names) e in
-    ap (λ b. cond b (t ∷ closed_numbers names (t + 1)) (closed_numbers names (t + 1))) h.0 ∙ none_closed names (t + 1) h.1
+pub no_some : (xs : List ℕ) → has_some xs ≡ false → xs ≡ []
+no_some [] e = refl
+no_some (x ∷ xs) e = absurd (cc)
 
--- where no variable to be closed is in scope, a call behind `return` is in the function's place
-pub known_after : (s : Stat) (t : ℕ) (closing : Bool) (closed : List ℕ) → (closing ≡ false → closed ≡ []) → closing_after s closing ≡ false → closed_after s t closed ≡ []
-known_after (Empty l) t closing closed h none = h none
-known_after (Local l names' es) t closing closed h none = let n = neither closing (has_closed names') none in ap (λ l. l ++ closed_numbers names' t) (h n.0) ∙ none_closed names' t n.1
-known_after (LocalFunction l name body) t closing closed h none = h none
-known_after (Assign l targets es) t closing closed h none = h none
-known_after (CallStat l e) t closing closed h none = h none
-known_after (Do l block) t closing closed h none = h none
-known_after (While l e block) t closing closed h none = h none
-known_after (Repeat l block e) t closing closed h none = h none
-known_after (If l arms) t closing closed h none = h none
-known_after (IfElse l arms block) t closing closed h none = h none
-known_after (NumFor l name from' limit block) t closing closed h none = h none
-known_after (NumForStep l name from' limit step' block) t closing closed h none = h none
-known_after (GenFor l names' es block) t closing closed h none = h none
-known_after (Goto l name) t closing closed h none = h none
-known_after (Break l) t closing closed h none = h none
-known_after (Label l name) t closing closed h none = h none
+some_numbers : (names : List Declared) (t : ℕ) → has_closed names ≡ has_some (closed_numbers names t)
+some_numbers [] t = refl
+some_numbers (d ∷ names) t = by (is_closed d.attrib) (some_numbers names (t + 1))
+  where
+    by : (b : Bool) → has_closed names ≡ has_some (closed_numbers names (t + 1)) → (b || has_closed names) ≡ has_some (cond b (t ∷ closed_numbers names (t + 1)) (closed_numbers names (t + 1)))
+    by true later = refl
+    by false later = later
+
+some_both : (xs ys : List ℕ) → has_some (xs ++ ys) ≡ (has_some xs || has_some ys)
+some_both [] ys = refl
+some_both (x ∷ xs) ys = refl
+
+-- `closing` says whether a variable to be closed is in scope, and so whether a call behind `return` is in the function's place
+pub known_after : (s : Stat) (t : ℕ) (closing : Bool) (closed : List ℕ) → closing ≡ has_some closed → closing_after s closing ≡ has_some (closed_after s t closed)
+known_after (Empty l) t closing closed h = h
+known_after (Local l names' es) t closing closed h = ap (λ b. b || has_closed names') h ∙ ap (λ b. has_some closed || b) (some_numbers names' t) ∙ sym (some_both closed (closed_numbers names' t))
+known_after (LocalFunction l name body) t closing closed h = h
+known_after (Assign l targets es) t closing closed h = h
+known_after (CallStat l e) t closing closed h = h
+known_after (Do l block) t closing closed h = h
+known_after (While l e block) t closing closed h = h
+known_after (Repeat l block e) t closing closed h = h
+known_after (If l arms) t closing closed h = h
+known_after (IfElse l arms block) t closing closed h = h
+known_after (NumFor l name from' limit block) t closing closed h = h
+known_after (NumForStep l name from' limit step' block) t closing closed h = h
+known_after (GenFor l names' es block) t closing closed h = h
+known_after (Goto l name) t closing closed h = h
+known_after (Break l) t closing closed h = h
+known_after (Label l name) t closing closed h = h
 
 module _ (S : Setting) (back : ℕ) where
   -- the code of a statement talks as the statement does
@@ -148,7 +157,7 @@ module _ (S : Setting) (back : ℕ) where
   StatLaw s =
       (n : ℕ) (closing : Bool) (closed : List ℕ) (t j pc : ℕ) (named : List Named) (loops : Bool) (reach : Reach) (k : List Work)
       → n ≤ S.bound → HasAt S pc (stat_code S.code.own.constants back s closing t j pc reach) → StatIsPlaced S s closing t j named loops → pc + stat_size S.code.own.constants back s closing t j < length S.code.own.code
-      → AllBelow closed t → (closing ≡ false → closed ≡ []) → (t ≡ level_after s t → Jumps S back n pc (pc + stat_size S.code.own.constants back s closing t j) t closed named loops reach k)
+      → AllBelow closed t → closing ≡ has_some closed → (t ≡ level_after s t → Jumps S back n pc (pc + stat_size S.code.own.constants back s closing t j) t closed named loops reach k)
       → GoesOn S n (level_after s t) (closed_after s t closed) complete k (pc + stat_size S.code.own.constants back s closing t j)
       → (ps : List Pending) (env regs : List Value) (c : Captured) (opened : ℕ) (st : State) → step st ≡ executes s (of_tree S ps env c) k → Standing S t closed ps env c regs
       → Agree S n st (before (of_code S ps pc regs opened) c)
@@ -185,7 +194,7 @@ module _ (S : Setting) (back : ℕ) where
       pub base_under : AllBelow base outer
       pub under : AllBelow closed t
       pub outer_low : outer ≤ t
-      pub known : closing ≡ false → closed ≡ []
+      pub known : closing ≡ has_some closed
       pub ends : Ends n (levels_after ss t) (closeds_after ss t closed) (pc + stats_size S.code.own.constants back ss closing t j)
 
     abbrev pub StatsLaw : Stats → Type 0

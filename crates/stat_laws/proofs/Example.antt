@@ -1,13 +1,15 @@
 -- Bodies that the law covers, so that its premise is no empty one.
-use Rattle.std.proofs.Common.{ℕ, List, lit<, lit≤, true, [], ◌∷◌, Option, Some, refl, arith}
+use Rattle.std.proofs.Common.{◌≡◌, ℕ, zero, suc, ◌%◌, ap, None, List, lit<, lit≤, true, [], ◌∷◌, Option, Some, refl, arith}
 use Rattle.std.specs.Prelude.{codes}
+use Rattle.code_core.specs.declared.instruction.Instruction.{Instruction}
 use Rattle.code_core.specs.Opcode.{opcodes, number_of}
 use Rattle.tree_core.specs.declared.name.Place.TheVariants.{Local as LocalPlace}
 use Rattle.tree_core.specs.Tree.{Body, Index, LocalFunction, While, Label, Goto, Break}
 use Rattle.code_means.specs.Means.{Means}
-use Rattle.code_means.proofs.Forms.{name, no_variable, of_local, loc, outer, int, call, block, returning, loc_is, assigns, assign, global, when, fun}
+use Rattle.code_means.proofs.Forms.{name, no_variable, of_local, loc, outer, int, call, block, returning, loc_is, locals, closed, assigns, assign, global, when, fun}
 use Rattle.code_of.specs.CodeOf.{code_of}
 use Rattle.stat_laws.specs.Fits.{BodyFits}
+use Rattle.stat_laws.specs.Scoped.{IsNamed}
 use Rattle.stat_laws.proofs.Whole.{means}
 
 -- function(f) local x=0 while f(x) do if f(1) then break end end return x,f end
@@ -28,10 +30,10 @@ it_fits = (
     room = lit≤ tt;
     placed = (
       (
-        (((λ e. absurd (cc)), tt), (lit≤ tt, (lit≤ tt, (lit< tt, refl)))),
+        (((λ e. absurd (cc)), tt), (lit≤ tt, (lit≤ tt, (lit< tt, ((λ e. absurd (cc)), tt))))),
         (((lit< tt, (lit< tt, tt)), (lit≤ tt, (((lit< tt, ((λ e. absurd (cc)), tt)), (lit≤ tt, ((refl, tt), tt))), tt))), tt),
       ),
-      (refl, ((lit< tt, (lit< tt, tt)), (lit≤ tt, lit< tt))),
+      ((lit< tt, (lit< tt, tt)), (lit≤ tt, lit< tt)),
     );
   },
   (((tt, tt), (((tt, (tt, tt)), ((((tt, (tt, tt)), ((tt, tt), tt))), tt)), tt)), (tt, (tt, tt))),
@@ -52,7 +54,7 @@ goes_back = fun ("f" ∷ []) [] (returning (
 
 inner_fits : BodyFits source gives_x
 unfolding opcodes number_of
-inner_fits = (record { small = lit< tt; short = lit≤ tt; room = lit≤ tt; placed = (tt, (refl, ((lit< tt, tt), (lit≤ tt, lit< tt)))) }, (tt, (tt, tt)))
+inner_fits = (record { small = lit< tt; short = lit≤ tt; room = lit≤ tt; placed = (tt, ((lit< tt, tt), (lit≤ tt, lit< tt))) }, (tt, (tt, tt)))
 
 this_fits : BodyFits source goes_back
 unfolding opcodes number_of
@@ -63,7 +65,7 @@ this_fits = (
     room = lit≤ tt;
     placed = (
       (
-        (((λ e. absurd (cc)), tt), (lit≤ tt, (lit≤ tt, (lit< tt, refl)))),
+        (((λ e. absurd (cc)), tt), (lit≤ tt, (lit≤ tt, (lit< tt, ((λ e. absurd (cc)), tt))))),
         (
           tt,
           (
@@ -78,7 +80,7 @@ this_fits = (
           ),
         ),
       ),
-      (refl, (lit< tt, ((lit< tt, tt), (lit≤ tt, lit≤ tt)))),
+      (lit< tt, ((lit< tt, tt), (lit≤ tt, lit≤ tt))),
     );
   },
   (((tt, tt), (tt, (((tt, tt), ((tt, (tt, tt)), tt)), ((tt, ((tt, tt), tt)), ((refl, inner_fits), tt))))), ((tt, (tt, tt)), tt)),
@@ -107,7 +109,7 @@ many_fit = (
         ),
         tt,
       ),
-      (refl, lit≤ tt),
+      lit≤ tt,
     );
   },
   ((((tt, tt), (tt, (tt, tt))), (tt, (tt, (tt, tt)))), tt),
@@ -115,3 +117,42 @@ many_fit = (
 
 its_code_means_many : Means true (code_of source stores_many) stores_many
 its_code_means_many = means source stores_many many_fit
+
+-- function(f) local x<close>=f() return f(x) end
+abbrev closes_one : Body
+closes_one = fun ("f" ∷ []) [] (returning (locals (closed "x" 1 ∷ []) (call (loc "f" 0) [] ∷ []) ∷ []) (call (loc "f" 0) (loc "x" 1 ∷ []) ∷ []))
+
+-- the number of an instruction's opcode, which is 55 for TBC; there is none past the code
+abbrev kind : Option Instruction → ℕ
+kind None = 128
+kind (Some w) = w.0 % 128
+
+-- its mark is its third instruction
+it_is_named : IsNamed true (code_of source closes_one) (name "x" (LocalPlace 1)) 1
+unfolding opcodes number_of
+it_is_named zero is lined = let e : 0 ≡ 55 = ap kind is in absurd (omega (arith, e))
+it_is_named (suc zero) is lined = let e : 68 ≡ 55 = ap kind is in absurd (omega (arith, e))
+it_is_named (suc (suc zero)) is lined = refl
+it_is_named (suc (suc (suc zero))) is lined = let e : 0 ≡ 55 = ap kind is in absurd (omega (arith, e))
+it_is_named (suc (suc (suc (suc zero)))) is lined = let e : 0 ≡ 55 = ap kind is in absurd (omega (arith, e))
+it_is_named (suc (suc (suc (suc (suc zero))))) is lined = let e : 68 ≡ 55 = ap kind is in absurd (omega (arith, e))
+it_is_named (suc (suc (suc (suc (suc (suc zero)))))) is lined = let e : 70 ≡ 55 = ap kind is in absurd (omega (arith, e))
+it_is_named (suc (suc (suc (suc (suc (suc (suc pc))))))) is lined = let e : 128 ≡ 55 = ap kind is in absurd (omega (arith, e))
+
+one_fits : BodyFits source closes_one
+unfolding opcodes number_of
+one_fits = (
+  record {
+    small = lit< tt;
+    short = lit≤ tt;
+    room = lit≤ tt;
+    placed = (
+      ((((lit< tt, tt), tt), (lit≤ tt, (lit≤ tt, (lit< tt, ((λ e. it_is_named), tt))))), tt),
+      (((lit< tt, (lit< tt, tt)), tt), (lit≤ tt, lit< tt)),
+    );
+  },
+  ((((tt, tt), tt), tt), ((tt, (tt, tt)), tt)),
+)
+
+its_code_means_one : Means true (code_of source closes_one) closes_one
+its_code_means_one = means source closes_one one_fits

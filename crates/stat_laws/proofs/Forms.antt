@@ -37,7 +37,7 @@ use Rattle.stat_laws.proofs.Standing.{strong, numbers, AllFrom, from_lower, from
 use Rattle.stat_laws.specs.Scoped.{Named, ArmsArePlaced, BlockIsPlaced}
 use Rattle.stat_laws.proofs.Sizes.{past_sized, block_sized, arms_sized, stats_sized}
 use Rattle.stat_laws.proofs.Labels.{Jumps, jumps_within}
-use Rattle.stat_laws.proofs.Blocks.{Added, added_all, added_none, levels_rise, closeds_after, StatLaw, StatsLaw}
+use Rattle.stat_laws.proofs.Blocks.{has_some, Added, added_all, added_none, levels_rise, closeds_after, StatLaw, StatsLaw}
 
 module _ (S : Setting) where
   -- the law of expressions
@@ -141,7 +141,7 @@ module _ (S : Setting) where
     BlockLaw block =
         (n : ℕ) (closing : Bool) (closed : List ℕ) (outer t j pc : ℕ) (named : List Named) (loops : Bool) (reach : Reach) (k : List Work)
         → n ≤ S.bound → HasAt S pc (block_code S.code.own.constants back block closing outer t j pc reach) → BlockIsPlaced S block closing t j named loops
-        → pc + block_size S.code.own.constants back block closing outer t j < length S.code.own.code → AllBelow closed outer → outer ≤ t → (closing ≡ false → closed ≡ [])
+        → pc + block_size S.code.own.constants back block closing outer t j < length S.code.own.code → AllBelow closed outer → outer ≤ t → closing ≡ has_some closed
         → Jumps S back n pc (pc + block_size S.code.own.constants back block closing outer t j) outer closed named loops reach k
         → GoesOn S n outer closed complete k (pc + block_size S.code.own.constants back block closing outer t j)
         → GoesOn S n t closed (run (point_of block outer)) k pc
@@ -345,7 +345,7 @@ module _ (S : Setting) where
       ArmsLaw arms =
           (otherwise : Option Block) (code : List Coded) (n : ℕ) (closing : Bool) (closed : List ℕ) (t j pc line : ℕ) (named : List Named) (loops : Bool) (reach : Reach) (k : List Work)
           → n ≤ S.bound → HasAt S pc (arms_code S.code.own.constants back arms code closing t j pc line reach) → ArmsArePlaced S arms closing t j named loops
-          → pc + (arms_size S.code.own.constants back arms (length code) closing t j + length code) < length S.code.own.code → AllBelow closed t → (closing ≡ false → closed ≡ [])
+          → pc + (arms_size S.code.own.constants back arms (length code) closing t j + length code) < length S.code.own.code → AllBelow closed t → closing ≡ has_some closed
           → Jumps S back n pc (pc + (arms_size S.code.own.constants back arms (length code) closing t j + length code)) t closed named loops reach k
           → GoesOn S n t closed complete k (pc + (arms_size S.code.own.constants back arms (length code) closing t j + length code))
           → GoesOn S n t closed (choose EndArms otherwise) k (pc + arms_size S.code.own.constants back arms (length code) closing t j)

@@ -6,6 +6,7 @@ mod Blocks
 mod Forms
 mod Loops
 mod Returns
+mod Ending
 mod Values
 mod Targets
 mod Assigning

@@ -100,7 +100,8 @@ module _ (source : Option (List ℕ)) (p : Prototype) (bound : ℕ) (varargs : L
   last_up (MoreExps (Method l o name args) (MoreExps d es)) t j h g = (exps_up (MoreExps (Method l o name args) (MoreExps d es)) t j h.0 g, h.1)
 
   pub return_up : (es : Exps) (closing : Bool) (t j : ℕ) → ReturnIsPlaced low es closing t j → InExps source p es j → ReturnIsPlaced high es closing t j
-  return_up es closing t j h g = (h.0, last_up es t j h.1 g)
+  return_up es false t j h g = last_up es t j h g
+  return_up es true t j h g = (exps_up es t j h.0 g, h.1)
 
   mutual
     stat_up : (s : Stat) (closing : Bool) (t j : ℕ) (named : List Named) (loops : Bool) → StatIsPlaced low s closing t j named loops → InStat source p s j → StatIsPlaced high s closing t j named loops

@@ -1,9 +1,8 @@
 -- Leaving a function with values: `return`, and the end of its block.
-use Rattle.std.proofs.Common.{◌≡◌, ℕ, zero, suc, ◌+◌, ◌-◌, ◌<◌, ◌≤◌, ◌^◌, Bool, true, false, cond, List, [], ◌∷◌, ◌++◌, length, drop, Some, None, refl, sym, ap, ap₂, subst, ◌∙◌, arith, append_assoc, length-append}
-use borrow.Author.Tests.{le-leb}
+use Rattle.std.proofs.Common.{◌≡◌, ℕ, ◌+◌, ◌-◌, ◌<◌, ◌≤◌, ◌^◌, lit<, Bool, true, false, cond, List, [], ◌∷◌, ◌++◌, length, Some, None, refl, sym, ap, ap₂, subst, ◌∙◌, arith, append_assoc, length-append}
 use Rattle.std.specs.Prelude.{◌==◌}
-use Rattle.int_core.specs.Value.{Value, nth, range}
-use Rattle.int_core.specs.Ask.{leaves, returns, Captured, held_below, gone_from, shared_by}
+use Rattle.int_core.specs.Value.{Value}
+use Rattle.int_core.specs.Ask.{goes_on, Captured}
 use Rattle.tree_core.specs.Tree.{Returns, Stats, EndStats, Nil, True, False, Int, Str, Vararg, Function, Var, Index, Call, Method, Unary, Binary, And, Or, Paren, Table, Exps, EndExps, MoreExps, MoreStats}
 use Rattle.tree_activation.specs.Work.{complete, collect, evaluate, callee_of, method_of, for_return, finish, leave_scope, run, Work, Pending, Passed, returns_list, Activation, State}
 use Rattle.tree_activation.specs.Work as tree
@@ -13,15 +12,10 @@ use Rattle.code_core.specs.declared.opcode.Opcode.TheVariants.{OpSelf, TailCall,
 use Rattle.code_core.specs.Instruction.{abc}
 use Rattle.code_core.specs.Check.{at}
 use Rattle.code_core.specs.declared.proto.Const.{Const}
-use Rattle.machine_core.specs.Moves.{line_of}
 use Rattle.code_core.proofs.FieldLemmas.{opcode_of-abc, a_of-abc, b_of-abc}
-use Rattle.machine_core.specs.Text as text
-use Rattle.machine_core.specs.Text.{read_registers, list_end, behind}
 use Rattle.machine_core.specs.InstructionRows as rows
 use Rattle.machine_core.specs.InstructionRows.{read_values, counted}
-use Rattle.machine_core.specs.Talk as code
-use Rattle.machine_core.specs.Talk.{talk, talk_step, says_so, before, amid}
-use Rattle.machine_join.proofs.Lists.{eq_not, lt_not}
+use Rattle.machine_core.specs.Talk.{talk, talk_step, before}
 use Rattle.code_of.specs.Coded.{Coded, with_abc}
 use Rattle.code_of.specs.Expressions.{made_by, count, list_field, exp_code, exps_code}
 use Rattle.code_of.specs.Constants.{loads}
@@ -31,44 +25,30 @@ use Rattle.code_of.specs.Levels.{level_after, levels_after, closing_after, closi
 use Rattle.code_of.specs.Parts.{values_last, return_code}
 use Rattle.code_of.specs.Sizes.{stats_size, block_size}
 use Rattle.code_of.specs.Statements.{stats_code}
-use Rattle.exp_laws.proofs.Registers.{Rel, held_same}
+use Rattle.exp_laws.proofs.Registers.{Rel}
 use Rattle.exp_laws.specs.Setting.{Setting}
-use Rattle.exp_laws.proofs.Talking.{Agree, go_left, both_ask, of_tree, of_code}
+use Rattle.exp_laws.proofs.Talking.{Agree, go_left, of_tree, of_code}
 use Rattle.exp_laws.proofs.Placing.{HasAt, has_front, has_back}
-use Rattle.exp_laws.proofs.Lists.{Holds, range_held}
 use Rattle.exp_laws.proofs.Calls.{read_values_step}
 use Rattle.exp_laws.specs.Placed.{room_of_list, IsPlaced, ArePlaced}
-use Rattle.exp_laws.proofs.Steps.{row_step, own_step}
+use Rattle.exp_laws.proofs.Steps.{row_step}
 use Rattle.exp_laws.proofs.LastCalls.{call_last_same, method_last_same}
 use Rattle.stat_laws.proofs.Standing.{numbers, GoesOn}
-use Rattle.stat_laws.specs.Scoped.{LastIsPlaced, ReturnIsPlaced}
+use Rattle.stat_laws.specs.Scoped.{ListIsPlaced, LastIsPlaced, ReturnIsPlaced}
 use Rattle.stat_laws.proofs.Sizes.{stats_sized}
 use Rattle.stat_laws.proofs.Labels.{closed_after}
-use Rattle.stat_laws.proofs.Blocks.{closeds_after, known_after, added_none, StatsLaw}
+use Rattle.stat_laws.proofs.Blocks.{has_some, no_some, closeds_after, known_after, added_none, StatsLaw}
 use Rattle.stat_laws.proofs.Forms.{BlockLaw, below_level}
 use Rattle.exp_laws.proofs.Returns.{return_list_same}
-
-held_zero : (held : List (ℕ × ℕ)) → held_below 0 held ≡ []
-held_zero [] = refl
-held_zero (h ∷ held) = ap (λ b. cond b (h ∷ held_below 0 held) (held_below 0 held)) (lt_not h.0 0 (λ l. omega arith)) ∙ held_zero held
-
-gone_zero : (held : List (ℕ × ℕ)) (xs : List Value) → gone_from 0 held xs ≡ shared_by held xs
-gone_zero [] xs = refl
-gone_zero (h ∷ held) xs =
-    ap (λ b. cond b (gone_from 0 held xs) ((h.1, nth xs h.0) ∷ gone_from 0 held xs)) (lt_not h.0 0 (λ l. omega arith)) ∙ ap (λ l. (h.1, nth xs h.0) ∷ l) (gone_zero held xs)
-
-drop_front : (xs ys : List Value) → drop (length xs) (xs ++ ys) ≡ ys
-drop_front [] ys = refl
-drop_front (x ∷ xs) ys = drop_front xs ys
 
 pub no_numbers : (ps : List Pending) → numbers ps ≡ [] → ps ≡ []
 no_numbers [] e = refl
 no_numbers (p ∷ ps) e = absurd (cc)
 
--- where no variable to be closed is in scope at the end of some statements
-pub known_all : (ss : Stats) (t : ℕ) (closing : Bool) (closed : List ℕ) → (closing ≡ false → closed ≡ []) → closings_after ss closing ≡ false → closeds_after ss t closed ≡ []
-known_all EndStats t closing closed h e = h e
-known_all (MoreStats s ss) t closing closed h e = known_all ss (level_after s t) (closing_after s closing) (closed_after s t closed) (known_after s t closing closed h) e
+-- behind some statements
+pub known_all : (ss : Stats) (t : ℕ) (closing : Bool) (closed : List ℕ) → closing ≡ has_some closed → closings_after ss closing ≡ has_some (closeds_after ss t closed)
+known_all EndStats t closing closed h = h
+known_all (MoreStats s ss) t closing closed h = known_all ss (level_after s t) (closing_after s closing) (closed_after s t closed) (known_after s t closing closed h)
 
 last_some : (cs : List Const) (es : Exps) (t j line back : ℕ) → 1 ≤ length (values_last cs es t j line back)
 last_some cs es t j line back = let sum = length-append (exps_code cs es None t j line) (with_abc Return t (list_field 0 es) back line ∷ []) in omega (arith, sum)
@@ -124,51 +104,65 @@ return_some cs false (MoreExps (Call l f args) (MoreExps d es)) t j line back = 
 return_some cs false (MoreExps (Method l o name args) (MoreExps d es)) t j line back = last_some cs (MoreExps (Method l o name args) (MoreExps d es)) t j line back
 return_some cs true es t j line back = last_some cs es t j line back
 
-behind_within : (from m size : ℕ) → from + m ≤ size → behind from m ≤ size
-behind_within from zero size h = omega arith
-behind_within from (suc m) size h = h
-
-nonzero : (n : ℕ) → (suc n == 0) ≡ false
-nonzero n = eq_not (suc n) 0 (λ e. absurd (omega (arith, e)))
-
 module _ (S : Setting) where
-  -- an activation that has left its scopes ends with values
-  pub finishes_goes : (n line pc opened : ℕ) (vs env regs : List Value) (c : Captured) (k : List Work) (t : code.State) → Rel S.code.own.stack [] env c regs → line_of S.code pc ≡ cond S.lines (Some line) None
-      → talk_step S.code t ≡ says_so (leaves (returns vs)) S.code (of_code S [] pc regs opened) c (λ x b d. amid text.trap [] b d)
-      → Agree S n (tree.at (finish line (returns vs)) (of_tree S [] [] (record { held = held_below 0 c.held; gone = gone_from 0 c.held env ++ c.gone })) k) t
-  finishes_goes zero line pc opened vs env regs c k t rel lined e = tt
-  finishes_goes (suc n) line pc opened vs env regs c k t rel lined e =
-      both_ask S n _ t (leaves (returns vs)) (leaves (returns vs)) line _ _ _ _ _ refl e refl refl lined
-      (ap (λ h. shared_by h [] ++ (gone_from 0 c.held env ++ c.gone)) (held_zero c.held) ∙ ap (λ g. g ++ c.gone) (gone_zero c.held env ∙ held_same S.code.own.stack [] env c regs rel))
-      (λ x fits. absurd fits.reply)
-
-  -- RETURN of so many registers
-  pub return_step : (t m back pc opened : ℕ) (vs regs : List Value) (c : Captured) → at S.code pc ≡ Some (abc Return t (suc m) back false) → t < 2 ^ 8 → suc m < 2 ^ 8 → length vs ≡ m → t + m ≤ length regs → Holds t (length vs) vs regs
-      → talk_step S.code (before (of_code S [] pc regs opened) c) ≡ says_so (leaves (returns vs)) S.code (of_code S [] pc regs opened) c (λ x b d. amid text.trap [] b d)
-  return_step t m back pc opened vs regs c here small few size width held =
-      let a = of_code S [] pc regs opened in
-      let w = abc Return t (suc m) back false in
-      let same : range t m regs ≡ vs = ap (λ n. range t n regs) (sym size) ∙ range_held t vs regs held in
-      row_step S.code w Return (read_values t (suc m) (λ _ s. rows.returns t m)) a c here (opcode_of-abc Return t (suc m) back false)
-      (ap₂ (λ x y. read_values x y (λ _ s. rows.returns x (cond (y == 0) (counted s) (y - 1)))) (a_of-abc Return t (suc m) back false small) (b_of-abc Return t (suc m) back false small few)
-      ∙ ap (λ b. read_values t (suc m) (λ _ s. rows.returns t (cond b (counted s) (suc m - 1)))) (nonzero m)
-      ∙ (let one : suc m - 1 ≡ m = omega arith in ap (λ q. read_values t (suc m) (λ _ s. rows.returns t q)) one))
-      ∙ read_values_step S.code t (suc m) (λ _ s. rows.returns t m) [] vs a c (size, (width, held))
-      ∙ own_step S.code (read_registers t m) (λ v _. text.leave (text.results v)) (([] ++ vs) ++ []) a c (le-leb (behind t m) (length regs) (behind_within t m (length regs) width))
-      ∙ ap (λ l. says_so (leaves (returns l)) S.code a c (λ x b d. amid text.trap [] b d)) (drop_front (([] ++ vs) ++ []) (range t m regs) ∙ same)
+  -- RETURN of no values
+  pub return_step : (t back pc opened : ℕ) (ps : List Pending) (regs : List Value) (c : Captured) → at S.code pc ≡ Some (abc Return t 1 back false) → t < 2 ^ 8 → t + 0 ≤ length regs
+      → talk_step S.code (before (of_code S ps pc regs opened) c) ≡ talk S.code (rows.returns t 0) [] (of_code S ps pc regs opened) c
+  return_step t back pc opened ps regs c here small width =
+      row_step S.code (abc Return t 1 back false) Return (read_values t 1 (λ _ s. rows.returns t 0)) (of_code S ps pc regs opened) c here (opcode_of-abc Return t 1 back false)
+      (ap₂ (λ x y. read_values x y (λ _ s. rows.returns x (cond (y == 0) (counted s) (y - 1)))) (a_of-abc Return t 1 back false small) (b_of-abc Return t 1 back false small (lit< tt)))
+      ∙ read_values_step S.code t 1 (λ _ s. rows.returns t 0) [] [] (of_code S ps pc regs opened) c (refl, (width, (λ i lt. absurd (omega arith))))
 
   without_last : (a : List Coded) (x y : Coded) (pc : ℕ) → HasAt S pc (a ++ x ∷ y ∷ []) → HasAt S pc (a ++ x ∷ [])
   without_last [] x y pc h = (h.0, (h.1.0, tt))
   without_last (z ∷ a) x y pc h = (h.0, (h.1.0, without_last a x y (pc + 1) h.1.1))
 
+  -- where a variable is to be closed, no call behind `return` is in the function's place
+  no_tail_call : (es : Exps) (line : ℕ) (p : Pending) (ps : List Pending) (env : List Value) (c : Captured) (k : List Work) → begins_return line es (of_tree S (p ∷ ps) env c) k ≡ goes_on (tree.at (collect (for_return line) [] es) (of_tree S (p ∷ ps) env c) k)
+  no_tail_call EndExps line p ps env c k = refl
+  no_tail_call (MoreExps (Nil l) EndExps) line p ps env c k = refl
+  no_tail_call (MoreExps (True l) EndExps) line p ps env c k = refl
+  no_tail_call (MoreExps (False l) EndExps) line p ps env c k = refl
+  no_tail_call (MoreExps (Int l z) EndExps) line p ps env c k = refl
+  no_tail_call (MoreExps (Str l bytes) EndExps) line p ps env c k = refl
+  no_tail_call (MoreExps (Vararg l) EndExps) line p ps env c k = refl
+  no_tail_call (MoreExps (Function l body) EndExps) line p ps env c k = refl
+  no_tail_call (MoreExps (Var l name) EndExps) line p ps env c k = refl
+  no_tail_call (MoreExps (Index l o key) EndExps) line p ps env c k = refl
+  no_tail_call (MoreExps (Call l f args) EndExps) line p ps env c k = refl
+  no_tail_call (MoreExps (Method l o name args) EndExps) line p ps env c k = refl
+  no_tail_call (MoreExps (Unary l op x) EndExps) line p ps env c k = refl
+  no_tail_call (MoreExps (Binary l op x y) EndExps) line p ps env c k = refl
+  no_tail_call (MoreExps (And l x y) EndExps) line p ps env c k = refl
+  no_tail_call (MoreExps (Or l x y) EndExps) line p ps env c k = refl
+  no_tail_call (MoreExps (Paren l x) EndExps) line p ps env c k = refl
+  no_tail_call (MoreExps (Table l fs) EndExps) line p ps env c k = refl
+  no_tail_call (MoreExps (Nil l) (MoreExps d es)) line p ps env c k = refl
+  no_tail_call (MoreExps (True l) (MoreExps d es)) line p ps env c k = refl
+  no_tail_call (MoreExps (False l) (MoreExps d es)) line p ps env c k = refl
+  no_tail_call (MoreExps (Int l z) (MoreExps d es)) line p ps env c k = refl
+  no_tail_call (MoreExps (Str l bytes) (MoreExps d es)) line p ps env c k = refl
+  no_tail_call (MoreExps (Vararg l) (MoreExps d es)) line p ps env c k = refl
+  no_tail_call (MoreExps (Function l body) (MoreExps d es)) line p ps env c k = refl
+  no_tail_call (MoreExps (Var l name) (MoreExps d es)) line p ps env c k = refl
+  no_tail_call (MoreExps (Index l o key) (MoreExps d es)) line p ps env c k = refl
+  no_tail_call (MoreExps (Call l f args) (MoreExps d es)) line p ps env c k = refl
+  no_tail_call (MoreExps (Method l o name args) (MoreExps d es)) line p ps env c k = refl
+  no_tail_call (MoreExps (Unary l op x) (MoreExps d es)) line p ps env c k = refl
+  no_tail_call (MoreExps (Binary l op x y) (MoreExps d es)) line p ps env c k = refl
+  no_tail_call (MoreExps (And l x y) (MoreExps d es)) line p ps env c k = refl
+  no_tail_call (MoreExps (Or l x y) (MoreExps d es)) line p ps env c k = refl
+  no_tail_call (MoreExps (Paren l x) (MoreExps d es)) line p ps env c k = refl
+  no_tail_call (MoreExps (Table l fs) (MoreExps d es)) line p ps env c k = refl
+
   module _ (back : ℕ) where
     -- the values of a list
-    list_returns : (es : Exps) (n t j line pc opened : ℕ) (env regs : List Value) (c : Captured) (k : List Work) → n ≤ S.bound → HasAt S pc (values_last S.code.own.constants es t j line back) → ArePlaced S es t j
-        → t + room_of_list S.code.own.constants 0 es None ≤ S.code.own.stack → count es + 1 < 2 ^ 8 → pc + length (values_last S.code.own.constants es t j line back) ≤ length S.code.own.code → length env ≡ t → Rel S.code.own.stack [] env c regs
-        → Agree S n (tree.at (collect (for_return line) [] es) (of_tree S [] env c) k) (before (of_code S [] pc regs opened) c)
-    list_returns es n t j line pc opened env regs c k fewer has placed room few inside size rel =
+    list_returns : (ps : List Pending) (es : Exps) (n t j line pc opened : ℕ) (env regs : List Value) (c : Captured) (k : List Work) → n ≤ S.bound → HasAt S pc (values_last S.code.own.constants es t j line back) → ArePlaced S es t j
+        → t + room_of_list S.code.own.constants 0 es None ≤ S.code.own.stack → count es + 1 < 2 ^ 8 → pc + length (values_last S.code.own.constants es t j line back) ≤ length S.code.own.code → length env ≡ t → Rel S.code.own.stack ps env c regs
+        → Agree S n (tree.at (collect (for_return line) [] es) (of_tree S ps env c) k) (before (of_code S ps pc regs opened) c)
+    list_returns ps es n t j line pc opened env regs c k fewer has placed room few inside size rel =
         let sum = length-append (exps_code S.code.own.constants es None t j line) (with_abc Return t (list_field 0 es) back line ∷ []) in
-        return_list_same S [] es line t j back n pc opened env regs c k fewer has (subst (λ u. ArePlaced S es u j) (sym size) placed) (omega (arith, inside, sum)) few (omega (arith, size)) (omega (arith, size, rel.fits)) room rel
+        return_list_same S ps es line t j back n pc opened env regs c k fewer has (subst (λ u. ArePlaced S es u j) (sym size) placed) (omega (arith, inside, sum)) few (omega (arith, size)) (omega (arith, size, rel.fits)) room rel
 
     -- `return`, where no variable to be closed is in scope
     return_goes : (es : Exps) (n t j line pc opened : ℕ) (env regs : List Value) (c : Captured) (k : List Work) (s : tree.State) → step s ≡ begins_return line es (of_tree S [] env c) k → n ≤ S.bound
@@ -206,100 +200,113 @@ module _ (S : Setting) where
         (method_last_same S [] o name.text es l t j n pc opened env regs c k fewer (subst (HasAt S pc) (joined (one ∷ [])) front) (subst (λ u. IsPlaced S o u j) (sym size) h.0) h.1.0 (subst (λ u. ArePlaced S es u (j + made_by o)) (sym size) h.1.1.0)
         (omega (arith, inside, a, b, x, d, e, y)) (omega (arith, size)) h.1.1.1.0 h.1.1.1.1.0 h.1.1.1.1.1 rel)
     return_goes EndExps n t j line pc opened env regs c k s st fewer has h inside size rel =
-        go_left S n s (tree.at (collect (for_return line) [] EndExps) (of_tree S [] env c) k) _ st (list_returns EndExps n t j line pc opened env regs c k fewer has h.0 h.1.0 h.1.1 inside size rel)
+        go_left S n s (tree.at (collect (for_return line) [] EndExps) (of_tree S [] env c) k) _ st (list_returns [] EndExps n t j line pc opened env regs c k fewer has h.0 h.1.0 h.1.1 inside size rel)
     return_goes (MoreExps (Nil l) EndExps) n t j line pc opened env regs c k s st fewer has h inside size rel =
-        go_left S n s (tree.at (collect (for_return line) [] (MoreExps (Nil l) EndExps)) (of_tree S [] env c) k) _ st (list_returns (MoreExps (Nil l) EndExps) n t j line pc opened env regs c k fewer has h.0 h.1.0 h.1.1 inside size rel)
+        go_left S n s (tree.at (collect (for_return line) [] (MoreExps (Nil l) EndExps)) (of_tree S [] env c) k) _ st (list_returns [] (MoreExps (Nil l) EndExps) n t j line pc opened env regs c k fewer has h.0 h.1.0 h.1.1 inside size rel)
     return_goes (MoreExps (True l) EndExps) n t j line pc opened env regs c k s st fewer has h inside size rel =
-        go_left S n s (tree.at (collect (for_return line) [] (MoreExps (True l) EndExps)) (of_tree S [] env c) k) _ st (list_returns (MoreExps (True l) EndExps) n t j line pc opened env regs c k fewer has h.0 h.1.0 h.1.1 inside size rel)
+        go_left S n s (tree.at (collect (for_return line) [] (MoreExps (True l) EndExps)) (of_tree S [] env c) k) _ st (list_returns [] (MoreExps (True l) EndExps) n t j line pc opened env regs c k fewer has h.0 h.1.0 h.1.1 inside size rel)
     return_goes (MoreExps (False l) EndExps) n t j line pc opened env regs c k s st fewer has h inside size rel =
-        go_left S n s (tree.at (collect (for_return line) [] (MoreExps (False l) EndExps)) (of_tree S [] env c) k) _ st (list_returns (MoreExps (False l) EndExps) n t j line pc opened env regs c k fewer has h.0 h.1.0 h.1.1 inside size rel)
+        go_left S n s (tree.at (collect (for_return line) [] (MoreExps (False l) EndExps)) (of_tree S [] env c) k) _ st (list_returns [] (MoreExps (False l) EndExps) n t j line pc opened env regs c k fewer has h.0 h.1.0 h.1.1 inside size rel)
     return_goes (MoreExps (Int l z) EndExps) n t j line pc opened env regs c k s st fewer has h inside size rel =
-        go_left S n s (tree.at (collect (for_return line) [] (MoreExps (Int l z) EndExps)) (of_tree S [] env c) k) _ st (list_returns (MoreExps (Int l z) EndExps) n t j line pc opened env regs c k fewer has h.0 h.1.0 h.1.1 inside size rel)
+        go_left S n s (tree.at (collect (for_return line) [] (MoreExps (Int l z) EndExps)) (of_tree S [] env c) k) _ st (list_returns [] (MoreExps (Int l z) EndExps) n t j line pc opened env regs c k fewer has h.0 h.1.0 h.1.1 inside size rel)
     return_goes (MoreExps (Str l bytes) EndExps) n t j line pc opened env regs c k s st fewer has h inside size rel =
-        go_left S n s (tree.at (collect (for_return line) [] (MoreExps (Str l bytes) EndExps)) (of_tree S [] env c) k) _ st (list_returns (MoreExps (Str l bytes) EndExps) n t j line pc opened env regs c k fewer has h.0 h.1.0 h.1.1 inside size rel)
+        go_left S n s (tree.at (collect (for_return line) [] (MoreExps (Str l bytes) EndExps)) (of_tree S [] env c) k) _ st (list_returns [] (MoreExps (Str l bytes) EndExps) n t j line pc opened env regs c k fewer has h.0 h.1.0 h.1.1 inside size rel)
     return_goes (MoreExps (Vararg l) EndExps) n t j line pc opened env regs c k s st fewer has h inside size rel =
-        go_left S n s (tree.at (collect (for_return line) [] (MoreExps (Vararg l) EndExps)) (of_tree S [] env c) k) _ st (list_returns (MoreExps (Vararg l) EndExps) n t j line pc opened env regs c k fewer has h.0 h.1.0 h.1.1 inside size rel)
+        go_left S n s (tree.at (collect (for_return line) [] (MoreExps (Vararg l) EndExps)) (of_tree S [] env c) k) _ st (list_returns [] (MoreExps (Vararg l) EndExps) n t j line pc opened env regs c k fewer has h.0 h.1.0 h.1.1 inside size rel)
     return_goes (MoreExps (Function l body) EndExps) n t j line pc opened env regs c k s st fewer has h inside size rel =
-        go_left S n s (tree.at (collect (for_return line) [] (MoreExps (Function l body) EndExps)) (of_tree S [] env c) k) _ st (list_returns (MoreExps (Function l body) EndExps) n t j line pc opened env regs c k fewer has h.0 h.1.0 h.1.1 inside size rel)
+        go_left S n s (tree.at (collect (for_return line) [] (MoreExps (Function l body) EndExps)) (of_tree S [] env c) k) _ st (list_returns [] (MoreExps (Function l body) EndExps) n t j line pc opened env regs c k fewer has h.0 h.1.0 h.1.1 inside size rel)
     return_goes (MoreExps (Var l name) EndExps) n t j line pc opened env regs c k s st fewer has h inside size rel =
-        go_left S n s (tree.at (collect (for_return line) [] (MoreExps (Var l name) EndExps)) (of_tree S [] env c) k) _ st (list_returns (MoreExps (Var l name) EndExps) n t j line pc opened env regs c k fewer has h.0 h.1.0 h.1.1 inside size rel)
+        go_left S n s (tree.at (collect (for_return line) [] (MoreExps (Var l name) EndExps)) (of_tree S [] env c) k) _ st (list_returns [] (MoreExps (Var l name) EndExps) n t j line pc opened env regs c k fewer has h.0 h.1.0 h.1.1 inside size rel)
     return_goes (MoreExps (Index l o key) EndExps) n t j line pc opened env regs c k s st fewer has h inside size rel =
-        go_left S n s (tree.at (collect (for_return line) [] (MoreExps (Index l o key) EndExps)) (of_tree S [] env c) k) _ st (list_returns (MoreExps (Index l o key) EndExps) n t j line pc opened env regs c k fewer has h.0 h.1.0 h.1.1 inside size rel)
+        go_left S n s (tree.at (collect (for_return line) [] (MoreExps (Index l o key) EndExps)) (of_tree S [] env c) k) _ st (list_returns [] (MoreExps (Index l o key) EndExps) n t j line pc opened env regs c k fewer has h.0 h.1.0 h.1.1 inside size rel)
     return_goes (MoreExps (Unary l op x) EndExps) n t j line pc opened env regs c k s st fewer has h inside size rel =
-        go_left S n s (tree.at (collect (for_return line) [] (MoreExps (Unary l op x) EndExps)) (of_tree S [] env c) k) _ st (list_returns (MoreExps (Unary l op x) EndExps) n t j line pc opened env regs c k fewer has h.0 h.1.0 h.1.1 inside size rel)
+        go_left S n s (tree.at (collect (for_return line) [] (MoreExps (Unary l op x) EndExps)) (of_tree S [] env c) k) _ st (list_returns [] (MoreExps (Unary l op x) EndExps) n t j line pc opened env regs c k fewer has h.0 h.1.0 h.1.1 inside size rel)
     return_goes (MoreExps (Binary l op x y) EndExps) n t j line pc opened env regs c k s st fewer has h inside size rel =
-        go_left S n s (tree.at (collect (for_return line) [] (MoreExps (Binary l op x y) EndExps)) (of_tree S [] env c) k) _ st (list_returns (MoreExps (Binary l op x y) EndExps) n t j line pc opened env regs c k fewer has h.0 h.1.0 h.1.1 inside size rel)
+        go_left S n s (tree.at (collect (for_return line) [] (MoreExps (Binary l op x y) EndExps)) (of_tree S [] env c) k) _ st (list_returns [] (MoreExps (Binary l op x y) EndExps) n t j line pc opened env regs c k fewer has h.0 h.1.0 h.1.1 inside size rel)
     return_goes (MoreExps (And l x y) EndExps) n t j line pc opened env regs c k s st fewer has h inside size rel =
-        go_left S n s (tree.at (collect (for_return line) [] (MoreExps (And l x y) EndExps)) (of_tree S [] env c) k) _ st (list_returns (MoreExps (And l x y) EndExps) n t j line pc opened env regs c k fewer has h.0 h.1.0 h.1.1 inside size rel)
+        go_left S n s (tree.at (collect (for_return line) [] (MoreExps (And l x y) EndExps)) (of_tree S [] env c) k) _ st (list_returns [] (MoreExps (And l x y) EndExps) n t j line pc opened env regs c k fewer has h.0 h.1.0 h.1.1 inside size rel)
     return_goes (MoreExps (Or l x y) EndExps) n t j line pc opened env regs c k s st fewer has h inside size rel =
-        go_left S n s (tree.at (collect (for_return line) [] (MoreExps (Or l x y) EndExps)) (of_tree S [] env c) k) _ st (list_returns (MoreExps (Or l x y) EndExps) n t j line pc opened env regs c k fewer has h.0 h.1.0 h.1.1 inside size rel)
+        go_left S n s (tree.at (collect (for_return line) [] (MoreExps (Or l x y) EndExps)) (of_tree S [] env c) k) _ st (list_returns [] (MoreExps (Or l x y) EndExps) n t j line pc opened env regs c k fewer has h.0 h.1.0 h.1.1 inside size rel)
     return_goes (MoreExps (Paren l x) EndExps) n t j line pc opened env regs c k s st fewer has h inside size rel =
-        go_left S n s (tree.at (collect (for_return line) [] (MoreExps (Paren l x) EndExps)) (of_tree S [] env c) k) _ st (list_returns (MoreExps (Paren l x) EndExps) n t j line pc opened env regs c k fewer has h.0 h.1.0 h.1.1 inside size rel)
+        go_left S n s (tree.at (collect (for_return line) [] (MoreExps (Paren l x) EndExps)) (of_tree S [] env c) k) _ st (list_returns [] (MoreExps (Paren l x) EndExps) n t j line pc opened env regs c k fewer has h.0 h.1.0 h.1.1 inside size rel)
     return_goes (MoreExps (Table l fs) EndExps) n t j line pc opened env regs c k s st fewer has h inside size rel =
-        go_left S n s (tree.at (collect (for_return line) [] (MoreExps (Table l fs) EndExps)) (of_tree S [] env c) k) _ st (list_returns (MoreExps (Table l fs) EndExps) n t j line pc opened env regs c k fewer has h.0 h.1.0 h.1.1 inside size rel)
+        go_left S n s (tree.at (collect (for_return line) [] (MoreExps (Table l fs) EndExps)) (of_tree S [] env c) k) _ st (list_returns [] (MoreExps (Table l fs) EndExps) n t j line pc opened env regs c k fewer has h.0 h.1.0 h.1.1 inside size rel)
     return_goes (MoreExps (Nil l) (MoreExps d es)) n t j line pc opened env regs c k s st fewer has h inside size rel =
-        go_left S n s (tree.at (collect (for_return line) [] (MoreExps (Nil l) (MoreExps d es))) (of_tree S [] env c) k) _ st (list_returns (MoreExps (Nil l) (MoreExps d es)) n t j line pc opened env regs c k fewer has h.0 h.1.0 h.1.1 inside size rel)
+        go_left S n s (tree.at (collect (for_return line) [] (MoreExps (Nil l) (MoreExps d es))) (of_tree S [] env c) k) _ st (list_returns [] (MoreExps (Nil l) (MoreExps d es)) n t j line pc opened env regs c k fewer has h.0 h.1.0 h.1.1 inside size rel)
     return_goes (MoreExps (True l) (MoreExps d es)) n t j line pc opened env regs c k s st fewer has h inside size rel =
-        go_left S n s (tree.at (collect (for_return line) [] (MoreExps (True l) (MoreExps d es))) (of_tree S [] env c) k) _ st (list_returns (MoreExps (True l) (MoreExps d es)) n t j line pc opened env regs c k fewer has h.0 h.1.0 h.1.1 inside size rel)
+        go_left S n s (tree.at (collect (for_return line) [] (MoreExps (True l) (MoreExps d es))) (of_tree S [] env c) k) _ st (list_returns [] (MoreExps (True l) (MoreExps d es)) n t j line pc opened env regs c k fewer has h.0 h.1.0 h.1.1 inside size rel)
     return_goes (MoreExps (False l) (MoreExps d es)) n t j line pc opened env regs c k s st fewer has h inside size rel =
-        go_left S n s (tree.at (collect (for_return line) [] (MoreExps (False l) (MoreExps d es))) (of_tree S [] env c) k) _ st (list_returns (MoreExps (False l) (MoreExps d es)) n t j line pc opened env regs c k fewer has h.0 h.1.0 h.1.1 inside size rel)
+        go_left S n s (tree.at (collect (for_return line) [] (MoreExps (False l) (MoreExps d es))) (of_tree S [] env c) k) _ st (list_returns [] (MoreExps (False l) (MoreExps d es)) n t j line pc opened env regs c k fewer has h.0 h.1.0 h.1.1 inside size rel)
     return_goes (MoreExps (Int l z) (MoreExps d es)) n t j line pc opened env regs c k s st fewer has h inside size rel =
-        go_left S n s (tree.at (collect (for_return line) [] (MoreExps (Int l z) (MoreExps d es))) (of_tree S [] env c) k) _ st (list_returns (MoreExps (Int l z) (MoreExps d es)) n t j line pc opened env regs c k fewer has h.0 h.1.0 h.1.1 inside size rel)
+        go_left S n s (tree.at (collect (for_return line) [] (MoreExps (Int l z) (MoreExps d es))) (of_tree S [] env c) k) _ st (list_returns [] (MoreExps (Int l z) (MoreExps d es)) n t j line pc opened env regs c k fewer has h.0 h.1.0 h.1.1 inside size rel)
     return_goes (MoreExps (Str l bytes) (MoreExps d es)) n t j line pc opened env regs c k s st fewer has h inside size rel =
-        go_left S n s (tree.at (collect (for_return line) [] (MoreExps (Str l bytes) (MoreExps d es))) (of_tree S [] env c) k) _ st (list_returns (MoreExps (Str l bytes) (MoreExps d es)) n t j line pc opened env regs c k fewer has h.0 h.1.0 h.1.1 inside size rel)
+        go_left S n s (tree.at (collect (for_return line) [] (MoreExps (Str l bytes) (MoreExps d es))) (of_tree S [] env c) k) _ st (list_returns [] (MoreExps (Str l bytes) (MoreExps d es)) n t j line pc opened env regs c k fewer has h.0 h.1.0 h.1.1 inside size rel)
     return_goes (MoreExps (Vararg l) (MoreExps d es)) n t j line pc opened env regs c k s st fewer has h inside size rel =
-        go_left S n s (tree.at (collect (for_return line) [] (MoreExps (Vararg l) (MoreExps d es))) (of_tree S [] env c) k) _ st (list_returns (MoreExps (Vararg l) (MoreExps d es)) n t j line pc opened env regs c k fewer has h.0 h.1.0 h.1.1 inside size rel)
+        go_left S n s (tree.at (collect (for_return line) [] (MoreExps (Vararg l) (MoreExps d es))) (of_tree S [] env c) k) _ st (list_returns [] (MoreExps (Vararg l) (MoreExps d es)) n t j line pc opened env regs c k fewer has h.0 h.1.0 h.1.1 inside size rel)
     return_goes (MoreExps (Function l body) (MoreExps d es)) n t j line pc opened env regs c k s st fewer has h inside size rel =
-        go_left S n s (tree.at (collect (for_return line) [] (MoreExps (Function l body) (MoreExps d es))) (of_tree S [] env c) k) _ st (list_returns (MoreExps (Function l body) (MoreExps d es)) n t j line pc opened env regs c k fewer has h.0 h.1.0 h.1.1 inside size rel)
+        go_left S n s (tree.at (collect (for_return line) [] (MoreExps (Function l body) (MoreExps d es))) (of_tree S [] env c) k) _ st (list_returns [] (MoreExps (Function l body) (MoreExps d es)) n t j line pc opened env regs c k fewer has h.0 h.1.0 h.1.1 inside size rel)
     return_goes (MoreExps (Var l name) (MoreExps d es)) n t j line pc opened env regs c k s st fewer has h inside size rel =
-        go_left S n s (tree.at (collect (for_return line) [] (MoreExps (Var l name) (MoreExps d es))) (of_tree S [] env c) k) _ st (list_returns (MoreExps (Var l name) (MoreExps d es)) n t j line pc opened env regs c k fewer has h.0 h.1.0 h.1.1 inside size rel)
+        go_left S n s (tree.at (collect (for_return line) [] (MoreExps (Var l name) (MoreExps d es))) (of_tree S [] env c) k) _ st (list_returns [] (MoreExps (Var l name) (MoreExps d es)) n t j line pc opened env regs c k fewer has h.0 h.1.0 h.1.1 inside size rel)
     return_goes (MoreExps (Index l o key) (MoreExps d es)) n t j line pc opened env regs c k s st fewer has h inside size rel =
-        go_left S n s (tree.at (collect (for_return line) [] (MoreExps (Index l o key) (MoreExps d es))) (of_tree S [] env c) k) _ st (list_returns (MoreExps (Index l o key) (MoreExps d es)) n t j line pc opened env regs c k fewer has h.0 h.1.0 h.1.1 inside size rel)
+        go_left S n s (tree.at (collect (for_return line) [] (MoreExps (Index l o key) (MoreExps d es))) (of_tree S [] env c) k) _ st (list_returns [] (MoreExps (Index l o key) (MoreExps d es)) n t j line pc opened env regs c k fewer has h.0 h.1.0 h.1.1 inside size rel)
     return_goes (MoreExps (Unary l op x) (MoreExps d es)) n t j line pc opened env regs c k s st fewer has h inside size rel =
-        go_left S n s (tree.at (collect (for_return line) [] (MoreExps (Unary l op x) (MoreExps d es))) (of_tree S [] env c) k) _ st (list_returns (MoreExps (Unary l op x) (MoreExps d es)) n t j line pc opened env regs c k fewer has h.0 h.1.0 h.1.1 inside size rel)
+        go_left S n s (tree.at (collect (for_return line) [] (MoreExps (Unary l op x) (MoreExps d es))) (of_tree S [] env c) k) _ st (list_returns [] (MoreExps (Unary l op x) (MoreExps d es)) n t j line pc opened env regs c k fewer has h.0 h.1.0 h.1.1 inside size rel)
     return_goes (MoreExps (Binary l op x y) (MoreExps d es)) n t j line pc opened env regs c k s st fewer has h inside size rel =
-        go_left S n s (tree.at (collect (for_return line) [] (MoreExps (Binary l op x y) (MoreExps d es))) (of_tree S [] env c) k) _ st (list_returns (MoreExps (Binary l op x y) (MoreExps d es)) n t j line pc opened env regs c k fewer has h.0 h.1.0 h.1.1 inside size rel)
+        go_left S n s (tree.at (collect (for_return line) [] (MoreExps (Binary l op x y) (MoreExps d es))) (of_tree S [] env c) k) _ st (list_returns [] (MoreExps (Binary l op x y) (MoreExps d es)) n t j line pc opened env regs c k fewer has h.0 h.1.0 h.1.1 inside size rel)
     return_goes (MoreExps (And l x y) (MoreExps d es)) n t j line pc opened env regs c k s st fewer has h inside size rel =
-        go_left S n s (tree.at (collect (for_return line) [] (MoreExps (And l x y) (MoreExps d es))) (of_tree S [] env c) k) _ st (list_returns (MoreExps (And l x y) (MoreExps d es)) n t j line pc opened env regs c k fewer has h.0 h.1.0 h.1.1 inside size rel)
+        go_left S n s (tree.at (collect (for_return line) [] (MoreExps (And l x y) (MoreExps d es))) (of_tree S [] env c) k) _ st (list_returns [] (MoreExps (And l x y) (MoreExps d es)) n t j line pc opened env regs c k fewer has h.0 h.1.0 h.1.1 inside size rel)
     return_goes (MoreExps (Or l x y) (MoreExps d es)) n t j line pc opened env regs c k s st fewer has h inside size rel =
-        go_left S n s (tree.at (collect (for_return line) [] (MoreExps (Or l x y) (MoreExps d es))) (of_tree S [] env c) k) _ st (list_returns (MoreExps (Or l x y) (MoreExps d es)) n t j line pc opened env regs c k fewer has h.0 h.1.0 h.1.1 inside size rel)
+        go_left S n s (tree.at (collect (for_return line) [] (MoreExps (Or l x y) (MoreExps d es))) (of_tree S [] env c) k) _ st (list_returns [] (MoreExps (Or l x y) (MoreExps d es)) n t j line pc opened env regs c k fewer has h.0 h.1.0 h.1.1 inside size rel)
     return_goes (MoreExps (Paren l x) (MoreExps d es)) n t j line pc opened env regs c k s st fewer has h inside size rel =
-        go_left S n s (tree.at (collect (for_return line) [] (MoreExps (Paren l x) (MoreExps d es))) (of_tree S [] env c) k) _ st (list_returns (MoreExps (Paren l x) (MoreExps d es)) n t j line pc opened env regs c k fewer has h.0 h.1.0 h.1.1 inside size rel)
+        go_left S n s (tree.at (collect (for_return line) [] (MoreExps (Paren l x) (MoreExps d es))) (of_tree S [] env c) k) _ st (list_returns [] (MoreExps (Paren l x) (MoreExps d es)) n t j line pc opened env regs c k fewer has h.0 h.1.0 h.1.1 inside size rel)
     return_goes (MoreExps (Table l fs) (MoreExps d es)) n t j line pc opened env regs c k s st fewer has h inside size rel =
-        go_left S n s (tree.at (collect (for_return line) [] (MoreExps (Table l fs) (MoreExps d es))) (of_tree S [] env c) k) _ st (list_returns (MoreExps (Table l fs) (MoreExps d es)) n t j line pc opened env regs c k fewer has h.0 h.1.0 h.1.1 inside size rel)
+        go_left S n s (tree.at (collect (for_return line) [] (MoreExps (Table l fs) (MoreExps d es))) (of_tree S [] env c) k) _ st (list_returns [] (MoreExps (Table l fs) (MoreExps d es)) n t j line pc opened env regs c k fewer has h.0 h.1.0 h.1.1 inside size rel)
     return_goes (MoreExps (Call l f args) (MoreExps d es)) n t j line pc opened env regs c k s st fewer has h inside size rel =
-        go_left S n s (tree.at (collect (for_return line) [] (MoreExps (Call l f args) (MoreExps d es))) (of_tree S [] env c) k) _ st (list_returns (MoreExps (Call l f args) (MoreExps d es)) n t j line pc opened env regs c k fewer has h.0 h.1.0 h.1.1 inside size rel)
+        go_left S n s (tree.at (collect (for_return line) [] (MoreExps (Call l f args) (MoreExps d es))) (of_tree S [] env c) k) _ st (list_returns [] (MoreExps (Call l f args) (MoreExps d es)) n t j line pc opened env regs c k fewer has h.0 h.1.0 h.1.1 inside size rel)
     return_goes (MoreExps (Method l o name args) (MoreExps d es)) n t j line pc opened env regs c k s st fewer has h inside size rel =
-        go_left S n s (tree.at (collect (for_return line) [] (MoreExps (Method l o name args) (MoreExps d es))) (of_tree S [] env c) k) _ st (list_returns (MoreExps (Method l o name args) (MoreExps d es)) n t j line pc opened env regs c k fewer has h.0 h.1.0 h.1.1 inside size rel)
+        go_left S n s (tree.at (collect (for_return line) [] (MoreExps (Method l o name args) (MoreExps d es))) (of_tree S [] env c) k) _ st (list_returns [] (MoreExps (Method l o name args) (MoreExps d es)) n t j line pc opened env regs c k fewer has h.0 h.1.0 h.1.1 inside size rel)
 
     -- the end of statements, where `return` stands
     pub return_ends : (ss : Stats) (es : Exps) (line n : ℕ) (closing : Bool) (closed : List ℕ) (outer t j pc : ℕ) (reach : Reach) (k : List Work) → n ≤ S.bound
         → HasAt S pc (stats_code S.code.own.constants back ss false closing outer t j pc [] reach ++ return_code S.code.own.constants (closings_after ss closing) es (levels_after ss t) (j + made_in_stats ss) line back)
         → ReturnIsPlaced S es (closings_after ss closing) (levels_after ss t) (j + made_in_stats ss)
         → pc + (stats_size S.code.own.constants back ss closing t j + length (return_code S.code.own.constants (closings_after ss closing) es (levels_after ss t) (j + made_in_stats ss) line back)) ≤ length S.code.own.code
-        → (closing ≡ false → closed ≡ []) → (labels : List Passed)
+        → closing ≡ has_some closed → (labels : List Passed)
         → GoesOn S n (levels_after ss t) (closeds_after ss t closed) (run (record { rest = EndStats; ending = returns_list line es; level = outer; labels = labels })) k (pc + stats_size S.code.own.constants back ss closing t j)
     return_ends ss es line n closing closed outer t j pc reach k fewer has placed inside plain labels m le ps env regs c opened st =
-        let none = no_numbers ps (st.numbered ∙ known_all ss t closing closed plain placed.0) in
-        let wide = ap length last_is in
-        subst (λ qs. Agree S m (tree.at (run (record { rest = EndStats; ending = returns_list line es; level = outer; labels = labels })) (of_tree S qs env c) k) (before (of_code S qs (pc + size) regs opened) c)) (sym none)
-        (return_goes es m (levels_after ss t) (j + made_in_stats ss) line (pc + size) opened env regs c k _ refl (omega (arith, fewer, le)) at_last placed.1 (omega (arith, inside, wide)) st.size
-        (subst (λ qs. Rel S.code.own.stack qs env c regs) none st.rel))
+        by (closings_after ss closing) (sym (known_all ss t closing closed plain)) at_last placed inside
       where
         code : List Coded
         code = stats_code S.code.own.constants back ss false closing outer t j pc [] reach
 
-        last : List Coded
-        last = return_code S.code.own.constants (closings_after ss closing) es (levels_after ss t) (j + made_in_stats ss) line back
+        level : ℕ
+        level = levels_after ss t
 
         size : ℕ
         size = stats_size S.code.own.constants back ss closing t j
 
-        last_is : return_code S.code.own.constants (closings_after ss closing) es (levels_after ss t) (j + made_in_stats ss) line back ≡ return_code S.code.own.constants false es (levels_after ss t) (j + made_in_stats ss) line back
-        last_is = ap (λ b. return_code S.code.own.constants b es (levels_after ss t) (j + made_in_stats ss) line back) placed.0
+        at_last : HasAt S (pc + size) (return_code S.code.own.constants (closings_after ss closing) es level (j + made_in_stats ss) line back)
+        at_last = subst (λ q. HasAt S (pc + q) (return_code S.code.own.constants (closings_after ss closing) es level (j + made_in_stats ss) line back)) (stats_sized S.code.own.constants back ss false closing outer t j pc [] reach)
+            (has_back S pc code (return_code S.code.own.constants (closings_after ss closing) es level (j + made_in_stats ss) line back) has)
 
-        at_last : HasAt S (pc + size) (return_code S.code.own.constants false es (levels_after ss t) (j + made_in_stats ss) line back)
-        at_last = subst (HasAt S (pc + size)) last_is (subst (λ q. HasAt S (pc + q) last) (stats_sized S.code.own.constants back ss false closing outer t j pc [] reach) (has_back S pc code last has))
+        state : List Pending → tree.State
+        state qs = tree.at (run (record { rest = EndStats; ending = returns_list line es; level = outer; labels = labels })) (of_tree S qs env c) k
+
+        listed : (qs : List Pending) → has_some (numbers qs) ≡ true → Rel S.code.own.stack qs env c regs → HasAt S (pc + size) (values_last S.code.own.constants es level (j + made_in_stats ss) line back) → ListIsPlaced S es level (j + made_in_stats ss)
+            → pc + (size + length (values_last S.code.own.constants es level (j + made_in_stats ss) line back)) ≤ length S.code.own.code → Agree S m (state qs) (before (of_code S qs (pc + size) regs opened) c)
+        listed [] some rel at_values ok end = absurd (cc)
+        listed (q ∷ qs) some rel at_values ok end =
+            go_left S m (state (q ∷ qs)) (tree.at (collect (for_return line) [] es) (of_tree S (q ∷ qs) env c) k) _ (no_tail_call es line q qs env c k)
+            (list_returns (q ∷ qs) es m level (j + made_in_stats ss) line (pc + size) opened env regs c k (omega (arith, fewer, le)) at_values ok.0 ok.1.0 ok.1.1 (omega (arith, end)) st.size rel)
+
+        by : (b : Bool) → has_some (closeds_after ss t closed) ≡ b → HasAt S (pc + size) (return_code S.code.own.constants b es level (j + made_in_stats ss) line back) → ReturnIsPlaced S es b level (j + made_in_stats ss)
+            → pc + (size + length (return_code S.code.own.constants b es level (j + made_in_stats ss) line back)) ≤ length S.code.own.code → Agree S m (state ps) (before (of_code S ps (pc + size) regs opened) c)
+        by true some at_values ok end = listed ps (ap has_some st.numbered ∙ some) st.rel at_values ok end
+        by false some at_values ok end =
+            let none = no_numbers ps (st.numbered ∙ no_some (closeds_after ss t closed) some) in
+            subst (λ qs. Agree S m (state qs) (before (of_code S qs (pc + size) regs opened) c)) (sym none)
+            (return_goes es m level (j + made_in_stats ss) line (pc + size) opened env regs c k _ refl (omega (arith, fewer, le)) at_values ok (omega (arith, end)) st.size
+            (subst (λ qs. Rel S.code.own.stack qs env c regs) none st.rel))
 
     -- a block that ends by `return`
     pub returns_goes : (ss : Stats) (es : Exps) (tokens line : ℕ) → ((outer : ℕ) (closed : List ℕ) (k : List Work) → StatsLaw S back (returns_list line es) false outer closed k (λ ss. refl) ss) → BlockLaw S back (Returns ss es tokens line)

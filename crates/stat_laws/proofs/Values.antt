@@ -1,5 +1,5 @@
--- Declarations of locals, and calls that are statements.
-use Rattle.std.proofs.Common.{◌≡◌, ℕ, zero, suc, ◌+◌, ◌-◌, ◌<◌, ◌≤◌, lit<, false, cond, List, [], ◌∷◌, ◌++◌, length, Some, ⊎_elim, ◌⊎◌, refl, sym, ap, subst, ◌∙◌, arith, length-append}
+-- Declarations of locals, to be closed or not, and calls that are statements.
+use Rattle.std.proofs.Common.{◌≡◌, ℕ, zero, suc, ◌+◌, ◌-◌, ◌<◌, ◌≤◌, lit<, Bool, true, false, cond, List, [], ◌∷◌, ◌++◌, length, Some, ⊎_elim, ◌⊎◌, refl, sym, ap, subst, ◌∙◌, arith, append_assoc, length-append}
 use Rattle.int_core.specs.Value.{Value, nth}
 use Rattle.int_core.specs.Ask.{Captured}
 use Rattle.tree_core.specs.declared.name.Declared.{Declared}
@@ -7,26 +7,30 @@ use Rattle.tree_core.specs.declared.name.Name.{Name}
 use Rattle.tree_core.specs.Tree.{Body, Local, LocalFunction, CallStat, Exp, Exps, EndExps}
 use Rattle.tree_activation.specs.Work.{Control, complete, collect, evaluate, give, for_declaration, dropped, mark, Work, Pending, State}
 use Rattle.tree_activation.specs.Work as tree
-use Rattle.tree_activation.specs.Asking.{go, fitted}
+use Rattle.tree_activation.specs.Asking.{fitted}
 use Rattle.tree_activation.specs.Statements.{is_closed, marks_closed}
 use Rattle.code_core.specs.declared.opcode.Opcode.TheVariants.{Tbc}
 use Rattle.machine_core.specs.Talk.{before}
 use Rattle.machine_join.proofs.Lists.{append_nil, nth_old}
 use Rattle.code_of.specs.Coded.{Coded, with_abc}
 use Rattle.code_of.specs.Expressions.{exps_code}
-use Rattle.code_of.specs.Levels.{has_closed}
 use Rattle.code_of.specs.Parts.{marks_code}
-use Rattle.exp_laws.proofs.Registers.{Rel, held_higher, ascends_higher}
+use Rattle.exp_laws.proofs.Registers.{Rel, Ascends, held_higher, ascends_higher}
 use Rattle.exp_laws.specs.Setting.{Setting}
 use Rattle.exp_laws.proofs.Talking.{Agree, go_left, of_tree, of_code}
-use Rattle.exp_laws.proofs.Placing.{HasAt, has_front}
+use Rattle.exp_laws.proofs.Placing.{HasAt, has_front, has_back}
 use Rattle.exp_laws.specs.Placed.{IsPlaced, ArePlaced}
 use Rattle.exp_laws.proofs.Lists.{Holds}
 use Rattle.exp_laws.proofs.ListForms.{nth_behind}
 use Rattle.exp_laws.proofs.FunctionForms.{local_function_goes}
 use Rattle.exp_laws.proofs.Exps.{open_same, exps_same}
 use Rattle.stat_laws.proofs.Labels.{closed_numbers}
-use Rattle.stat_laws.proofs.Blocks.{StatLaw, neither, none_closed}
+use Rattle.exp_laws.proofs.Going.{at_place}
+use Rattle.exp_laws.proofs.Marking.{mark_goes}
+use Rattle.stat_laws.specs.Scoped.{IsNamed, AreNamed}
+use Rattle.stat_laws.proofs.Closing.{AllBelow}
+use Rattle.stat_laws.proofs.Standing.{numbers, below_higher, ascends_under}
+use Rattle.stat_laws.proofs.Blocks.{StatLaw, below_more}
 
 pub length_fitted : (n : ℕ) (vs : List Value) → length (fitted n vs) ≡ n
 length_fitted zero vs = refl
@@ -63,17 +67,52 @@ rel_declared stack t m ps env regs vs c size room held rel =
         let there : t + (r - length env) ≡ r = omega (arith, size) in
         ap (nth (env ++ fitted m vs)) (sym i) ∙ nth_behind env (fitted m vs) (r - length env) ∙ nth_fitted m vs (r - length env) (omega (arith, size)) ∙ sym (held (r - length env) (omega (arith, size))) ∙ ap (nth regs) there
 
-no_marks : (names : List Declared) (n : ℕ) (goes : Control) → has_closed names ≡ false → marks_closed n names goes ≡ goes
-no_marks [] n goes e = refl
-no_marks (d ∷ names) n goes e =
-    let h = neither (is_closed d.attrib) (has_closed names) e in
-    ap (λ b. cond b (mark d.name.line d.name.text n (marks_closed (suc n) names goes)) (marks_closed (suc n) names goes)) h.0 ∙ no_marks names (suc n) goes h.1
+numbers_both : (ps qs : List Pending) → numbers (ps ++ qs) ≡ numbers ps ++ numbers qs
+numbers_both [] qs = refl
+numbers_both (p ∷ ps) qs = ap (λ l. p.number ∷ l) (numbers_both ps qs)
 
-no_marks_code : (names : List Declared) (t : ℕ) → has_closed names ≡ false → marks_code names t ≡ []
-no_marks_code [] t e = refl
-no_marks_code (d ∷ names) t e =
-    let h = neither (is_closed d.attrib) (has_closed names) e in
-    ap (λ b. cond b (with_abc Tbc t 0 0 d.name.line ∷ marks_code names (t + 1)) (marks_code names (t + 1))) h.0 ∙ no_marks_code names (t + 1) h.1
+module _ (S : Setting) where
+  abbrev GoesMarked : (n size : ℕ) (closed : List ℕ) (pc opened : ℕ) (k : List Work) → Type 0
+  GoesMarked n size closed pc opened k =
+      (ps : List Pending) (env regs : List Value) (c : Captured) → numbers ps ≡ closed → length env ≡ size → Rel S.code.own.stack ps env c regs → Agree S n (tree.at complete (of_tree S ps env c) k) (before (of_code S ps pc regs opened) c)
+
+  -- the variables of a declaration that are to be closed are marked in their order; the first of the names has the number m
+  marks_goes : (names : List Declared) (m r n size pc opened : ℕ) (closed : List ℕ) (ps : List Pending) (env regs : List Value) (c : Captured) (k : List Work) → m ≡ r → r + length names ≤ size → HasAt S pc (marks_code names r) → AreNamed S.lines S.code names r
+      → pc + length (marks_code names r) < length S.code.own.code → AllBelow closed r → numbers ps ≡ closed → length env ≡ size → Rel S.code.own.stack ps env c regs → GoesMarked n size (closed ++ closed_numbers names r) (pc + length (marks_code names r)) opened k
+      → Agree S n (tree.at (marks_closed m names complete) (of_tree S ps env c) k) (before (of_code S ps pc regs opened) c)
+  marks_goes [] m r n size pc opened closed ps env regs c k same room has named inside under numbered wide rel goes =
+      let here : pc ≡ pc + 0 = omega arith in
+      at_place S ps n pc (pc + 0) opened _ regs c here (goes ps env regs c (numbered ∙ sym (append_nil closed)) wide rel)
+  marks_goes (d ∷ names) m r n size pc opened closed ps env regs c k same room has named inside under numbered wide rel goes =
+      by (is_closed d.attrib) has named.0 inside goes
+      (λ pc' closed' ps' env' regs' c' has' inside' under' numbered' wide' rel' goes'. marks_goes names (suc m) (r + 1) n size pc' opened closed' ps' env' regs' c' k (omega (arith, same)) (omega (arith, room)) has' named.1 inside' under' numbered' wide' rel' goes')
+    where
+      Rest : Type 0
+      Rest =
+          (pc' : ℕ) (closed' : List ℕ) (ps' : List Pending) (env' regs' : List Value) (c' : Captured) → HasAt S pc' (marks_code names (r + 1)) → pc' + length (marks_code names (r + 1)) < length S.code.own.code → AllBelow closed' (r + 1) → numbers ps' ≡ closed'
+          → length env' ≡ size → Rel S.code.own.stack ps' env' c' regs' → GoesMarked n size (closed' ++ closed_numbers names (r + 1)) (pc' + length (marks_code names (r + 1))) opened k
+          → Agree S n (tree.at (marks_closed (suc m) names complete) (of_tree S ps' env' c') k) (before (of_code S ps' pc' regs' opened) c')
+
+      later : AllBelow closed (r + 1)
+      later = below_higher r (r + 1) closed (omega arith) under
+
+      above : Ascends 0 ps r
+      above = ascends_under 0 (length env) r ps [] (subst (λ l. Ascends 0 l (length env)) (sym (append_nil ps)) rel.ascends) (subst (λ l. AllBelow l r) (sym numbered) under)
+
+      by : (b : Bool) → HasAt S pc (cond b (with_abc Tbc r 0 0 d.name.line ∷ marks_code names (r + 1)) (marks_code names (r + 1))) → (b ≡ true → IsNamed S.lines S.code d.name r)
+          → pc + length (cond b (with_abc Tbc r 0 0 d.name.line ∷ marks_code names (r + 1)) (marks_code names (r + 1))) < length S.code.own.code
+          → GoesMarked n size (closed ++ cond b (r ∷ closed_numbers names (r + 1)) (closed_numbers names (r + 1))) (pc + length (cond b (with_abc Tbc r 0 0 d.name.line ∷ marks_code names (r + 1)) (marks_code names (r + 1)))) opened k
+          → Rest
+          → Agree S n (tree.at (cond b (mark d.name.line d.name.text m (marks_closed (suc m) names complete)) (marks_closed (suc m) names complete)) (of_tree S ps env c) k) (before (of_code S ps pc regs opened) c)
+      by false has' is inside' goes' more = more pc closed ps env regs c has' inside' later numbered wide rel goes'
+      by true has' is inside' goes' more =
+          subst (λ q. Agree S n (tree.at (mark d.name.line d.name.text q (marks_closed (suc m) names complete)) (of_tree S ps env c) k) (before (of_code S ps pc regs opened) c)) (sym same)
+          (mark_goes S ps n d.name.line r pc opened d.name.text (marks_closed (suc m) names complete) env regs c k (has'.0, (has'.1.0, tt)) (omega (arith, inside')) (is refl pc has'.0 has'.1.0) above (omega (arith, room, wide)) rel
+          (λ needed env1 regs1 c1 size1 rel1. more (pc + 1) (closed ++ r ∷ []) (ps ++ record { number = r; needed = needed } ∷ []) env1 regs1 c1 has'.1.1 (omega (arith, inside'))
+          (below_more closed (r ∷ []) (r + 1) later (omega arith, tt)) (numbers_both ps (record { number = r; needed = needed } ∷ []) ∙ ap (λ l. l ++ r ∷ []) numbered) (size1 ∙ wide) rel1
+          (λ ps2 env2 regs2 c2 numbered2 wide2 rel2. let there : pc + 1 + length (marks_code names (r + 1)) ≡ pc + suc (length (marks_code names (r + 1))) = omega arith in
+          at_place S ps2 n (pc + 1 + length (marks_code names (r + 1))) (pc + suc (length (marks_code names (r + 1)))) opened _ regs2 c2 there
+          (goes' ps2 env2 regs2 c2 (numbered2 ∙ append_assoc closed (r ∷ []) (closed_numbers names (r + 1))) wide2 rel2))))
 
 module _ (S : Setting) (back : ℕ) where
   pub local_goes : (line : ℕ) (names : List Declared) (es : Exps) → StatLaw S back (Local line names es)
@@ -91,28 +130,20 @@ module _ (S : Setting) (back : ℕ) where
       flat : t + 0 ≡ t
       flat = omega arith
 
-      no_code : length (marks_code names t) ≡ 0
-      no_code = ap length (no_marks_code names t placed.1.1.1.1)
-
-      there : pc + length (exps_code S.code.own.constants es (Some (length names)) (t + 0) j line) ≡ pc + (length code + length (marks_code names t))
-      there = ap (λ r. pc + length (exps_code S.code.own.constants es (Some (length names)) r j line)) flat ∙ (let m = no_code in omega (arith, m))
-
-      numbers_same : closed ++ closed_numbers names t ≡ closed
-      numbers_same = ap (λ l. closed ++ l) (none_closed names t placed.1.1.1.1) ∙ append_nil closed
+      there : pc + length (exps_code S.code.own.constants es (Some (length names)) (t + 0) j line) ≡ pc + length code
+      there = ap (λ r. pc + length (exps_code S.code.own.constants es (Some (length names)) r j line)) flat
 
       declared : (vs env1 regs1 : List Value) (c1 : Captured) (opened1 : ℕ) → length env1 ≡ t → Rel S.code.own.stack ps env1 c1 regs1 → Holds t (0 + length names) vs regs1
           → Agree S n (tree.at (collect (for_declaration line names) vs EndExps) (of_tree S ps env1 c1) k) (before (of_code S ps (pc + length (exps_code S.code.own.constants es (Some (length names)) (t + 0) j line)) regs1 opened1) c1)
       declared vs env1 regs1 c1 opened1 size1 rel1 held =
           let sum = length-append env1 (fitted (length names) vs) in
           let wide = length_fitted (length names) vs in
-          go_left S n _ (tree.at complete (of_tree S ps (env1 ++ fitted (length names) vs) c1) k) _
-          (ap (λ g. go g (of_tree S ps (env1 ++ fitted (length names) vs) c1) k) (no_marks names (length env1) complete placed.1.1.1.1))
-          (subst (λ q. Agree S n (tree.at complete (of_tree S ps (env1 ++ fitted (length names) vs) c1) k) (before (of_code S ps q regs1 opened1) c1)) (sym there)
-          (done n (omega arith) ps (env1 ++ fitted (length names) vs) regs1 c1 opened1 (record {
-            numbered = standing.numbered ∙ sym numbers_same;
-            size = omega (arith, sum, wide, size1);
-            rel = rel_declared S.code.own.stack t (length names) ps env1 regs1 vs c1 size1 placed.1.1.0 (λ i lt. held i (omega (arith, lt))) rel1;
-          })))
+          go_left S n _ (tree.at (marks_closed (length env1) names complete) (of_tree S ps (env1 ++ fitted (length names) vs) c1) k) _ refl
+          (subst (λ q. Agree S n (tree.at (marks_closed (length env1) names complete) (of_tree S ps (env1 ++ fitted (length names) vs) c1) k) (before (of_code S ps q regs1 opened1) c1)) (sym there)
+          (marks_goes S names (length env1) t n (t + length names) (pc + length code) opened1 closed ps (env1 ++ fitted (length names) vs) regs1 c1 k size1 (omega arith) (has_back S pc code (marks_code names t) has) placed.1.1.1.1
+          (omega (arith, inside)) under standing.numbered (omega (arith, sum, wide, size1)) (rel_declared S.code.own.stack t (length names) ps env1 regs1 vs c1 size1 placed.1.1.0 (λ i lt. held i (omega (arith, lt))) rel1)
+          (λ ps2 env2 regs2 c2 numbered2 wide2 rel2. at_place S ps2 n (pc + length code + length (marks_code names t)) (pc + (length code + length (marks_code names t))) opened1 _ regs2 c2 (omega arith)
+          (done n (omega arith) ps2 env2 regs2 c2 opened1 (record { numbered = numbered2; size = wide2; rel = rel2 })))))
 
   pub call_goes : (line : ℕ) (e : Exp) → StatLaw S back (CallStat line e)
   call_goes line e n closing closed t j pc named loops reach k fewer has placed inside under plain jumps done ps env regs c opened s st standing =

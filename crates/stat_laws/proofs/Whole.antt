@@ -1,10 +1,10 @@
 -- The code of a function's body means the body.
-use Rattle.std.proofs.Common.{◌≡◌, ℕ, zero, suc, ◌+◌, ◌<◌, ◌≤◌, ◌^◌, lit<, Bool, true, false, cond, List, [], ◌∷◌, ◌++◌, length, take, drop, Option, Some, None, refl, sym, ap, subst, ◌∙◌, arith, length-append}
+use Rattle.std.proofs.Common.{◌≡◌, ℕ, zero, suc, ◌+◌, ◌<◌, ◌≤◌, ◌^◌, Bool, true, false, cond, List, [], ◌∷◌, ◌++◌, length, take, drop, Option, Some, None, refl, sym, ap, subst, ◌∙◌, arith, length-append}
 use Rattle.std.proofs.lemmas.List.{length-map}
 use Rattle.std.specs.Prelude.{slice_get, option_map, pos, negsuc, ℤ}
 use Rattle.std.proofs.lemmas.Option.{slice_get-map}
 use Rattle.int_core.specs.Value.{Value, known, nil, nth, bind}
-use Rattle.int_core.specs.Ask.{returns, Captured, held_below, gone_from}
+use Rattle.int_core.specs.Ask.{Captured}
 use Rattle.tree_core.specs.Tree.{Block, Falls, Returns, Body, BodyOf, EndStats}
 use Rattle.tree_activation.specs.Work.{complete, run, finish, leave_scope, end_of_body, Work, Pending, Passed, falls_off, returns_list, when_captured}
 use Rattle.tree_activation.specs.Work as tree
@@ -39,7 +39,12 @@ use Rattle.stat_laws.proofs.Standing.{strong}
 use Rattle.stat_laws.proofs.Sizes.{stats_sized}
 use Rattle.stat_laws.proofs.Labels.{Jumps}
 use Rattle.stat_laws.proofs.Blocks.{added_none}
-use Rattle.stat_laws.proofs.Returns.{finishes_goes, return_step, return_ends, no_numbers, known_all, return_some}
+use Rattle.stat_laws.proofs.Returns.{return_step, return_ends, return_some}
+use Rattle.stat_laws.proofs.Ending.{ends_alike}
+use Rattle.exp_laws.proofs.Returning.{returns_alike}
+use Rattle.exp_laws.proofs.Calls.{behind_fits}
+use Rattle.code_core.specs.Instruction.{abc}
+use Rattle.code_core.proofs.FieldLemmas.{opcode_of-abc, a_of-abc}
 use Rattle.stat_laws.proofs.Values.{length_fitted, nth_fitted}
 use Rattle.stat_laws.proofs.Statements.{stats_goes}
 use Rattle.stat_laws.proofs.Lines.{lines_back, has_all}
@@ -88,16 +93,14 @@ module _ (S : Setting) (back : ℕ) where
 
   -- the function's end, without values
   end_goes : (n t line line' pc : ℕ) (labels : List Passed) (e : line ≡ line') → HasAt S pc (with_abc Return t 1 back line ∷ []) → t < 2 ^ 8
-      → (m : ℕ) → m ≤ n → (ps : List Pending) (env regs : List Value) (c : Captured) (opened : ℕ) → ps ≡ [] → t ≤ length regs → Rel S.code.own.stack ps env c regs
+      → (m : ℕ) → m ≤ n → (ps : List Pending) (env regs : List Value) (c : Captured) (opened : ℕ) → t + 0 ≤ length regs → Rel S.code.own.stack ps env c regs
       → Agree S m (tree.at (run (record { rest = EndStats; ending = falls_off line; level = 0; labels = labels })) (of_tree S ps env c) (end_of_body line' ∷ [])) (before (of_code S ps pc regs opened) c)
-  end_goes n t line line' pc labels e has small m le ps env regs c opened none width rel =
-      subst (λ qs. Agree S m (tree.at (run (record { rest = EndStats; ending = falls_off line; level = 0; labels = labels })) (of_tree S qs env c) (end_of_body line' ∷ [])) (before (of_code S qs pc regs opened) c)) (sym none)
-      (subst (λ l. Agree S m (tree.at (run (record { rest = EndStats; ending = falls_off line; level = 0; labels = labels })) (of_tree S [] env c) (end_of_body l ∷ [])) (before (of_code S [] pc regs opened) c)) e
-      (go_left S m _ (tree.at (leave_scope 0 line (known nil) complete) (of_tree S [] env c) (end_of_body line ∷ [])) _ refl
-      (go_left S m _ (tree.at complete (of_tree S [] [] (record { held = held_below 0 c.held; gone = gone_from 0 c.held env ++ c.gone })) (end_of_body line ∷ [])) _ refl
-      (go_left S m _ (tree.at (finish line (returns [])) (of_tree S [] [] (record { held = held_below 0 c.held; gone = gone_from 0 c.held env ++ c.gone })) []) _ refl
-      (finishes_goes S m line pc opened [] env regs c [] _ (subst (λ qs. Rel S.code.own.stack qs env c regs) none rel) has.1.0
-      (return_step S t 0 back pc opened [] regs c has.0 small (lit< tt) refl (omega (arith, width)) (λ i lt. absurd (omega arith))))))))
+  end_goes n t line line' pc labels e has small m le ps env regs c opened width rel =
+      subst (λ l. Agree S m (tree.at (run (record { rest = EndStats; ending = falls_off line; level = 0; labels = labels })) (of_tree S ps env c) (end_of_body l ∷ [])) (before (of_code S ps pc regs opened) c)) e
+      (go_left S m _ (tree.at (leave_scope 0 line (known nil) complete) (of_tree S ps env c) (end_of_body line ∷ [])) _ refl
+      (ends_alike S m line ps env c _
+      (returns_alike S t [] m ps line pc opened env regs [] c _ rel (record { word = abc Return t 1 back false; opcode = Return; there = has.0; is = opcode_of-abc Return t 1 back false; lined = has.1.0 })
+      (a_of-abc Return t 1 back false small) (behind_fits t 0 (length regs) width) (λ i lt. absurd (omega (arith, lt))) (return_step S t back pc opened ps regs c has.0 small width))))
 
   abbrev Runs : Block → (n params pc : ℕ) → Type 0
   Runs inner n params pc =
@@ -121,12 +124,10 @@ module _ (S : Setting) (back : ℕ) where
         base_under = tt;
         under = tt;
         outer_low = omega arith;
-        known = λ e. refl;
+        known = refl;
         ends = record {
-          full = λ labels m le ps env1 regs1 c1 opened1 st. end_goes n (levels_after ss params) line line (pc + size_of) labels refl at_last (omega (arith, fits.1.1, S.small)) m le ps env1 regs1 c1 opened1
-              (no_numbers ps (st.numbered ∙ known_all ss params false [] (λ e. refl) fits.1.0)) (omega (arith, fits.1.1, st.rel.room)) st.rel;
-          low = λ is labels m le ps env1 regs1 c1 opened1 st. end_goes n (levels_after ss params) line line (pc + size_of) labels refl at_last (omega (arith, fits.1.1, S.small)) m le ps env1 regs1 c1 opened1
-              (no_numbers ps st.numbered) (omega (arith, fits.1.1, st.rel.room)) st.rel;
+          full = λ labels m le ps env1 regs1 c1 opened1 st. end_goes n (levels_after ss params) line line (pc + size_of) labels refl at_last (omega (arith, fits.1, S.small)) m le ps env1 regs1 c1 opened1 (omega (arith, fits.1, st.rel.room)) st.rel;
+          low = λ is labels m le ps env1 regs1 c1 opened1 st. end_goes n (levels_after ss params) line line (pc + size_of) labels refl at_last (omega (arith, fits.1, S.small)) m le ps env1 regs1 c1 opened1 (omega (arith, fits.1, st.rel.room)) st.rel;
         };
       })).0 n (omega arith) [] env regs no_cells opened (record { numbered = refl; size = size; rel = rel })
     where
@@ -161,9 +162,9 @@ module _ (S : Setting) (back : ℕ) where
         base_under = tt;
         under = tt;
         outer_low = omega arith;
-        known = λ e. refl;
+        known = refl;
         ends = record {
-          full = return_ends S back ss es line n false [] 0 params 0 pc start_reach (end_of_body line ∷ []) fewer has fits.1 (omega (arith, inside, sum, sized)) (λ e. refl);
+          full = return_ends S back ss es line n false [] 0 params 0 pc start_reach (end_of_body line ∷ []) fewer has fits.1 (omega (arith, inside, sum, sized)) refl;
           low = λ is. absurd (cc);
         };
       })).0 n (omega arith) [] env regs no_cells opened (record { numbered = refl; size = size; rel = rel })

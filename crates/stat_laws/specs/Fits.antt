@@ -16,7 +16,7 @@ is_known (Some source) = true
 
 -- the function's block
 abbrev pub BlockFits : Setting → (params : ℕ) → Block → Type 0
-BlockFits S params (Falls ss tokens line) = StatsArePlaced S ss true false params 0 [] [] false × ((closings_after ss false ≡ false) × (levels_after ss params ≤ S.code.own.stack))
+BlockFits S params (Falls ss tokens line) = StatsArePlaced S ss true false params 0 [] [] false × (levels_after ss params ≤ S.code.own.stack)
 BlockFits S params (Returns ss es tokens line) = StatsArePlaced S ss false false params 0 [] [] false × ReturnIsPlaced S es (closings_after ss false) (levels_after ss params) (0 + made_in_stats ss)
 
 module _ (source : Option (List ℕ)) where

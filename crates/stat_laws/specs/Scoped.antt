@@ -1,12 +1,21 @@
 -- What is assumed of a statement where t locals are in scope and j functions of its function are made before it: names and labels are in scope, and
 -- there are registers enough. It also says which forms are proved: for the others nothing is assumed that holds.
-use Rattle.std.specs.Prelude.{◌≡◌, ℕ, ◌+◌, ◌*◌, ◌<◌, ◌≤◌, ◌^◌, Bool, true, false, cond, ◌&&◌, ◌||◌, List, [], ◌∷◌, ◌++◌, length, Some, None, nat_le, bytes_eq}
+use Rattle.std.specs.Prelude.{◌≡◌, ℕ, ◌+◌, ◌*◌, ◌<◌, ◌≤◌, ◌^◌, Bool, true, false, cond, ◌&&◌, ◌||◌, List, [], ◌∷◌, ◌++◌, length, Some, None, nat_le, bytes_eq, codes}
+use Rattle.tree_core.specs.declared.name.Name.{Name}
+use Rattle.tree_core.specs.declared.name.Declared.{Declared}
+use Rattle.tree_activation.specs.Statements.{is_closed}
+use Rattle.code_core.specs.declared.opcode.Opcode.TheVariants.{Tbc}
+use Rattle.code_core.specs.Instruction.{abc}
+use Rattle.code_core.specs.Prototype.{Prototype}
+use Rattle.code_core.specs.Check.{at}
+use Rattle.machine_core.specs.Moves.{line_of}
+use Rattle.machine_core.specs.InstructionRows.{variable_name}
 use Rattle.tree_core.specs.Tree.{Block, Falls, Returns, Stats, EndStats, MoreStats, Stat, Empty, Local, LocalFunction, Assign, CallStat, Do, While, Repeat, If, IfElse, NumFor, NumForStep, GenFor, Label, Goto, Break, Arms, EndArms, MoreArms, Exp, Var, Index, Call, Method, Exps, EndExps, MoreExps}
 use Rattle.tree_activation.specs.Asking.{upvalues_of}
 use Rattle.tree_activation.specs.Jumps.{are_void}
 use Rattle.code_core.specs.declared.proto.Const.TheVariants.{Str as StrConst}
 use Rattle.code_of.specs.Expressions.{made_by, made_in, count, is_open}
-use Rattle.code_of.specs.Levels.{made_by_stat, made_in_arms, made_in_stats, made_in_block, level_after, levels_after, levels_in, has_closed, closing_after, closings_after}
+use Rattle.code_of.specs.Levels.{made_by_stat, made_in_arms, made_in_stats, made_in_block, level_after, levels_after, levels_in, closing_after, closings_after}
 use Rattle.exp_laws.specs.Setting.{Setting}
 use Rattle.exp_laws.specs.Placed.{Found, Inner, Captures, IsPlaced, ArePlaced, room_of, room_of_list}
 
@@ -35,12 +44,23 @@ IsTarget (Var line name) = Unit {0}
 IsTarget (Index line object key) = Unit {0}
 IsTarget _ = ⊥
 
+-- a variable to be closed has its name, where lines are known, at each mark of its register on its line
+abbrev pub IsNamed : (lines : Bool) → Prototype → Name → (r : ℕ) → Type 0
+IsNamed lines p name r = (pc : ℕ) → at p pc ≡ Some (abc Tbc r 0 0 false) → line_of p pc ≡ cond lines (Some name.line) None → variable_name p pc r ≡ cond lines name.text (codes "?")
+
+abbrev pub AreNamed : (lines : Bool) → Prototype → List Declared → (r : ℕ) → Type 0
+AreNamed lines p [] r = Unit {0}
+AreNamed lines p (d ∷ names) r = (is_closed d.attrib ≡ true → IsNamed lines p d.name r) × AreNamed lines p names (r + 1)
+
 module _ (S : Setting) where
   -- targets whose tables and keys go to the registers from r on, two for each
   abbrev pub TargetsArePlaced : Exps → (r t j : ℕ) → Type 0
   TargetsArePlaced EndExps r t j = Unit {0}
   TargetsArePlaced (MoreExps e targets) r t j =
       IsTarget e × (IsPlaced S e t j × ((r + room_of S.code.own.constants e 2 ≤ S.code.own.stack) × TargetsArePlaced targets (r + 2) t (j + made_by e)))
+
+  abbrev pub ListIsPlaced : Exps → (t j : ℕ) → Type 0
+  ListIsPlaced es t j = ArePlaced S es t j × ((t + room_of_list S.code.own.constants 0 es None ≤ S.code.own.stack) × (count es + 1 < 2 ^ 8))
 
   -- what `return` gives: a call in the function's place, or a list
   abbrev pub LastIsPlaced : Exps → (t j : ℕ) → Type 0
@@ -49,17 +69,18 @@ module _ (S : Setting) where
   LastIsPlaced (MoreExps (Method line object name es) EndExps) t j =
       IsPlaced S object t j × (Found S.code.own.constants (StrConst name.text) × (ArePlaced S es t (j + made_by object)
       × ((t + room_of S.code.own.constants object 2 ≤ S.code.own.stack) × ((t + 1 < S.code.own.stack) × (t + room_of_list S.code.own.constants 2 es None ≤ S.code.own.stack)))))
-  LastIsPlaced es t j = ArePlaced S es t j × ((t + room_of_list S.code.own.constants 0 es None ≤ S.code.own.stack) × (count es + 1 < 2 ^ 8))
+  LastIsPlaced es t j = ListIsPlaced es t j
 
-  -- no variable to be closed is in scope there
+  -- where a variable to be closed is in scope, no call is in the function's place
   abbrev pub ReturnIsPlaced : Exps → (closing : Bool) → (t j : ℕ) → Type 0
-  ReturnIsPlaced es closing t j = (closing ≡ false) × LastIsPlaced es t j
+  ReturnIsPlaced es false t j = LastIsPlaced es t j
+  ReturnIsPlaced es true t j = ListIsPlaced es t j
 
   abbrev mutual
     pub StatIsPlaced : Stat → (closing : Bool) → (t j : ℕ) → List Named → (loops : Bool) → Type 0
     StatIsPlaced (Empty line) closing t j named loops = Unit {0}
     StatIsPlaced (Local line names es) closing t j named loops =
-        ArePlaced S es t j × ((t + room_of_list S.code.own.constants 0 es (Some (length names)) ≤ S.code.own.stack) × ((t + length names ≤ S.code.own.stack) × ((length names + 1 < 2 ^ 8) × (has_closed names ≡ false))))
+        ArePlaced S es t j × ((t + room_of_list S.code.own.constants 0 es (Some (length names)) ≤ S.code.own.stack) × ((t + length names ≤ S.code.own.stack) × ((length names + 1 < 2 ^ 8) × AreNamed S.lines S.code names t)))
     StatIsPlaced (LocalFunction line name body) closing t j named loops = Inner S j body × (Captures (upvalues_of body) (t + 1) × (t < S.code.own.stack))
     StatIsPlaced (Assign line targets es) closing t j named loops =
         TargetsArePlaced targets t t j × (ArePlaced S es t (j + made_in targets)
