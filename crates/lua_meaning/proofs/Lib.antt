@@ -4,5 +4,5 @@ mod Functions
 mod Errors
 mod Metatables
 mod Coroutines
-mod Runs
+pub mod Runs
 mod Limits

@@ -1,0 +1,31 @@
+-- That turns end: within a budget of fuel a script comes to a yield, a return, an error or the end of the budget.
+use Rattle.std.specs.Prelude.{◌≡◌, ℕ, true, List}
+use Rattle.tree_core.specs.Tree.{Body}
+use Rattle.tree_activation.specs.Work.{Celling, State}
+use Rattle.lua_meaning.specs.World.{World}
+use Rattle.lua_meaning.specs.Step.{has_ended, tick, ticks}
+use Rattle.lua_meaning.specs.Meaning.{Script, Meaning, IsMeaning, begun, handed_line}
+use Rattle.lua_meaning.specs.Opening.{Entry, opening, primitives}
+use Rattle.lua_meaning.specs.TreeMeaning.{trees}
+
+-- how a run came to where it is: a script began, the world made a step, or a line was handed over
+pub data History : Type 0 where
+  began : (prelude : List (Entry Body)) → Script Body → (budget : ℕ) → History
+  went_on : History → History
+  was_handed : History → (line : List ℕ) → (budget : ℕ) → History
+
+abbrev pub world_after : Celling → History → World Body State
+world_after celling (began prelude script budget) = begun (trees celling) primitives (opening prelude) script budget
+world_after celling (went_on h) = tick (trees celling) primitives (world_after celling h)
+world_after celling (was_handed h line budget) = handed_line (trees celling) primitives (world_after celling h) line budget
+
+abbrev pub Ends : Celling → World Body State → Type 0
+Ends celling W = (n : ℕ) × (has_ended (ticks (trees celling) primitives n W).now ≡ true)
+
+abbrev pub TurnsEnd : Type 0
+TurnsEnd = (celling : Celling) (h : History) → Ends celling (world_after celling h)
+
+abbrev pub EveryScriptHasAMeaning : Type 0
+EveryScriptHasAMeaning =
+    (celling : Celling) (prelude : List (Entry Body)) (script : Script Body) (input : List (List ℕ)) (budget : ℕ)
+    → (m : Meaning Body State) × IsMeaning (trees celling) primitives (opening prelude) script input budget m
