@@ -36,7 +36,7 @@ use Rattle.stat_laws.proofs.Standing.{Standing}
 use Rattle.stat_laws.proofs.Blocks.{StatLaw}
 use Rattle.stat_laws.proofs.Targets.{store_to, Stands, stands_still, AllAimed, all_still, aim_goes}
 
-rel_assigned : (stack n : ℕ) (v : Value) (ps : List Pending) (env regs : List Value) (c : Captured) → n < length env → Rel stack ps env c regs → Rel stack ps (write n v env) c (write n v regs)
+pub rel_assigned : (stack n : ℕ) (v : Value) (ps : List Pending) (env regs : List Value) (c : Captured) → n < length env → Rel stack ps env c regs → Rel stack ps (write n v env) c (write n v regs)
 rel_assigned stack n v ps env regs c h rel =
     let same = length_write n v env h in
     let more = write_more n v regs in

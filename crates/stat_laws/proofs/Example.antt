@@ -4,12 +4,12 @@ use Rattle.std.specs.Prelude.{codes}
 use Rattle.code_core.specs.declared.instruction.Instruction.{Instruction}
 use Rattle.code_core.specs.Opcode.{opcodes, number_of}
 use Rattle.tree_core.specs.declared.name.Place.TheVariants.{Local as LocalPlace}
-use Rattle.tree_core.specs.Tree.{Body, Index, LocalFunction, While, Label, Goto, Break}
+use Rattle.tree_core.specs.Tree.{Body, Index, LocalFunction, While, GenFor, Label, Goto, Break, EndExps, MoreExps}
 use Rattle.code_means.specs.Means.{Means}
 use Rattle.code_means.proofs.Forms.{name, no_variable, of_local, loc, outer, int, call, block, returning, loc_is, locals, closed, assigns, assign, global, when, fun}
 use Rattle.code_of.specs.CodeOf.{code_of}
 use Rattle.stat_laws.specs.Fits.{BodyFits}
-use Rattle.stat_laws.specs.Scoped.{IsNamed}
+use Rattle.stat_laws.specs.Scoped.{IsNamed, IsUnnamed}
 use Rattle.stat_laws.proofs.Whole.{means}
 
 -- function(f) local x=0 while f(x) do if f(1) then break end end return x,f end
@@ -156,3 +156,38 @@ one_fits = (
 
 its_code_means_one : Means true (code_of source closes_one) closes_one
 its_code_means_one = means source closes_one one_fits
+
+-- function(f) for k in f do end end
+abbrev goes_through : Body
+goes_through = fun ("f" ∷ []) [] (block (GenFor 1 (name "k" (LocalPlace 5) ∷ []) (MoreExps (loc "f" 0) EndExps) (block []) ∷ []))
+
+abbrev is_there : Option Instruction → ℕ
+is_there None = 0
+is_there (Some w) = 1
+
+it_is_unnamed : IsUnnamed (code_of source goes_through) 1
+unfolding opcodes number_of
+it_is_unnamed zero bx is = refl
+it_is_unnamed (suc zero) bx is = refl
+it_is_unnamed (suc (suc zero)) bx is = refl
+it_is_unnamed (suc (suc (suc zero))) bx is = refl
+it_is_unnamed (suc (suc (suc (suc zero)))) bx is = refl
+it_is_unnamed (suc (suc (suc (suc (suc zero))))) bx is = refl
+it_is_unnamed (suc (suc (suc (suc (suc (suc zero)))))) bx is = refl
+it_is_unnamed (suc (suc (suc (suc (suc (suc (suc zero))))))) bx is = refl
+it_is_unnamed (suc (suc (suc (suc (suc (suc (suc (suc pc)))))))) bx is = let e : 0 ≡ 1 = ap is_there is in absurd (omega (arith, e))
+
+through_fits : BodyFits source goes_through
+unfolding opcodes number_of
+through_fits = (
+  record {
+    small = lit< tt;
+    short = lit≤ tt;
+    room = lit≤ tt;
+    placed = ((((lit< tt, tt), (lit≤ tt, (lit≤ tt, (lit< tt, (lit< tt, (it_is_unnamed, ((λ back. lit< tt), tt))))))), tt), lit≤ tt);
+  },
+  (((tt, tt), tt), tt),
+)
+
+its_code_means_through : Means true (code_of source goes_through) goes_through
+its_code_means_through = means source goes_through through_fits

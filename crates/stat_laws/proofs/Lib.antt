@@ -6,10 +6,12 @@ mod Blocks
 mod Forms
 mod Loops
 mod Returns
+mod Rounds
 mod Ending
 mod Values
 mod Targets
 mod Assigning
+mod Iterating
 mod Statements
 mod Lines
 mod Raised

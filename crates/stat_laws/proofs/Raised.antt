@@ -120,7 +120,8 @@ module _ (source : Option (List ℕ)) (p : Prototype) (bound : ℕ) (varargs : L
     stat_up (Assign l targets es) closing t j named loops h g = (targets_up targets t t j h.0 g.0, (exps_up es t (j + made_in targets) h.1.0 g.1, h.1.1))
     stat_up (NumFor l name from limit block) closing t j named loops h g = h
     stat_up (NumForStep l name from limit step block) closing t j named loops h g = h
-    stat_up (GenFor l names es block) closing t j named loops h g = h
+    stat_up (GenFor l names es block) closing t j named loops h g =
+        (exps_up es t j h.0 g.0, (h.1.0, (h.1.1.0, (h.1.1.1.0, (h.1.1.1.1.0, (h.1.1.1.1.1.0, (h.1.1.1.1.1.1.0, block_up block true (t + 4 + length names) (j + made_in es) named true h.1.1.1.1.1.1.1 g.1)))))))
 
     arms_up : (arms : Arms) (closing : Bool) (t j : ℕ) (named : List Named) (loops : Bool) → ArmsArePlaced low arms closing t j named loops → InArms source p arms j → ArmsArePlaced high arms closing t j named loops
     arms_up EndArms closing t j named loops h g = tt

@@ -10,6 +10,7 @@ use Rattle.stat_laws.proofs.Blocks.{StatLaw, StatsLaw, none_goes, label_goes, mo
 use Rattle.stat_laws.proofs.Forms.{ExpLaw, BlockLaw, falls_goes, do_goes, goto_goes, break_goes, empty_stat_goes, label_stat_goes, while_goes, ArmsLaw, no_arms_goes, more_arms_goes, if_goes, if_else_goes}
 use Rattle.stat_laws.proofs.Loops.{repeat_goes}
 use Rattle.stat_laws.proofs.Returns.{returns_goes}
+use Rattle.stat_laws.proofs.Iterating.{iterating_goes}
 use Rattle.stat_laws.proofs.Assigning.{assign_goes}
 use Rattle.stat_laws.proofs.Values.{local_goes, function_goes, call_goes}
 
@@ -36,7 +37,7 @@ module _ (S : Setting) (back : ℕ) where
     stat_goes (IfElse l arms block) = if_else_goes S back (exps S) l arms block (arms_goes arms) (block_goes block)
     stat_goes (NumFor l name from limit block) = never (NumFor l name from limit block) (λ closing t j named loops placed. placed)
     stat_goes (NumForStep l name from limit step block) = never (NumForStep l name from limit step block) (λ closing t j named loops placed. placed)
-    stat_goes (GenFor l names es block) = never (GenFor l names es block) (λ closing t j named loops placed. placed)
+    stat_goes (GenFor l names es block) = iterating_goes S back l names es block (block_goes block)
     stat_goes (Goto l name) = goto_goes S back l name
     stat_goes (Break l) = break_goes S back l
     stat_goes (Label l name) = label_stat_goes S back l name

@@ -67,7 +67,7 @@ rel_declared stack t m ps env regs vs c size room held rel =
         let there : t + (r - length env) ≡ r = omega (arith, size) in
         ap (nth (env ++ fitted m vs)) (sym i) ∙ nth_behind env (fitted m vs) (r - length env) ∙ nth_fitted m vs (r - length env) (omega (arith, size)) ∙ sym (held (r - length env) (omega (arith, size))) ∙ ap (nth regs) there
 
-numbers_both : (ps qs : List Pending) → numbers (ps ++ qs) ≡ numbers ps ++ numbers qs
+pub numbers_both : (ps qs : List Pending) → numbers (ps ++ qs) ≡ numbers ps ++ numbers qs
 numbers_both [] qs = refl
 numbers_both (p ∷ ps) qs = ap (λ l. p.number ∷ l) (numbers_both ps qs)
 

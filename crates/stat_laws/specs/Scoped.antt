@@ -4,8 +4,8 @@ use Rattle.std.specs.Prelude.{◌≡◌, ℕ, ◌+◌, ◌*◌, ◌<◌, ◌≤�
 use Rattle.tree_core.specs.declared.name.Name.{Name}
 use Rattle.tree_core.specs.declared.name.Declared.{Declared}
 use Rattle.tree_activation.specs.Statements.{is_closed}
-use Rattle.code_core.specs.declared.opcode.Opcode.TheVariants.{Tbc}
-use Rattle.code_core.specs.Instruction.{abc}
+use Rattle.code_core.specs.declared.opcode.Opcode.TheVariants.{Tbc, TForPrep}
+use Rattle.code_core.specs.Instruction.{abc, abx}
 use Rattle.code_core.specs.Prototype.{Prototype}
 use Rattle.code_core.specs.Check.{at}
 use Rattle.machine_core.specs.Moves.{line_of}
@@ -13,9 +13,11 @@ use Rattle.machine_core.specs.InstructionRows.{variable_name}
 use Rattle.tree_core.specs.Tree.{Block, Falls, Returns, Stats, EndStats, MoreStats, Stat, Empty, Local, LocalFunction, Assign, CallStat, Do, While, Repeat, If, IfElse, NumFor, NumForStep, GenFor, Label, Goto, Break, Arms, EndArms, MoreArms, Exp, Var, Index, Call, Method, Exps, EndExps, MoreExps}
 use Rattle.tree_activation.specs.Asking.{upvalues_of}
 use Rattle.tree_activation.specs.Jumps.{are_void}
+use Rattle.code_core.specs.declared.proto.Const.{Const}
 use Rattle.code_core.specs.declared.proto.Const.TheVariants.{Str as StrConst}
 use Rattle.code_of.specs.Expressions.{made_by, made_in, count, is_open}
 use Rattle.code_of.specs.Levels.{made_by_stat, made_in_arms, made_in_stats, made_in_block, level_after, levels_after, levels_in, closing_after, closings_after}
+use Rattle.code_of.specs.Sizes.{block_size}
 use Rattle.exp_laws.specs.Setting.{Setting}
 use Rattle.exp_laws.specs.Placed.{Found, Inner, Captures, IsPlaced, ArePlaced, room_of, room_of_list}
 
@@ -51,6 +53,14 @@ IsNamed lines p name r = (pc : ℕ) → at p pc ≡ Some (abc Tbc r 0 0 false) �
 abbrev pub AreNamed : (lines : Bool) → Prototype → List Declared → (r : ℕ) → Type 0
 AreNamed lines p [] r = Unit {0}
 AreNamed lines p (d ∷ names) r = (is_closed d.attrib ≡ true → IsNamed lines p d.name r) × AreNamed lines p names (r + 1)
+
+-- the value that a generic `for` closes has no name
+abbrev pub IsUnnamed : Prototype → (t : ℕ) → Type 0
+IsUnnamed p t = (pc bx : ℕ) → at p pc ≡ Some (abx TForPrep t bx) → variable_name p pc (t + 3) ≡ codes "?"
+
+-- the block of a loop is short enough for the loop's instructions to name its length
+abbrev pub IsNear : List Const → Block → (outer t j : ℕ) → Type 0
+IsNear constants block outer t j = (back : ℕ) → block_size constants back block true outer t j + 2 < 2 ^ 17
 
 module _ (S : Setting) where
   -- targets whose tables and keys go to the registers from r on, two for each
@@ -95,7 +105,9 @@ module _ (S : Setting) where
     StatIsPlaced (IfElse line arms block) closing t j named loops = ArmsArePlaced arms closing t j named loops × BlockIsPlaced block closing t (j + made_in_arms arms) named loops
     StatIsPlaced (NumFor line name from limit block) closing t j named loops = ⊥
     StatIsPlaced (NumForStep line name from limit step block) closing t j named loops = ⊥
-    StatIsPlaced (GenFor line names es block) closing t j named loops = ⊥
+    StatIsPlaced (GenFor line names es block) closing t j named loops =
+        ArePlaced S es t j × ((t + room_of_list S.code.own.constants 0 es (Some 4) ≤ S.code.own.stack) × ((t + 4 + length names ≤ S.code.own.stack) × ((0 < length names) × ((length names < 2 ^ 8)
+        × (IsUnnamed S.code t × (IsNear S.code.own.constants block (t + 4) (t + 4 + length names) (j + made_in es) × BlockIsPlaced block true (t + 4 + length names) (j + made_in es) named true))))))
     StatIsPlaced (Label line name) closing t j named loops = Unit {0}
     StatIsPlaced (Goto line name) closing t j named loops = legal name.text named ≡ true
     StatIsPlaced (Break line) closing t j named loops = loops ≡ true
