@@ -1,14 +1,14 @@
 -- The code of an expression talks as the expression does. The work below is any work, and code goes on by a hypothesis.
 use Rattle.std.proofs.Common.{◌≡◌, ℕ, ◌+◌, ◌-◌, ◌<◌, ◌≤◌, ◌^◌, lit<, max, Bool, true, false, zero, suc, Option, Some, None, List, [], ◌∷◌, ◌++◌, length, cond, refl, ap, sym, ◌∙◌, subst, arith, length-append}
-use Rattle.int_core.specs.Value.{Value, same_truth, known, nil, boolean, string, nth, write, shape, holds}
+use Rattle.int_core.specs.Value.{Value, a_table, object as reference, same_truth, known, nil, boolean, string, nth, write, shape, holds}
 use Rattle.machine_join.proofs.Lists.{nth_write_same, nth_write_other}
 use Rattle.int_core.specs.Ask.{Captured, goes_on}
-use Rattle.tree_core.specs.Tree.{Exp, Nil, True, False, Int, Str, Vararg, Function, Var, Index, Call, Method, Unary, Binary, And, Or, Paren, Table, Exps, EndExps, MoreExps}
+use Rattle.tree_core.specs.Tree.{Exp, Nil, True, False, Int, Str, Vararg, Function, Var, Index, Call, Method, Unary, Binary, And, Or, Paren, Table, Exps, EndExps, MoreExps, Fields, EndFields, MoreFields, Item, Keyed}
 use Rattle.tree_activation.specs.Work.{Purpose, for_call, evaluate, give, collect, construct, item_of, keyed_value, keyed_store, callee_of, method_of, listed, Work, Pending, key_of, object_of, operand_of, right_of, left_of, and_right, or_right, first_only}
 use Rattle.tree_activation.specs.Work as tree
 use Rattle.tree_activation.specs.Activation.{takes_all, step}
 use Rattle.tree_activation.specs.Asking.{first}
-use Rattle.code_core.specs.declared.opcode.Opcode.TheVariants.{LoadNil, LoadTrue, LoadFalse, GetTable, Test, OpSelf}
+use Rattle.code_core.specs.declared.opcode.Opcode.TheVariants.{LoadNil, LoadTrue, LoadFalse, GetTable, SetTable, Test, OpSelf}
 use Rattle.code_core.specs.declared.opcode.Opcode.TheVariants.{Call as CallCode}
 use Rattle.code_core.specs.declared.proto.Const.{Const}
 use Rattle.code_core.specs.declared.proto.Const.TheVariants.{Str as StrConst}
@@ -18,9 +18,9 @@ use Rattle.machine_core.specs.Talk.{before}
 use Rattle.code_of.specs.Coded.{with_abc, jump_over}
 use Rattle.code_of.specs.Constants.{is_small, loads}
 use Rattle.code_of.specs.Operators.{prefix_code, operator_code}
-use Rattle.code_of.specs.Expressions.{made_by, count, is_open, ends_open, Wanted, results_field, one_less, field_of, wanted_after, list_field, exp_code, exps_code}
-use Rattle.exp_laws.proofs.Registers.{Rel, After, after_then, lower, after_put}
+use Rattle.code_of.specs.Expressions.{made_by, count, is_open, ends_open, Wanted, results_field, one_less, field_of, wanted_after, list_field, exp_code, exps_code, fields_code, set_list}
 use Rattle.exp_laws.specs.Setting.{Setting}
+use Rattle.exp_laws.proofs.Registers.{Rel, After, after_none, after_then, lower, after_put}
 use Rattle.exp_laws.proofs.Talking.{Agree, go_left, of_tree, of_code}
 use Rattle.exp_laws.proofs.Placing.{HasAt, has_front, has_back}
 use Rattle.exp_laws.proofs.Steps.{true_step, false_step}
@@ -29,8 +29,10 @@ use Rattle.exp_laws.proofs.Calls.{Passed}
 use Rattle.exp_laws.proofs.CallForms.{varargs_goes, call_goes, method_goes}
 use Rattle.exp_laws.proofs.ListForms.{GoesListed, Listed, total, listed_at, listed_after, listed_less, passed, nils_goes, held_both}
 use Rattle.exp_laws.proofs.FunctionForms.{function_goes}
+use Rattle.exp_laws.proofs.Tables.{items_count}
+use Rattle.exp_laws.proofs.TableForms.{new_goes, fill_goes, store_goes}
 use Rattle.exp_laws.proofs.Loads.{nil_step}
-use Rattle.exp_laws.specs.Placed.{IsPlaced, ArePlaced, room_of, room_of_list, room_of_values}
+use Rattle.exp_laws.specs.Placed.{IsPlaced, ArePlaced, FieldsArePlaced, room_of, room_of_fields, room_of_list, room_of_values}
 use Rattle.exp_laws.proofs.Rooms.{name_room}
 use Rattle.exp_laws.proofs.Going.{Given, Filled, Goes, GoesFilled, at_place, goes_at, goes_after, one_goes}
 use Rattle.exp_laws.proofs.NameForms.{load_right, constant_goes, integer_goes, index_goes, name_goes}
@@ -305,6 +307,18 @@ module _ (S : Setting) (pending : List Pending) where
       args_ready es more args t pc opened env regs c below room rel l
       (λ f rest is f_is passes small. call_goes S pending field (list_field more es) n line t pc opened f rest _ env regs c k (ap (λ vs. step (tree.at (collect (for_call line false) vs EndExps) (of_tree S pending env c) k)) is) has inside le (omega (arith, below)) wide fits small rel f_is passes goes)
 
+  abbrev pub FieldsSame : Fields → Type 0
+  FieldsSame fs =
+      (line items m t j n pc opened : ℕ) (env regs : List Value) (c : Captured) (k : List Work)
+      → n ≤ S.bound → HasAt S pc (fields_code S.code.own.constants fs items t j line) → FieldsArePlaced S fs items (length env) j → pc + length (fields_code S.code.own.constants fs items t j line) < length S.code.own.code
+      → length env ≤ t → t + (1 + room_of_fields S.code.own.constants fs) ≤ S.code.own.stack → Rel S.code.own.stack pending env c regs → nth regs t ≡ reference a_table m
+      → Goes S pending n false t env regs (pc + length (fields_code S.code.own.constants fs items t j line)) k
+      → Agree S n (tree.at (construct line (reference a_table m) items fs) (of_tree S pending env c) k) (before (of_code S pending pc regs opened) c)
+
+  item_fits : (many : Bool) → cond many 0 2 < 2 ^ 8
+  item_fits true = lit< tt
+  item_fits false = lit< tt
+
   mutual
     all_same : (e : Exp) → AllSame e
     all_same (Nil line) field t j n pc opened env regs c k bound has fits ok inside le room rel goes =
@@ -409,7 +423,11 @@ module _ (S : Setting) (pending : List Pending) where
         (λ ws env2 regs2 c2 o2 af2 eq2 one2. go_left S n _ (tree.at (give (first ws ∷ [])) (of_tree S pending env2 c2) k) _ refl
         (at_place S pending n (pc + length first_code + 2 + length second_code) (pc + length (first_code ++ test_code)) o2 _ regs2 c2 (omega (arith, whole))
         (goes (first ws ∷ []) env2 regs2 c2 o2 (after_then S.code.own.stack pending env regs env1 regs1 env2 regs2 c1 c2 t t (omega arith) af af2) eq2 refl)))))))
-    all_same (Table line fs) field t j n pc opened env regs c k bound has fits ok inside le room rel goes = absurd ok
+    all_same (Table line fs) field t j n pc opened env regs c k bound has fits ok inside le room rel goes =
+        new_goes S pending n line t pc opened _ env regs c k (λ vs. construct line (first vs) 0 fs) refl (has.0, (has.1.0, (has.1.1.0, (has.1.1.1.0, tt)))) (omega (arith, inside)) le (omega (arith, room)) rel
+        (λ m env1 regs1 c1 af is. fields_same fs line 0 m t j n (pc + 2) opened env1 regs1 c1 k bound (let two : pc + 1 + 1 ≡ pc + 2 = omega arith in subst (λ q. HasAt S q (fields_code S.code.own.constants fs 0 t j line)) two has.1.1.1.1)
+        (subst (λ z. FieldsArePlaced S fs 0 z j) (sym af.size) ok) (omega (arith, inside)) (omega (arith, le, af.size)) (omega (arith, room)) af.rel is
+        (goes_at S pending n false t _ (pc + length (exp_code S.code.own.constants (Table line fs) t j 2)) env1 regs1 k (omega arith) (goes_after S pending n false t _ env regs env1 regs1 c1 k af goes)))
     all_same (Function line body) field t j n pc opened env regs c k bound has fits ok inside le room rel goes =
         function_goes S pending n false t j pc opened body _ env regs c k refl has bound ok.0 ok.1 inside le (omega arith) rel goes
     all_same (Vararg line) field t j n pc opened env regs c k bound has fits ok inside le room rel goes =
@@ -502,6 +520,89 @@ module _ (S : Setting) (pending : List Pending) where
         (one_more (MoreExps d es) (lists_same (MoreExps d es)) purpose wanted base above (j + made_by e) line n (pc + length first_code) o1 have vs env regs env1 regs1 c1 k bound (counted_less (takes_all purpose) wanted e (MoreExps d es) all) (has_back S pc first_code rest_code has) wf ok.1
         (omega (arith, inside, sum)) size held le (omega (arith, room, some)) (omega (arith, room)) af eq
         (listed_at S pending n (total wanted above) (ends_open (MoreExps d es)) _ purpose base _ (pc + length (first_code ++ rest_code)) env regs k (omega (arith, sum)) goes))))
+
+    fields_same : (fs : Fields) → FieldsSame fs
+    fields_same EndFields line items m t j n pc opened env regs c k bound has ok inside le room rel is goes =
+        let none : pc ≡ pc + 0 = omega arith in
+        go_left S n _ (tree.at (give (reference a_table m ∷ [])) (of_tree S pending env c) k) _ refl
+        (at_place S pending n pc (pc + 0) opened _ regs c none (goes (reference a_table m ∷ []) env regs c opened (after_none S.code.own.stack pending env regs c t rel) is refl))
+    fields_same (MoreFields (Item e) EndFields) line items m t j n pc opened env regs c k bound has ok inside le room rel is goes =
+        let field : ℕ = cond (is_open e) 0 2 in
+        let first_code = exp_code S.code.own.constants e (t + 1) j field in
+        let fill_code = set_list t (items_count (is_open e)) items line in
+        let last_code = fill_code ++ [] in
+        let sum = length-append first_code last_code in
+        let more = length-append fill_code [] in
+        let some = room_some S.code.own.constants e in
+        go_left S n _ (tree.at (evaluate e) (of_tree S pending env c) (item_of line (reference a_table m) items EndFields ∷ k)) _ refl
+        (all_same e field (t + 1) j n pc opened env regs c (item_of line (reference a_table m) items EndFields ∷ k) bound (has_front S pc first_code last_code has) (item_fits (is_open e)) ok.0 (omega (arith, inside, sum)) (omega (arith, le)) (omega (arith, room)) rel
+        (goes_by n e field (t + 1) env regs (pc + length first_code) (item_of line (reference a_table m) items EndFields ∷ k)
+        (λ many vs env1 regs1 c1 o1 af filled. let all : Filled S 0 (pc + length first_code) (t + 1) vs regs1 o1 = subst (λ z. Filled S z (pc + length first_code) (t + 1) vs regs1 o1) (ap (λ b. cond b 0 2) many) filled in
+        let end : t + 1 + o1 ≡ t + 1 + length vs = (let o = all.1.0 in omega (arith, o)) in
+        let same : length fill_code ≡ length (set_list t (items_count true) items line) = ap (λ b. length (set_list t (items_count b) items line)) many in
+        fill_goes S pending true items m n line t (pc + length first_code) o1 vs _ env1 regs1 c1 k (give (reference a_table m ∷ [])) refl
+        (subst (λ b. HasAt S (pc + length first_code) (set_list t (items_count b) items line)) many (has_front S (pc + length first_code) fill_code [] (has_back S pc first_code last_code has)))
+        (omega (arith, inside, sum, more, same)) ok.1.0 (omega (arith, le, af.size)) (omega (arith, room)) af.rel (af.keeps t (omega (arith, le)) (omega arith) ∙ is)
+        (ap (λ q. elim q as (λ _. Option ℕ) [ fixed ↦ None | open_from r ↦ Some (r + o1) ]) all.0 ∙ ap Some end, all.1.1.1)
+        (λ env2 regs2 c2 af2. at_place S pending n _ (pc + length (first_code ++ last_code)) 0 _ regs2 c2 (omega (arith, sum, more, same))
+        (goes (reference a_table m ∷ []) env2 regs2 c2 0
+        (after_then S.code.own.stack pending env regs env1 regs1 env2 regs2 c1 c2 t t (omega arith) (lower S.code.own.stack pending env regs env1 regs1 c1 (t + 1) t (omega arith) af) (lower S.code.own.stack pending env1 regs1 env2 regs2 c2 (t + 1) t (omega arith) af2))
+        (af2.keeps t (omega (arith, le, af.size)) (omega arith) ∙ (af.keeps t (omega (arith, le)) (omega arith) ∙ is)) refl)))
+        (λ one vs env1 regs1 c1 o1 af eq given. let same : length fill_code ≡ length (set_list t (items_count false) items line) = ap (λ b. length (set_list t (items_count b) items line)) one in
+        let two : room_of S.code.own.constants e field ≡ room_of S.code.own.constants e 2 = ap (λ b. room_of S.code.own.constants e (cond b 0 2)) one in
+        fill_goes S pending false items m n line t (pc + length first_code) o1 (first vs ∷ []) _ env1 regs1 c1 k (give (reference a_table m ∷ []))
+        (ap (λ l. step (tree.at (give l) (of_tree S pending env1 c1) (item_of line (reference a_table m) items EndFields ∷ k))) given)
+        (subst (λ b. HasAt S (pc + length first_code) (set_list t (items_count b) items line)) one (has_front S (pc + length first_code) fill_code [] (has_back S pc first_code last_code has)))
+        (omega (arith, inside, sum, more, same)) ok.1.0 (omega (arith, le, af.size)) (omega (arith, room)) af.rel (af.keeps t (omega (arith, le)) (omega arith) ∙ is)
+        (refl, (omega (arith, room, some, two, af.rel.room), held_one (t + 1) (first vs) regs1 eq))
+        (λ env2 regs2 c2 af2. at_place S pending n _ (pc + length (first_code ++ last_code)) 0 _ regs2 c2 (omega (arith, sum, more, same))
+        (goes (reference a_table m ∷ []) env2 regs2 c2 0
+        (after_then S.code.own.stack pending env regs env1 regs1 env2 regs2 c1 c2 t t (omega arith) (lower S.code.own.stack pending env regs env1 regs1 c1 (t + 1) t (omega arith) af) (lower S.code.own.stack pending env1 regs1 env2 regs2 c2 (t + 1) t (omega arith) af2))
+        (af2.keeps t (omega (arith, le, af.size)) (omega arith) ∙ (af.keeps t (omega (arith, le)) (omega arith) ∙ is)) refl)))))
+    fields_same (MoreFields (Item e) (MoreFields f fs)) line items m t j n pc opened env regs c k bound has ok inside le room rel is goes =
+        let first_code = exp_code S.code.own.constants e (t + 1) j 2 in
+        let fill_code = set_list t (items_count false) items line in
+        let rest_code = fields_code S.code.own.constants (MoreFields f fs) (items + 1) t (j + made_by e) line in
+        let behind = has_back S pc first_code (fill_code ++ rest_code) has in
+        let whole = length-append first_code (fill_code ++ rest_code) in
+        let more = length-append fill_code rest_code in
+        let some = room_some S.code.own.constants e in
+        go_left S n _ (tree.at (evaluate e) (of_tree S pending env c) (item_of line (reference a_table m) items (MoreFields f fs) ∷ k)) _ refl
+        (one_same e (all_same e) (t + 1) j n pc opened env regs c (item_of line (reference a_table m) items (MoreFields f fs) ∷ k) bound (has_front S pc first_code (fill_code ++ rest_code) has) ok.0 (omega (arith, inside, whole)) (omega (arith, le)) (omega (arith, room)) rel
+        (λ vs env1 regs1 c1 o1 af eq one. fill_goes S pending false items m n line t (pc + length first_code) o1 (first vs ∷ []) _ env1 regs1 c1 k (construct line (reference a_table m) (items + 1) (MoreFields f fs)) refl
+        (has_front S (pc + length first_code) fill_code rest_code behind) (omega (arith, inside, whole, more)) ok.1.0 (omega (arith, le, af.size)) (omega (arith, room)) af.rel (af.keeps t (omega (arith, le)) (omega arith) ∙ is)
+        (refl, (omega (arith, room, some, af.rel.room), held_one (t + 1) (first vs) regs1 eq))
+        (λ env2 regs2 c2 af2. fields_same (MoreFields f fs) line (items + 1) m t (j + made_by e) n (pc + length first_code + length fill_code) 0 env2 regs2 c2 k bound (has_back S (pc + length first_code) fill_code rest_code behind)
+        (subst (λ z. FieldsArePlaced S (MoreFields f fs) (items + 1) z (j + made_by e)) (sym (af2.size ∙ af.size)) ok.1.1) (omega (arith, inside, whole, more)) (omega (arith, le, af.size, af2.size)) (omega (arith, room)) af2.rel
+        (af2.keeps t (omega (arith, le, af.size)) (omega arith) ∙ (af.keeps t (omega (arith, le)) (omega arith) ∙ is))
+        (goes_at S pending n false t _ (pc + length (first_code ++ (fill_code ++ rest_code))) env2 regs2 k (omega (arith, whole, more))
+        (goes_after S pending n false t _ env regs env2 regs2 c2 k
+        (after_then S.code.own.stack pending env regs env1 regs1 env2 regs2 c1 c2 t t (omega arith) (lower S.code.own.stack pending env regs env1 regs1 c1 (t + 1) t (omega arith) af) (lower S.code.own.stack pending env1 regs1 env2 regs2 c2 (t + 1) t (omega arith) af2)) goes)))))
+    fields_same (MoreFields (Keyed field_line e d) fs) line items m t j n pc opened env regs c k bound has ok inside le room rel is goes =
+        let first_code = exp_code S.code.own.constants e (t + 1) j 2 in
+        let second_code = exp_code S.code.own.constants d (t + 2) (j + made_by e) 2 in
+        let set_code = with_abc SetTable t (t + 1) (t + 2) field_line in
+        let rest_code = fields_code S.code.own.constants fs items t (j + made_by e + made_by d) line in
+        let behind = has_back S pc first_code (second_code ++ (set_code ∷ rest_code)) has in
+        let beyond = has_back S (pc + length first_code) second_code (set_code ∷ rest_code) behind in
+        let whole = length-append first_code (second_code ++ (set_code ∷ rest_code)) in
+        let more = length-append second_code (set_code ∷ rest_code) in
+        let some = room_some S.code.own.constants d in
+        go_left S n _ (tree.at (evaluate e) (of_tree S pending env c) (keyed_value line (reference a_table m) items field_line d fs ∷ k)) _ refl
+        (one_same e (all_same e) (t + 1) j n pc opened env regs c (keyed_value line (reference a_table m) items field_line d fs ∷ k) bound (has_front S pc first_code (second_code ++ (set_code ∷ rest_code)) has) ok.0 (omega (arith, inside, whole)) (omega (arith, le)) (omega (arith, room)) rel
+        (λ vs env1 regs1 c1 o1 af eq one. go_left S n _ (tree.at (evaluate d) (of_tree S pending env1 c1) (keyed_store line (reference a_table m) items field_line (first vs) fs ∷ k)) _ refl
+        (one_same d (all_same d) (t + 2) (j + made_by e) n (pc + length first_code) o1 env1 regs1 c1 (keyed_store line (reference a_table m) items field_line (first vs) fs ∷ k) bound (has_front S (pc + length first_code) second_code (set_code ∷ rest_code) behind)
+        (placed d _ _ _ af.size ok.1.0) (omega (arith, inside, whole, more)) (omega (arith, le, af.size)) (omega (arith, room)) af.rel
+        (λ ws env2 regs2 c2 o2 af2 eq2 one2. store_goes S pending t (t + 1) (t + 2) (t + 1) n field_line (pc + length first_code + length second_code) o2 (reference a_table m) (first vs) (first ws) _ env2 regs2 c2 k (λ _. construct line (reference a_table m) items fs) refl
+        (beyond.0, (beyond.1.0, tt)) (omega (arith, inside, whole, more)) (omega (arith, room, some)) (omega (arith, room, some)) (omega (arith, room, some)) af2.rel
+        (af2.keeps t (omega (arith, le, af.size)) (omega arith) ∙ (af.keeps t (omega (arith, le)) (omega arith) ∙ is)) (af2.keeps (t + 1) (omega (arith, le, af.size)) (omega arith) ∙ eq) eq2
+        (λ us env3 regs3 c3 af3. fields_same fs line items m t (j + made_by e + made_by d) n (pc + length first_code + length second_code + 1) o2 env3 regs3 c3 k bound beyond.1.1
+        (subst (λ z. FieldsArePlaced S fs items z (j + made_by e + made_by d)) (sym (af3.size ∙ (af2.size ∙ af.size))) ok.1.1) (omega (arith, inside, whole, more)) (omega (arith, le, af.size, af2.size, af3.size)) (omega (arith, room)) af3.rel
+        (af3.keeps t (omega (arith, le, af.size, af2.size)) (omega arith) ∙ (af2.keeps t (omega (arith, le, af.size)) (omega arith) ∙ (af.keeps t (omega (arith, le)) (omega arith) ∙ is)))
+        (goes_at S pending n false t _ (pc + length (first_code ++ (second_code ++ (set_code ∷ rest_code)))) env3 regs3 k (omega (arith, whole, more))
+        (goes_after S pending n false t _ env regs env3 regs3 c3 k
+        (after_then S.code.own.stack pending env regs env1 regs1 env3 regs3 c1 c3 t t (omega arith) (lower S.code.own.stack pending env regs env1 regs1 c1 (t + 1) t (omega arith) af)
+        (after_then S.code.own.stack pending env1 regs1 env2 regs2 env3 regs3 c2 c3 t t (omega arith) (lower S.code.own.stack pending env1 regs1 env2 regs2 c2 (t + 2) t (omega arith) af2) (lower S.code.own.stack pending env2 regs2 env3 regs3 c3 (t + 1) t (omega arith) af3))) goes)))))))
 
   -- the code of an expression of which one value is wanted
   pub exp_same : (e : Exp) → ExpSame e

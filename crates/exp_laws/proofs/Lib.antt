@@ -14,6 +14,7 @@ pub mod FunctionForms
 pub mod TableForms
 pub mod Exps
 pub mod LastCalls
+pub mod TableAnswers
 pub mod Returning
 pub mod Returns
 pub mod Marking

@@ -2,29 +2,32 @@
 use Rattle.std.proofs.Common.{◌≡◌, ℕ, zero, suc, ◌+◌, ◌*◌, ◌/◌, ◌%◌, ◌<◌, ◌≤◌, ◌^◌, Bool, true, false, cond, pos, List, [], ◌∷◌, ◌++◌, length, take, refl, sym, ap, ap₂, ◌∙◌, arith}
 use Rattle.std.specs.Prelude.{nat_lt}
 use borrow.Author.Tests.{ltb-true}
-use Rattle.int_core.specs.Value.{Value, a_table, object, nth}
+use Rattle.int_core.specs.Value.{Value, known, a_table, a_function, a_coroutine, object, nth, write}
 use Rattle.int_core.specs.Operations.{store}
-use Rattle.int_core.specs.Ask.{fills_table, operates, Reply, values, faulted, left, values_in, Captured}
+use Rattle.int_core.specs.Ask.{makes_table, fills_table, operates, Reply, values, faulted, left, values_in, Captured, IsReplyTo}
+use Rattle.tree_core.specs.Tree.{Body}
 use Rattle.tree_activation.specs.Work.{Control, Work, Pending}
 use Rattle.tree_activation.specs.Work as tree
 use Rattle.tree_activation.specs.Activation.{step}
 use Rattle.tree_activation.specs.Asking.{asks, asks_quickly}
-use Rattle.code_core.specs.declared.opcode.Opcode.TheVariants.{SetTable, SetList, ExtraArg}
+use Rattle.code_core.specs.declared.opcode.Opcode.TheVariants.{NewTable, SetTable, SetList, ExtraArg}
 use Rattle.code_core.specs.Instruction.{abc, op_ax}
 use Rattle.machine_core.specs.World.{for_value, dropped}
-use Rattle.machine_core.specs.InstructionRows.{told_values}
+use Rattle.machine_core.specs.Text.{read, write_register}
+use Rattle.machine_core.specs.InstructionRows.{skip, then, told_values}
 use Rattle.machine_core.specs.Talk.{before, amid, talk, says_so, heard}
+use Rattle.machine_join.proofs.Lists.{nth_write_same}
 use Rattle.code_of.specs.Coded.{Coded, with_abc}
 use Rattle.code_of.specs.Expressions.{set_list}
-use Rattle.exp_laws.proofs.Registers.{Rel, After, after_then, after_above}
 use Rattle.exp_laws.specs.Setting.{Setting}
+use Rattle.exp_laws.proofs.Registers.{Rel, After, after_then, after_above, after_put}
 use Rattle.exp_laws.proofs.Talking.{Agree, go_right, of_tree, of_code}
 use Rattle.exp_laws.proofs.Placing.{HasAt, here_abc}
 use Rattle.exp_laws.proofs.Asking.{asks_alike, quick_alike}
 use Rattle.exp_laws.proofs.Going.{next_there}
-use Rattle.exp_laws.proofs.Steps.{go_step}
+use Rattle.exp_laws.proofs.Steps.{go_step, put_step}
 use Rattle.exp_laws.proofs.Calls.{Passed}
-use Rattle.exp_laws.proofs.Tables.{items_count, items_field, filled_text, fill_near, fill_far, filled_step, set_step, set_rest}
+use Rattle.exp_laws.proofs.Tables.{items_count, items_field, filled_text, new_step, fill_near, fill_far, filled_step, set_step, set_rest}
 
 nth_take : (n : ℕ) (xs : List Value) (r : ℕ) → r < n → nth (take n xs) r ≡ nth xs r
 nth_take zero xs r lt = absurd (omega arith)
@@ -43,6 +46,39 @@ told_dropped (faulted words) = refl
 told_dropped (left e) = refl
 
 module _ (S : Setting) (pending : List Pending) where
+  -- a new table in register t
+  pub new_goes : (n line t pc opened : ℕ) (s : tree.State) (env regs : List Value) (c : Captured) (k : List Work) (goes : List Value → Control)
+      → step s ≡ asks_quickly makes_table line (of_tree S pending env c) k goes → HasAt S pc (with_abc NewTable t 0 0 line ∷ (op_ax ExtraArg 0, line) ∷ []) → pc + 2 < length S.code.own.code → length env ≤ t → t < S.code.own.stack
+      → Rel S.code.own.stack pending env c regs
+      → ((m : ℕ) (env1 regs1 : List Value) (c1 : Captured) → After S.code.own.stack pending env regs t env1 regs1 c1 → nth regs1 t ≡ object a_table m
+      → Agree S n (tree.at (goes (object a_table m ∷ [])) (of_tree S pending env1 c1) k) (before (of_code S pending (pc + 2) regs1 opened) c1))
+      → Agree S n s (before (of_code S pending pc regs opened) c)
+  new_goes n line t pc opened s env regs c k goes e has inside le room rel next =
+      quick_alike S pending n s _ makes_table makes_table line pc opened t env regs c k goes (then (write_register t (read 0)) skip) [] e
+      (new_step S.code t (of_code S pending pc regs opened) c has.0 has.1.1.0 (omega (arith, room, S.small))) (λ m lt. tt) refl rel (here_abc S NewTable t 0 0 false line pc ((op_ax ExtraArg 0, line) ∷ []) has)
+      (λ reply fits env1 regs1 c1 af. by reply fits env1 regs1 c1 af)
+    where
+      new : (m : ℕ) (env1 regs1 : List Value) (c1 : Captured) → After S.code.own.stack pending env regs t env1 regs1 c1
+          → Agree S n (tree.at (goes (object a_table m ∷ [])) (of_tree S pending env1 c1) k) (amid (then (write_register t (read 0)) skip) (object a_table m ∷ []) (of_code S pending pc regs1 opened) c1)
+      new m env1 regs1 c1 af =
+          let there = next_there S (pc + 2) inside in
+          let v = object a_table m in
+          go_right S n _ _ (before (of_code S pending (pc + 2) (write t v regs1) opened) c1)
+          (put_step S.code t 2 (read 0) there.0 (v ∷ []) (of_code S pending pc regs1 opened) c1 (omega (arith, room, af.rel.room)) there.1)
+          (next m env1 (write t v regs1) c1
+          (after_then S.code.own.stack pending env regs env1 regs1 env1 (write t v regs1) c1 c1 t t (omega arith) af (after_put S.code.own.stack pending env1 regs1 c1 t v (omega (arith, le, af.size)) af.rel)) (nth_write_same t v regs1))
+
+      by : (reply : Reply) → IsReplyTo {F = Body} makes_table reply → (env1 regs1 : List Value) (c1 : Captured) → After S.code.own.stack pending env regs t env1 regs1 c1
+          → Agree S n (tree.at (goes (values_in reply)) (of_tree S pending env1 c1) k) (amid (then (write_register t (read 0)) skip) (values_in reply) (of_code S pending pc regs1 opened) c1)
+      by (values (object a_table m ∷ [])) fits env1 regs1 c1 af = new m env1 regs1 c1 af
+      by (values []) fits env1 regs1 c1 af = absurd fits
+      by (values (known x ∷ vs)) fits env1 regs1 c1 af = absurd fits
+      by (values (object a_function m ∷ vs)) fits env1 regs1 c1 af = absurd fits
+      by (values (object a_coroutine m ∷ vs)) fits env1 regs1 c1 af = absurd fits
+      by (values (object a_table m ∷ w ∷ vs)) fits env1 regs1 c1 af = absurd fits
+      by (faulted words) fits env1 regs1 c1 af = absurd fits
+      by (left e) fits env1 regs1 c1 af = absurd fits
+
   -- the table in register t is filled with the values behind it
   pub fill_goes : (many : Bool) (items m n line t pc opened : ℕ) (args : List Value) (s : tree.State) (env regs : List Value) (c : Captured) (k : List Work) (next_of : Control)
       → step s ≡ asks_quickly (fills_table (object a_table m) items args) line (of_tree S pending env c) k (λ _. next_of) → HasAt S pc (set_list t (items_count many) items line)

@@ -63,8 +63,7 @@ module _ (S : Setting) where
     IsPlaced (And line e d) size j = IsPlaced e size j × IsPlaced d size (j + made_by e)
     IsPlaced (Or line e d) size j = IsPlaced e size j × IsPlaced d size (j + made_by e)
     IsPlaced (Paren line e) size j = IsPlaced e size j
-    -- constructors have no law yet
-    IsPlaced (Table line fs) size j = ⊥
+    IsPlaced (Table line fs) size j = FieldsArePlaced fs 0 size j
 
     pub ArePlaced : Exps → (size j : ℕ) → Type 0
     ArePlaced EndExps size j = Unit {0}

@@ -1,7 +1,7 @@
 -- What one activation of a function says to the world, and what it is told: an ask carries its line and the present values of the locals
 -- that other functions share with the activation, and an answer brings these values back.
 use Rattle.std.specs.Prelude.{◌≡◌, ℕ, zero, suc, cond, List, [], ◌∷◌, length, map, Option, Some, None, nat_eq, nat_lt}
-use Rattle.int_core.specs.Value.{Value, nth, write}
+use Rattle.int_core.specs.Value.{Value, a_table, object, nth, write}
 use Rattle.int_core.specs.Operations.{Operation}
 
 -- a cell that a new function gets: that of an own local, or one of the activation's function
@@ -120,6 +120,10 @@ abbrev pub IsOne : Reply → Type 0
 IsOne (values (v ∷ [])) = Unit {0}
 IsOne _ = ⊥
 
+abbrev pub IsTable : Reply → Type 0
+IsTable (values (object a_table n ∷ [])) = Unit {0}
+IsTable _ = ⊥
+
 abbrev pub IsDone : Reply → Type 0
 IsDone (values []) = Unit {0}
 IsDone _ = ⊥
@@ -141,7 +145,7 @@ IsChecked reply = Unit {0}
 abbrev pub IsReplyTo : {F : Type 0} → Ask F → Reply → Type 0
 IsReplyTo (reads_upvalue u) reply = IsOne reply
 IsReplyTo (writes_upvalue u v) reply = IsDone reply
-IsReplyTo makes_table reply = IsOne reply
+IsReplyTo makes_table reply = IsTable reply
 IsReplyTo (makes_function f cells) reply = IsOne reply
 IsReplyTo (fills_table t last vs) reply = IsDone reply
 IsReplyTo pays reply = IsDone reply

@@ -45,7 +45,7 @@ module _ (source : Option (List ℕ)) (p : Prototype) (bound : ℕ) (varargs : L
     exp_up (And l e d) t j h g = (exp_up e t j h.0 g.0, exp_up d t (j + made_by e) h.1 g.1)
     exp_up (Or l e d) t j h g = (exp_up e t j h.0 g.0, exp_up d t (j + made_by e) h.1 g.1)
     exp_up (Paren l e) t j h g = exp_up e t j h g
-    exp_up (Table l fs) t j h g = h
+    exp_up (Table l fs) t j h g = fields_up fs 0 t j h g
 
     exps_up : (es : Exps) (t j : ℕ) → ArePlaced low es t j → InExps source p es j → ArePlaced high es t j
     exps_up EndExps t j h g = tt
