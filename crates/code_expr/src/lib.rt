@@ -8,8 +8,6 @@ mod expressions;
 mod lists;
 mod names;
 mod operators;
-#[cfg(test)]
-mod tests;
 mod word;
 
 pub use constants::Constants;

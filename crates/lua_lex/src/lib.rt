@@ -29,6 +29,3 @@ mod source;
 pub use source::{LexFault, MAX_SOURCE, tokens};
 pub use token::{Token, Tokens};
 pub use words::{KEYWORDS, MARKS};
-
-#[cfg(test)]
-mod tests;

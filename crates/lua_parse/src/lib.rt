@@ -16,6 +16,3 @@ mod terminal;
 
 pub use chunk::parse;
 pub use fault::ParseFault;
-
-#[cfg(test)]
-mod tests;

@@ -8,6 +8,3 @@ mod resolving;
 mod walk;
 
 pub use resolving::resolve;
-
-#[cfg(test)]
-mod tests;

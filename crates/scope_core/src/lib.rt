@@ -20,6 +20,3 @@ pub use places::place;
 pub use resolved::{Resolved, ScopeFault};
 pub use variable::Variable;
 pub use violation::{Least, Violation};
-
-#[cfg(test)]
-mod tests;

@@ -11,6 +11,3 @@ pub use cursor::Cursor;
 pub use level::Level;
 pub use start::Start;
 pub use word::Word;
-
-#[cfg(test)]
-mod tests;

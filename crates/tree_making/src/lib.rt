@@ -24,6 +24,3 @@ pub use statements::{
     arm, assign, bare_stat, call_stat, do_stat, function_stat, generic_for, if_stat, local,
     local_function, numeric_for, repeat_stat, while_stat,
 };
-
-#[cfg(test)]
-mod tests;

@@ -1,11 +1,11 @@
 // A call that takes memory answers a tree where there is enough of it.
 ghost use Rattle.std.specs.Prelude.{◌≡◌, IfOk};
 
-use crate::{Found, Infix, infix, name_of, string, variable};
 use int_core::Bytes;
 use std::alloc::Global;
 use std::test::Fail;
 use tree_core::{BinOp, Exp, Name, Place};
+use tree_making::{Found, Infix, infix, name_of, string, variable};
 
 fn x(alloc: Global) -> Result<Found<Box<Exp>>, Fail>
     ensures { IfOk result (λ found. found.height ≡ 0) }

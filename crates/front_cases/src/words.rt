@@ -1,7 +1,7 @@
 // What no clause says: the spellings behind the numbers, from the Lua 5.4 manual, 3.1.
-use crate::{Cursor, word};
 use lua_lex::tokens;
 use std::test::Fail;
+use token_cursor::{Cursor, word};
 
 #[test]
 fn words_are_spelled_as_they_are_named(rt: HostRuntime) -> Result<(), Fail> {

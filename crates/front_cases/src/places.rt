@@ -1,9 +1,9 @@
 // Variables of nested functions, as the manual's sections on local variables and visibility have them.
-use crate::{
+use int_core::Bytes;
+use scope_core::{
     FunctionScope, Functions, Least, Source, Variable, Violation, held_by, held_by_name,
     held_by_stat, place,
 };
-use int_core::Bytes;
 use std::alloc::{AllocError, Global};
 use std::test::Fail;
 use tree_core::{Attrib, Block, Body, Declared, Exp, ExpNode, Name, Place, Stat, StatNode};

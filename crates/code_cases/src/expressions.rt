@@ -1,5 +1,5 @@
 // The words of expressions, worked out by hand from the opcodes and fields that lopcodes.h of Lua 5.4 has.
-use crate::{Constants, Emitter};
+use code_expr::{Constants, Emitter};
 use lua_lex::tokens;
 use lua_parse::parse;
 use lua_scope::resolve;

@@ -5,9 +5,9 @@ use Rattle.code_core.specs.Opcode.{opcodes, number_of}
 use Rattle.code_core.specs.declared.instruction.Instruction.{Instruction}
 use Rattle.code_core.specs.Prototype.{Prototype, list_of}
 use Rattle.code_core.specs.Check.{rules, is_sized, is_described}
-use Rattle.code_of.proofs.Vectors.{changes_operand_code, last_value_code, spreads_code, faults_code, closes_at_end_code}
-use Rattle.code_of.proofs.LoopVectors.{repeats_code, breaks_out_code, returns_from_for_code, continues_code, jumps_about_code, leaves_scopes_code, tests_at_once_code}
-use Rattle.code_of.proofs.MoreVectors.{globals_code, decides_code, chooses_code, calls_method_code, makes_tables_code, swaps_code, numbers_code}
+use Rattle.code_examples.proofs.Vectors.{changes_operand_code, last_value_code, spreads_code, faults_code, closes_at_end_code}
+use Rattle.code_examples.proofs.LoopVectors.{repeats_code, breaks_out_code, returns_from_for_code, continues_code, jumps_about_code, leaves_scopes_code, tests_at_once_code}
+use Rattle.code_examples.proofs.MoreVectors.{globals_code, decides_code, chooses_code, calls_method_code, makes_tables_code, swaps_code, numbers_code}
 
 abbrev places_keep : Prototype → ℕ → List Instruction → Bool
 places_keep p pc [] = true

@@ -13,7 +13,7 @@ use Rattle.tree_core.specs.declared.operator.BinOp.TheVariants.{Add as Plus, Idi
 use Rattle.tree_core.specs.Tree.{Body, True, False, Vararg, Do, While}
 use Rattle.code_means.proofs.Traces.{number}
 use Rattle.code_means.proofs.Forms.{name, declared, closed, of_local, loc, outer, global, int, str, call, bin, block, returning, locals, loc_is, assign, does, fun, vararg_fun, function, text, variable, load_int, jump, jump_back, AskAlike, tree_asks, code_asks}
-use Rattle.code_of.proofs.Hand.{hand, Compiles, word}
+use Rattle.code_examples.proofs.Hand.{hand, Compiles, word}
 
 abbrev one : Value → Reply
 one v = values (v ∷ [])

@@ -14,7 +14,7 @@ use Rattle.tree_core.specs.declared.operator.UnOp.TheVariants.{Not as Negation, 
 use Rattle.tree_core.specs.Tree.{Body, Int, Vararg, Table, Unary, And, Or, Method, Item, Keyed, IfElse, arms, exps, fields}
 use Rattle.code_means.proofs.Traces.{number}
 use Rattle.code_means.proofs.Forms.{no_variable, of_local, loc, global, int, str, call, bin, field, block, returning, assigns, assign, fun, vararg_fun, text, variable, load_int, jump, AskAlike, tree_asks, code_asks}
-use Rattle.code_of.proofs.Hand.{hand, Compiles}
+use Rattle.code_examples.proofs.Hand.{hand, Compiles}
 
 abbrev one : Value → Reply
 one v = values (v ∷ [])

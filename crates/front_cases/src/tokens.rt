@@ -1,5 +1,5 @@
 // What no clause says: outside cases, with values from the Lua 5.4 manual, 3.1.
-use crate::{LexFault, MAX_SOURCE, Token, keyword, mark, tokens};
+use lua_lex::{LexFault, MAX_SOURCE, Token, keyword, mark, tokens};
 use std::alloc::Global;
 use std::test::Fail;
 

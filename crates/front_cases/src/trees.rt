@@ -1,6 +1,6 @@
 // What no clause says: outside cases, with values from the Lua 5.4 manual, 3.3, 3.4 and 9.
-use crate::{ParseFault, parse};
 use lua_lex::tokens;
+use lua_parse::{ParseFault, parse};
 use std::alloc::Global;
 use std::test::Fail;
 use tree_core::{BinOp, Block, Exp, ExpNode, Stat, StatNode, UnOp};

@@ -1,7 +1,7 @@
 // Outside cases, worked out by hand from the Lua 5.4 manual, 2.2, 3.3.4, 3.3.7, 3.3.8, 3.4.11 and 3.5.
-use crate::resolve;
 use lua_lex::tokens;
 use lua_parse::parse;
+use lua_scope::resolve;
 use scope_core::ScopeFault;
 use std::alloc::Global;
 use std::test::Fail;
