@@ -4,4 +4,3 @@ pub mod Expressions
 pub mod Jumps
 pub mod Statements
 pub mod Activation
-pub mod Laws

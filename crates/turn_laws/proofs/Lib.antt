@@ -1,3 +1,4 @@
 pub mod Measure
 mod Falling
 pub mod Steps
+mod Asks

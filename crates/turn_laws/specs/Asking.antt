@@ -1,4 +1,4 @@
--- What is proved of activations as such.
+-- That no activation runs for ever without asking.
 use Rattle.std.specs.Prelude.{ℕ}
 use Rattle.int_core.specs.Ask.{Next, goes_on, runs}
 use Rattle.tree_core.specs.Tree.{Body}
