@@ -53,7 +53,7 @@ module _ (S : Setting) (pending : List Pending) where
   values_goes : (field n line t pc opened : ℕ) (s : tree.State) (q : code.State) (ws env regs env1 regs1 : List Value) (c1 : Captured) (k : List Work)
       → s ≡ tree.at (give ws) (of_tree S pending env1 c1) k → talk_step S.code q ≡ talk S.code (write_values t field 0) ws (of_code S pending pc regs1 opened) c1
       → (field ≡ 0 → mark S.code (pc + 1) ≡ open_from t) → pc + 1 < length S.code.own.code → length env ≤ t → t + room_of_values field ≤ S.code.own.stack
-      → After S.code.own.stack pending env regs t env1 regs1 c1 → GoesFilled S pending n field t env regs (pc + 1) k → Agree S n s q
+      → After S.hidden S.code.own.stack pending env regs t env1 regs1 c1 → GoesFilled S pending n field t env regs (pc + 1) k → Agree S n s q
   values_goes field n line t pc opened s q ws env regs env1 regs1 c1 k is d marked inside le room af goes =
       let there = next_there S (pc + 1) inside in
       let more = filled_more field t ws regs1 in
@@ -61,29 +61,29 @@ module _ (S : Setting) (pending : List Pending) where
       (d ∙ values_step S.code field t ws there.0 (of_code S pending pc regs1 opened) c1 there.1 (omega (arith, room, af.rel.room)))
       (subst (λ z. Agree S n z (before (of_code S pending (pc + 1) (filled field t ws regs1) (left_open field ws opened)) c1)) (sym is)
       (goes ws env1 (filled field t ws regs1) c1 (left_open field ws opened)
-      (after_then S.code.own.stack pending env regs env1 regs1 env1 (filled field t ws regs1) c1 c1 t t (omega arith) af
-      (after_above S.code.own.stack pending env1 regs1 (filled field t ws regs1) c1 t (omega (arith, le, af.size)) af.rel (λ r lt. filled_below field t ws regs1 r lt) (omega (arith, more, af.rel.room))))
+      (after_then S.hidden S.code.own.stack pending env regs env1 regs1 env1 (filled field t ws regs1) c1 c1 t t (omega arith) af
+      (after_above S.hidden S.code.own.stack pending env1 regs1 (filled field t ws regs1) c1 t (omega (arith, le, af.size)) af.rel (λ r lt. filled_below field t ws regs1 r lt) (omega (arith, more, af.rel.room))))
       (are_filled field (pc + 1) t opened ws regs1 marked (omega (arith, room, af.rel.room)))))
 
   -- `...`
   pub varargs_goes : (field n line t pc opened : ℕ) (s : tree.State) (env regs : List Value) (c : Captured) (k : List Work) → step s ≡ goes_on (tree.at (give S.varargs) (of_tree S pending env c) k)
-      → HasAt S pc (with_abc VarArg t 0 field line ∷ []) → pc + 1 < length S.code.own.code → length env ≤ t → t + room_of_values field ≤ S.code.own.stack → field < 2 ^ 8 → Rel S.code.own.stack pending env c regs
+      → HasAt S pc (with_abc VarArg t 0 field line ∷ []) → pc + 1 < length S.code.own.code → length env ≤ t → t + room_of_values field ≤ S.code.own.stack → field < 2 ^ 8 → Rel S.hidden S.code.own.stack pending env c regs
       → GoesFilled S pending n field t env regs (pc + 1) k → Agree S n s (before (of_code S pending pc regs opened) c)
   varargs_goes field n line t pc opened s env regs c k e has inside le room fits rel goes =
       let t_fits : t < 2 ^ 8 = omega (arith, S.small) in
       go_left S n s (tree.at (give S.varargs) (of_tree S pending env c) k) _ e
       (values_goes field n line t pc opened _ _ S.varargs env regs env regs c k refl (varargs_step S.code t field (of_code S pending pc regs opened) c has.0 t_fits fits)
-      (λ none. open_mark S.code VarArg t 0 pc (subst (λ z. at S.code pc ≡ Some (abc VarArg t 0 z false)) none has.0) refl t_fits (lit< tt)) inside le room (after_none S.code.own.stack pending env regs c t rel) goes)
+      (λ none. open_mark S.code VarArg t 0 pc (subst (λ z. at S.code pc ≡ Some (abc VarArg t 0 z false)) none has.0) refl t_fits (lit< tt)) inside le room (after_none S.hidden S.code.own.stack pending env regs c t rel) goes)
 
   -- a call of the value in register t
   pub call_goes : (field b n line t pc opened : ℕ) (f : Value) (args : List Value) (s : tree.State) (env regs : List Value) (c : Captured) (k : List Work) → step s ≡ asks (calls f args) line (of_tree S pending env c) k give
-      → HasAt S pc (with_abc CallCode t b field line ∷ []) → pc + 1 < length S.code.own.code → length env ≤ t → t < S.code.own.stack → t + room_of_values field ≤ S.code.own.stack → field < 2 ^ 8 → b < 2 ^ 8 → Rel S.code.own.stack pending env c regs
+      → HasAt S pc (with_abc CallCode t b field line ∷ []) → pc + 1 < length S.code.own.code → length env ≤ t → t < S.code.own.stack → t + room_of_values field ≤ S.code.own.stack → field < 2 ^ 8 → b < 2 ^ 8 → Rel S.hidden S.code.own.stack pending env c regs
       → nth regs t ≡ f → Passed S.code b (t + 1) args (of_code S pending pc regs opened) → GoesFilled S pending n field t env regs (pc + 1) k → Agree S n s (before (of_code S pending pc regs opened) c)
   call_goes field b n line t pc opened f args s env regs c k e has inside le below room fits b_fits rel f_is passed goes =
       let t_fits : t < 2 ^ 8 = omega (arith, S.small) in
       let cut = blanked (λ i. nat_lt i t) 0 S.code.own.stack regs in
       let size = length_blanked (λ i. nat_lt i t) 0 S.code.own.stack regs in
-      let af = after_above S.code.own.stack pending env regs cut c t le rel (λ r lt. blanked_keeps (λ i. nat_lt i t) S.code.own.stack regs r (omega arith) (lt_true r t lt)) (omega (arith, size)) in
+      let af = after_above S.hidden S.code.own.stack pending env regs cut c t le rel (λ r lt. blanked_keeps (λ i. nat_lt i t) S.code.own.stack regs r (omega arith) (lt_true r t lt)) (omega (arith, size)) in
       asks_alike S pending n for_call told_call s _ (calls f args) (calls f args) line pc 0 t env cut c k give e
       (call_step S.code t b field args (of_code S pending pc regs opened) c has.0 t_fits b_fits (omega (arith, rel.room)) passed
       ∙ ap₂ (λ g ps. says_so (calls g args) S.code (record { pc = pc; registers = cut; varargs = S.varargs; pending = ps; opened = 0 }) c (λ x b d. heard for_call S.code x b d)) f_is (drops_none 0 pending (length env) t rel.ascends le))
@@ -91,19 +91,19 @@ module _ (S : Setting) (pending : List Pending) where
       (λ ws env1 regs1 c1 af1. values_goes field n line t pc 0 _ _ ws env regs env1 regs1 c1 k refl
       (ap (λ x. talk S.code x ws (of_code S pending pc regs1 0) c1) (call_rest S.code t b field pc has.0 t_fits b_fits fits))
       (λ none. open_mark S.code CallCode t b pc (subst (λ z. at S.code pc ≡ Some (abc CallCode t b z false)) none has.0) refl t_fits b_fits) inside le room
-      (after_then S.code.own.stack pending env regs env cut env1 regs1 c c1 t t (omega arith) af af1) goes)
+      (after_then S.hidden S.code.own.stack pending env regs env cut env1 regs1 c c1 t t (omega arith) af af1) goes)
 
   -- a method is looked up: register t gets it, and the register behind its object
   pub method_goes : (n line t pc opened : ℕ) (o key : Value) (s : tree.State) (env regs : List Value) (c : Captured) (k : List Work) (goes_so : List Value → Control) → step s ≡ asks (operates index (o ∷ key ∷ [])) line (of_tree S pending env c) k goes_so
-      → HasAt S pc (with_abc OpSelf t t (t + 1) line ∷ []) → pc + 1 < length S.code.own.code → length env ≤ t → t + 1 < S.code.own.stack → Rel S.code.own.stack pending env c regs → nth regs t ≡ o → nth regs (t + 1) ≡ key
-      → ((ws env1 regs1 : List Value) (c1 : Captured) → After S.code.own.stack pending env regs t env1 regs1 c1 → nth regs1 t ≡ first ws → nth regs1 (t + 1) ≡ o
+      → HasAt S pc (with_abc OpSelf t t (t + 1) line ∷ []) → pc + 1 < length S.code.own.code → length env ≤ t → t + 1 < S.code.own.stack → Rel S.hidden S.code.own.stack pending env c regs → nth regs t ≡ o → nth regs (t + 1) ≡ key
+      → ((ws env1 regs1 : List Value) (c1 : Captured) → After S.hidden S.code.own.stack pending env regs t env1 regs1 c1 → nth regs1 t ≡ first ws → nth regs1 (t + 1) ≡ o
       → Agree S n (tree.at (goes_so ws) (of_tree S pending env1 c1) k) (before (of_code S pending (pc + 1) regs1 opened) c1))
       → Agree S n s (before (of_code S pending pc regs opened) c)
   method_goes n line t pc opened o key s env regs c k goes_so e has inside le room rel o_is key_is next =
       let fits : t + 1 < 2 ^ 8 = omega (arith, S.small) in
       let there = next_there S (pc + 1) inside in
       let regs1 = write (t + 1) o regs in
-      let af1 = after_put S.code.own.stack pending env regs c (t + 1) o (omega (arith, le)) rel in
+      let af1 = after_put S.hidden S.code.own.stack pending env regs c (t + 1) o (omega (arith, le)) rel in
       let none : t + 1 < t + 2 = omega arith in
       asks_alike S pending n for_value (λ reply. refl) s _ (operates index (o ∷ key ∷ [])) (operates index (o ∷ key ∷ [])) line pc opened (t + 2) env regs1 c k goes_so e
       (self_step S.code t (of_code S pending pc regs opened) c has.0 fits (omega (arith, room, rel.room))
@@ -113,8 +113,8 @@ module _ (S : Setting) (pending : List Pending) where
       (ap (λ x. talk S.code x ws (of_code S pending pc regs2 opened) c2) (value_rest S.code OpSelf t t (t + 1) pc false has.0 (omega arith) refl)
       ∙ to_register_step S.code t (read 0) there.0 ws (of_code S pending pc regs2 opened) c2 (omega (arith, room, af2.rel.room)) there.1)
       (next ws env2 (write t (first ws) regs2) c2
-      (after_then S.code.own.stack pending env regs env2 regs2 env2 (write t (first ws) regs2) c2 c2 t t (omega arith)
-      (after_then S.code.own.stack pending env regs env regs1 env2 regs2 c c2 t (t + 2) (omega arith) (lower S.code.own.stack pending env regs env regs1 c (t + 1) t (omega arith) af1) af2)
-      (after_put S.code.own.stack pending env2 regs2 c2 t (first ws) (omega (arith, le, af2.size)) af2.rel))
+      (after_then S.hidden S.code.own.stack pending env regs env2 regs2 env2 (write t (first ws) regs2) c2 c2 t t (omega arith)
+      (after_then S.hidden S.code.own.stack pending env regs env regs1 env2 regs2 c c2 t (t + 2) (omega arith) (lower S.hidden S.code.own.stack pending env regs env regs1 c (t + 1) t (omega arith) af1) af2)
+      (after_put S.hidden S.code.own.stack pending env2 regs2 c2 t (first ws) (omega (arith, le, af2.size)) af2.rel))
       (nth_write_same t (first ws) regs2)
       (nth_write_other t (first ws) regs2 (t + 1) (λ same. absurd (omega (arith, same))) ∙ af2.keeps (t + 1) (omega (arith, le)) none ∙ nth_write_same (t + 1) o regs)))

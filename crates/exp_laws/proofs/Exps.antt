@@ -153,7 +153,7 @@ module _ (S : Setting) (pending : List Pending) where
   AllSame e =
       (field t j n pc opened : ℕ) (env regs : List Value) (c : Captured) (k : List Work)
       → n ≤ S.bound → HasAt S pc (exp_code S.code.own.constants e t j field) → field < 2 ^ 8 → IsPlaced S e (length env) j → pc + length (exp_code S.code.own.constants e t j field) < length S.code.own.code
-      → length env ≤ t → t + room_of S.code.own.constants e field ≤ S.code.own.stack → Rel S.code.own.stack pending env c regs
+      → length env ≤ t → t + room_of S.code.own.constants e field ≤ S.code.own.stack → Rel S.hidden S.code.own.stack pending env c regs
       → GoesBy n e field t env regs (pc + length (exp_code S.code.own.constants e t j field)) k
       → Agree S n (tree.at (evaluate e) (of_tree S pending env c) k) (before (of_code S pending pc regs opened) c)
 
@@ -161,7 +161,7 @@ module _ (S : Setting) (pending : List Pending) where
   ExpSame e =
       (t j n pc opened : ℕ) (env regs : List Value) (c : Captured) (k : List Work)
       → n ≤ S.bound → HasAt S pc (exp_code S.code.own.constants e t j 2) → IsPlaced S e (length env) j → pc + length (exp_code S.code.own.constants e t j 2) < length S.code.own.code
-      → length env ≤ t → t + room_of S.code.own.constants e 2 ≤ S.code.own.stack → Rel S.code.own.stack pending env c regs
+      → length env ≤ t → t + room_of S.code.own.constants e 2 ≤ S.code.own.stack → Rel S.hidden S.code.own.stack pending env c regs
       → Goes S pending n (is_open e) t env regs (pc + length (exp_code S.code.own.constants e t j 2)) k
       → Agree S n (tree.at (evaluate e) (of_tree S pending env c) k) (before (of_code S pending pc regs opened) c)
 
@@ -175,7 +175,7 @@ module _ (S : Setting) (pending : List Pending) where
       (purpose : Purpose) (wanted : Wanted) (base above j line n pc opened : ℕ) (have env regs : List Value) (c : Captured) (k : List Work)
       → n ≤ S.bound → Counted (takes_all purpose) wanted es → HasAt S pc (exps_code S.code.own.constants es wanted (base + above) j line) → WantedFits wanted → ArePlaced S es (length env) j
       → pc + length (exps_code S.code.own.constants es wanted (base + above) j line) < length S.code.own.code → length have ≡ above → Holds base above have regs
-      → length env ≤ base → base + above ≤ S.code.own.stack → base + room_of_list S.code.own.constants above es wanted ≤ S.code.own.stack → Rel S.code.own.stack pending env c regs
+      → length env ≤ base → base + above ≤ S.code.own.stack → base + room_of_list S.code.own.constants above es wanted ≤ S.code.own.stack → Rel S.hidden S.code.own.stack pending env c regs
       → GoesListed S pending n (total wanted above) (ends_open es) (above + count es) purpose base env regs (pc + length (exps_code S.code.own.constants es wanted (base + above) j line)) k
       → Agree S n (tree.at (collect purpose have es) (of_tree S pending env c) k) (before (of_code S pending pc regs opened) c)
 
@@ -192,7 +192,7 @@ module _ (S : Setting) (pending : List Pending) where
       → n ≤ S.bound → Counted (takes_all purpose) (one_less wanted) es → HasAt S pc (exps_code S.code.own.constants es (one_less wanted) (base + above + 1) j line) → WantedFits wanted → ArePlaced S es (length env) j
       → pc + length (exps_code S.code.own.constants es (one_less wanted) (base + above + 1) j line) < length S.code.own.code → length have ≡ above → Holds base above have regs
       → length env ≤ base → base + above + 1 ≤ S.code.own.stack → base + room_of_list S.code.own.constants (above + 1) es (one_less wanted) ≤ S.code.own.stack
-      → After S.code.own.stack pending env regs (base + above) env1 regs1 c1 → nth regs1 (base + above) ≡ first vs
+      → After S.hidden S.code.own.stack pending env regs (base + above) env1 regs1 c1 → nth regs1 (base + above) ≡ first vs
       → GoesListed S pending n (total wanted above) (ends_open es) (above + suc (count es)) purpose base env regs (pc + length (exps_code S.code.own.constants es (one_less wanted) (base + above + 1) j line)) k
       → Agree S n (tree.at (collect purpose (have ++ first vs ∷ []) es) (of_tree S pending env1 c1) k) (before (of_code S pending pc regs1 opened) c1)
   one_more es rest purpose wanted base above j line n pc opened have vs env regs env1 regs1 c1 k bound all has wf ok inside size held le below room af eq goes =
@@ -206,7 +206,7 @@ module _ (S : Setting) (pending : List Pending) where
       (listed_less S pending n wanted (ends_open es) (above + suc (count es)) (above + 1 + count es) purpose base above _ env1 regs1 k (omega arith)
       (subst (λ r. GoesListed S pending n (total wanted above) (ends_open es) (above + suc (count es)) purpose base env1 regs1 (pc + length (exps_code S.code.own.constants es (one_less wanted) r j line)) k) at
       (listed_after S pending n (total wanted above) (ends_open es) (above + suc (count es)) purpose base _ env regs env1 regs1 c1 k
-      (lower S.code.own.stack pending env regs env1 regs1 c1 (base + above) base (omega arith) af) goes)))
+      (lower S.hidden S.code.own.stack pending env regs env1 regs1 c1 (base + above) base (omega arith) af) goes)))
     where
       only : (i : ℕ) → i < 1 → nth regs1 (base + above + i) ≡ nth (first vs ∷ []) i
       only zero lt = let here : base + above + 0 ≡ base + above = omega arith in ap (nth regs1) here ∙ eq
@@ -214,14 +214,14 @@ module _ (S : Setting) (pending : List Pending) where
 
   -- all values of the last expression join the list
   all_more : (purpose : Purpose) (wanted : Wanted) (base above n pc opened : ℕ) (have vs env regs env1 regs1 : List Value) (c1 : Captured) (k : List Work)
-      → length have ≡ above → Holds base above have regs → length env ≤ base → After S.code.own.stack pending env regs (base + above) env1 regs1 c1 → Filled S (results_field wanted) pc (base + above) vs regs1 opened
+      → length have ≡ above → Holds base above have regs → length env ≤ base → After S.hidden S.code.own.stack pending env regs (base + above) env1 regs1 c1 → Filled S (results_field wanted) pc (base + above) vs regs1 opened
       → GoesListed S pending n (total wanted above) true (above + 1) purpose base env regs pc k
       → Agree S n (tree.at (collect purpose (have ++ vs) EndExps) (of_tree S pending env1 c1) k) (before (of_code S pending pc regs1 opened) c1)
   all_more purpose None base above n pc opened have vs env regs env1 regs1 c1 k size held le af filled goes =
       let sum = length-append have vs in
       let wide : length (have ++ vs) ≡ above + length vs = omega (arith, sum, size) in
       let end : base + above + opened ≡ base + length (have ++ vs) = (let o = filled.1.0 in omega (arith, wide, o)) in
-      goes (have ++ vs) env1 regs1 c1 opened (lower S.code.own.stack pending env regs env1 regs1 c1 (base + above) base (omega arith) af) (
+      goes (have ++ vs) env1 regs1 c1 opened (lower S.hidden S.code.own.stack pending env regs env1 regs1 c1 (base + above) base (omega arith) af) (
         omega (arith, wide),
         (
           ap (λ m. elim m as (λ _. Option ℕ) [ fixed ↦ None | open_from r ↦ Some (r + opened) ]) filled.0 ∙ ap Some end,
@@ -233,7 +233,7 @@ module _ (S : Setting) (pending : List Pending) where
       )
   all_more purpose (Some m) base above n pc opened have vs env regs env1 regs1 c1 k size held le af filled goes =
       let one : m + 1 ≡ suc m = omega arith in
-      goes (have ++ vs) env1 regs1 c1 opened (lower S.code.own.stack pending env regs env1 regs1 c1 (base + above) base (omega arith) af)
+      goes (have ++ vs) env1 regs1 c1 opened (lower S.hidden S.code.own.stack pending env regs env1 regs1 c1 (base + above) base (omega arith) af)
       (held_both base above m have vs regs1 size (λ i lt. af.keeps (base + i) (omega (arith, le)) (omega (arith, lt)) ∙ held i lt) (subst (λ z. Filled S z pc (base + above) vs regs1 opened) one filled))
 
   pub held_one : (t : ℕ) (v : Value) (regs : List Value) → nth regs t ≡ v → Holds t 1 (v ∷ []) regs
@@ -242,7 +242,7 @@ module _ (S : Setting) (pending : List Pending) where
 
   -- the last expression of a list is a call or `...`
   open_last : (all : Bool) (e : Exp) (purpose : Purpose) (wanted : Wanted) (base above n pc opened : ℕ) (have vs env regs env1 regs1 : List Value) (c1 : Captured) (k : List Work) → takes_all purpose ≡ all → Counted all wanted (MoreExps e EndExps)
-      → length have ≡ above → Holds base above have regs → length env ≤ base → After S.code.own.stack pending env regs (base + above) env1 regs1 c1 → Filled S (results_field wanted) pc (base + above) vs regs1 opened
+      → length have ≡ above → Holds base above have regs → length env ≤ base → After S.hidden S.code.own.stack pending env regs (base + above) env1 regs1 c1 → Filled S (results_field wanted) pc (base + above) vs regs1 opened
       → GoesListed S pending n (total wanted above) true (above + 1) purpose base env regs pc k
       → Agree S n (tree.at (give vs) (of_tree S pending env1 c1) (listed purpose have EndExps ∷ k)) (before (of_code S pending pc regs1 opened) c1)
   open_last true e purpose wanted base above n pc opened have vs env regs env1 regs1 c1 k is counted size held le af filled goes =
@@ -252,7 +252,7 @@ module _ (S : Setting) (pending : List Pending) where
       let one : Holds (base + above) 1 vs regs1 = subst (λ w. Filled S (results_field w) pc (base + above) vs regs1 opened) counted filled in
       let on = subst (λ w. GoesListed S pending n (total w above) true (above + 1) purpose base env regs pc k) counted goes in
       go_left S n _ (tree.at (collect purpose (have ++ first vs ∷ []) EndExps) (of_tree S pending env1 c1) k) _ (ap (λ b. goes_on (tree.at (collect purpose (cond b (have ++ vs) (have ++ first vs ∷ [])) EndExps) (of_tree S pending env1 c1) k)) is)
-      (on (have ++ first vs ∷ []) env1 regs1 c1 opened (lower S.code.own.stack pending env regs env1 regs1 c1 (base + above) base (omega arith) af)
+      (on (have ++ first vs ∷ []) env1 regs1 c1 opened (lower S.hidden S.code.own.stack pending env regs env1 regs1 c1 (base + above) base (omega arith) af)
       (held_both base above 1 have (first vs ∷ []) regs1 size (λ i lt. af.keeps (base + i) (omega (arith, le)) (omega (arith, lt)) ∙ held i lt) (held_one (base + above) (first vs) regs1 (held_first (base + above) 0 vs regs1 one))))
 
   field_fits : (many : Bool) (wanted : Wanted) → WantedFits wanted → cond many (results_field wanted) 2 < 2 ^ 8
@@ -267,12 +267,12 @@ module _ (S : Setting) (pending : List Pending) where
   filled_at : (n field t pc pc' : ℕ) (env regs : List Value) (k : List Work) → pc ≡ pc' → GoesFilled S pending n field t env regs pc' k → GoesFilled S pending n field t env regs pc k
   filled_at n field t pc pc' env regs k e goes = subst (λ q. GoesFilled S pending n field t env regs q k) (sym e) goes
 
-  filled_after : (n field t pc : ℕ) (env regs env1 regs1 : List Value) (c1 : Captured) (k : List Work) → After S.code.own.stack pending env regs t env1 regs1 c1 → GoesFilled S pending n field t env regs pc k → GoesFilled S pending n field t env1 regs1 pc k
-  filled_after n field t pc env regs env1 regs1 c1 k af goes = λ vs env2 regs2 c2 o2 af2 filled. goes vs env2 regs2 c2 o2 (after_then S.code.own.stack pending env regs env1 regs1 env2 regs2 c1 c2 t t (omega arith) af af2) filled
+  filled_after : (n field t pc : ℕ) (env regs env1 regs1 : List Value) (c1 : Captured) (k : List Work) → After S.hidden S.code.own.stack pending env regs t env1 regs1 c1 → GoesFilled S pending n field t env regs pc k → GoesFilled S pending n field t env1 regs1 pc k
+  filled_after n field t pc env regs env1 regs1 c1 k af goes = λ vs env2 regs2 c2 o2 af2 filled. goes vs env2 regs2 c2 o2 (after_then S.hidden S.code.own.stack pending env regs env1 regs1 env2 regs2 c1 c2 t t (omega arith) af af2) filled
 
   -- the arguments are there, behind the function and `more` others: a call takes them
   pub args_ready : {X : Type 0} (es : Exps) (more : ℕ) (args : List Value) (t pc opened : ℕ) (env regs : List Value) (c : Captured) → t + (more + 1) ≤ S.code.own.stack → t + room_of_list S.code.own.constants (more + 1) es None ≤ S.code.own.stack
-      → Rel S.code.own.stack pending env c regs → Listed S pending None (ends_open es) (more + 1 + count es) pc t args regs opened
+      → Rel S.hidden S.code.own.stack pending env c regs → Listed S pending None (ends_open es) (more + 1 + count es) pc t args regs opened
       → ((f : Value) (rest : List Value) → args ≡ f ∷ rest → nth regs t ≡ f → Passed S.code (list_field more es) (t + 1) rest (of_code S pending pc regs opened) → list_field more es < 2 ^ 8 → X) → X
   args_ready es more [] t pc opened env regs c below room rel l goes = absurd (none (ends_open es) refl l)
     where
@@ -300,7 +300,7 @@ module _ (S : Setting) (pending : List Pending) where
       first_held false l = held_first t (length args) (f ∷ args) regs l.1
 
   called : (es : Exps) (more field : ℕ) (args : List Value) (n line t pc opened : ℕ) (env regs : List Value) (c : Captured) (k : List Work) → HasAt S pc (with_abc CallCode t (list_field more es) field line ∷ []) → pc + 1 < length S.code.own.code
-      → length env ≤ t → t + (more + 1) ≤ S.code.own.stack → t + room_of_list S.code.own.constants (more + 1) es None ≤ S.code.own.stack → t + room_of_values field ≤ S.code.own.stack → field < 2 ^ 8 → Rel S.code.own.stack pending env c regs
+      → length env ≤ t → t + (more + 1) ≤ S.code.own.stack → t + room_of_list S.code.own.constants (more + 1) es None ≤ S.code.own.stack → t + room_of_values field ≤ S.code.own.stack → field < 2 ^ 8 → Rel S.hidden S.code.own.stack pending env c regs
       → Listed S pending None (ends_open es) (more + 1 + count es) pc t args regs opened → GoesFilled S pending n field t env regs (pc + 1) k
       → Agree S n (tree.at (collect (for_call line false) args EndExps) (of_tree S pending env c) k) (before (of_code S pending pc regs opened) c)
   called es more field args n line t pc opened env regs c k has inside le below room wide fits rel l goes =
@@ -311,7 +311,7 @@ module _ (S : Setting) (pending : List Pending) where
   FieldsSame fs =
       (line items m t j n pc opened : ℕ) (env regs : List Value) (c : Captured) (k : List Work)
       → n ≤ S.bound → HasAt S pc (fields_code S.code.own.constants fs items t j line) → FieldsArePlaced S fs items (length env) j → pc + length (fields_code S.code.own.constants fs items t j line) < length S.code.own.code
-      → length env ≤ t → t + (1 + room_of_fields S.code.own.constants fs) ≤ S.code.own.stack → Rel S.code.own.stack pending env c regs → nth regs t ≡ reference a_table m
+      → length env ≤ t → t + (1 + room_of_fields S.code.own.constants fs) ≤ S.code.own.stack → Rel S.hidden S.code.own.stack pending env c regs → nth regs t ≡ reference a_table m
       → Goes S pending n false t env regs (pc + length (fields_code S.code.own.constants fs items t j line)) k
       → Agree S n (tree.at (construct line (reference a_table m) items fs) (of_tree S pending env c) k) (before (of_code S pending pc regs opened) c)
 
@@ -354,7 +354,7 @@ module _ (S : Setting) (pending : List Pending) where
         (af2.keeps t (omega (arith, le, af.size)) (omega arith) ∙ eq) eq2
         (goes_at S pending n false t _ (pc + length (first_code ++ (second_code ++ last_code))) env2 regs2 k (omega (arith, whole, rest))
         (goes_after S pending n false t _ env regs env2 regs2 c2 k
-        (after_then S.code.own.stack pending env regs env1 regs1 env2 regs2 c1 c2 t (t + 1) (omega arith) af af2) goes))))))
+        (after_then S.hidden S.code.own.stack pending env regs env1 regs1 env2 regs2 c1 c2 t (t + 1) (omega arith) af af2) goes))))))
     all_same (Paren line e) field t j n pc opened env regs c k bound has fits ok inside le room rel goes =
         go_left S n _ (tree.at (evaluate e) (of_tree S pending env c) (first_only ∷ k)) _ refl
         (one_same e (all_same e) t j n pc opened env regs c (first_only ∷ k) bound has ok inside le room rel
@@ -386,7 +386,7 @@ module _ (S : Setting) (pending : List Pending) where
         (af2.keeps t (omega (arith, le, af.size)) (omega arith) ∙ eq) eq2
         (goes_at S pending n false t _ (pc + length (first_code ++ (second_code ++ last_code))) env2 regs2 k (omega (arith, whole, rest))
         (goes_after S pending n false t _ env regs env2 regs2 c2 k
-        (after_then S.code.own.stack pending env regs env1 regs1 env2 regs2 c1 c2 t (t + 1) (omega arith) af af2) goes))))))
+        (after_then S.hidden S.code.own.stack pending env regs env1 regs1 env2 regs2 c1 c2 t (t + 1) (omega arith) af af2) goes))))))
     all_same (And line e d) field t j n pc opened env regs c k bound has fits ok inside le room rel goes =
         let first_code = exp_code S.code.own.constants e t j 2 in
         let second_code = exp_code S.code.own.constants d t (j + made_by e) 2 in
@@ -404,7 +404,7 @@ module _ (S : Setting) (pending : List Pending) where
         (one_same d (all_same d) t (j + made_by e) n (pc + length first_code + 2) o1 env1 regs1 c1 (first_only ∷ k) bound (subst (λ q. HasAt S q second_code) two behind.1.1.1.1) (placed d _ _ _ af.size ok.1) (omega (arith, inside, whole)) (omega (arith, le, af.size)) (omega arith) af.rel
         (λ ws env2 regs2 c2 o2 af2 eq2 one2. go_left S n _ (tree.at (give (first ws ∷ [])) (of_tree S pending env2 c2) k) _ refl
         (at_place S pending n (pc + length first_code + 2 + length second_code) (pc + length (first_code ++ test_code)) o2 _ regs2 c2 (omega (arith, whole))
-        (goes (first ws ∷ []) env2 regs2 c2 o2 (after_then S.code.own.stack pending env regs env1 regs1 env2 regs2 c1 c2 t t (omega arith) af af2) eq2 refl)))))))
+        (goes (first ws ∷ []) env2 regs2 c2 o2 (after_then S.hidden S.code.own.stack pending env regs env1 regs1 env2 regs2 c1 c2 t t (omega arith) af af2) eq2 refl)))))))
     all_same (Or line e d) field t j n pc opened env regs c k bound has fits ok inside le room rel goes =
         let first_code = exp_code S.code.own.constants e t j 2 in
         let second_code = exp_code S.code.own.constants d t (j + made_by e) 2 in
@@ -422,7 +422,7 @@ module _ (S : Setting) (pending : List Pending) where
         (one_same d (all_same d) t (j + made_by e) n (pc + length first_code + 2) o1 env1 regs1 c1 (first_only ∷ k) bound (subst (λ q. HasAt S q second_code) two behind.1.1.1.1) (placed d _ _ _ af.size ok.1) (omega (arith, inside, whole)) (omega (arith, le, af.size)) (omega arith) af.rel
         (λ ws env2 regs2 c2 o2 af2 eq2 one2. go_left S n _ (tree.at (give (first ws ∷ [])) (of_tree S pending env2 c2) k) _ refl
         (at_place S pending n (pc + length first_code + 2 + length second_code) (pc + length (first_code ++ test_code)) o2 _ regs2 c2 (omega (arith, whole))
-        (goes (first ws ∷ []) env2 regs2 c2 o2 (after_then S.code.own.stack pending env regs env1 regs1 env2 regs2 c1 c2 t t (omega arith) af af2) eq2 refl)))))))
+        (goes (first ws ∷ []) env2 regs2 c2 o2 (after_then S.hidden S.code.own.stack pending env regs env1 regs1 env2 regs2 c1 c2 t t (omega arith) af af2) eq2 refl)))))))
     all_same (Table line fs) field t j n pc opened env regs c k bound has fits ok inside le room rel goes =
         new_goes S pending n line t pc opened _ env regs c k (λ vs. construct line (first vs) 0 fs) refl (has.0, (has.1.0, (has.1.1.0, (has.1.1.1.0, tt)))) (omega (arith, inside)) le (omega (arith, room)) rel
         (λ m env1 regs1 c1 af is. fields_same fs line 0 m t j n (pc + 2) opened env1 regs1 c1 k bound (let two : pc + 1 + 1 ≡ pc + 2 = omega arith in subst (λ q. HasAt S q (fields_code S.code.own.constants fs 0 t j line)) two has.1.1.1.1)
@@ -448,7 +448,7 @@ module _ (S : Setting) (pending : List Pending) where
         (λ args env2 regs2 c2 o2 af2 l. called es 0 field args n line t (pc + length first_code + length args_code) o2 env2 regs2 c2 k (has_back S (pc + length first_code) args_code last_code behind)
         (omega (arith, inside, whole, rest)) (omega (arith, le, af.size, af2.size)) (omega (arith, room, some)) (omega (arith, room)) (omega (arith, room)) fits af2.rel l
         (filled_at n field t _ (pc + length (first_code ++ (args_code ++ last_code))) env2 regs2 k (omega (arith, whole, rest))
-        (filled_after n field t _ env regs env2 regs2 c2 k (after_then S.code.own.stack pending env regs env1 regs1 env2 regs2 c1 c2 t t (omega arith) af af2) goes))))))
+        (filled_after n field t _ env regs env2 regs2 c2 k (after_then S.hidden S.code.own.stack pending env regs env1 regs1 env2 regs2 c1 c2 t t (omega arith) af af2) goes))))))
     all_same (Method line object name es) field t j n pc opened env regs c k bound has fits ok inside le room rel goes =
         let first_code = exp_code S.code.own.constants object t j 2 in
         let name_code = loads S.code.own.constants (StrConst name.text) (t + 1) line in
@@ -464,7 +464,7 @@ module _ (S : Setting) (pending : List Pending) where
         let q = pc + length first_code + length name_code in
         go_left S n _ (tree.at (evaluate object) (of_tree S pending env c) (method_of line false name.text es ∷ k)) _ refl
         (one_same object (all_same object) t j n pc opened env regs c (method_of line false name.text es ∷ k) bound (has_front S pc first_code (name_code ++ (self_code ∷ (args_code ++ last_code))) has) ok.0 (omega (arith, inside, whole)) le (omega (arith, room)) rel
-        (λ vs env1 regs1 c1 o1 af eq one. let put = after_put S.code.own.stack pending env1 regs1 c1 (t + 1) key (omega (arith, le, af.size)) af.rel in
+        (λ vs env1 regs1 c1 o1 af eq one. let put = after_put S.hidden S.code.own.stack pending env1 regs1 c1 (t + 1) key (omega (arith, le, af.size)) af.rel in
         load_right S pending (StrConst name.text) (t + 1) line n (pc + length first_code) o1 _ regs1 c1 ok.1.0 (has_front S (pc + length first_code) name_code (self_code ∷ (args_code ++ last_code)) behind) (omega (arith, inside, whole, middle)) (omega (arith, room, S.small)) (omega (arith, room, af.rel.room))
         (method_goes S pending n line t q o1 (first vs) key _ env1 (write (t + 1) key regs1) c1 k (λ ws. collect (for_call line false) (first ws ∷ first vs ∷ []) es) refl (beyond.0, (beyond.1.0, tt)) (omega (arith, inside, whole, middle, rest)) (omega (arith, le, af.size)) (omega (arith, room)) put.rel
         (nth_write_other (t + 1) key regs1 t (λ same. absurd (omega (arith, same))) ∙ eq) (nth_write_same (t + 1) key regs1)
@@ -474,9 +474,9 @@ module _ (S : Setting) (pending : List Pending) where
         (omega (arith, inside, whole, middle, rest)) (omega (arith, le, af.size, af2.size, af3.size)) (omega (arith, room)) (omega (arith, room)) (omega (arith, room)) fits af3.rel l
         (filled_at n field t _ (pc + length (first_code ++ (name_code ++ (self_code ∷ (args_code ++ last_code))))) env3 regs3 k (omega (arith, whole, middle, rest))
         (filled_after n field t _ env regs env3 regs3 c3 k
-        (after_then S.code.own.stack pending env regs env1 regs1 env3 regs3 c1 c3 t t (omega arith) af
-        (after_then S.code.own.stack pending env1 regs1 env2 regs2 env3 regs3 c2 c3 t t (omega arith)
-        (after_then S.code.own.stack pending env1 regs1 env1 (write (t + 1) key regs1) env2 regs2 c1 c2 t t (omega arith) (lower S.code.own.stack pending env1 regs1 env1 (write (t + 1) key regs1) c1 (t + 1) t (omega arith) put) af2) af3)) goes)))))))
+        (after_then S.hidden S.code.own.stack pending env regs env1 regs1 env3 regs3 c1 c3 t t (omega arith) af
+        (after_then S.hidden S.code.own.stack pending env1 regs1 env2 regs2 env3 regs3 c2 c3 t t (omega arith)
+        (after_then S.hidden S.code.own.stack pending env1 regs1 env1 (write (t + 1) key regs1) env2 regs2 c1 c2 t t (omega arith) (lower S.hidden S.code.own.stack pending env1 regs1 env1 (write (t + 1) key regs1) c1 (t + 1) t (omega arith) put) af2) af3)) goes)))))))
 
     lists_same : (es : Exps) → ListSame es
     lists_same EndExps purpose wanted base above j line n pc opened have env regs c k bound all has wf ok inside size held le below room rel goes =
@@ -525,7 +525,7 @@ module _ (S : Setting) (pending : List Pending) where
     fields_same EndFields line items m t j n pc opened env regs c k bound has ok inside le room rel is goes =
         let none : pc ≡ pc + 0 = omega arith in
         go_left S n _ (tree.at (give (reference a_table m ∷ [])) (of_tree S pending env c) k) _ refl
-        (at_place S pending n pc (pc + 0) opened _ regs c none (goes (reference a_table m ∷ []) env regs c opened (after_none S.code.own.stack pending env regs c t rel) is refl))
+        (at_place S pending n pc (pc + 0) opened _ regs c none (goes (reference a_table m ∷ []) env regs c opened (after_none S.hidden S.code.own.stack pending env regs c t rel) is refl))
     fields_same (MoreFields (Item e) EndFields) line items m t j n pc opened env regs c k bound has ok inside le room rel is goes =
         let field : ℕ = cond (is_open e) 0 2 in
         let first_code = exp_code S.code.own.constants e (t + 1) j field in
@@ -546,7 +546,7 @@ module _ (S : Setting) (pending : List Pending) where
         (ap (λ q. elim q as (λ _. Option ℕ) [ fixed ↦ None | open_from r ↦ Some (r + o1) ]) all.0 ∙ ap Some end, all.1.1.1)
         (λ env2 regs2 c2 af2. at_place S pending n _ (pc + length (first_code ++ last_code)) 0 _ regs2 c2 (omega (arith, sum, more, same))
         (goes (reference a_table m ∷ []) env2 regs2 c2 0
-        (after_then S.code.own.stack pending env regs env1 regs1 env2 regs2 c1 c2 t t (omega arith) (lower S.code.own.stack pending env regs env1 regs1 c1 (t + 1) t (omega arith) af) (lower S.code.own.stack pending env1 regs1 env2 regs2 c2 (t + 1) t (omega arith) af2))
+        (after_then S.hidden S.code.own.stack pending env regs env1 regs1 env2 regs2 c1 c2 t t (omega arith) (lower S.hidden S.code.own.stack pending env regs env1 regs1 c1 (t + 1) t (omega arith) af) (lower S.hidden S.code.own.stack pending env1 regs1 env2 regs2 c2 (t + 1) t (omega arith) af2))
         (af2.keeps t (omega (arith, le, af.size)) (omega arith) ∙ (af.keeps t (omega (arith, le)) (omega arith) ∙ is)) refl)))
         (λ one vs env1 regs1 c1 o1 af eq given. let same : length fill_code ≡ length (set_list t (items_count false) items line) = ap (λ b. length (set_list t (items_count b) items line)) one in
         let two : room_of S.code.own.constants e field ≡ room_of S.code.own.constants e 2 = ap (λ b. room_of S.code.own.constants e (cond b 0 2)) one in
@@ -557,7 +557,7 @@ module _ (S : Setting) (pending : List Pending) where
         (refl, (omega (arith, room, some, two, af.rel.room), held_one (t + 1) (first vs) regs1 eq))
         (λ env2 regs2 c2 af2. at_place S pending n _ (pc + length (first_code ++ last_code)) 0 _ regs2 c2 (omega (arith, sum, more, same))
         (goes (reference a_table m ∷ []) env2 regs2 c2 0
-        (after_then S.code.own.stack pending env regs env1 regs1 env2 regs2 c1 c2 t t (omega arith) (lower S.code.own.stack pending env regs env1 regs1 c1 (t + 1) t (omega arith) af) (lower S.code.own.stack pending env1 regs1 env2 regs2 c2 (t + 1) t (omega arith) af2))
+        (after_then S.hidden S.code.own.stack pending env regs env1 regs1 env2 regs2 c1 c2 t t (omega arith) (lower S.hidden S.code.own.stack pending env regs env1 regs1 c1 (t + 1) t (omega arith) af) (lower S.hidden S.code.own.stack pending env1 regs1 env2 regs2 c2 (t + 1) t (omega arith) af2))
         (af2.keeps t (omega (arith, le, af.size)) (omega arith) ∙ (af.keeps t (omega (arith, le)) (omega arith) ∙ is)) refl)))))
     fields_same (MoreFields (Item e) (MoreFields f fs)) line items m t j n pc opened env regs c k bound has ok inside le room rel is goes =
         let first_code = exp_code S.code.own.constants e (t + 1) j 2 in
@@ -577,7 +577,7 @@ module _ (S : Setting) (pending : List Pending) where
         (af2.keeps t (omega (arith, le, af.size)) (omega arith) ∙ (af.keeps t (omega (arith, le)) (omega arith) ∙ is))
         (goes_at S pending n false t _ (pc + length (first_code ++ (fill_code ++ rest_code))) env2 regs2 k (omega (arith, whole, more))
         (goes_after S pending n false t _ env regs env2 regs2 c2 k
-        (after_then S.code.own.stack pending env regs env1 regs1 env2 regs2 c1 c2 t t (omega arith) (lower S.code.own.stack pending env regs env1 regs1 c1 (t + 1) t (omega arith) af) (lower S.code.own.stack pending env1 regs1 env2 regs2 c2 (t + 1) t (omega arith) af2)) goes)))))
+        (after_then S.hidden S.code.own.stack pending env regs env1 regs1 env2 regs2 c1 c2 t t (omega arith) (lower S.hidden S.code.own.stack pending env regs env1 regs1 c1 (t + 1) t (omega arith) af) (lower S.hidden S.code.own.stack pending env1 regs1 env2 regs2 c2 (t + 1) t (omega arith) af2)) goes)))))
     fields_same (MoreFields (Keyed field_line e d) fs) line items m t j n pc opened env regs c k bound has ok inside le room rel is goes =
         let first_code = exp_code S.code.own.constants e (t + 1) j 2 in
         let second_code = exp_code S.code.own.constants d (t + 2) (j + made_by e) 2 in
@@ -601,8 +601,8 @@ module _ (S : Setting) (pending : List Pending) where
         (af3.keeps t (omega (arith, le, af.size, af2.size)) (omega arith) ∙ (af2.keeps t (omega (arith, le, af.size)) (omega arith) ∙ (af.keeps t (omega (arith, le)) (omega arith) ∙ is)))
         (goes_at S pending n false t _ (pc + length (first_code ++ (second_code ++ (set_code ∷ rest_code)))) env3 regs3 k (omega (arith, whole, more))
         (goes_after S pending n false t _ env regs env3 regs3 c3 k
-        (after_then S.code.own.stack pending env regs env1 regs1 env3 regs3 c1 c3 t t (omega arith) (lower S.code.own.stack pending env regs env1 regs1 c1 (t + 1) t (omega arith) af)
-        (after_then S.code.own.stack pending env1 regs1 env2 regs2 env3 regs3 c2 c3 t t (omega arith) (lower S.code.own.stack pending env1 regs1 env2 regs2 c2 (t + 2) t (omega arith) af2) (lower S.code.own.stack pending env2 regs2 env3 regs3 c3 (t + 1) t (omega arith) af3))) goes)))))))
+        (after_then S.hidden S.code.own.stack pending env regs env1 regs1 env3 regs3 c1 c3 t t (omega arith) (lower S.hidden S.code.own.stack pending env regs env1 regs1 c1 (t + 1) t (omega arith) af)
+        (after_then S.hidden S.code.own.stack pending env1 regs1 env2 regs2 env3 regs3 c2 c3 t t (omega arith) (lower S.hidden S.code.own.stack pending env1 regs1 env2 regs2 c2 (t + 2) t (omega arith) af2) (lower S.hidden S.code.own.stack pending env2 regs2 env3 regs3 c3 (t + 1) t (omega arith) af3))) goes)))))))
 
   -- the code of an expression of which one value is wanted
   pub exp_same : (e : Exp) → ExpSame e
@@ -611,7 +611,7 @@ module _ (S : Setting) (pending : List Pending) where
   -- the code of a call or of `...` with any field C
   pub open_same : (e : Exp) → is_open e ≡ true → (field t j n pc opened : ℕ) (env regs : List Value) (c : Captured) (k : List Work)
       → n ≤ S.bound → HasAt S pc (exp_code S.code.own.constants e t j field) → field < 2 ^ 8 → IsPlaced S e (length env) j → pc + length (exp_code S.code.own.constants e t j field) < length S.code.own.code
-      → length env ≤ t → t + room_of S.code.own.constants e field ≤ S.code.own.stack → Rel S.code.own.stack pending env c regs
+      → length env ≤ t → t + room_of S.code.own.constants e field ≤ S.code.own.stack → Rel S.hidden S.code.own.stack pending env c regs
       → GoesFilled S pending n field t env regs (pc + length (exp_code S.code.own.constants e t j field)) k
       → Agree S n (tree.at (evaluate e) (of_tree S pending env c) k) (before (of_code S pending pc regs opened) c)
   open_same e many field t j n pc opened env regs c k bound has fits ok inside le room rel goes =

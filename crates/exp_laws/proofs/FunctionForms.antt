@@ -24,12 +24,12 @@ use Rattle.machine_core.specs.Talk as code
 use Rattle.machine_core.specs.Talk.{before, amid, talk, talk_step, says_so, names_of}
 use Rattle.code_of.specs.Coded.{with_abc, with_abx}
 use Rattle.code_of.specs.CodeOf.{upvalue}
-use Rattle.exp_laws.proofs.Registers.{Rel, After, after_none, after_then, rel_more, rel_write}
+use Rattle.exp_laws.proofs.Registers.{AllUnder, none_among, Rel, After, after_none, after_then, rel_more, rel_write}
 use Rattle.exp_laws.specs.Setting.{Setting, InnerAlike}
 use Rattle.exp_laws.proofs.Talking.{Here, Agree, go_left, go_right, both_stuck, of_tree, of_code}
 use Rattle.exp_laws.proofs.Placing.{HasAt, here_abx}
 use Rattle.exp_laws.proofs.Asking.{one_alike, opens_alike}
-use Rattle.exp_laws.specs.Placed.{Captures, Inner}
+use Rattle.exp_laws.specs.Placed.{IsNoneOf, Captures, Inner}
 use Rattle.exp_laws.proofs.Going.{next_there, at_place, Goes, answer_goes}
 use Rattle.exp_laws.proofs.Steps.{row_step, to_register_step}
 use Rattle.exp_laws.proofs.Loads.{nil_step}
@@ -62,26 +62,26 @@ module _ (S : Setting) (pending : List Pending) where
   -- the locals that a function captures get cells
   captures_goes : (us : List UpName) (n line pc opened u : ℕ) (s : tree.State) (t : code.State) (next_of : Control) (env regs had : List Value) (c : Captured) (k : List Work) (rest : Text)
       → s ≡ tree.at (capture line (captured_locals us) next_of) (of_tree S pending env c) k → talk_step S.code t ≡ talk S.code (opens (map upvalue us) rest) had (of_code S pending pc regs opened) c
-      → Captures us (length env) → length env ≤ u → Rel S.code.own.stack pending env c regs → Here S pc line
-      → ((env' regs' : List Value) (c' : Captured) (t' : code.State) → After S.code.own.stack pending env regs u env' regs' c' → talk_step S.code t' ≡ talk S.code rest had (of_code S pending pc regs' opened) c'
+      → Captures S.hidden us (length env) → length env ≤ u → Rel S.hidden S.code.own.stack pending env c regs → Here S pc line
+      → ((env' regs' : List Value) (c' : Captured) (t' : code.State) → After S.hidden S.code.own.stack pending env regs u env' regs' c' → talk_step S.code t' ≡ talk S.code rest had (of_code S pending pc regs' opened) c'
       → Agree S n (tree.at next_of (of_tree S pending env' c') k) t')
       → Agree S n s t
   captures_goes [] n line pc opened u s t next_of env regs had c k rest is d ok le rel here next =
-      go_left S n s (tree.at next_of (of_tree S pending env c) k) t (ap step is) (next env regs c t (after_none S.code.own.stack pending env regs c u rel) d)
+      go_left S n s (tree.at next_of (of_tree S pending env c) k) t (ap step is) (next env regs c t (after_none S.hidden S.code.own.stack pending env regs c u rel) d)
   captures_goes (x ∷ us) n line pc opened u s t next_of env regs had c k rest is d ok le rel here next =
       by x.in_stack is d ok.0
-      (λ env1 regs1 c1 t1 af d1. captures_goes us n line pc opened u _ t1 next_of env1 regs1 had c1 k rest refl d1 (subst (Captures us) (sym af.size) ok.1) (omega (arith, le, af.size)) af.rel here
-      (λ env2 regs2 c2 t2 af2 d2. next env2 regs2 c2 t2 (after_then S.code.own.stack pending env regs env1 regs1 env2 regs2 c1 c2 u u (omega arith) af af2) d2))
+      (λ env1 regs1 c1 t1 af d1. captures_goes us n line pc opened u _ t1 next_of env1 regs1 had c1 k rest refl d1 (subst (Captures S.hidden us) (sym af.size) ok.1) (omega (arith, le, af.size)) af.rel here
+      (λ env2 regs2 c2 t2 af2 d2. next env2 regs2 c2 t2 (after_then S.hidden S.code.own.stack pending env regs env1 regs1 env2 regs2 c1 c2 u u (omega arith) af af2) d2))
     where
       by : (b : Bool) → s ≡ tree.at (capture line (cond b (x.index ∷ captured_locals us) (captured_locals us)) next_of) (of_tree S pending env c) k
           → talk_step S.code t ≡ talk S.code (cond b (open_cell x.index (opens (map upvalue us) rest)) (opens (map upvalue us) rest)) had (of_code S pending pc regs opened) c
-          → (b ≡ true → x.index < length env)
-          → ((env1 regs1 : List Value) (c1 : Captured) (t1 : code.State) → After S.code.own.stack pending env regs u env1 regs1 c1 → talk_step S.code t1 ≡ talk S.code (opens (map upvalue us) rest) had (of_code S pending pc regs1 opened) c1
+          → (b ≡ true → (x.index < length env) × IsNoneOf x.index S.hidden)
+          → ((env1 regs1 : List Value) (c1 : Captured) (t1 : code.State) → After S.hidden S.code.own.stack pending env regs u env1 regs1 c1 → talk_step S.code t1 ≡ talk S.code (opens (map upvalue us) rest) had (of_code S pending pc regs1 opened) c1
           → Agree S n (tree.at (capture line (captured_locals us) next_of) (of_tree S pending env1 c1) k) t1)
           → Agree S n s t
       by true is d below goes = opens_alike S pending n s t line x.index pc opened u (captured_locals us) next_of env regs had c k (opens (map upvalue us) rest)
-          (ap step is ∙ captures_in_scope line x.index (captured_locals us) next_of env c k (below refl)) d (below refl) le rel here goes
-      by false is d below goes = subst (λ z. Agree S n z t) (sym is) (goes env regs c t (after_none S.code.own.stack pending env regs c u rel) d)
+          (ap step is ∙ captures_in_scope line x.index (captured_locals us) next_of env c k (below refl).0) d (below refl).0 (none_among x.index S.hidden (below refl).1) le rel here goes
+      by false is d below goes = subst (λ z. Agree S n z t) (sym is) (goes env regs c t (after_none S.hidden S.code.own.stack pending env regs c u rel) d)
 
   -- the function is made
   make_goes : (o : Option (List CellName)) (n t j pc opened u : ℕ) (body : Body) (q : Prototype) (s : tree.State) (r : code.State) (env regs : List Value) (c : Captured) (k : List Work)
@@ -89,8 +89,8 @@ module _ (S : Setting) (pending : List Pending) where
       → talk_step S.code r ≡ elim (bind o (λ names. Some (makes_function q names))) as (λ _. Next Prototype code.State) [
         | None ↦ stuck
         | Some ask ↦ says_so ask S.code (of_code S pending pc regs opened) c (λ x b d. amid (to_register t (read 0)) ([] ++ values_in x.reply) b d)
-      ] → Here S pc (line_of_body body) → Rel S.code.own.stack pending env c regs
-      → ((v : Value) (env1 regs1 : List Value) (c1 : Captured) → After S.code.own.stack pending env regs u env1 regs1 c1 → Agree S n (tree.at (give (v ∷ [])) (of_tree S pending env1 c1) k) (amid (to_register t (read 0)) (v ∷ []) (of_code S pending pc regs1 opened) c1))
+      ] → Here S pc (line_of_body body) → Rel S.hidden S.code.own.stack pending env c regs
+      → ((v : Value) (env1 regs1 : List Value) (c1 : Captured) → After S.hidden S.code.own.stack pending env regs u env1 regs1 c1 → Agree S n (tree.at (give (v ∷ [])) (of_tree S pending env1 c1) k) (amid (to_register t (read 0)) (v ∷ []) (of_code S pending pc regs1 opened) c1))
       → Agree S n s r
   make_goes None n t j pc opened u body q s r env regs c k alike e d here rel next = both_stuck S n s r e d
   make_goes (Some names) n t j pc opened u body q s r env regs c k alike e d here rel next =
@@ -99,8 +99,8 @@ module _ (S : Setting) (pending : List Pending) where
 
   -- cells and then the function, which is for register t
   closure_goes : (n t j pc opened u : ℕ) (body : Body) (s : tree.State) (env regs : List Value) (c : Captured) (k : List Work) → s ≡ tree.at (capture (line_of_body body) (captured_locals (upvalues_of body)) (make body)) (of_tree S pending env c) k
-      → HasAt S pc (with_abx Closure t j (line_of_body body) ∷ []) → n ≤ S.bound → Inner S j body → Captures (upvalues_of body) (length env) → length env ≤ u → t < S.code.own.stack → Rel S.code.own.stack pending env c regs
-      → ((v : Value) (env1 regs1 : List Value) (c1 : Captured) → After S.code.own.stack pending env regs u env1 regs1 c1 → Agree S n (tree.at (give (v ∷ [])) (of_tree S pending env1 c1) k) (amid (to_register t (read 0)) (v ∷ []) (of_code S pending pc regs1 opened) c1))
+      → HasAt S pc (with_abx Closure t j (line_of_body body) ∷ []) → n ≤ S.bound → Inner S j body → Captures S.hidden (upvalues_of body) (length env) → length env ≤ u → t < S.code.own.stack → Rel S.hidden S.code.own.stack pending env c regs
+      → ((v : Value) (env1 regs1 : List Value) (c1 : Captured) → After S.hidden S.code.own.stack pending env regs u env1 regs1 c1 → Agree S n (tree.at (give (v ∷ [])) (of_tree S pending env1 c1) k) (amid (to_register t (read 0)) (v ∷ []) (of_code S pending pc regs1 opened) c1))
       → Agree S n s (before (of_code S pending pc regs opened) c)
   closure_goes n t j pc opened u body s env regs c k is has bound inner ok le room rel next =
       let q = inner.prototype in
@@ -119,12 +119,12 @@ module _ (S : Setting) (pending : List Pending) where
         | Some ask ↦ says_so ask S.code (of_code S pending pc regs1 opened) c1 (λ x b d. amid (to_register t (read 0)) ([] ++ values_in x.reply) b d)
       ]) (ap (λ l. names_of l c1.held) inner.upvalues ∙ names_same ups c1.held))
       here af.rel
-      (λ v env2 regs2 c2 af2. next v env2 regs2 c2 (after_then S.code.own.stack pending env regs env1 regs1 env2 regs2 c1 c2 u u (omega arith) af af2)))
+      (λ v env2 regs2 c2 af2. next v env2 regs2 c2 (after_then S.hidden S.code.own.stack pending env regs env1 regs1 env2 regs2 c1 c2 u u (omega arith) af af2)))
 
   -- a function is an expression
   pub function_goes : (n : ℕ) (many : Bool) (t j pc opened : ℕ) (body : Body) (s : tree.State) (env regs : List Value) (c : Captured) (k : List Work)
       → step s ≡ goes_on (tree.at (capture (line_of_body body) (captured_locals (upvalues_of body)) (make body)) (of_tree S pending env c) k) → HasAt S pc (with_abx Closure t j (line_of_body body) ∷ []) → n ≤ S.bound
-      → Inner S j body → Captures (upvalues_of body) (length env) → pc + 1 < length S.code.own.code → length env ≤ t → t < S.code.own.stack → Rel S.code.own.stack pending env c regs
+      → Inner S j body → Captures S.hidden (upvalues_of body) (length env) → pc + 1 < length S.code.own.code → length env ≤ t → t < S.code.own.stack → Rel S.hidden S.code.own.stack pending env c regs
       → Goes S pending n many t env regs (pc + 1) k → Agree S n s (before (of_code S pending pc regs opened) c)
   function_goes n many t j pc opened body s env regs c k e has bound inner ok inside le room rel goes =
       go_left S n s (tree.at (capture (line_of_body body) (captured_locals (upvalues_of body)) (make body)) (of_tree S pending env c) k) _ e
@@ -133,29 +133,29 @@ module _ (S : Setting) (pending : List Pending) where
 
   -- a local function is in scope in its own body: its variable is nil, and then the function
   pub local_function_goes : (n t j pc opened : ℕ) (body : Body) (s : tree.State) (env regs : List Value) (c : Captured) (k : List Work) → step s ≡ declares_function body (of_tree S pending env c) k
-      → HasAt S pc (with_abc LoadNil t 0 0 (line_of_body body) ∷ with_abx Closure t j (line_of_body body) ∷ []) → n ≤ S.bound → Inner S j body → Captures (upvalues_of body) (t + 1) → pc + 2 < length S.code.own.code
-      → length env ≡ t → t < S.code.own.stack → Rel S.code.own.stack pending env c regs
-      → ((env1 regs1 : List Value) (c1 : Captured) → length env1 ≡ t + 1 → Rel S.code.own.stack pending env1 c1 regs1 → Agree S n (tree.at complete (of_tree S pending env1 c1) k) (before (of_code S pending (pc + 2) regs1 opened) c1))
+      → HasAt S pc (with_abc LoadNil t 0 0 (line_of_body body) ∷ with_abx Closure t j (line_of_body body) ∷ []) → n ≤ S.bound → Inner S j body → Captures S.hidden (upvalues_of body) (t + 1) → pc + 2 < length S.code.own.code
+      → length env ≡ t → t < S.code.own.stack → AllUnder S.hidden t → Rel S.hidden S.code.own.stack pending env c regs
+      → ((env1 regs1 : List Value) (c1 : Captured) → length env1 ≡ t + 1 → Rel S.hidden S.code.own.stack pending env1 c1 regs1 → Agree S n (tree.at complete (of_tree S pending env1 c1) k) (before (of_code S pending (pc + 2) regs1 opened) c1))
       → Agree S n s (before (of_code S pending pc regs opened) c)
-  local_function_goes n t j pc opened body s env regs c k e has bound inner ok inside size room rel next =
+  local_function_goes n t j pc opened body s env regs c k e has bound inner ok inside size room under rel next =
       let near = next_there S (pc + 1) (omega (arith, inside)) in
       let there = next_there S (pc + 2) inside in
       let two : pc + 1 + 1 ≡ pc + 2 = omega arith in
       let wide = length-append env (known nil ∷ []) in
       let env0 = env ++ known nil ∷ [] in
       let regs0 = write t (known nil) regs in
-      let fresh = rel_more S.code.own.stack pending env regs c (known nil) t size room rel in
+      let fresh = rel_more S.hidden S.code.own.stack pending env regs c (known nil) t size room under rel in
       let ups = upvalues_of body in
       go_left S n s (tree.at (capture (line_of_body body) (captured_locals ups) (make body)) (of_tree S pending env0 c) (function_to (length env) ∷ k)) _ e
       (go_right S n _ _ (before (of_code S pending (pc + 1) regs0 opened) c)
       (nil_step S.code (of_code S pending pc regs opened) c near.0 near.1 t has.0 (omega (arith, room, S.small)) (omega (arith, room, rel.room)))
       (closure_goes n t j (pc + 1) opened (t + 1) body _ env0 regs0 c (function_to (length env) ∷ k) refl (has.1.1.0, (has.1.1.1.0, tt)) bound inner
-      (let places : t + 1 ≡ length env0 = omega (arith, wide, size) in subst (Captures ups) places ok) (omega (arith, wide, size)) room fresh
+      (let places : t + 1 ≡ length env0 = omega (arith, wide, size) in subst (Captures S.hidden ups) places ok) (omega (arith, wide, size)) room fresh
       (λ v env1 regs1 c1 af. go_left S n _ (tree.at complete (of_tree S pending (write (length env) v env1) c1) k) _ refl
       (go_right S n _ _ (before (of_code S pending (pc + 1 + 1) (write t v regs1) opened) c1)
       (to_register_step S.code t (read 0) there.0 (v ∷ []) (of_code S pending (pc + 1) regs1 opened) c1 (omega (arith, room, af.rel.room)) (subst (λ q. at S.code q ≡ Some there.0) (sym two) there.1))
       (at_place S pending n (pc + 1 + 1) (pc + 2) opened _ (write t v regs1) c1 two
       (let inside_env : length env < length env1 = omega (arith, wide, af.size) in
       let kept = length_write (length env) v env1 inside_env in
-      let made = rel_write S.code.own.stack pending env1 regs1 c1 v (length env) inside_env af.rel in
-      next (write (length env) v env1) (write t v regs1) c1 (omega (arith, kept, wide, size, af.size)) (subst (λ r. Rel S.code.own.stack pending (write (length env) v env1) c1 (write r v regs1)) size made)))))))
+      let made = rel_write S.hidden S.code.own.stack pending env1 regs1 c1 v (length env) inside_env (λ m. let low = under (length env) m in absurd (omega (arith, low, size))) af.rel in
+      next (write (length env) v env1) (write t v regs1) c1 (omega (arith, kept, wide, size, af.size)) (subst (λ r. Rel S.hidden S.code.own.stack pending (write (length env) v env1) c1 (write r v regs1)) size made)))))))

@@ -44,22 +44,22 @@ module _ (S : Setting) (pending : List Pending) where
   -- the code at pc goes on as the work k does with the values of an expression, where register t has the first one
   abbrev pub Goes : (n : ℕ) → (many : Bool) → (t : ℕ) → (env regs : List Value) → (pc : ℕ) → (k : List Work) → Type 0
   Goes n many t env regs pc k =
-      (vs env' regs' : List Value) (c' : Captured) (opened' : ℕ) → After S.code.own.stack pending env regs t env' regs' c' → nth regs' t ≡ first vs → Given many vs
+      (vs env' regs' : List Value) (c' : Captured) (opened' : ℕ) → After S.hidden S.code.own.stack pending env regs t env' regs' c' → nth regs' t ≡ first vs → Given many vs
       → Agree S n (tree.at (give vs) (of_tree S pending env' c') k) (before (of_code S pending pc regs' opened') c')
 
   -- the like for a call or `...` with this field C
   abbrev pub GoesFilled : (n field t : ℕ) → (env regs : List Value) → (pc : ℕ) → (k : List Work) → Type 0
   GoesFilled n field t env regs pc k =
-      (vs env' regs' : List Value) (c' : Captured) (opened' : ℕ) → After S.code.own.stack pending env regs t env' regs' c' → Filled S field pc t vs regs' opened'
+      (vs env' regs' : List Value) (c' : Captured) (opened' : ℕ) → After S.hidden S.code.own.stack pending env regs t env' regs' c' → Filled S field pc t vs regs' opened'
       → Agree S n (tree.at (give vs) (of_tree S pending env' c') k) (before (of_code S pending pc regs' opened') c')
 
   pub given_one : (many : Bool) (v : Value) → Given many (v ∷ [])
   given_one true v = tt
   given_one false v = refl
 
-  pub put_goes : (n : ℕ) (many : Bool) (t pc opened : ℕ) (v : Value) (env regs : List Value) (c : Captured) (k : List Work) → length env ≤ t → Rel S.code.own.stack pending env c regs → Goes n many t env regs pc k
+  pub put_goes : (n : ℕ) (many : Bool) (t pc opened : ℕ) (v : Value) (env regs : List Value) (c : Captured) (k : List Work) → length env ≤ t → Rel S.hidden S.code.own.stack pending env c regs → Goes n many t env regs pc k
       → Agree S n (tree.at (give (v ∷ [])) (of_tree S pending env c) k) (before (of_code S pending pc (write t v regs) opened) c)
-  put_goes n many t pc opened v env regs c k le rel goes = goes (v ∷ []) env (write t v regs) c opened (after_put S.code.own.stack pending env regs c t v le rel) (nth_write_same t v regs) (given_one many v)
+  put_goes n many t pc opened v env regs c k le rel goes = goes (v ∷ []) env (write t v regs) c opened (after_put S.hidden S.code.own.stack pending env regs c t v le rel) (nth_write_same t v regs) (given_one many v)
 
   pub at_place : (n pc pc' opened : ℕ) (s : tree.State) (regs : List Value) (c : Captured) → pc ≡ pc' → Agree S n s (before (of_code S pending pc' regs opened) c) → Agree S n s (before (of_code S pending pc regs opened) c)
   at_place n pc pc' opened s regs c e h = subst (λ q. Agree S n s (before (of_code S pending q regs opened) c)) (sym e) h
@@ -68,12 +68,12 @@ module _ (S : Setting) (pending : List Pending) where
   goes_at n many t pc pc' env regs k e h = λ vs env' regs' c' opened' af eq one. at_place n pc pc' opened' _ regs' c' e (h vs env' regs' c' opened' af eq one)
 
   -- code goes on from a later state as it does from an earlier one
-  pub goes_after : (n : ℕ) (many : Bool) (t pc : ℕ) (env regs env1 regs1 : List Value) (c1 : Captured) (k : List Work) → After S.code.own.stack pending env regs t env1 regs1 c1 → Goes n many t env regs pc k → Goes n many t env1 regs1 pc k
-  goes_after n many t pc env regs env1 regs1 c1 k af goes = λ vs env2 regs2 c2 o2 af2 eq one. goes vs env2 regs2 c2 o2 (after_then S.code.own.stack pending env regs env1 regs1 env2 regs2 c1 c2 t t (omega arith) af af2) eq one
+  pub goes_after : (n : ℕ) (many : Bool) (t pc : ℕ) (env regs env1 regs1 : List Value) (c1 : Captured) (k : List Work) → After S.hidden S.code.own.stack pending env regs t env1 regs1 c1 → Goes n many t env regs pc k → Goes n many t env1 regs1 pc k
+  goes_after n many t pc env regs env1 regs1 c1 k af goes = λ vs env2 regs2 c2 o2 af2 eq one. goes vs env2 regs2 c2 o2 (after_then S.hidden S.code.own.stack pending env regs env1 regs1 env2 regs2 c1 c2 t t (omega arith) af af2) eq one
 
   -- the first value of an answer goes to register t
   pub answer_goes : (n : ℕ) (many : Bool) (t pc opened : ℕ) (ws env regs env1 regs1 : List Value) (c1 : Captured) (k : List Work) → pc + 1 < length S.code.own.code → length env ≤ t → t < S.code.own.stack
-      → After S.code.own.stack pending env regs t env1 regs1 c1 → Goes n many t env regs (pc + 1) k
+      → After S.hidden S.code.own.stack pending env regs t env1 regs1 c1 → Goes n many t env regs (pc + 1) k
       → Agree S n (tree.at (give_first ws) (of_tree S pending env1 c1) k) (amid (to_register t (read 0)) ws (of_code S pending pc regs1 opened) c1)
   answer_goes n many t pc opened ws env regs env1 regs1 c1 k inside le room af goes =
       let there = next_there S (pc + 1) inside in
@@ -85,7 +85,7 @@ module _ (S : Setting) (pending : List Pending) where
   pub operation_goes : (wait : Wait Value) (told_so : (reply : Reply) → told_values wait reply ≡ told_values for_value reply) (operation : Operation) (xs : List Value) (n : ℕ) (many : Bool) (line t pc opened : ℕ) (s : tree.State) (q : code.State) (env regs : List Value) (c : Captured) (k : List Work)
       → step s ≡ asks (operates operation xs) line (of_tree S pending env c) k give_first
       → talk_step S.code q ≡ says_so (operates operation xs) S.code (of_code S pending pc regs opened) c (λ x b d. heard wait S.code x b d)
-      → rest_at {V = Value} wait S.code pc ≡ to_register t (read 0) → Here S pc line → pc + 1 < length S.code.own.code → length env ≤ t → t < S.code.own.stack → Rel S.code.own.stack pending env c regs
+      → rest_at {V = Value} wait S.code pc ≡ to_register t (read 0) → Here S pc line → pc + 1 < length S.code.own.code → length env ≤ t → t < S.code.own.stack → Rel S.hidden S.code.own.stack pending env c regs
       → Goes n many t env regs (pc + 1) k → Agree S n s q
   operation_goes wait told_so operation xs n many line t pc opened s q env regs c k e d comes here inside le room rel goes =
       asks_alike S pending n wait told_so s q (operates operation xs) (operates operation xs) line pc opened t env regs c k give_first e d (λ m. (refl, refl)) refl rel here
@@ -94,7 +94,7 @@ module _ (S : Setting) (pending : List Pending) where
 
   -- an instruction that writes a value to register t
   pub one_goes : (i : Coded) (code : List Coded) (v : Value) (n : ℕ) (many : Bool) (t pc opened : ℕ) (s : tree.State) (env regs : List Value) (c : Captured) (k : List Work)
-      → code ≡ i ∷ [] → step s ≡ gives v (of_tree S pending env c) k → HasAt S pc code → pc + length code < length S.code.own.code → length env ≤ t → Rel S.code.own.stack pending env c regs
+      → code ≡ i ∷ [] → step s ≡ gives v (of_tree S pending env c) k → HasAt S pc code → pc + length code < length S.code.own.code → length env ≤ t → Rel S.hidden S.code.own.stack pending env c regs
       → (at S.code pc ≡ Some i.0 → (w : Instruction) → at S.code (pc + 1) ≡ Some w
       → talk_step S.code (before (of_code S pending pc regs opened) c) ≡ goes_on (before (of_code S pending (pc + 1) (write t v regs) opened) c))
       → Goes n many t env regs (pc + length code) k → Agree S n s (before (of_code S pending pc regs opened) c)

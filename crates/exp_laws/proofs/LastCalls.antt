@@ -30,26 +30,26 @@ use Rattle.exp_laws.proofs.Exps.{room_some, args_ready, held_one, held_two, plac
 
 module _ (S : Setting) (pending : List Pending) where
   tail_goes : (b n line t pc opened : ℕ) (f : Value) (args : List Value) (s : tree.State) (env regs : List Value) (c : Captured) → step s ≡ asks (calls_last f args) line (of_tree S pending env c) [] (λ _. over)
-      → HasAt S pc (with_abc TailCall t b 0 line ∷ []) → t < S.code.own.stack → b < 2 ^ 8 → Rel S.code.own.stack pending env c regs → nth regs t ≡ f → Passed S.code b (t + 1) args (of_code S pending pc regs opened)
+      → HasAt S pc (with_abc TailCall t b 0 line ∷ []) → t < S.code.own.stack → b < 2 ^ 8 → Rel S.hidden S.code.own.stack pending env c regs → nth regs t ≡ f → Passed S.code b (t + 1) args (of_code S pending pc regs opened)
       → Agree S n s (before (of_code S pending pc regs opened) c)
   tail_goes b zero line t pc opened f args s env regs c e has room b_fits rel f_is passed = tt
   tail_goes b (suc n) line t pc opened f args s env regs c e has room b_fits rel f_is passed =
       let here = here_abc S TailCall t b 0 false line pc [] has in
       both_ask S n s _ (calls_last f args) (calls_last (nth regs t) args) line _ _ _ _ _ e
       (tail_step S.code t b 0 args (of_code S pending pc regs opened) c has.0 (omega (arith, room, S.small)) b_fits (omega (arith, room, rel.room)) passed) (sym f_is, refl) refl here.lined
-      (share_same S.code.own.stack pending env c regs rel) (λ x fits. by x.shared x.reply fits.reply)
+      (share_same S.hidden S.code.own.stack pending env c regs rel) (λ x fits. by x.shared x.reply fits.reply)
     where
       by : (shared : List Value) (reply : Reply) → IsFaulted reply
           → Agree S n (trees.heard reply line (of_tree S pending (brought c.held shared env) (told c)) [] (λ _. over)) (amid (marked trap S.code pc reply) [] (of_code S pending pc (brought c.held shared regs) opened) (told c))
       by shared (faulted words) is =
-          faults_alike S n pending line pc opened (brought c.held shared env) (brought c.held shared regs) (told c) words _ _ (after_share S.code.own.stack pending env regs shared c t rel).rel
+          faults_alike S n pending line pc opened (brought c.held shared env) (brought c.held shared regs) (told c) words _ _ (after_share S.hidden S.code.own.stack pending env regs shared c t rel).rel
           (here_abc S TailCall t b 0 false line pc [] has) refl refl
       by shared (values vs) is = absurd is
       by shared (left v) is = absurd is
 
   -- the arguments are there
   called_last : (es : Exps) (more : ℕ) (args : List Value) (n line t pc opened : ℕ) (env regs : List Value) (c : Captured) (k : List Work) → HasAt S pc (with_abc TailCall t (list_field more es) 0 line ∷ [])
-      → t + (more + 1) ≤ S.code.own.stack → t + room_of_list S.code.own.constants (more + 1) es None ≤ S.code.own.stack → Rel S.code.own.stack pending env c regs
+      → t + (more + 1) ≤ S.code.own.stack → t + room_of_list S.code.own.constants (more + 1) es None ≤ S.code.own.stack → Rel S.hidden S.code.own.stack pending env c regs
       → Listed S pending None (ends_open es) (more + 1 + count es) pc t args regs opened
       → Agree S n (tree.at (collect (for_call line true) args EndExps) (of_tree S pending env c) k) (before (of_code S pending pc regs opened) c)
   called_last es more args n line t pc opened env regs c k has below room rel l =
@@ -61,7 +61,7 @@ module _ (S : Setting) (pending : List Pending) where
       → HasAt S pc (exp_code S.code.own.constants f t j 2 ++ (exps_code S.code.own.constants es None (t + 1) (j + made_by f) line ++ with_abc TailCall t (list_field 0 es) 0 line ∷ []))
       → IsPlaced S f (length env) j → ArePlaced S es (length env) (j + made_by f)
       → pc + length (exp_code S.code.own.constants f t j 2 ++ (exps_code S.code.own.constants es None (t + 1) (j + made_by f) line ++ with_abc TailCall t (list_field 0 es) 0 line ∷ [])) < length S.code.own.code
-      → length env ≤ t → t + room_of S.code.own.constants f 2 ≤ S.code.own.stack → t + room_of_list S.code.own.constants 1 es None ≤ S.code.own.stack → Rel S.code.own.stack pending env c regs
+      → length env ≤ t → t + room_of S.code.own.constants f 2 ≤ S.code.own.stack → t + room_of_list S.code.own.constants 1 es None ≤ S.code.own.stack → Rel S.hidden S.code.own.stack pending env c regs
       → Agree S n (tree.at (evaluate f) (of_tree S pending env c) (callee_of line true es ∷ k)) (before (of_code S pending pc regs opened) c)
   call_last_same f es line t j n pc opened env regs c k bound has f_ok es_ok inside le f_room es_room rel =
       let first_code = exp_code S.code.own.constants f t j 2 in
@@ -82,7 +82,7 @@ module _ (S : Setting) (pending : List Pending) where
       → HasAt S pc (exp_code S.code.own.constants object t j 2 ++ (loads S.code.own.constants (StrConst name) (t + 1) line ++ (with_abc OpSelf t t (t + 1) line ∷ (exps_code S.code.own.constants es None (t + 2) (j + made_by object) line ++ with_abc TailCall t (list_field 1 es) 0 line ∷ []))))
       → IsPlaced S object (length env) j → Found S.code.own.constants (StrConst name) → ArePlaced S es (length env) (j + made_by object)
       → pc + length (exp_code S.code.own.constants object t j 2 ++ (loads S.code.own.constants (StrConst name) (t + 1) line ++ (with_abc OpSelf t t (t + 1) line ∷ (exps_code S.code.own.constants es None (t + 2) (j + made_by object) line ++ with_abc TailCall t (list_field 1 es) 0 line ∷ [])))) < length S.code.own.code
-      → length env ≤ t → t + room_of S.code.own.constants object 2 ≤ S.code.own.stack → t + 1 < S.code.own.stack → t + room_of_list S.code.own.constants 2 es None ≤ S.code.own.stack → Rel S.code.own.stack pending env c regs
+      → length env ≤ t → t + room_of S.code.own.constants object 2 ≤ S.code.own.stack → t + 1 < S.code.own.stack → t + room_of_list S.code.own.constants 2 es None ≤ S.code.own.stack → Rel S.hidden S.code.own.stack pending env c regs
       → Agree S n (tree.at (evaluate object) (of_tree S pending env c) (method_of line true name es ∷ k)) (before (of_code S pending pc regs opened) c)
   method_last_same object name es line t j n pc opened env regs c k bound has o_ok found es_ok inside le o_room room es_room rel =
       let first_code = exp_code S.code.own.constants object t j 2 in
@@ -98,7 +98,7 @@ module _ (S : Setting) (pending : List Pending) where
       let rest = length-append args_code last_code in
       let q = pc + length first_code + length name_code in
       exp_same S pending object t j n pc opened env regs c (method_of line true name es ∷ k) bound (has_front S pc first_code (name_code ++ (self_code ∷ (args_code ++ last_code))) has) o_ok (omega (arith, inside, whole)) le o_room rel
-      (λ vs env1 regs1 c1 o1 af eq one. let put = after_put S.code.own.stack pending env1 regs1 c1 (t + 1) key (omega (arith, le, af.size)) af.rel in
+      (λ vs env1 regs1 c1 o1 af eq one. let put = after_put S.hidden S.code.own.stack pending env1 regs1 c1 (t + 1) key (omega (arith, le, af.size)) af.rel in
       load_right S pending (StrConst name) (t + 1) line n (pc + length first_code) o1 _ regs1 c1 found (has_front S (pc + length first_code) name_code (self_code ∷ (args_code ++ last_code)) behind) (omega (arith, inside, whole, middle)) (omega (arith, room, S.small)) (omega (arith, room, af.rel.room))
       (method_goes S pending n line t q o1 (first vs) key _ env1 (write (t + 1) key regs1) c1 k (λ ws. collect (for_call line true) (first ws ∷ first vs ∷ []) es) refl (beyond.0, (beyond.1.0, tt)) (omega (arith, inside, whole, middle, rest)) (omega (arith, le, af.size)) room put.rel
       (nth_write_other (t + 1) key regs1 t (λ same. absurd (omega (arith, same))) ∙ eq) (nth_write_same (t + 1) key regs1)

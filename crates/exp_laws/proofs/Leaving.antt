@@ -122,9 +122,9 @@ module _ (S : Setting) where
     pub shared : shared_by c.held env ≡ shared_by c.held regs
     pub values : (r : ℕ) → is_pending (marked_in pending) r ≡ true → (nth env r ≡ nth regs r) × (r < S.code.own.stack)
 
-  pub left_from : (pending : List Pending) (env : List Value) (c : Captured) (regs : List Value) → Rel S.code.own.stack pending env c regs → Left pending env c regs
+  pub left_from : (pending : List Pending) (env : List Value) (c : Captured) (regs : List Value) → Rel S.hidden S.code.own.stack pending env c regs → Left pending env c regs
   left_from pending env c regs rel = record {
-    shared = held_same S.code.own.stack pending env c regs rel;
+    shared = held_same S.hidden S.code.own.stack pending env c regs rel;
     values = λ r e. let below = pending_below 0 pending (length env) rel.ascends r e in (rel.agree r below, omega (arith, below, rel.fits));
   }
 
@@ -265,11 +265,11 @@ module _ (S : Setting) where
     faults_so (suc n) pending line pc opened env regs c words s t l here e d = faults_step n (leaves_so n) pending line pc opened env regs c words s t l here e d
 
   -- an activation that is left with an error from above
-  pub leaves_alike : (n : ℕ) (pending : List Pending) (line pc opened : ℕ) (env regs : List Value) (c : Captured) (e : Value) → Rel S.code.own.stack pending env c regs → Here S pc line
+  pub leaves_alike : (n : ℕ) (pending : List Pending) (line pc opened : ℕ) (env regs : List Value) (c : Captured) (e : Value) → Rel S.hidden S.code.own.stack pending env c regs → Here S pc line
       → Agree S n (tree.at (leave_scope 0 line e (finish line (throws e))) (of_tree S pending env c) []) (amid fails (e ∷ []) (of_code S pending pc regs opened) c)
   leaves_alike n pending line pc opened env regs c e rel here = leaves_so n pending line pc opened env regs c e (left_from pending env c regs rel) here
 
   -- an activation whose own step is at fault
-  pub faults_alike : (n : ℕ) (pending : List Pending) (line pc opened : ℕ) (env regs : List Value) (c : Captured) (words : List ℕ) (s : tree.State) (t : code.State) → Rel S.code.own.stack pending env c regs → Here S pc line
+  pub faults_alike : (n : ℕ) (pending : List Pending) (line pc opened : ℕ) (env regs : List Value) (c : Captured) (words : List ℕ) (s : tree.State) (t : code.State) → Rel S.hidden S.code.own.stack pending env c regs → Here S pc line
       → step s ≡ raises_fault line words (of_tree S pending env c) → talk_step S.code t ≡ talk S.code (text.raise words) [] (of_code S pending pc regs opened) c → Agree S n s t
   faults_alike n pending line pc opened env regs c words s t rel here e d = faults_so n pending line pc opened env regs c words s t (left_from pending env c regs rel) here e d

@@ -65,28 +65,28 @@ module _ (S : Setting) (pending : List Pending) where
   -- the code at pc goes on as the work k does once a list is complete
   abbrev pub GoesListed : (n : ℕ) → Wanted → (many : Bool) → (size : ℕ) → Purpose → (base : ℕ) → (env regs : List Value) → (pc : ℕ) → (k : List Work) → Type 0
   GoesListed n wanted many size purpose base env regs pc k =
-      (vs env' regs' : List Value) (c' : Captured) (opened' : ℕ) → After S.code.own.stack pending env regs base env' regs' c' → Listed wanted many size pc base vs regs' opened'
+      (vs env' regs' : List Value) (c' : Captured) (opened' : ℕ) → After S.hidden S.code.own.stack pending env regs base env' regs' c' → Listed wanted many size pc base vs regs' opened'
       → Agree S n (tree.at (collect purpose vs EndExps) (of_tree S pending env' c') k) (before (of_code S pending pc regs' opened') c')
 
   pub listed_at : (n : ℕ) (wanted : Wanted) (many : Bool) (size : ℕ) (purpose : Purpose) (base pc pc' : ℕ) (env regs : List Value) (k : List Work) → pc ≡ pc' → GoesListed n wanted many size purpose base env regs pc' k → GoesListed n wanted many size purpose base env regs pc k
   listed_at n wanted many size purpose base pc pc' env regs k e goes = subst (λ q. GoesListed n wanted many size purpose base env regs q k) (sym e) goes
 
-  pub listed_after : (n : ℕ) (wanted : Wanted) (many : Bool) (size : ℕ) (purpose : Purpose) (base pc : ℕ) (env regs env1 regs1 : List Value) (c1 : Captured) (k : List Work) → After S.code.own.stack pending env regs base env1 regs1 c1
+  pub listed_after : (n : ℕ) (wanted : Wanted) (many : Bool) (size : ℕ) (purpose : Purpose) (base pc : ℕ) (env regs env1 regs1 : List Value) (c1 : Captured) (k : List Work) → After S.hidden S.code.own.stack pending env regs base env1 regs1 c1
       → GoesListed n wanted many size purpose base env regs pc k → GoesListed n wanted many size purpose base env1 regs1 pc k
-  listed_after n wanted many size purpose base pc env regs env1 regs1 c1 k af goes = λ vs env2 regs2 c2 o2 af2 listed. goes vs env2 regs2 c2 o2 (after_then S.code.own.stack pending env regs env1 regs1 env2 regs2 c1 c2 base base (omega arith) af af2) listed
+  listed_after n wanted many size purpose base pc env regs env1 regs1 c1 k af goes = λ vs env2 regs2 c2 o2 af2 listed. goes vs env2 regs2 c2 o2 (after_then S.hidden S.code.own.stack pending env regs env1 regs1 env2 regs2 c1 c2 base base (omega arith) af af2) listed
 
   -- a list is complete: values that are wanted and not there are nil
   pub nils_goes : (wanted : Wanted) (n : ℕ) (purpose : Purpose) (base above line pc opened : ℕ) (have env regs : List Value) (c : Captured) (k : List Work) → HasAt S pc (nils_code wanted (base + above) line) → pc + length (nils_code wanted (base + above) line) < length S.code.own.code
-      → length have ≡ above → Holds base above have regs → length env ≤ base → base + above ≤ S.code.own.stack → base + room_of_nils above wanted ≤ S.code.own.stack → Rel S.code.own.stack pending env c regs
+      → length have ≡ above → Holds base above have regs → length env ≤ base → base + above ≤ S.code.own.stack → base + room_of_nils above wanted ≤ S.code.own.stack → Rel S.hidden S.code.own.stack pending env c regs
       → GoesListed n (total wanted above) false above purpose base env regs (pc + length (nils_code wanted (base + above) line)) k
       → Agree S n (tree.at (collect purpose have EndExps) (of_tree S pending env c) k) (before (of_code S pending pc regs opened) c)
   nils_goes None n purpose base above line pc opened have env regs c k has inside size held le below room rel goes =
       let same : pc ≡ pc + 0 = omega arith in
-      at_place S pending n pc (pc + 0) opened _ regs c same (goes have env regs c opened (after_none S.code.own.stack pending env regs c base rel) (size, subst (λ m. Holds base m have regs) (sym size) held))
+      at_place S pending n pc (pc + 0) opened _ regs c same (goes have env regs c opened (after_none S.hidden S.code.own.stack pending env regs c base rel) (size, subst (λ m. Holds base m have regs) (sym size) held))
   nils_goes (Some zero) n purpose base above line pc opened have env regs c k has inside size held le below room rel goes =
       let same : pc ≡ pc + 0 = omega arith in
       let none : above ≡ above + 0 = omega arith in
-      at_place S pending n pc (pc + 0) opened _ regs c same (goes have env regs c opened (after_none S.code.own.stack pending env regs c base rel) (subst (λ m. Holds base m have regs) none held))
+      at_place S pending n pc (pc + 0) opened _ regs c same (goes have env regs c opened (after_none S.hidden S.code.own.stack pending env regs c base rel) (subst (λ m. Holds base m have regs) none held))
   nils_goes (Some (suc m)) n purpose base above line pc opened have env regs c k has inside size held le below room rel goes =
       let there = next_there S (pc + 1) inside in
       let t = base + above in
@@ -96,7 +96,7 @@ module _ (S : Setting) (pending : List Pending) where
       go_right S n _ _ (before (of_code S pending (pc + 1) regs1 opened) c)
       (nils_step S.code t m there.0 (of_code S pending pc regs opened) c has.0 there.1 (omega (arith, room, S.small)) (omega (arith, room, S.small)) (omega (arith, room, rel.room)))
       (goes have env regs1 c opened
-      (after_above S.code.own.stack pending env regs regs1 c base le rel (λ r lt. write_all_below t (nils (m + 1)) regs r (omega arith)) (omega (arith, more, rel.room)))
+      (after_above S.hidden S.code.own.stack pending env regs regs1 c base le rel (λ r lt. write_all_below t (nils (m + 1)) regs r (omega arith)) (omega (arith, more, rel.room)))
       (λ i lt. by i lt))
     where
       old : (i : ℕ) → i < above → nth (write_all (base + above) (nils (m + 1)) regs) (base + i) ≡ nth have i

@@ -50,19 +50,19 @@ module _ (S : Setting) (pending : List Pending) where
   abbrev pub with_one : ℕ → Bool → List Pending
   with_one t needed = pending ++ record { number = t; needed = needed } ∷ []
 
-  rel_marked : (t : ℕ) (needed : Bool) (env : List Value) (c : Captured) (regs : List Value) → Ascends 0 pending t → t < length env → Rel S.code.own.stack pending env c regs → Rel S.code.own.stack (with_one t needed) env c regs
+  rel_marked : (t : ℕ) (needed : Bool) (env : List Value) (c : Captured) (regs : List Value) → Ascends 0 pending t → t < length env → Rel S.hidden S.code.own.stack pending env c regs → Rel S.hidden S.code.own.stack (with_one t needed) env c regs
   rel_marked t needed env c regs above lt rel =
-      record { agree = rel.agree; held = rel.held; ascends = ascends_more 0 pending t (length env) needed above (omega arith) lt; fits = rel.fits; room = rel.room }
+      record { agree = rel.agree; held = rel.held; hides = rel.hides; ascends = ascends_more 0 pending t (length env) needed above (omega arith) lt; fits = rel.fits; room = rel.room }
 
   -- code goes on as the tree does with the variable among those to be closed
   abbrev pub GoesMarked : (n size t pc opened : ℕ) → Control → List Work → Type 0
   GoesMarked n size t pc opened next_of k =
-      (needed : Bool) (env1 regs1 : List Value) (c1 : Captured) → length env1 ≡ size → Rel S.code.own.stack (with_one t needed) env1 c1 regs1
+      (needed : Bool) (env1 regs1 : List Value) (c1 : Captured) → length env1 ≡ size → Rel S.hidden S.code.own.stack (with_one t needed) env1 c1 regs1
       → Agree S n (tree.at next_of (of_tree S (with_one t needed) env1 c1) k) (before (of_code S (with_one t needed) pc regs1 opened) c1)
 
   -- the name is known where lines are
   pub mark_goes : (n line t pc opened : ℕ) (name : List ℕ) (next_of : Control) (env regs : List Value) (c : Captured) (k : List Work) → HasAt S pc (with_abc Tbc t 0 0 line ∷ []) → pc + 1 < length S.code.own.code
-      → variable_name S.code pc t ≡ cond S.lines name (codes "?") → Ascends 0 pending t → t < length env → Rel S.code.own.stack pending env c regs → GoesMarked n (length env) t (pc + 1) opened next_of k
+      → variable_name S.code pc t ≡ cond S.lines name (codes "?") → Ascends 0 pending t → t < length env → Rel S.hidden S.code.own.stack pending env c regs → GoesMarked n (length env) t (pc + 1) opened next_of k
       → Agree S n (tree.at (mark line name t next_of) (of_tree S pending env c) k) (before (of_code S pending pc regs opened) c)
   mark_goes n line t pc opened name next_of env regs c k has inside named above lt rel goes = by (holds (shape (nth env t))) refl
     where
@@ -75,7 +75,7 @@ module _ (S : Setting) (pending : List Pending) where
           ∙ ap (λ v. talk S.code (marking S.code pc t (holds (shape v))) (nth regs t ∷ []) (of_code S pending pc regs opened) c) (sym (rel.agree t lt))
 
       -- the mark is set
-      sets : (n : ℕ) (env1 regs1 had : List Value) (c1 : Captured) → length env1 ≡ length env → Rel S.code.own.stack pending env1 c1 regs1 → GoesMarked n (length env) t (pc + 1) opened next_of k
+      sets : (n : ℕ) (env1 regs1 had : List Value) (c1 : Captured) → length env1 ≡ length env → Rel S.hidden S.code.own.stack pending env1 c1 regs1 → GoesMarked n (length env) t (pc + 1) opened next_of k
           → Agree S n (tree.at next_of (of_tree S (with_one t true) env1 c1) k) (amid (then (mark_pending t) next) had (of_code S pending pc regs1 opened) c1)
       sets n env1 regs1 had c1 size rel1 goes =
           let more = marked_more pending (record { number = t; needed = true }) refl in
@@ -91,16 +91,16 @@ module _ (S : Setting) (pending : List Pending) where
           both_mark S n _ _ (nth env t) (nth regs t) name (variable_name S.code pc t) line _ _ _ _ _
           (ap (λ b. cond b (trees.says_so (marks (nth env t) name) line (of_tree S pending env c) (λ x b. trees.marked x.reply line t next_of b k)) (go next_of (with_pending (of_tree S pending env c) t false) k)) is)
           (reads ∙ ap (λ b. talk S.code (marking S.code pc t b) (nth regs t ∷ []) (of_code S pending pc regs opened) c) is)
-          (rel.agree t lt) named (here_abc S Tbc t 0 0 false line pc [] has).lined (share_same S.code.own.stack pending env c regs rel) (λ x fits. answered x.shared x.reply fits)
+          (rel.agree t lt) named (here_abc S Tbc t 0 0 false line pc [] has).lined (share_same S.hidden S.code.own.stack pending env c regs rel) (λ x fits. answered x.shared x.reply fits)
         where
           answered : (shared : List Value) (reply : Reply) → IsChecked reply
               → Agree S n (trees.marked reply line t next_of (of_tree S pending (brought c.held shared env) (told c)) k)
               (amid (marked (then (mark_pending t) next) S.code pc reply) (nth regs t ∷ []) (of_code S pending pc (brought c.held shared regs) opened) (told c))
           answered shared (values vs) fits =
-              let af = after_share S.code.own.stack pending env regs shared c t rel in
+              let af = after_share S.hidden S.code.own.stack pending env regs shared c t rel in
               down S n _ _ (sets (suc n) (brought c.held shared env) (brought c.held shared regs) (nth regs t ∷ []) (told c) af.size af.rel goes)
           answered shared (faulted words) fits =
-              faults_alike S n pending line pc opened (brought c.held shared env) (brought c.held shared regs) (told c) words _ _ (after_share S.code.own.stack pending env regs shared c t rel).rel (here_abc S Tbc t 0 0 false line pc [] has) refl refl
+              faults_alike S n pending line pc opened (brought c.held shared env) (brought c.held shared regs) (told c) words _ _ (after_share S.hidden S.code.own.stack pending env regs shared c t rel).rel (here_abc S Tbc t 0 0 false line pc [] has) refl refl
           answered shared (left e) fits = absurd fits
 
       by : (b : Bool) → holds (shape (nth env t)) ≡ b → Agree S n (tree.at (mark line name t next_of) (of_tree S pending env c) k) (before (of_code S pending pc regs opened) c)

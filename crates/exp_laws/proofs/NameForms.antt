@@ -61,7 +61,7 @@ module _ (S : Setting) (pending : List Pending) where
   -- a constant is an expression
   pub constant_goes : (x : Const) (n : ℕ) (many : Bool) (t line pc opened : ℕ) (s : tree.State) (env regs : List Value) (c : Captured) (k : List Work)
       → Found S.code.own.constants x → step s ≡ gives (known (constant x)) (of_tree S pending env c) k → HasAt S pc (loads S.code.own.constants x t line) → pc + length (loads S.code.own.constants x t line) < length S.code.own.code
-      → length env ≤ t → t < S.code.own.stack → Rel S.code.own.stack pending env c regs → Goes S pending n many t env regs (pc + length (loads S.code.own.constants x t line)) k
+      → length env ≤ t → t < S.code.own.stack → Rel S.hidden S.code.own.stack pending env c regs → Goes S pending n many t env regs (pc + length (loads S.code.own.constants x t line)) k
       → Agree S n s (before (of_code S pending pc regs opened) c)
   constant_goes x n many t line pc opened s env regs c k found e has inside le room rel goes =
       go_left S n s (tree.at (give (known (constant x) ∷ [])) (of_tree S pending env c) k) _ e
@@ -70,7 +70,7 @@ module _ (S : Setting) (pending : List Pending) where
 
   pub integer_goes : (z : ℤ) (b : Bool) (n : ℕ) (many : Bool) (line t pc opened : ℕ) (s : tree.State) (env regs : List Value) (c : Captured) (k : List Work)
       → is_small z ≡ b → step s ≡ gives (known (integer z)) (of_tree S pending env c) k → IsLoaded S.code.own.constants z → (code : List Coded) → code ≡ cond b (with_abx LoadI t (small_field z) line ∷ []) (loads S.code.own.constants (IntConst z) t line)
-      → HasAt S pc code → pc + length code < length S.code.own.code → length env ≤ t → t < S.code.own.stack → Rel S.code.own.stack pending env c regs
+      → HasAt S pc code → pc + length code < length S.code.own.code → length env ≤ t → t < S.code.own.stack → Rel S.hidden S.code.own.stack pending env c regs
       → Goes S pending n many t env regs (pc + length code) k → Agree S n s (before (of_code S pending pc regs opened) c)
   integer_goes z true n many line t pc opened s env regs c k small_is e ok code is has inside le room rel goes =
       one_goes S pending (with_abx LoadI t (small_field z) line) code (known (integer z)) n many t pc opened s env regs c k is e has inside le rel
@@ -83,7 +83,7 @@ module _ (S : Setting) (pending : List Pending) where
   -- a field of the value v by the key w: the two stand in registers
   pub index_goes : (x y : ℕ) (v w : Value) (n : ℕ) (many : Bool) (t line pc opened : ℕ) (s : tree.State) (env regs : List Value) (c : Captured) (k : List Work)
       → step s ≡ asks (operates index (v ∷ w ∷ [])) line (of_tree S pending env c) k give_first → HasAt S pc (with_abc GetTable t x y line ∷ []) → pc + 1 < length S.code.own.code
-      → length env ≤ t → t < S.code.own.stack → x < S.code.own.stack → y < S.code.own.stack → Rel S.code.own.stack pending env c regs → nth regs x ≡ v → nth regs y ≡ w
+      → length env ≤ t → t < S.code.own.stack → x < S.code.own.stack → y < S.code.own.stack → Rel S.hidden S.code.own.stack pending env c regs → nth regs x ≡ v → nth regs y ≡ w
       → Goes S pending n many t env regs (pc + 1) k → Agree S n s (before (of_code S pending pc regs opened) c)
   index_goes x y v w n many t line pc opened s env regs c k e has inside le room x_room y_room rel x_is y_is goes =
       operation_goes S pending for_value (λ reply. refl) index (v ∷ w ∷ []) n many line t pc opened s _ env regs c k e
@@ -93,7 +93,7 @@ module _ (S : Setting) (pending : List Pending) where
 
   upvalue_goes : (u n : ℕ) (many : Bool) (t line pc opened : ℕ) (s : tree.State) (env regs : List Value) (c : Captured) (k : List Work)
       → step s ≡ asks_quickly (reads_upvalue u) line (of_tree S pending env c) k give_first → HasAt S pc (with_abc GetUpval t u 0 line ∷ []) → pc + 1 < length S.code.own.code
-      → u < 2 ^ 8 → length env ≤ t → t < S.code.own.stack → Rel S.code.own.stack pending env c regs → Goes S pending n many t env regs (pc + 1) k → Agree S n s (before (of_code S pending pc regs opened) c)
+      → u < 2 ^ 8 → length env ≤ t → t < S.code.own.stack → Rel S.hidden S.code.own.stack pending env c regs → Goes S pending n many t env regs (pc + 1) k → Agree S n s (before (of_code S pending pc regs opened) c)
   upvalue_goes u n many t line pc opened s env regs c k e has inside u_fits le room rel goes =
       one_alike S pending n s _ (reads_upvalue u) (reads_upvalue u) line pc opened t env regs c k give_first (to_register t (read 0)) [] e
       (upvalue_step S.code t u (of_code S pending pc regs opened) c has.0 (omega (arith, S.small)) u_fits)
@@ -103,7 +103,7 @@ module _ (S : Setting) (pending : List Pending) where
   -- a global name whose key has a number of 8 bits
   near_goes : (u : ℕ) (text : List ℕ) (n : ℕ) (many : Bool) (t line pc opened : ℕ) (s : tree.State) (env regs : List Value) (c : Captured) (k : List Work)
       → step s ≡ reads_variable line text (GlobalOf u) (of_tree S pending env c) k → HasAt S pc (with_abc GetTabUp t u (number_in S.code.own.constants (StrConst text)) line ∷ []) → pc + 1 < length S.code.own.code
-      → number_in S.code.own.constants (StrConst text) < 2 ^ 8 → u < 2 ^ 8 → Found S.code.own.constants (StrConst text) → length env ≤ t → t < S.code.own.stack → Rel S.code.own.stack pending env c regs
+      → number_in S.code.own.constants (StrConst text) < 2 ^ 8 → u < 2 ^ 8 → Found S.code.own.constants (StrConst text) → length env ≤ t → t < S.code.own.stack → Rel S.hidden S.code.own.stack pending env c regs
       → Goes S pending n many t env regs (pc + 1) k → Agree S n s (before (of_code S pending pc regs opened) c)
   near_goes u text n many t line pc opened s env regs c k e has inside near u_fits found le room rel goes =
       let number = number_in S.code.own.constants (StrConst text) in
@@ -121,7 +121,7 @@ module _ (S : Setting) (pending : List Pending) where
   far_goes : (u : ℕ) (text : List ℕ) (n : ℕ) (many : Bool) (t line pc opened : ℕ) (s : tree.State) (env regs : List Value) (c : Captured) (k : List Work)
       → step s ≡ reads_variable line text (GlobalOf u) (of_tree S pending env c) k
       → HasAt S pc (with_abc GetUpval t u 0 line ∷ (loads S.code.own.constants (StrConst text) (t + 1) line ++ with_abc GetTable t t (t + 1) line ∷ []))
-      → pc + (1 + (length (loads S.code.own.constants (StrConst text) (t + 1) line) + 1)) < length S.code.own.code → u < 2 ^ 8 → Found S.code.own.constants (StrConst text) → length env ≤ t → t + 1 < S.code.own.stack → Rel S.code.own.stack pending env c regs
+      → pc + (1 + (length (loads S.code.own.constants (StrConst text) (t + 1) line) + 1)) < length S.code.own.code → u < 2 ^ 8 → Found S.code.own.constants (StrConst text) → length env ≤ t → t + 1 < S.code.own.stack → Rel S.hidden S.code.own.stack pending env c regs
       → Goes S pending n many t env regs (pc + (1 + (length (loads S.code.own.constants (StrConst text) (t + 1) line) + 1))) k → Agree S n s (before (of_code S pending pc regs opened) c)
   far_goes u text n many t line pc opened s env regs c k e has inside u_fits found le room rel goes =
       let key_code = loads S.code.own.constants (StrConst text) (t + 1) line in
@@ -130,17 +130,17 @@ module _ (S : Setting) (pending : List Pending) where
       upvalue_goes u n true t line pc opened s env regs c (field_of line key ∷ k) e (has.0, (has.1.0, tt)) (omega (arith, inside)) u_fits le (omega arith) rel
       (λ vs env1 regs1 c1 o1 af eq one. load_right (StrConst text) (t + 1) line n (pc + 1) o1 _ regs1 c1 found (has_front S (pc + 1) key_code (with_abc GetTable t t (t + 1) line ∷ []) has.1.1)
       (omega (arith, inside)) (omega (arith, S.small)) (omega (arith, af.rel.room))
-      (let put = after_put S.code.own.stack pending env1 regs1 c1 (t + 1) key (omega (arith, le, af.size)) af.rel in
+      (let put = after_put S.hidden S.code.own.stack pending env1 regs1 c1 (t + 1) key (omega (arith, le, af.size)) af.rel in
       index_goes t (t + 1) (first vs) key n many t line (pc + 1 + length key_code) o1 _ env1 (write (t + 1) key regs1) c1 k refl behind (omega (arith, inside)) (omega (arith, le, af.size)) (omega arith) (omega arith) room put.rel
       (nth_write_other (t + 1) key regs1 t (λ same. absurd (omega (arith, same))) ∙ eq) (nth_write_same (t + 1) key regs1)
       (goes_at S pending n many t (pc + 1 + length key_code + 1) (pc + (1 + (length key_code + 1))) env1 (write (t + 1) key regs1) k (omega arith)
       (goes_after S pending n many t (pc + (1 + (length key_code + 1))) env regs env1 (write (t + 1) key regs1) c1 k
-      (after_then S.code.own.stack pending env regs env1 regs1 env1 (write (t + 1) key regs1) c1 c1 t (t + 1) (omega arith) af put) goes))))
+      (after_then S.hidden S.code.own.stack pending env regs env1 regs1 env1 (write (t + 1) key regs1) c1 c1 t (t + 1) (omega arith) af put) goes))))
 
   global_goes : (u : ℕ) (text : List ℕ) (n : ℕ) (many : Bool) (t line pc opened : ℕ) (s : tree.State) (env regs : List Value) (c : Captured) (k : List Work) (b : Bool) → nat_lt (number_in S.code.own.constants (StrConst text)) 256 ≡ b
       → step s ≡ reads_variable line text (GlobalOf u) (of_tree S pending env c) k
       → (code : List Coded) → code ≡ cond b (with_abc GetTabUp t u (number_in S.code.own.constants (StrConst text)) line ∷ []) (with_abc GetUpval t u 0 line ∷ (loads S.code.own.constants (StrConst text) (t + 1) line ++ with_abc GetTable t t (t + 1) line ∷ []))
-      → HasAt S pc code → pc + length code < length S.code.own.code → u < 2 ^ 8 → Found S.code.own.constants (StrConst text) → length env ≤ t → t + cond b 1 2 ≤ S.code.own.stack → Rel S.code.own.stack pending env c regs
+      → HasAt S pc code → pc + length code < length S.code.own.code → u < 2 ^ 8 → Found S.code.own.constants (StrConst text) → length env ≤ t → t + cond b 1 2 ≤ S.code.own.stack → Rel S.hidden S.code.own.stack pending env c regs
       → Goes S pending n many t env regs (pc + length code) k → Agree S n s (before (of_code S pending pc regs opened) c)
   global_goes u text n many t line pc opened s env regs c k true near e code is has inside u_fits found le room rel goes =
       let size = ap length is in
@@ -155,7 +155,7 @@ module _ (S : Setting) (pending : List Pending) where
   -- a name
   pub name_goes : (place : Place) (text : List ℕ) (n : ℕ) (many : Bool) (line t pc opened : ℕ) (s : tree.State) (env regs : List Value) (c : Captured) (k : List Work)
       → step s ≡ reads_variable line text place (of_tree S pending env c) k → HasAt S pc (name_code S.code.own.constants place text t line) → NameIsPlaced S place text (length env)
-      → pc + length (name_code S.code.own.constants place text t line) < length S.code.own.code → length env ≤ t → t + room_of_name S.code.own.constants place text ≤ S.code.own.stack → Rel S.code.own.stack pending env c regs
+      → pc + length (name_code S.code.own.constants place text t line) < length S.code.own.code → length env ≤ t → t + room_of_name S.code.own.constants place text ≤ S.code.own.stack → Rel S.hidden S.code.own.stack pending env c regs
       → Goes S pending n many t env regs (pc + length (name_code S.code.own.constants place text t line)) k → Agree S n s (before (of_code S pending pc regs opened) c)
   name_goes Unset text n many line t pc opened s env regs c k e has ok inside le room rel goes = absurd ok
   name_goes (LocalPlace m) text n many line t pc opened s env regs c k e has ok inside le room rel goes =
@@ -170,7 +170,7 @@ module _ (S : Setting) (pending : List Pending) where
       let last_code = with_abc GetTable t m t line ∷ [] in
       let sum = length-append key_code last_code in
       let key = known (string text) in
-      let put = after_put S.code.own.stack pending env regs c t key le rel in
+      let put = after_put S.hidden S.code.own.stack pending env regs c t key le rel in
       load_right (StrConst text) t line n pc opened s regs c ok.1 (has_front S pc key_code last_code has) (omega (arith, inside, sum)) (omega (arith, S.small)) (omega (arith, rel.room))
       (index_goes m t (nth env m) key n many t line (pc + length key_code) opened s env (write t key regs) c k e (has_back S pc key_code last_code has) (omega (arith, inside, sum)) le (omega arith) (omega (arith, below, rel.fits)) (omega arith) put.rel
       (sym (put.rel.agree m below)) (nth_write_same t key regs)

@@ -62,7 +62,7 @@ sort_of Ge = inr (inl tt)
 module _ (S : Setting) (pending : List Pending) where
   prefix_goes : (op : UnOp) (f : Prefix op) (n : ℕ) (many : Bool) (line t pc opened : ℕ) (vs env regs : List Value) (c : Captured) (k : List Work)
       → HasAt S pc (prefix_code op t line) → pc + 1 < length S.code.own.code → length env ≤ t → t < S.code.own.stack
-      → Rel S.code.own.stack pending env c regs → nth regs t ≡ first vs → Goes S pending n many t env regs (pc + 1) k
+      → Rel S.hidden S.code.own.stack pending env c regs → nth regs t ≡ first vs → Goes S pending n many t env regs (pc + 1) k
       → Agree S n (tree.at (give vs) (of_tree S pending env c) (operand_of line op ∷ k)) (before (of_code S pending pc regs opened) c)
   prefix_goes op f n many line t pc opened vs env regs c k has inside le room rel eq goes =
       let fits : t < 2 ^ 8 = omega (arith, S.small) in
@@ -74,7 +74,7 @@ module _ (S : Setting) (pending : List Pending) where
   -- an operator before the value in register t
   pub unary_goes : (op : UnOp) (n : ℕ) (many : Bool) (line t pc opened : ℕ) (vs env regs : List Value) (c : Captured) (k : List Work)
       → HasAt S pc (prefix_code op t line) → pc + 1 < length S.code.own.code → length env ≤ t → t < S.code.own.stack
-      → Rel S.code.own.stack pending env c regs → nth regs t ≡ first vs → Goes S pending n many t env regs (pc + 1) k
+      → Rel S.hidden S.code.own.stack pending env c regs → nth regs t ≡ first vs → Goes S pending n many t env regs (pc + 1) k
       → Agree S n (tree.at (give vs) (of_tree S pending env c) (operand_of line op ∷ k)) (before (of_code S pending pc regs opened) c)
   unary_goes Negation n many line t pc opened vs env regs c k has inside le room rel eq goes =
       let there = next_there S (pc + 1) inside in
@@ -91,7 +91,7 @@ module _ (S : Setting) (pending : List Pending) where
   -- arithmetic on the values v and w in the registers t and t + 1
   module _ (op : BinOp) (f : Arithmetic op) (line t pc opened : ℕ) (v w : Value) (env regs : List Value) (c : Captured) (k : List Work) (s : tree.State)
       (has : HasAt S pc (arithmetic_code f.opcode f.number t line)) (inside : pc + 2 < length S.code.own.code) (le : length env ≤ t) (room : t + 1 < S.code.own.stack)
-      (rel : Rel S.code.own.stack pending env c regs) (left_is : nth regs t ≡ v) (right_is : nth regs (t + 1) ≡ w)
+      (rel : Rel S.hidden S.code.own.stack pending env c regs) (left_is : nth regs t ≡ v) (right_is : nth regs (t + 1) ≡ w)
       (begins : step s ≡ by_integers f.event (integer_in (shape v)) (integer_in (shape w)) line v w (of_tree S pending env c) k) where
     fits : t + 1 < 2 ^ 8
     fits = omega (arith, S.small)
@@ -153,7 +153,7 @@ module _ (S : Setting) (pending : List Pending) where
   -- a comparison of the values v and w in the registers t and t + 1
   module _ (op : BinOp) (f : Comparison op) (line t pc opened : ℕ) (v w : Value) (env regs : List Value) (c : Captured) (k : List Work) (s : tree.State)
       (has : HasAt S pc (truth_code f.opcode (pick f.swapped t (t + 1)) (pick f.swapped (t + 1) t) f.wanted t line)) (inside : pc + 4 < length S.code.own.code) (le : length env ≤ t) (room : t + 1 < S.code.own.stack)
-      (rel : Rel S.code.own.stack pending env c regs) (left_is : nth regs t ≡ v) (right_is : nth regs (t + 1) ≡ w)
+      (rel : Rel S.hidden S.code.own.stack pending env c regs) (left_is : nth regs t ≡ v) (right_is : nth regs (t + 1) ≡ w)
       (begins : step s ≡ truth_of f.operation f.wanted (pick f.swapped v w) (pick f.swapped w v) line (of_tree S pending env c) k) where
     abbrev x : ℕ
     x = pick f.swapped t (t + 1)
@@ -179,7 +179,7 @@ module _ (S : Setting) (pending : List Pending) where
     last = next_there S (pc + 4) inside
 
     -- the truth b goes to register t
-    written_so : (n : ℕ) (many : Bool) (b : Bool) (ws env1 regs1 : List Value) (c1 : Captured) → After S.code.own.stack pending env regs t env1 regs1 c1 → same_truth (holds (shape (first ws))) f.wanted ≡ b
+    written_so : (n : ℕ) (many : Bool) (b : Bool) (ws env1 regs1 : List Value) (c1 : Captured) → After S.hidden S.code.own.stack pending env regs t env1 regs1 c1 → same_truth (holds (shape (first ws))) f.wanted ≡ b
         → Goes S pending n many t env regs (pc + 4) k
         → Agree S n (tree.at (give (known (boolean b) ∷ [])) (of_tree S pending env1 c1) k) (amid (rest_at {V = Value} for_truth S.code pc) ws (of_code S pending pc regs1 opened) c1)
     written_so n many true ws env1 regs1 c1 af e goes =
@@ -219,7 +219,7 @@ module _ (S : Setting) (pending : List Pending) where
   -- an operator between the values in the registers t and t + 1
   pub binary_goes : (op : BinOp) (n : ℕ) (many : Bool) (line t pc opened : ℕ) (v : Value) (ws env regs : List Value) (c : Captured) (k : List Work)
       → HasAt S pc (operator_code op t line) → pc + length (operator_code op t line) < length S.code.own.code → length env ≤ t → t + 1 < S.code.own.stack
-      → Rel S.code.own.stack pending env c regs → nth regs t ≡ v → nth regs (t + 1) ≡ first ws → Goes S pending n many t env regs (pc + length (operator_code op t line)) k
+      → Rel S.hidden S.code.own.stack pending env c regs → nth regs t ≡ v → nth regs (t + 1) ≡ first ws → Goes S pending n many t env regs (pc + length (operator_code op t line)) k
       → Agree S n (tree.at (give ws) (of_tree S pending env c) (left_of line op v ∷ k)) (before (of_code S pending pc regs opened) c)
   binary_goes op n many line t pc opened v ws env regs c k has inside le room rel e1 e2 goes = by (sort_of op)
     where
@@ -251,7 +251,7 @@ module _ (S : Setting) (pending : List Pending) where
   -- a test of the value in register t, and what follows where it decides and where it does not
   pub decides_goes : (decides b : Bool) (line t n pc opened : ℕ) (second : List Coded) (v : Value) (s : tree.State) (env regs : List Value) (c : Captured)
       → HasAt S pc ((abc Test t 0 0 decides, line) ∷ jump_over (length second) line ∷ second) → pc + (2 + length second) < length S.code.own.code → t < S.code.own.stack
-      → Rel S.code.own.stack pending env c regs → nth regs t ≡ v → same_truth (holds (shape v)) decides ≡ b
+      → Rel S.hidden S.code.own.stack pending env c regs → nth regs t ≡ v → same_truth (holds (shape v)) decides ≡ b
       → (b ≡ true → Agree S n s (before (of_code S pending (pc + (2 + length second)) regs opened) c))
       → (b ≡ false → Agree S n s (before (of_code S pending (pc + 2) regs opened) c))
       → Agree S n s (before (of_code S pending pc regs opened) c)

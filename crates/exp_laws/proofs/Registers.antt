@@ -1,9 +1,10 @@
 -- Locals and registers side by side: what holds of both while an expression is evaluated.
-use Rattle.std.proofs.Common.{◌⊎◌, inl, inr, ⊎_elim, length-append, ◌≡◌, ℕ, zero, suc, ◌<◌, ◌≤◌, cond, List, [], ◌∷◌, ◌++◌, length, refl, sym, ap, subst, ◌∙◌, arith}
-use Rattle.int_core.specs.Value.{Value, nth, write}
+use Rattle.std.proofs.Common.{◌⊎◌, inl, inr, ⊎_elim, length-append, ◌≡◌, ℕ, zero, suc, ◌<◌, ◌≤◌, ℤ, cond, List, [], ◌∷◌, ◌++◌, length, refl, sym, ap, subst, ◌∙◌, arith}
+use Rattle.int_core.specs.Value.{Value, known, integer, nth, write}
 use Rattle.int_core.specs.Ask.{Captured, shared_by, brought}
 use Rattle.tree_activation.specs.Work.{Pending}
 use Rattle.machine_join.proofs.Lists.{nth_old, nth_write_same, nth_write_other, length_write, write_more}
+use Rattle.exp_laws.specs.Placed.{IsNoneOf}
 
 write_alike : (s : ℕ) (v : Value) (xs ys : List Value) (r : ℕ) → nth xs r ≡ nth ys r → nth (write s v xs) r ≡ nth (write s v ys) r
 write_alike zero v [] [] zero e = refl
@@ -38,6 +39,33 @@ abbrev pub Ascends : (from : ℕ) → List Pending → (to : ℕ) → Type 0
 Ascends from [] to = Unit {0}
 Ascends from (p ∷ ps) to = (from ≤ p.number) × ((p.number < to) × Ascends (suc p.number) ps to)
 
+-- a place is one of these
+abbrev pub Among : ℕ → List ℕ → Type 0
+Among r [] = ⊥
+Among r (m ∷ ms) = (r ≡ m) ⊎ Among r ms
+
+abbrev pub AllUnder : List ℕ → ℕ → Type 0
+AllUnder ms n = (r : ℕ) → Among r ms → r < n
+
+pub under_higher : (ms : List ℕ) (m n : ℕ) → m ≤ n → AllUnder ms m → AllUnder ms n
+under_higher ms m n le h r a = let lt = h r a in omega (arith, lt)
+
+pub none_among : (n : ℕ) (ms : List ℕ) → IsNoneOf n ms → Among n ms → ⊥
+none_among n [] h a = a
+none_among n (m ∷ ms) h a = ⊎_elim h.0 (none_among n ms h.1) a
+
+abbrev pub IsFree : ℕ → List (ℕ × ℕ) → Type 0
+IsFree r [] = Unit {0}
+IsFree r (h ∷ held) = (r ≡ h.0 → ⊥) × IsFree r held
+
+abbrev pub IsInteger : Value → Type 0
+IsInteger v = (z : ℤ) × (v ≡ known (integer z))
+
+-- no hidden local is captured, and each that is there has an integer
+pub record Hides (hidden : List ℕ) (env : List Value) (held : List (ℕ × ℕ)) : Type 0 where
+  pub free : (r : ℕ) → Among r hidden → IsFree r held
+  pub whole : (r : ℕ) → Among r hidden → r < length env → IsInteger (nth env r)
+
 pub held_higher : (held : List (ℕ × ℕ)) (m n : ℕ) → m ≤ n → HeldBelow held m → HeldBelow held n
 held_higher [] m n le h = tt
 held_higher (x ∷ held) m n le h = let f = h.0 in (omega (arith, f), held_higher held m n le h.1)
@@ -47,24 +75,25 @@ ascends_higher from to high [] le h = tt
 ascends_higher from to high (p ∷ ps) le h = let f = h.1.0 in (h.0, (omega (arith, f), ascends_higher (suc p.number) to high ps le h.1.1))
 
 -- the locals are the registers of their numbers, captured ones and those to be closed are locals, and there are at least so many registers
-pub record Rel (stack : ℕ) (pending : List Pending) (env : List Value) (c : Captured) (regs : List Value) : Type 0 where
+pub record Rel (hidden : List ℕ) (stack : ℕ) (pending : List Pending) (env : List Value) (c : Captured) (regs : List Value) : Type 0 where
   pub agree : (r : ℕ) → r < length env → nth env r ≡ nth regs r
   pub held : HeldBelow c.held (length env)
+  pub hides : Hides hidden env c.held
   pub ascends : Ascends 0 pending (length env)
   pub fits : length env ≤ stack
   pub room : stack ≤ length regs
 
 -- what stands after an expression whose value goes to register t
-pub record After (stack : ℕ) (pending : List Pending) (env regs : List Value) (t : ℕ) (env' regs' : List Value) (c' : Captured) : Type 0 where
+pub record After (hidden : List ℕ) (stack : ℕ) (pending : List Pending) (env regs : List Value) (t : ℕ) (env' regs' : List Value) (c' : Captured) : Type 0 where
   pub size : length env' ≡ length env
-  pub rel : Rel stack pending env' c' regs'
+  pub rel : Rel hidden stack pending env' c' regs'
   pub keeps : (r : ℕ) → length env ≤ r → r < t → nth regs' r ≡ nth regs r
 
-module _ (stack : ℕ) (pending : List Pending) where
-  pub after_none : (env regs : List Value) (c : Captured) (t : ℕ) → Rel stack pending env c regs → After stack pending env regs t env regs c
+module _ (hidden : List ℕ) (stack : ℕ) (pending : List Pending) where
+  pub after_none : (env regs : List Value) (c : Captured) (t : ℕ) → Rel hidden stack pending env c regs → After hidden stack pending env regs t env regs c
   after_none env regs c t h = record { size = refl; rel = h; keeps = λ r lo hi. refl }
 
-  pub after_then : (env regs env1 regs1 env2 regs2 : List Value) (c1 c2 : Captured) (t t1 : ℕ) → t ≤ t1 → After stack pending env regs t env1 regs1 c1 → After stack pending env1 regs1 t1 env2 regs2 c2 → After stack pending env regs t env2 regs2 c2
+  pub after_then : (env regs env1 regs1 env2 regs2 : List Value) (c1 c2 : Captured) (t t1 : ℕ) → t ≤ t1 → After hidden stack pending env regs t env1 regs1 c1 → After hidden stack pending env1 regs1 t1 env2 regs2 c2 → After hidden stack pending env regs t env2 regs2 c2
   after_then env regs env1 regs1 env2 regs2 c1 c2 t t1 le a b = record {
     size = b.size ∙ a.size;
     rel = b.rel;
@@ -72,19 +101,19 @@ module _ (stack : ℕ) (pending : List Pending) where
   }
 
   -- what stands up to a register stands up to a lower one
-  pub lower : (env regs env' regs' : List Value) (c : Captured) (t r : ℕ) → r ≤ t → After stack pending env regs t env' regs' c → After stack pending env regs r env' regs' c
+  pub lower : (env regs env' regs' : List Value) (c : Captured) (t r : ℕ) → r ≤ t → After hidden stack pending env regs t env' regs' c → After hidden stack pending env regs r env' regs' c
   lower env regs env' regs' c t r le a = record { size = a.size; rel = a.rel; keeps = λ q lo hi. a.keeps q lo (omega arith) }
 
   -- registers that agree with the old ones below t, and are enough
-  pub after_above : (env regs regs' : List Value) (c : Captured) (t : ℕ) → length env ≤ t → Rel stack pending env c regs → ((r : ℕ) → r < t → nth regs' r ≡ nth regs r) → stack ≤ length regs' → After stack pending env regs t env regs' c
+  pub after_above : (env regs regs' : List Value) (c : Captured) (t : ℕ) → length env ≤ t → Rel hidden stack pending env c regs → ((r : ℕ) → r < t → nth regs' r ≡ nth regs r) → stack ≤ length regs' → After hidden stack pending env regs t env regs' c
   after_above env regs regs' c t le h same room = record {
     size = refl;
-    rel = record { agree = λ r lr. h.agree r lr ∙ sym (same r (omega arith)); held = h.held; ascends = h.ascends; fits = h.fits; room = room };
+    rel = record { agree = λ r lr. h.agree r lr ∙ sym (same r (omega arith)); held = h.held; hides = h.hides; ascends = h.ascends; fits = h.fits; room = room };
     keeps = λ r lo hi. same r hi;
   }
 
   -- a write above the locals
-  pub after_put : (env regs : List Value) (c : Captured) (t : ℕ) (v : Value) → length env ≤ t → Rel stack pending env c regs → After stack pending env regs t env (write t v regs) c
+  pub after_put : (env regs : List Value) (c : Captured) (t : ℕ) (v : Value) → length env ≤ t → Rel hidden stack pending env c regs → After hidden stack pending env regs t env (write t v regs) c
   after_put env regs c t v le h =
       let more = write_more t v regs in
       after_above env regs (write t v regs) c t le h (λ r lr. nth_write_other t v regs r (λ e. absurd (omega arith))) (omega (arith, more, h.room))
@@ -134,17 +163,52 @@ brought_keeps (s ∷ held) (v ∷ vs) size regs h r le =
     let lt = h.0 in
     brought_keeps held vs size (write s.0 v regs) h.1 r le ∙ nth_write_other s.0 v regs r (λ e. absurd (omega (arith, lt)))
 
+pub brought_free : (held : List (ℕ × ℕ)) (vs xs : List Value) (r : ℕ) → IsFree r held → nth (brought held vs xs) r ≡ nth xs r
+brought_free [] vs xs r h = refl
+brought_free (s ∷ held) [] xs r h = refl
+brought_free (s ∷ held) (v ∷ vs) xs r h = brought_free held vs (write s.0 v xs) r h.1 ∙ nth_write_other s.0 v xs r h.0
+
+-- hidden locals in what becomes of the locals
+
+hides_shared : (hidden : List ℕ) (env vs : List Value) (held : List (ℕ × ℕ)) → HeldBelow held (length env) → Hides hidden env held → Hides hidden (brought held vs env) held
+hides_shared hidden env vs held below h =
+    let e = brought_length held vs env below in
+    record {
+      free = h.free;
+      whole = λ r m lt. subst IsInteger (sym (brought_free held vs env r (h.free r m))) (h.whole r m (omega (arith, e, lt)));
+    }
+
+hides_one_more : (hidden : List ℕ) (env : List Value) (held : List (ℕ × ℕ)) (place cell : ℕ) → (Among place hidden → ⊥) → Hides hidden env held → Hides hidden env ((place, cell) ∷ held)
+hides_one_more hidden env held place cell other h = record {
+  free = λ r m. (λ e. other (subst (λ q. Among q hidden) e m), h.free r m);
+  whole = h.whole;
+}
+
+pub hides_more : (hidden : List ℕ) (env vs : List Value) (held : List (ℕ × ℕ)) → AllUnder hidden (length env) → Hides hidden env held → Hides hidden (env ++ vs) held
+hides_more hidden env vs held under h = record {
+  free = h.free;
+  whole = λ r m lt. subst IsInteger (sym (nth_old env vs r (under r m))) (h.whole r m (under r m));
+}
+
+pub hides_write : (hidden : List ℕ) (env : List Value) (held : List (ℕ × ℕ)) (v : Value) (n : ℕ) → n < length env → (Among n hidden → ⊥) → Hides hidden env held → Hides hidden (write n v env) held
+hides_write hidden env held v n lt other h =
+    let same = length_write n v env lt in
+    record {
+      free = h.free;
+      whole = λ r m less. subst IsInteger (sym (nth_write_other n v env r (λ e. other (subst (λ q. Among q hidden) e m)))) (h.whole r m (omega (arith, same, less)));
+    }
+
 abbrev pub told : Captured → Captured
 told c = record { held = c.held; gone = [] }
 
-module _ (stack : ℕ) (pending : List Pending) where
-  pub held_same : (env : List Value) (c : Captured) (regs : List Value) → Rel stack pending env c regs → shared_by c.held env ≡ shared_by c.held regs
+module _ (hidden : List ℕ) (stack : ℕ) (pending : List Pending) where
+  pub held_same : (env : List Value) (c : Captured) (regs : List Value) → Rel hidden stack pending env c regs → shared_by c.held env ≡ shared_by c.held regs
   held_same env c regs rel = shared_same c.held (length env) env regs rel.held rel.agree
 
-  pub share_same : (env : List Value) (c : Captured) (regs : List Value) → Rel stack pending env c regs → shared_by c.held env ++ c.gone ≡ shared_by c.held regs ++ c.gone
+  pub share_same : (env : List Value) (c : Captured) (regs : List Value) → Rel hidden stack pending env c regs → shared_by c.held env ++ c.gone ≡ shared_by c.held regs ++ c.gone
   share_same env c regs rel = ap (λ l. l ++ c.gone) (held_same env c regs rel)
 
-  pub after_share : (env regs vs : List Value) (c : Captured) (t : ℕ) → Rel stack pending env c regs → After stack pending env regs t (brought c.held vs env) (brought c.held vs regs) (told c)
+  pub after_share : (env regs vs : List Value) (c : Captured) (t : ℕ) → Rel hidden stack pending env c regs → After hidden stack pending env regs t (brought c.held vs env) (brought c.held vs regs) (told c)
   after_share env regs vs c t h =
       let e = brought_length c.held vs env h.held in
       let more = brought_more c.held vs regs in
@@ -153,6 +217,7 @@ module _ (stack : ℕ) (pending : List Pending) where
         rel = record {
           agree = λ r l. brought_agree c.held vs (length env) env regs h.agree r (omega (arith, e));
           held = held_length c.held _ _ (sym e) h.held;
+          hides = hides_shared hidden env vs c.held h.held h.hides;
           ascends = subst (Ascends 0 pending) (sym e) h.ascends;
           fits = omega (arith, e, h.fits);
           room = omega (arith, more, h.room);
@@ -161,20 +226,20 @@ module _ (stack : ℕ) (pending : List Pending) where
       }
 
   -- and a local gets a cell besides
-  pub after_hold : (env regs vs : List Value) (c : Captured) (t place cell : ℕ) → place < length env → Rel stack pending env c regs
-      → After stack pending env regs t (brought c.held vs env) (brought c.held vs regs) (record { held = (place, cell) ∷ c.held; gone = [] })
-  after_hold env regs vs c t place cell below h =
+  pub after_hold : (env regs vs : List Value) (c : Captured) (t place cell : ℕ) → place < length env → (Among place hidden → ⊥) → Rel hidden stack pending env c regs
+      → After hidden stack pending env regs t (brought c.held vs env) (brought c.held vs regs) (record { held = (place, cell) ∷ c.held; gone = [] })
+  after_hold env regs vs c t place cell below other h =
       let e = brought_length c.held vs env h.held in
       let a = after_share env regs vs c t h in
       record {
         size = a.size;
-        rel = record { agree = a.rel.agree; held = (omega (arith, e), a.rel.held); ascends = a.rel.ascends; fits = a.rel.fits; room = a.rel.room };
+        rel = record { agree = a.rel.agree; held = (omega (arith, e), a.rel.held); hides = hides_one_more hidden (brought c.held vs env) c.held place cell other a.rel.hides; ascends = a.rel.ascends; fits = a.rel.fits; room = a.rel.room };
         keeps = a.keeps;
       }
 
   -- a local is declared, whose value goes to the register behind those of the others
-  pub rel_more : (env regs : List Value) (c : Captured) (v : Value) (t : ℕ) → length env ≡ t → t < stack → Rel stack pending env c regs → Rel stack pending (env ++ v ∷ []) c (write t v regs)
-  rel_more env regs c v t size room h =
+  pub rel_more : (env regs : List Value) (c : Captured) (v : Value) (t : ℕ) → length env ≡ t → t < stack → AllUnder hidden t → Rel hidden stack pending env c regs → Rel hidden stack pending (env ++ v ∷ []) c (write t v regs)
+  rel_more env regs c v t size room under h =
       let sum = length-append env (v ∷ []) in
       let more = write_more t v regs in
       record {
@@ -183,19 +248,21 @@ module _ (stack : ℕ) (pending : List Pending) where
             (λ last. let is : r ≡ t = omega (arith, sum, size, lr, last) in ap (nth (env ++ v ∷ [])) (is ∙ sym size) ∙ last_nth env v ∙ sym (nth_write_same t v regs) ∙ ap (nth (write t v regs)) (sym is))
             (split r (length env));
         held = held_higher c.held (length env) (length (env ++ v ∷ [])) (omega (arith, sum)) h.held;
+        hides = hides_more hidden env (v ∷ []) c.held (subst (AllUnder hidden) (sym size) under) h.hides;
         ascends = ascends_higher 0 (length env) (length (env ++ v ∷ [])) pending (omega (arith, sum)) h.ascends;
         fits = omega (arith, sum, size, room);
         room = omega (arith, more, h.room);
       }
 
   -- a local and its register get a value
-  pub rel_write : (env regs : List Value) (c : Captured) (v : Value) (r : ℕ) → r < length env → Rel stack pending env c regs → Rel stack pending (write r v env) c (write r v regs)
-  rel_write env regs c v r lt h =
+  pub rel_write : (env regs : List Value) (c : Captured) (v : Value) (r : ℕ) → r < length env → (Among r hidden → ⊥) → Rel hidden stack pending env c regs → Rel hidden stack pending (write r v env) c (write r v regs)
+  rel_write env regs c v r lt other h =
       let same = length_write r v env lt in
       let more = write_more r v regs in
       record {
         agree = λ q lq. write_alike r v env regs q (h.agree q (omega (arith, same, lq)));
         held = held_length c.held _ _ (sym same) h.held;
+        hides = hides_write hidden env c.held v r lt other h.hides;
         ascends = subst (Ascends 0 pending) (sym same) h.ascends;
         fits = omega (arith, same, h.fits);
         room = omega (arith, more, h.room);

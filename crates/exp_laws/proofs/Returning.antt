@@ -174,7 +174,7 @@ module _ (S : Setting) (from : ℕ) (vs : List Value) where
     returns_so (suc n) pending line pc opened env regs had c q l here is wide held d = returns_step n (returns_so n) (length pending) pending (snoc pending) (omega arith) line pc opened env regs had c q l here is wide held d
 
   -- an activation that returns values, which stand in registers
-  pub returns_alike : (n : ℕ) (pending : List Pending) (line pc opened : ℕ) (env regs had : List Value) (c : Captured) (q : code.State) → Rel S.code.own.stack pending env c regs → (here : Here S pc line) → a_of here.word ≡ from → behind from count ≤ length regs
+  pub returns_alike : (n : ℕ) (pending : List Pending) (line pc opened : ℕ) (env regs had : List Value) (c : Captured) (q : code.State) → Rel S.hidden S.code.own.stack pending env c regs → (here : Here S pc line) → a_of here.word ≡ from → behind from count ≤ length regs
       → Holds from count vs regs → talk_step S.code q ≡ talk S.code (rows.returns from count) had (of_code S pending pc regs opened) c
       → Agree S n (tree.at (leave_scope 0 line (known nil) (finish line (returns vs))) (of_tree S pending env c) []) q
   returns_alike n pending line pc opened env regs had c q rel here is wide held d = returns_so n pending line pc opened env regs had c q (left_from S pending env c regs rel) here is wide held d

@@ -49,7 +49,7 @@ module _ (S : Setting) (pending : List Pending) where
   pub return_list_same : (es : Exps) (line t j back n pc opened : ℕ) (env regs : List Value) (c : Captured) (k : List Work) → n ≤ S.bound
       → HasAt S pc (exps_code S.code.own.constants es None t j line ++ with_abc Return t (list_field 0 es) back line ∷ []) → ArePlaced S es (length env) j
       → pc + length (exps_code S.code.own.constants es None t j line) < length S.code.own.code → count es + 1 < 2 ^ 8 → length env ≤ t → t ≤ S.code.own.stack → t + room_of_list S.code.own.constants 0 es None ≤ S.code.own.stack
-      → Rel S.code.own.stack pending env c regs
+      → Rel S.hidden S.code.own.stack pending env c regs
       → Agree S n (tree.at (collect (for_return line) [] es) (of_tree S pending env c) k) (before (of_code S pending pc regs opened) c)
   return_list_same es line t j back n pc opened env regs c k bound has ok inside small le low room rel =
       let values_code = exps_code S.code.own.constants es None t j line in

@@ -49,8 +49,8 @@ module _ (S : Setting) (pending : List Pending) where
   -- a new table in register t
   pub new_goes : (n line t pc opened : ℕ) (s : tree.State) (env regs : List Value) (c : Captured) (k : List Work) (goes : List Value → Control)
       → step s ≡ asks_quickly makes_table line (of_tree S pending env c) k goes → HasAt S pc (with_abc NewTable t 0 0 line ∷ (op_ax ExtraArg 0, line) ∷ []) → pc + 2 < length S.code.own.code → length env ≤ t → t < S.code.own.stack
-      → Rel S.code.own.stack pending env c regs
-      → ((m : ℕ) (env1 regs1 : List Value) (c1 : Captured) → After S.code.own.stack pending env regs t env1 regs1 c1 → nth regs1 t ≡ object a_table m
+      → Rel S.hidden S.code.own.stack pending env c regs
+      → ((m : ℕ) (env1 regs1 : List Value) (c1 : Captured) → After S.hidden S.code.own.stack pending env regs t env1 regs1 c1 → nth regs1 t ≡ object a_table m
       → Agree S n (tree.at (goes (object a_table m ∷ [])) (of_tree S pending env1 c1) k) (before (of_code S pending (pc + 2) regs1 opened) c1))
       → Agree S n s (before (of_code S pending pc regs opened) c)
   new_goes n line t pc opened s env regs c k goes e has inside le room rel next =
@@ -58,7 +58,7 @@ module _ (S : Setting) (pending : List Pending) where
       (new_step S.code t (of_code S pending pc regs opened) c has.0 has.1.1.0 (omega (arith, room, S.small))) (λ m lt. tt) refl rel (here_abc S NewTable t 0 0 false line pc ((op_ax ExtraArg 0, line) ∷ []) has)
       (λ reply fits env1 regs1 c1 af. by reply fits env1 regs1 c1 af)
     where
-      new : (m : ℕ) (env1 regs1 : List Value) (c1 : Captured) → After S.code.own.stack pending env regs t env1 regs1 c1
+      new : (m : ℕ) (env1 regs1 : List Value) (c1 : Captured) → After S.hidden S.code.own.stack pending env regs t env1 regs1 c1
           → Agree S n (tree.at (goes (object a_table m ∷ [])) (of_tree S pending env1 c1) k) (amid (then (write_register t (read 0)) skip) (object a_table m ∷ []) (of_code S pending pc regs1 opened) c1)
       new m env1 regs1 c1 af =
           let there = next_there S (pc + 2) inside in
@@ -66,9 +66,9 @@ module _ (S : Setting) (pending : List Pending) where
           go_right S n _ _ (before (of_code S pending (pc + 2) (write t v regs1) opened) c1)
           (put_step S.code t 2 (read 0) there.0 (v ∷ []) (of_code S pending pc regs1 opened) c1 (omega (arith, room, af.rel.room)) there.1)
           (next m env1 (write t v regs1) c1
-          (after_then S.code.own.stack pending env regs env1 regs1 env1 (write t v regs1) c1 c1 t t (omega arith) af (after_put S.code.own.stack pending env1 regs1 c1 t v (omega (arith, le, af.size)) af.rel)) (nth_write_same t v regs1))
+          (after_then S.hidden S.code.own.stack pending env regs env1 regs1 env1 (write t v regs1) c1 c1 t t (omega arith) af (after_put S.hidden S.code.own.stack pending env1 regs1 c1 t v (omega (arith, le, af.size)) af.rel)) (nth_write_same t v regs1))
 
-      by : (reply : Reply) → IsReplyTo {F = Body} makes_table reply → (env1 regs1 : List Value) (c1 : Captured) → After S.code.own.stack pending env regs t env1 regs1 c1
+      by : (reply : Reply) → IsReplyTo {F = Body} makes_table reply → (env1 regs1 : List Value) (c1 : Captured) → After S.hidden S.code.own.stack pending env regs t env1 regs1 c1
           → Agree S n (tree.at (goes (values_in reply)) (of_tree S pending env1 c1) k) (amid (then (write_register t (read 0)) skip) (values_in reply) (of_code S pending pc regs1 opened) c1)
       by (values (object a_table m ∷ [])) fits env1 regs1 c1 af = new m env1 regs1 c1 af
       by (values []) fits env1 regs1 c1 af = absurd fits
@@ -82,9 +82,9 @@ module _ (S : Setting) (pending : List Pending) where
   -- the table in register t is filled with the values behind it
   pub fill_goes : (many : Bool) (items m n line t pc opened : ℕ) (args : List Value) (s : tree.State) (env regs : List Value) (c : Captured) (k : List Work) (next_of : Control)
       → step s ≡ asks_quickly (fills_table (object a_table m) items args) line (of_tree S pending env c) k (λ _. next_of) → HasAt S pc (set_list t (items_count many) items line)
-      → pc + length (set_list t (items_count many) items line) < length S.code.own.code → items < 2 ^ 33 → length env ≤ t → t < S.code.own.stack → Rel S.code.own.stack pending env c regs
+      → pc + length (set_list t (items_count many) items line) < length S.code.own.code → items < 2 ^ 33 → length env ≤ t → t < S.code.own.stack → Rel S.hidden S.code.own.stack pending env c regs
       → nth regs t ≡ object a_table m → Passed S.code (items_field many) (t + 1) args (of_code S pending pc regs opened)
-      → ((env1 regs1 : List Value) (c1 : Captured) → After S.code.own.stack pending env regs (t + 1) env1 regs1 c1
+      → ((env1 regs1 : List Value) (c1 : Captured) → After S.hidden S.code.own.stack pending env regs (t + 1) env1 regs1 c1
       → Agree S n (tree.at next_of (of_tree S pending env1 c1) k) (before (of_code S pending (pc + length (set_list t (items_count many) items line)) regs1 0) c1))
       → Agree S n s (before (of_code S pending pc regs opened) c)
   fill_goes many items m n line t pc opened args s env regs c k next_of e has inside wide le room rel is passed next = by (nat_lt items 256) refl has inside next
@@ -102,8 +102,8 @@ module _ (S : Setting) (pending : List Pending) where
       split = omega arith
 
       -- the list of values is gone once they are stored
-      dropped_goes : (past : ℕ) (env1 regs1 had : List Value) (c1 : Captured) → pc + past < length S.code.own.code → After S.code.own.stack pending env regs (t + 1) env1 regs1 c1
-          → ((env2 regs2 : List Value) (c2 : Captured) → After S.code.own.stack pending env regs (t + 1) env2 regs2 c2 → Agree S n (tree.at next_of (of_tree S pending env2 c2) k) (before (of_code S pending (pc + past) regs2 0) c2))
+      dropped_goes : (past : ℕ) (env1 regs1 had : List Value) (c1 : Captured) → pc + past < length S.code.own.code → After S.hidden S.code.own.stack pending env regs (t + 1) env1 regs1 c1
+          → ((env2 regs2 : List Value) (c2 : Captured) → After S.hidden S.code.own.stack pending env regs (t + 1) env2 regs2 c2 → Agree S n (tree.at next_of (of_tree S pending env2 c2) k) (before (of_code S pending (pc + past) regs2 0) c2))
           → Agree S n (tree.at next_of (of_tree S pending env1 c1) k) (amid (filled_text (pos past)) had (of_code S pending pc regs1 opened) c1)
       dropped_goes past env1 regs1 had c1 inside af next =
           let there = next_there S (pc + past) inside in
@@ -111,11 +111,11 @@ module _ (S : Setting) (pending : List Pending) where
           go_right S n _ _ (before (of_code S pending (pc + past) (take S.code.own.stack regs1) 0) c1)
           (filled_step S.code past there.0 had (of_code S pending pc regs1 opened) c1 there.1)
           (next env1 (take S.code.own.stack regs1) c1
-          (after_then S.code.own.stack pending env regs env1 regs1 env1 (take S.code.own.stack regs1) c1 c1 (t + 1) (t + 1) (omega arith) af
-          (after_above S.code.own.stack pending env1 regs1 (take S.code.own.stack regs1) c1 (t + 1) (omega (arith, le, af.size)) af.rel (λ r lt. nth_take S.code.own.stack regs1 r (omega (arith, lt, room))) (omega (arith, size)))))
+          (after_then S.hidden S.code.own.stack pending env regs env1 regs1 env1 (take S.code.own.stack regs1) c1 c1 (t + 1) (t + 1) (omega arith) af
+          (after_above S.hidden S.code.own.stack pending env1 regs1 (take S.code.own.stack regs1) c1 (t + 1) (omega (arith, le, af.size)) af.rel (λ r lt. nth_take S.code.own.stack regs1 r (omega (arith, lt, room))) (omega (arith, size)))))
 
       by : (b : Bool) → nat_lt items 256 ≡ b → HasAt S pc (code_by b) → pc + length (code_by b) < length S.code.own.code
-          → ((env1 regs1 : List Value) (c1 : Captured) → After S.code.own.stack pending env regs (t + 1) env1 regs1 c1 → Agree S n (tree.at next_of (of_tree S pending env1 c1) k) (before (of_code S pending (pc + length (code_by b)) regs1 0) c1))
+          → ((env1 regs1 : List Value) (c1 : Captured) → After S.hidden S.code.own.stack pending env regs (t + 1) env1 regs1 c1 → Agree S n (tree.at next_of (of_tree S pending env1 c1) k) (before (of_code S pending (pc + length (code_by b)) regs1 0) c1))
           → Agree S n s (before (of_code S pending pc regs opened) c)
       by true near has inside next =
           quick_alike S pending n s _ (fills_table (object a_table m) items args) (fills_table (object a_table m) items args) line pc opened (t + 1) env regs c k (λ _. next_of) (filled_text (pos 1)) (object a_table m ∷ args) e
@@ -131,8 +131,8 @@ module _ (S : Setting) (pending : List Pending) where
   -- a value goes to a field of a table; registers below u are kept
   pub store_goes : (x y z u n line pc opened : ℕ) (o key v : Value) (s : tree.State) (env regs : List Value) (c : Captured) (k : List Work) (goes : List Value → Control)
       → step s ≡ asks (operates store (o ∷ key ∷ v ∷ [])) line (of_tree S pending env c) k goes → HasAt S pc (with_abc SetTable x y z line ∷ []) → pc + 1 < length S.code.own.code
-      → x < S.code.own.stack → y < S.code.own.stack → z < S.code.own.stack → Rel S.code.own.stack pending env c regs → nth regs x ≡ o → nth regs y ≡ key → nth regs z ≡ v
-      → ((ws env1 regs1 : List Value) (c1 : Captured) → After S.code.own.stack pending env regs u env1 regs1 c1 → Agree S n (tree.at (goes ws) (of_tree S pending env1 c1) k) (before (of_code S pending (pc + 1) regs1 opened) c1))
+      → x < S.code.own.stack → y < S.code.own.stack → z < S.code.own.stack → Rel S.hidden S.code.own.stack pending env c regs → nth regs x ≡ o → nth regs y ≡ key → nth regs z ≡ v
+      → ((ws env1 regs1 : List Value) (c1 : Captured) → After S.hidden S.code.own.stack pending env regs u env1 regs1 c1 → Agree S n (tree.at (goes ws) (of_tree S pending env1 c1) k) (before (of_code S pending (pc + 1) regs1 opened) c1))
       → Agree S n s (before (of_code S pending pc regs opened) c)
   store_goes x y z u n line pc opened o key v s env regs c k goes e has inside x_room y_room z_room rel o_is key_is v_is next =
       let there = next_there S (pc + 1) inside in

@@ -24,10 +24,14 @@ pub record Found (cs : List Const) (x : Const) : Type 0 where
 abbrev pub IsLoaded : List Const → ℤ → Type 0
 IsLoaded cs z = is_small z ≡ false → Found cs (IntConst z)
 
--- locals that a function captures are in scope
-abbrev pub Captures : List UpName → (size : ℕ) → Type 0
-Captures [] size = Unit {0}
-Captures (u ∷ us) size = (u.in_stack ≡ true → u.index < size) × Captures us size
+abbrev pub IsNoneOf : ℕ → List ℕ → Type 0
+IsNoneOf n [] = Unit {0}
+IsNoneOf n (m ∷ ms) = (n ≡ m → ⊥) × IsNoneOf n ms
+
+-- locals that a function captures are in scope, and not hidden
+abbrev pub Captures : (hidden : List ℕ) → List UpName → (size : ℕ) → Type 0
+Captures hidden [] size = Unit {0}
+Captures hidden (u ∷ us) size = (u.in_stack ≡ true → (u.index < size) × IsNoneOf u.index hidden) × Captures hidden us size
 
 -- the inner function of a number has a body's upvalues, and means it
 pub record Inner (S : Setting) (j : ℕ) (body : Body) : Type 0 where
@@ -53,7 +57,7 @@ module _ (S : Setting) where
     IsPlaced (Int line z) size j = IsLoaded S.code.own.constants z
     IsPlaced (Str line bytes) size j = Found S.code.own.constants (StrConst bytes)
     IsPlaced (Vararg line) size j = Unit {0}
-    IsPlaced (Function line body) size j = Inner S j body × Captures (upvalues_of body) size
+    IsPlaced (Function line body) size j = Inner S j body × Captures S.hidden (upvalues_of body) size
     IsPlaced (Var line name) size j = NameIsPlaced name.place name.text size
     IsPlaced (Index line object key) size j = IsPlaced object size j × IsPlaced key size (j + made_by object)
     IsPlaced (Call line f es) size j = IsPlaced f size j × ArePlaced es size (j + made_by f)

@@ -22,7 +22,8 @@ use Rattle.scope_core.proofs.Effects.{bare_declare_all, bare_length}
 use Rattle.code_of.specs.Levels.{level_after, levels_after, levels_in}
 use Rattle.stat_laws.specs.Scoped.{Named}
 use Rattle.scope_laws.specs.Keeping.{BlockKeeps, StatsKeep, StatKeeps}
-use Rattle.scope_laws.specs.Finding.{IsNoneOf, LocalIsThere, PlaceIsThere, CaptureIsThere, CapturesAreThere, three_hidden, four_hidden}
+use Rattle.exp_laws.specs.Placed.{IsNoneOf}
+use Rattle.scope_laws.specs.Finding.{LocalIsThere, PlaceIsThere, CaptureIsThere, CapturesAreThere, three_hidden, four_hidden}
 use Rattle.scope_laws.proofs.Named.{has, HasAll, KnowsAll, register_below, upvalue_below, known_by}
 
 abbrev pub AllBelow : (t : ℕ) → List ℕ → Type 0

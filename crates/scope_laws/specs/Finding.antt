@@ -9,10 +9,7 @@ use Rattle.tree_core.specs.declared.name.UpName.{UpName}
 use Rattle.tree_core.specs.Tree.{Block, Falls, Returns, Body, BodyOf, Stats, EndStats, MoreStats, Stat, Local, LocalFunction, Assign, CallStat, Do, While, Repeat, If, IfElse, NumFor, NumForStep, GenFor, Arms, EndArms, MoreArms, Exps, EndExps, MoreExps, Exp, Var, Function, Index, Call, Method, Unary, Binary, And, Or, Paren, Table, Fields, EndFields, MoreFields, Field, Item, Keyed}
 use Rattle.tree_activation.specs.Asking.{upvalues_of}
 use Rattle.code_of.specs.Levels.{level_after, levels_after, levels_in}
-
-abbrev pub IsNoneOf : ℕ → List ℕ → Type 0
-IsNoneOf n [] = Unit {0}
-IsNoneOf n (h ∷ hidden) = (n ≡ h → ⊥) × IsNoneOf n hidden
+use Rattle.exp_laws.specs.Placed.{IsNoneOf}
 
 -- a local in scope that has a name
 abbrev pub LocalIsThere : (hidden : List ℕ) → (t n : ℕ) → Type 0

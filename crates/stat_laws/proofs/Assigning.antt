@@ -21,7 +21,7 @@ use Rattle.machine_join.proofs.Lists.{append_nil, nth_write_same, nth_write_othe
 use Rattle.code_of.specs.Coded.{Coded}
 use Rattle.code_of.specs.Expressions.{made_in, count, exps_code}
 use Rattle.code_of.specs.Parts.{targets_code, store_code, stores_code}
-use Rattle.exp_laws.proofs.Registers.{Rel, HeldBelow, Ascends}
+use Rattle.exp_laws.proofs.Registers.{Among, hides_write, Rel, HeldBelow, Ascends}
 use Rattle.exp_laws.specs.Setting.{Setting}
 use Rattle.exp_laws.proofs.Talking.{Agree, go_left, go_right, of_tree, of_code}
 use Rattle.exp_laws.proofs.Placing.{HasAt, has_front, has_back, here_abc}
@@ -36,13 +36,14 @@ use Rattle.stat_laws.proofs.Standing.{Standing}
 use Rattle.stat_laws.proofs.Blocks.{StatLaw}
 use Rattle.stat_laws.proofs.Targets.{store_to, Stands, stands_still, AllAimed, all_still, aim_goes}
 
-pub rel_assigned : (stack n : ℕ) (v : Value) (ps : List Pending) (env regs : List Value) (c : Captured) → n < length env → Rel stack ps env c regs → Rel stack ps (write n v env) c (write n v regs)
-rel_assigned stack n v ps env regs c h rel =
+pub rel_assigned : (hidden : List ℕ) (stack n : ℕ) (v : Value) (ps : List Pending) (env regs : List Value) (c : Captured) → n < length env → (Among n hidden → ⊥) → Rel hidden stack ps env c regs → Rel hidden stack ps (write n v env) c (write n v regs)
+rel_assigned hidden stack n v ps env regs c h other rel =
     let same = length_write n v env h in
     let more = write_more n v regs in
     record {
       agree = λ r lr. by r (omega (arith, same, lr)) (split r n);
       held = subst (HeldBelow c.held) (sym same) rel.held;
+      hides = hides_write hidden env c.held v n h other rel.hides;
       ascends = subst (Ascends 0 ps) (sym same) rel.ascends;
       fits = omega (arith, same, rel.fits);
       room = omega (arith, more, rel.room);
@@ -72,7 +73,7 @@ module _ (S : Setting) (back : ℕ) where
   Stored n t pc closed ps regs rest k =
       (env' regs' : List Value) (c' : Captured) (opened' : ℕ) → Standing S t closed ps env' c' regs' → ((q : ℕ) → t ≤ q → q < S.code.own.stack → nth regs' q ≡ nth regs q) → Agree S n (tree.at (store rest) (of_tree S ps env' c') k) (before (of_code S ps pc regs' opened') c')
 
-  store_one : (x : Target) (line r v n t pc : ℕ) (closed : List ℕ) (ps : List Pending) (env regs : List Value) (c : Captured) (opened : ℕ) (w : Value) (rest : List (Target × Value)) (k : List Work) → Stands x r t regs → t ≤ v → r + 1 < S.code.own.stack → v < S.code.own.stack
+  store_one : (x : Target) (line r v n t pc : ℕ) (closed : List ℕ) (ps : List Pending) (env regs : List Value) (c : Captured) (opened : ℕ) (w : Value) (rest : List (Target × Value)) (k : List Work) → Stands S.hidden x r t regs → t ≤ v → r + 1 < S.code.own.stack → v < S.code.own.stack
       → HasAt S pc (store_to x line r v) → pc + length (store_to x line r v) < length S.code.own.code → Standing S t closed ps env c regs → nth regs v ≡ w → Stored n t (pc + length (store_to x line r v)) closed ps regs rest k
       → Agree S n (tree.at (store ((x, w) ∷ rest)) (of_tree S ps env c) k) (before (of_code S ps pc regs opened) c)
   store_one (to_local m) line r v n t pc closed ps env regs c opened w rest k ok le two room has inside st eq goes =
@@ -80,10 +81,10 @@ module _ (S : Setting) (back : ℕ) where
       let size = st.size in
       go_left S n _ (tree.at (store rest) (of_tree S ps (write m w env) c) k) _ refl
       (go_right S n _ _ (before (of_code S ps (pc + 1) (write m w regs) opened) c)
-      (move_step S.code (of_code S ps pc regs opened) c there.0 there.1 m v has.0 (omega (arith, size, st.rel.fits, S.small)) (omega (arith, room, S.small)) (omega (arith, room, st.rel.room)) (omega (arith, size, st.rel.fits, st.rel.room))
+      (move_step S.code (of_code S ps pc regs opened) c there.0 there.1 m v has.0 (omega (arith, size, ok.0, st.rel.fits, S.small)) (omega (arith, room, S.small)) (omega (arith, room, st.rel.room)) (omega (arith, size, ok.0, st.rel.fits, st.rel.room))
       ∙ ap (λ x. goes_on (before (of_code S ps (pc + 1) (write m x regs) opened) c)) eq)
-      (goes (write m w env) (write m w regs) c opened (record { numbered = st.numbered; size = length_write m w env (omega (arith, size)) ∙ size; rel = rel_assigned S.code.own.stack m w ps env regs c (omega (arith, size)) st.rel })
-      (λ q lo hi. nth_write_other m w regs q (λ e. absurd (omega (arith, e, lo))))))
+      (goes (write m w env) (write m w regs) c opened (record { numbered = st.numbered; size = length_write m w env (omega (arith, size, ok.0)) ∙ size; rel = rel_assigned S.hidden S.code.own.stack m w ps env regs c (omega (arith, size, ok.0)) ok.1 st.rel })
+      (λ q lo hi. nth_write_other m w regs q (λ e. absurd (omega (arith, e, lo, ok.0))))))
   store_one (to_upvalue l u) line r v n t pc closed ps env regs c opened w rest k ok le two room has inside st eq goes =
       let there = next_there S (pc + 1) inside in
       let size = st.size in
@@ -129,14 +130,14 @@ module _ (S : Setting) (back : ℕ) where
       (stores_goes ts xs (r + 2) (v + 1) n t pc closed ps env regs c opened (others vs) ((x, first vs) ∷ rest) k all.1 (omega arith) (omega (arith, above)) (omega (arith, room)) (has_front S pc tail head has) (omega (arith, inside, sum)) st
       (λ i lt. let at : v + 1 + i ≡ v + suc i = omega arith in ap (nth regs) at ∙ held (suc i) (omega arith) ∙ sym (nth_others vs i))
       (λ env1 regs1 c1 opened1 st1 same. store_one x all.0.line r v n t (pc + length tail) closed ps env1 regs1 c1 opened1 (first vs) rest k
-      (stands_still x r t regs regs1 (same r le (omega (arith, above, room))) (same (r + 1) (omega (arith, le)) (omega (arith, above, room))) all.0.stands) (omega (arith, le, above)) (omega (arith, above, room)) (omega (arith, room))
+      (stands_still S.hidden x r t regs regs1 (same r le (omega (arith, above, room))) (same (r + 1) (omega (arith, le)) (omega (arith, above, room))) all.0.stands) (omega (arith, le, above)) (omega (arith, above, room)) (omega (arith, room))
       (subst (HasAt S (pc + length tail)) (all.0.stores v) (has_back S pc tail head has)) (omega (arith, inside, sum, size)) st1
       (same v (omega (arith, le, above)) (omega (arith, room)) ∙ ap (nth regs) (sym here) ∙ held 0 (omega arith))
       (λ env2 regs2 c2 opened2 st2 same2. subst (λ q. Agree S n (tree.at (store rest) (of_tree S ps env2 c2) k) (before (of_code S ps q regs2 opened2) c2)) (sym there)
       (goes env2 regs2 c2 opened2 st2 (λ q lo hi. same2 q lo hi ∙ same q lo hi)))))
 
   pub assign_goes : (line : ℕ) (targets es : Exps) → StatLaw S back (Assign line targets es)
-  assign_goes line targets es n closing closed t j pc named loops reach k fewer has placed inside under plain jumps done ps env regs c opened s st standing =
+  assign_goes line targets es n closing closed t j pc named loops reach k fewer has placed titles inside under clear plain jumps done ps env regs c opened s st standing =
       let size = standing.size in
       go_left S n s (tree.at (aim [] targets es) (of_tree S ps env c) k) _ st
       (aim_goes S ps targets t t n j pc opened es [] env regs c k fewer (has_front S pc aims (values ++ stores) has) placed.0 (omega (arith, inside, sum)) size (omega arith) (omega (arith, room)) standing.rel

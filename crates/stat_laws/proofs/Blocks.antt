@@ -15,11 +15,13 @@ use Rattle.code_of.specs.Levels.{made_by_stat, level_after, levels_after, has_cl
 use Rattle.code_of.specs.Sizes.{stat_size, stats_size}
 use Rattle.code_of.specs.Statements.{visible, labels_ahead, passed_after, stat_code, stats_code}
 use Rattle.exp_laws.specs.Setting.{Setting}
+use Rattle.exp_laws.proofs.Registers.{AllUnder, under_higher}
 use Rattle.exp_laws.proofs.Talking.{Agree, go_left, of_tree, of_code}
 use Rattle.exp_laws.proofs.Placing.{HasAt, has_front, has_back}
 use Rattle.stat_laws.proofs.Closing.{AllBelow}
 use Rattle.stat_laws.proofs.Standing.{strong, AllFrom, from_lower, from_more, below_higher, Standing, GoesOn, goes_from}
 use Rattle.stat_laws.proofs.Sizes.{stat_sized}
+use Rattle.stat_laws.proofs.Naming.{StatIsNamed, StatsAreNamed}
 use Rattle.stat_laws.specs.Scoped.{Named, names_ahead, StatIsPlaced, StatsArePlaced}
 use Rattle.stat_laws.proofs.Labels.{closed_numbers, closed_after, IsNoLabel, level_rises, level_still, runs_stat, passed_other, named_other, Jumps, jumps_within, point, RunGoes, AllAhead, all_other, AllPassed, passed_within, rest_jumps}
 use Rattle.machine_join.proofs.Lists.{append_nil}
@@ -156,8 +158,8 @@ module _ (S : Setting) (back : ℕ) where
   abbrev pub StatLaw : Stat → Type 0
   StatLaw s =
       (n : ℕ) (closing : Bool) (closed : List ℕ) (t j pc : ℕ) (named : List Named) (loops : Bool) (reach : Reach) (k : List Work)
-      → n ≤ S.bound → HasAt S pc (stat_code S.code.own.constants back s closing t j pc reach) → StatIsPlaced S s closing t j named loops → pc + stat_size S.code.own.constants back s closing t j < length S.code.own.code
-      → AllBelow closed t → closing ≡ has_some closed → (t ≡ level_after s t → Jumps S back n pc (pc + stat_size S.code.own.constants back s closing t j) t closed named loops reach k)
+      → n ≤ S.bound → HasAt S pc (stat_code S.code.own.constants back s closing t j pc reach) → StatIsPlaced S s closing t j named loops → StatIsNamed S.lines S.code back s closing t j pc → pc + stat_size S.code.own.constants back s closing t j < length S.code.own.code
+      → AllBelow closed t → AllUnder S.hidden t → closing ≡ has_some closed → (t ≡ level_after s t → Jumps S back n pc (pc + stat_size S.code.own.constants back s closing t j) t closed named loops reach k)
       → GoesOn S n (level_after s t) (closed_after s t closed) complete k (pc + stat_size S.code.own.constants back s closing t j)
       → (ps : List Pending) (env regs : List Value) (c : Captured) (opened : ℕ) (st : State) → step st ≡ executes s (of_tree S ps env c) k → Standing S t closed ps env c regs
       → Agree S n st (before (of_code S ps pc regs opened) c)
@@ -192,6 +194,8 @@ module _ (S : Setting) (back : ℕ) where
       pub passed : Behind n pc t closed labels entries names
       pub added : Added outer base closed
       pub base_under : AllBelow base outer
+      pub clear : AllUnder S.hidden outer
+      pub titles : StatsAreNamed S.lines S.code back ss closing t j pc
       pub under : AllBelow closed t
       pub outer_low : outer ≤ t
       pub known : closing ≡ has_some closed
@@ -297,6 +301,8 @@ module _ (S : Setting) (back : ℕ) where
               );
               added = w.added;
               base_under = w.base_under;
+              clear = w.clear;
+              titles = w.titles.1;
               under = w.under;
               outer_low = w.outer_low;
               known = w.known;
@@ -373,6 +379,8 @@ module _ (S : Setting) (back : ℕ) where
                   (passed_within S back ending falls outer base k ending_is n n pc (pc + stat_size S.code.own.constants back s closing t j) t (level_after s t) closed more.more labels entries names (omega arith) (omega arith) (level_rises s t) more.from w.passed);
               added = added_then outer t base closed (closed_after s t closed) w.outer_low w.added more;
               base_under = w.base_under;
+              clear = w.clear;
+              titles = w.titles.1;
               under = under_after s t closed w.under;
               outer_low = (let r = level_rises s t in let o = w.outer_low in omega (arith, r, o));
               known = known_after s t closing closed w.known;
@@ -403,5 +411,5 @@ module _ (S : Setting) (back : ℕ) where
             let i = w.inside in
             stat m closing closed t j pc (names_ahead ss falls t (level_after s t) ++ (names ++ named)) loops around (in_block t (at_point ss labels) ∷ k) (let b = w.fewer in omega arith)
             (has_front S pc (stat_code S.code.own.constants back s closing t j pc around) (stats_code S.code.own.constants back ss falls (closing_after s closing) outer (level_after s t) (j + made_by_stat s) (pc + stat_size S.code.own.constants back s closing t j) (passed_after s t pc entries) reach) w.has)
-            w.placed.0 (omega arith) w.under w.known (jumps_here m le) (done m le) ps env regs c opened (tree.at (run (at_point (MoreStats s ss) labels)) (of_tree S ps env c) k)
+            w.placed.0 w.titles.0 (omega arith) w.under (under_higher S.hidden outer t w.outer_low w.clear) w.known (jumps_here m le) (done m le) ps env regs c opened (tree.at (run (at_point (MoreStats s ss) labels)) (of_tree S ps env c) k)
             (runs_stat s ss (at_point (MoreStats s ss) labels) (of_tree S ps env c) k is ∙ ap (λ u. executes s (of_tree S ps env c) (in_block u (at_point ss labels) ∷ k)) st.size) st

@@ -1,15 +1,13 @@
 -- Bodies that the law covers, so that its premise is no empty one.
-use Rattle.std.proofs.Common.{◌≡◌, ℕ, zero, suc, ◌%◌, ap, None, List, lit<, lit≤, true, [], ◌∷◌, Option, Some, refl, arith}
+use Rattle.std.proofs.Common.{ℕ, List, lit<, lit≤, true, [], ◌∷◌, Option, Some, refl, arith}
 use Rattle.std.specs.Prelude.{codes}
-use Rattle.code_core.specs.declared.instruction.Instruction.{Instruction}
 use Rattle.code_core.specs.Opcode.{opcodes, number_of}
 use Rattle.tree_core.specs.declared.name.Place.TheVariants.{Local as LocalPlace}
-use Rattle.tree_core.specs.Tree.{Body, Index, LocalFunction, While, GenFor, Label, Goto, Break, EndExps, MoreExps}
+use Rattle.tree_core.specs.Tree.{Body, Index, LocalFunction, Do, While, Repeat, NumFor, NumForStep, GenFor, Label, Goto, Break, EndExps, MoreExps}
 use Rattle.code_means.specs.Means.{Means}
-use Rattle.code_means.proofs.Forms.{name, no_variable, of_local, loc, outer, int, call, block, returning, loc_is, locals, closed, assigns, assign, global, when, fun}
+use Rattle.code_means.proofs.Forms.{name, no_variable, of_local, loc, outer, int, call, block, returning, loc_is, locals, closed, assigns, assign, global, when, fun, function, does}
 use Rattle.code_of.specs.CodeOf.{code_of}
 use Rattle.stat_laws.specs.Fits.{BodyFits}
-use Rattle.stat_laws.specs.Scoped.{IsNamed, IsUnnamed}
 use Rattle.stat_laws.proofs.Whole.{means}
 
 -- function(f) local x=0 while f(x) do if f(1) then break end end return x,f end
@@ -30,7 +28,7 @@ it_fits = (
     room = lit≤ tt;
     placed = (
       (
-        (((λ e. absurd (cc)), tt), (lit≤ tt, (lit≤ tt, (lit< tt, ((λ e. absurd (cc)), tt))))),
+        (((λ e. absurd (cc)), tt), (lit≤ tt, (lit≤ tt, lit< tt))),
         (((lit< tt, (lit< tt, tt)), (lit≤ tt, (((lit< tt, ((λ e. absurd (cc)), tt)), (lit≤ tt, ((refl, tt), tt))), tt))), tt),
       ),
       ((lit< tt, (lit< tt, tt)), (lit≤ tt, lit< tt)),
@@ -65,7 +63,7 @@ this_fits = (
     room = lit≤ tt;
     placed = (
       (
-        (((λ e. absurd (cc)), tt), (lit≤ tt, (lit≤ tt, (lit< tt, ((λ e. absurd (cc)), tt))))),
+        (((λ e. absurd (cc)), tt), (lit≤ tt, (lit≤ tt, lit< tt))),
         (
           tt,
           (
@@ -73,7 +71,7 @@ this_fits = (
             (
               (lit< tt, (lit≤ tt, ((refl, tt), tt))),
               (
-                (record { prototype = code_of source gives_x; there = refl; near = lit< tt; upvalues = refl; alike = λ n lt. absurd (omega arith) }, (((λ e. lit< tt), tt), lit< tt)),
+                (record { prototype = code_of source gives_x; there = refl; near = lit< tt; upvalues = refl; alike = λ n lt. absurd (omega arith) }, (((λ e. (lit< tt, tt)), tt), lit< tt)),
                 tt,
               ),
             ),
@@ -122,23 +120,6 @@ its_code_means_many = means source stores_many many_fit
 abbrev closes_one : Body
 closes_one = fun ("f" ∷ []) [] (returning (locals (closed "x" 1 ∷ []) (call (loc "f" 0) [] ∷ []) ∷ []) (call (loc "f" 0) (loc "x" 1 ∷ []) ∷ []))
 
--- the number of an instruction's opcode, which is 55 for TBC; there is none past the code
-abbrev kind : Option Instruction → ℕ
-kind None = 128
-kind (Some w) = w.0 % 128
-
--- its mark is its third instruction
-it_is_named : IsNamed true (code_of source closes_one) (name "x" (LocalPlace 1)) 1
-unfolding opcodes number_of
-it_is_named zero is lined = let e : 0 ≡ 55 = ap kind is in absurd (omega (arith, e))
-it_is_named (suc zero) is lined = let e : 68 ≡ 55 = ap kind is in absurd (omega (arith, e))
-it_is_named (suc (suc zero)) is lined = refl
-it_is_named (suc (suc (suc zero))) is lined = let e : 0 ≡ 55 = ap kind is in absurd (omega (arith, e))
-it_is_named (suc (suc (suc (suc zero)))) is lined = let e : 0 ≡ 55 = ap kind is in absurd (omega (arith, e))
-it_is_named (suc (suc (suc (suc (suc zero))))) is lined = let e : 68 ≡ 55 = ap kind is in absurd (omega (arith, e))
-it_is_named (suc (suc (suc (suc (suc (suc zero)))))) is lined = let e : 70 ≡ 55 = ap kind is in absurd (omega (arith, e))
-it_is_named (suc (suc (suc (suc (suc (suc (suc pc))))))) is lined = let e : 128 ≡ 55 = ap kind is in absurd (omega (arith, e))
-
 one_fits : BodyFits source closes_one
 unfolding opcodes number_of
 one_fits = (
@@ -147,7 +128,7 @@ one_fits = (
     short = lit≤ tt;
     room = lit≤ tt;
     placed = (
-      ((((lit< tt, tt), tt), (lit≤ tt, (lit≤ tt, (lit< tt, ((λ e. it_is_named), tt))))), tt),
+      ((((lit< tt, tt), tt), (lit≤ tt, (lit≤ tt, lit< tt))), tt),
       (((lit< tt, (lit< tt, tt)), tt), (lit≤ tt, lit< tt)),
     );
   },
@@ -157,25 +138,35 @@ one_fits = (
 its_code_means_one : Means true (code_of source closes_one) closes_one
 its_code_means_one = means source closes_one one_fits
 
+-- function(f) do local x<close>=f() end do local y<close>=f() end end
+abbrev closes_two : Body
+closes_two = fun ("f" ∷ []) [] (block (
+    Do 1 (block (locals (closed "x" 1 ∷ []) (call (loc "f" 0) [] ∷ []) ∷ [])) ∷ Do 1 (block (locals (closed "y" 1 ∷ []) (call (loc "f" 0) [] ∷ []) ∷ [])) ∷ []))
+
+two_fit : BodyFits source closes_two
+unfolding opcodes number_of
+two_fit = (
+  record {
+    small = lit< tt;
+    short = lit≤ tt;
+    room = lit≤ tt;
+    placed = (
+      (
+        ((((lit< tt, tt), tt), (lit≤ tt, (lit≤ tt, lit< tt))), tt),
+        (((((lit< tt, tt), tt), (lit≤ tt, (lit≤ tt, lit< tt))), tt), tt),
+      ),
+      lit≤ tt,
+    );
+  },
+  ((((tt, tt), tt), tt), ((((tt, tt), tt), tt), tt)),
+)
+
+its_code_means_two : Means true (code_of source closes_two) closes_two
+its_code_means_two = means source closes_two two_fit
+
 -- function(f) for k in f do end end
 abbrev goes_through : Body
 goes_through = fun ("f" ∷ []) [] (block (GenFor 1 (name "k" (LocalPlace 5) ∷ []) (MoreExps (loc "f" 0) EndExps) (block []) ∷ []))
-
-abbrev is_there : Option Instruction → ℕ
-is_there None = 0
-is_there (Some w) = 1
-
-it_is_unnamed : IsUnnamed (code_of source goes_through) 1
-unfolding opcodes number_of
-it_is_unnamed zero bx is = refl
-it_is_unnamed (suc zero) bx is = refl
-it_is_unnamed (suc (suc zero)) bx is = refl
-it_is_unnamed (suc (suc (suc zero))) bx is = refl
-it_is_unnamed (suc (suc (suc (suc zero)))) bx is = refl
-it_is_unnamed (suc (suc (suc (suc (suc zero))))) bx is = refl
-it_is_unnamed (suc (suc (suc (suc (suc (suc zero)))))) bx is = refl
-it_is_unnamed (suc (suc (suc (suc (suc (suc (suc zero))))))) bx is = refl
-it_is_unnamed (suc (suc (suc (suc (suc (suc (suc (suc pc)))))))) bx is = let e : 0 ≡ 1 = ap is_there is in absurd (omega (arith, e))
 
 through_fits : BodyFits source goes_through
 unfolding opcodes number_of
@@ -184,10 +175,138 @@ through_fits = (
     small = lit< tt;
     short = lit≤ tt;
     room = lit≤ tt;
-    placed = ((((lit< tt, tt), (lit≤ tt, (lit≤ tt, (lit< tt, (lit< tt, (it_is_unnamed, ((λ back. lit< tt), tt))))))), tt), lit≤ tt);
+    placed = ((((lit< tt, tt), (lit≤ tt, (lit≤ tt, (lit< tt, (lit< tt, ((λ back. lit< tt), tt)))))), tt), lit≤ tt);
   },
   (((tt, tt), tt), tt),
 )
 
 its_code_means_through : Means true (code_of source goes_through) goes_through
 its_code_means_through = means source goes_through through_fits
+
+-- function(f) for i=1,3 do for k=1,i do if f(k) then break end end end end
+abbrev counts_up : Body
+counts_up = fun ("f" ∷ []) [] (block (
+    NumFor 1 (name "i" (LocalPlace 4)) (int 1) (int 3) (block (
+    NumFor 1 (name "k" (LocalPlace 8)) (int 1) (loc "i" 4) (block (when (call (loc "f" 0) (loc "k" 8 ∷ [])) (Break 1 ∷ []) ∷ [])) ∷ []))
+    ∷ []))
+
+up_fits : BodyFits source counts_up
+unfolding opcodes number_of
+up_fits = (
+  record {
+    small = lit< tt;
+    short = lit≤ tt;
+    room = lit≤ tt;
+    placed = (
+      (
+        (
+          ((λ e. absurd (cc)), (lit≤ tt, ((λ e. absurd (cc)), lit≤ tt))),
+          (
+            lit≤ tt,
+            (
+              (λ back. lit< tt),
+              (
+                (
+                  ((λ e. absurd (cc)), (lit≤ tt, (lit< tt, lit≤ tt))),
+                  (lit≤ tt, ((λ back. lit< tt), (((lit< tt, (lit< tt, tt)), (lit≤ tt, ((refl, tt), tt))), tt))),
+                ),
+                tt,
+              ),
+            ),
+          ),
+        ),
+        tt,
+      ),
+      lit≤ tt,
+    );
+  },
+  ((tt, (tt, ((tt, (tt, (((tt, (tt, tt)), ((tt, tt), tt)), tt))), tt))), tt),
+)
+
+its_code_means_up : Means true (code_of source counts_up) counts_up
+its_code_means_up = means source counts_up up_fits
+
+-- function(f) for i=9,1,f do f(function() return i end) end end
+abbrev gives_i : Body
+gives_i = fun [] (of_local "i" 4 ∷ []) (returning [] (outer "i" 0 ∷ []))
+
+abbrev counts_down : Body
+counts_down = fun ("f" ∷ []) [] (block (
+    NumForStep 1 (name "i" (LocalPlace 4)) (int 9) (int 1) (loc "f" 0) (block (does (call (loc "f" 0) (function gives_i ∷ [])) ∷ [])) ∷ []))
+
+gives_i_fits : BodyFits source gives_i
+unfolding opcodes number_of
+gives_i_fits = (record { small = lit< tt; short = lit≤ tt; room = lit≤ tt; placed = (tt, ((lit< tt, tt), (lit≤ tt, lit< tt))) }, (tt, (tt, tt)))
+
+down_fits : BodyFits source counts_down
+unfolding opcodes number_of
+down_fits = (
+  record {
+    small = lit< tt;
+    short = lit≤ tt;
+    room = lit≤ tt;
+    placed = (
+      (
+        (
+          ((λ e. absurd (cc)), (lit≤ tt, ((λ e. absurd (cc)), lit≤ tt))),
+          (
+            lit< tt,
+            (
+              lit≤ tt,
+              (
+                lit≤ tt,
+                (
+                  (λ back. lit< tt),
+                  (
+                    (
+                      refl,
+                      (
+                        (
+                          lit< tt,
+                          (
+                            (
+                              record { prototype = code_of source gives_i; there = refl; near = lit< tt; upvalues = refl; alike = λ n lt. absurd (omega arith) },
+                              ((λ e. (lit< tt, ((λ d. omega (arith, d)), ((λ d. omega (arith, d)), ((λ d. omega (arith, d)), tt))))), tt),
+                            ),
+                            tt,
+                          ),
+                        ),
+                        lit≤ tt,
+                      ),
+                    ),
+                    tt,
+                  ),
+                ),
+              ),
+            ),
+          ),
+        ),
+        tt,
+      ),
+      lit≤ tt,
+    );
+  },
+  ((tt, (tt, (tt, ((tt, ((refl, gives_i_fits), tt)), tt)))), tt),
+)
+
+its_code_means_down : Means true (code_of source counts_down) counts_down
+its_code_means_down = means source counts_down down_fits
+
+-- function(f) repeat return f() until f end
+abbrev ends_at_once : Body
+ends_at_once = fun ("f" ∷ []) [] (block (Repeat 1 (returning [] (call (loc "f" 0) [] ∷ [])) (loc "f" 0) ∷ []))
+
+once_fits : BodyFits source ends_at_once
+unfolding opcodes number_of
+once_fits = (
+  record {
+    small = lit< tt;
+    short = lit≤ tt;
+    room = lit≤ tt;
+    placed = ((((tt, (lit< tt, (tt, (lit≤ tt, lit≤ tt)))), (lit< tt, lit≤ tt)), tt), lit≤ tt);
+  },
+  (((tt, ((tt, tt), tt)), tt), tt),
+)
+
+its_code_means_once : Means true (code_of source ends_at_once) ends_at_once
+its_code_means_once = means source ends_at_once once_fits

@@ -25,7 +25,7 @@ use Rattle.code_of.specs.Parts.{close_code, past_size, past}
 use Rattle.code_of.specs.Sizes.{arms_size, stats_size, block_size}
 use Rattle.code_of.specs.Statements.{in_loop, arms_code, stats_code, block_code}
 use Rattle.machine_join.proofs.Lists.{append_nil}
-use Rattle.exp_laws.proofs.Registers.{Rel, Ascends}
+use Rattle.exp_laws.proofs.Registers.{AllUnder, Rel, Ascends}
 use Rattle.exp_laws.specs.Setting.{Setting}
 use Rattle.exp_laws.proofs.Talking.{Agree, go_left, go_right, of_tree, of_code}
 use Rattle.exp_laws.proofs.Placing.{HasAt, has_front, has_back}
@@ -34,6 +34,7 @@ use Rattle.exp_laws.proofs.Going.{Goes, next_there}
 use Rattle.exp_laws.proofs.Tests.{test_on, test_past, jump_step}
 use Rattle.stat_laws.proofs.Closing.{AllBelow, ends_goes}
 use Rattle.stat_laws.proofs.Standing.{strong, numbers, AllFrom, from_lower, from_more, part, ascends_under, Standing, GoesOn, goes_fewer, goes_from, back_goes, lands_ahead, below_higher}
+use Rattle.stat_laws.proofs.Naming.{BlockIsNamed, ArmsAreNamed}
 use Rattle.stat_laws.specs.Scoped.{Named, ArmsArePlaced, BlockIsPlaced}
 use Rattle.stat_laws.proofs.Sizes.{past_sized, block_sized, arms_sized, stats_sized}
 use Rattle.stat_laws.proofs.Labels.{Jumps, jumps_within}
@@ -44,7 +45,7 @@ module _ (S : Setting) where
   abbrev pub ExpLaw : Type 0
   ExpLaw =
       (pending : List Pending) (e : Exp) (t j n pc opened : ℕ) (env regs : List Value) (c : Captured) (k : List Work) → n ≤ S.bound → HasAt S pc (exp_code S.code.own.constants e t j 2) → IsPlaced S e (length env) j
-      → pc + length (exp_code S.code.own.constants e t j 2) < length S.code.own.code → length env ≤ t → t + room_of S.code.own.constants e 2 ≤ S.code.own.stack → Rel S.code.own.stack pending env c regs
+      → pc + length (exp_code S.code.own.constants e t j 2) < length S.code.own.code → length env ≤ t → t + room_of S.code.own.constants e 2 ≤ S.code.own.stack → Rel S.hidden S.code.own.stack pending env c regs
       → Goes S pending n (is_open e) t env regs (pc + length (exp_code S.code.own.constants e t j 2)) k
       → Agree S n (tree.at (evaluate e) (of_tree S pending env c) k) (before (of_code S pending pc regs opened) c)
 
@@ -141,7 +142,7 @@ module _ (S : Setting) where
     BlockLaw block =
         (n : ℕ) (closing : Bool) (closed : List ℕ) (outer t j pc : ℕ) (named : List Named) (loops : Bool) (reach : Reach) (k : List Work)
         → n ≤ S.bound → HasAt S pc (block_code S.code.own.constants back block closing outer t j pc reach) → BlockIsPlaced S block closing t j named loops
-        → pc + block_size S.code.own.constants back block closing outer t j < length S.code.own.code → AllBelow closed outer → outer ≤ t → closing ≡ has_some closed
+        → BlockIsNamed S.lines S.code back block closing outer t j pc → pc + block_size S.code.own.constants back block closing outer t j < length S.code.own.code → AllBelow closed outer → AllUnder S.hidden outer → outer ≤ t → closing ≡ has_some closed
         → Jumps S back n pc (pc + block_size S.code.own.constants back block closing outer t j) outer closed named loops reach k
         → GoesOn S n outer closed complete k (pc + block_size S.code.own.constants back block closing outer t j)
         → GoesOn S n t closed (run (point_of block outer)) k pc
@@ -151,7 +152,7 @@ module _ (S : Setting) where
 
     -- a block that falls off its end
     pub falls_goes : (ss : Stats) (tokens line : ℕ) → ((outer : ℕ) (closed : List ℕ) (k : List Work) → StatsLaw S back (falls_off line) true outer closed k (λ ss. refl) ss) → BlockLaw (Falls ss tokens line)
-    falls_goes ss tokens line law n closing closed outer t j pc named loops reach k fewer has placed inside under outer_low plain jumps done =
+    falls_goes ss tokens line law n closing closed outer t j pc named loops reach k fewer has placed titles inside under clear outer_low plain jumps done =
         (law outer closed k n pc (pc + block_size S.code.own.constants back (Falls ss tokens line) closing outer t j) closing closed t j pc [] [] [] named loops reach (record {
           fewer = fewer;
           has = has_front S pc code close has;
@@ -163,6 +164,8 @@ module _ (S : Setting) where
           passed = tt;
           added = added_none outer closed;
           base_under = under;
+          clear = clear;
+          titles = titles;
           under = below_level closed outer t under outer_low;
           outer_low = outer_low;
           known = plain;
@@ -189,7 +192,7 @@ module _ (S : Setting) where
 
         -- whatever is in scope at the end
         leaves : (m : ℕ) → m ≤ n → (more : List ℕ) (ps : List Pending) (env regs : List Value) (c : Captured) (opened : ℕ) → numbers ps ≡ closed ++ more → AllFrom outer more → outer ≤ length env → length env ≤ levels_after ss t
-            → Rel S.code.own.stack ps env c regs
+            → Rel S.hidden S.code.own.stack ps env c regs
             → Agree S m (tree.at (leave_scope outer line (known nil) complete) (of_tree S ps env c) k) (before (of_code S ps (pc + size) regs opened) c)
         leaves m le more ps env regs c opened numbered from lo hi rel =
             let parted = part outer closed more ps numbered from in
@@ -215,30 +218,30 @@ module _ (S : Setting) where
             (leaves m le [] ps env regs c opened (st.numbered ∙ sym (append_nil closed)) tt (omega (arith, size1)) (omega (arith, rises, outer_low, size1)) st.rel)
 
     pub do_goes : (line : ℕ) (block : Block) → BlockLaw block → StatLaw S back (Do line block)
-    do_goes line block law n closing closed t j pc named loops reach k fewer has placed inside under plain jumps done ps env regs c opened s st standing =
+    do_goes line block law n closing closed t j pc named loops reach k fewer has placed titles inside under clear plain jumps done ps env regs c opened s st standing =
         go_left S n s (tree.at (run (point_of block (length env))) (of_tree S ps env c) k) _ st
         (subst (λ u. Agree S n (tree.at (run (point_of block u)) (of_tree S ps env c) k) (before (of_code S ps pc regs opened) c)) (sym standing.size)
-        (law n closing closed t t j pc named loops reach k fewer has placed inside under (omega arith) plain (jumps refl) done n (omega arith) ps env regs c opened standing))
+        (law n closing closed t t j pc named loops reach k fewer has placed titles inside under clear (omega arith) plain (jumps refl) done n (omega arith) ps env regs c opened standing))
 
     -- jumps
 
     pub goto_goes : (line : ℕ) (name : _) → StatLaw S back (Goto line name)
-    goto_goes line name n closing closed t j pc named loops reach k fewer has placed inside under plain jumps done ps env regs c opened s st standing =
+    goto_goes line name n closing closed t j pc named loops reach k fewer has placed titles inside under clear plain jumps done ps env regs c opened s st standing =
         let size = standing.size in
         (jumps refl).gotos name.text placed n line pc ps env regs c opened [] s (omega arith) has (omega arith) (omega arith) (standing.numbered ∙ sym (append_nil closed)) tt (omega arith) standing.rel st
 
     pub break_goes : (line : ℕ) → StatLaw S back (Break line)
-    break_goes line n closing closed t j pc named loops reach k fewer has placed inside under plain jumps done ps env regs c opened s st standing =
+    break_goes line n closing closed t j pc named loops reach k fewer has placed titles inside under clear plain jumps done ps env regs c opened s st standing =
         let size = standing.size in
         (jumps refl).exits placed n line pc ps env regs c opened [] s (omega arith) has (omega arith) (omega arith) (standing.numbered ∙ sym (append_nil closed)) tt (omega arith) standing.rel st
 
     pub empty_stat_goes : (line : ℕ) → StatLaw S back (Empty line)
-    empty_stat_goes line n closing closed t j pc named loops reach k fewer has placed inside under plain jumps done ps env regs c opened s st standing =
+    empty_stat_goes line n closing closed t j pc named loops reach k fewer has placed titles inside under clear plain jumps done ps env regs c opened s st standing =
         let there : pc + 0 ≡ pc = omega arith in
         go_left S n s (tree.at complete (of_tree S ps env c) k) _ st (goes_from S n t closed complete k (pc + 0) pc there done n (omega arith) ps env regs c opened standing)
 
     pub label_stat_goes : (line : ℕ) (name : _) → StatLaw S back (Label line name)
-    label_stat_goes line name n closing closed t j pc named loops reach k fewer has placed inside under plain jumps done ps env regs c opened s st standing =
+    label_stat_goes line name n closing closed t j pc named loops reach k fewer has placed titles inside under clear plain jumps done ps env regs c opened s st standing =
         let there : pc + 0 ≡ pc = omega arith in
         go_left S n s (tree.at complete (of_tree S ps env c) k) _ st (goes_from S n t closed complete k (pc + 0) pc there done n (omega arith) ps env regs c opened standing)
 
@@ -260,7 +263,7 @@ module _ (S : Setting) where
     module _ (exps : ExpLaw) where
       -- `while`: each round is paid for, so the law at fewer asks serves the rounds to come
       pub while_goes : (line : ℕ) (e : Exp) (block : Block) → BlockLaw block → StatLaw S back (While line e block)
-      while_goes line e block law n closing closed t j pc named loops reach k fewer has placed inside under plain jumps done ps env regs c opened s st standing =
+      while_goes line e block law n closing closed t j pc named loops reach k fewer has placed titles inside under clear plain jumps done ps env regs c opened s st standing =
           go_left S n s (tree.at (evaluate e) (of_tree S ps env c) (while_test line e block ∷ k)) _ st (strong Loop round n (omega arith) ps env regs c opened standing)
         where
           lt : ℕ
@@ -329,7 +332,7 @@ module _ (S : Setting) where
               go_left S m _ (tree.at (run (point_of block (length env))) (of_tree S ps env c) (looping line e block (length env) ∷ k)) _ (ap (λ b. cond b (begins block (of_tree S ps env c) (looping line e block (length env) ∷ k)) (go complete (of_tree S ps env c) k)) is)
               (past_test m false t (length inner + 1) line (pc + lt) (inner ++ ends) ps regs c opened _ at_test room st.rel.room (omega (arith, inside)) (ap (λ v. same_truth (holds (shape v)) false) eq ∙ ap (λ b. same_truth b false) is)
               (subst (λ u. Agree S m (tree.at (run (point_of block u)) (of_tree S ps env c) (looping line e block u ∷ k)) (before (of_code S ps (pc + lt + 2) regs opened) c)) (sym st.size)
-              (law m closing closed t t (j + made_by e) (pc + lt + 2) named true around (looping line e block t ∷ k) (omega (arith, fewer, le)) at_block placed.1.1 (omega (arith, inside)) under (omega arith) plain (in_block m le) (again m le loop) m (omega arith) ps env regs c opened st)))
+              (law m closing closed t t (j + made_by e) (pc + lt + 2) named true around (looping line e block t ∷ k) (omega (arith, fewer, le)) at_block placed.1.1 titles (omega (arith, inside)) under clear (omega arith) plain (in_block m le) (again m le loop) m (omega arith) ps env regs c opened st)))
 
           round : (m : ℕ) → ((l : ℕ) → l < m → Loop l) → Loop m
           round m loop le ps env regs c opened st =
@@ -345,14 +348,14 @@ module _ (S : Setting) where
       ArmsLaw arms =
           (otherwise : Option Block) (code : List Coded) (n : ℕ) (closing : Bool) (closed : List ℕ) (t j pc line : ℕ) (named : List Named) (loops : Bool) (reach : Reach) (k : List Work)
           → n ≤ S.bound → HasAt S pc (arms_code S.code.own.constants back arms code closing t j pc line reach) → ArmsArePlaced S arms closing t j named loops
-          → pc + (arms_size S.code.own.constants back arms (length code) closing t j + length code) < length S.code.own.code → AllBelow closed t → closing ≡ has_some closed
+          → ArmsAreNamed S.lines S.code back arms (length code) closing t j pc → pc + (arms_size S.code.own.constants back arms (length code) closing t j + length code) < length S.code.own.code → AllBelow closed t → AllUnder S.hidden t → closing ≡ has_some closed
           → Jumps S back n pc (pc + (arms_size S.code.own.constants back arms (length code) closing t j + length code)) t closed named loops reach k
           → GoesOn S n t closed complete k (pc + (arms_size S.code.own.constants back arms (length code) closing t j + length code))
           → GoesOn S n t closed (choose EndArms otherwise) k (pc + arms_size S.code.own.constants back arms (length code) closing t j)
           → GoesOn S n t closed (choose arms otherwise) k pc
 
       pub no_arms_goes : ArmsLaw EndArms
-      no_arms_goes otherwise code n closing closed t j pc line named loops reach k fewer has placed inside under plain jumps done others =
+      no_arms_goes otherwise code n closing closed t j pc line named loops reach k fewer has placed titles inside under clear plain jumps done others =
           let there : pc + 0 ≡ pc = omega arith in goes_from S n t closed (choose EndArms otherwise) k (pc + 0) pc there others
 
       past_goes : (rest : List Coded) (n t line pc : ℕ) (closed : List ℕ) (k : List Work) → HasAt S pc (past rest line ++ rest) → pc + (length (past rest line) + length rest) < length S.code.own.code
@@ -364,7 +367,7 @@ module _ (S : Setting) where
           (subst (λ q. Agree S m (tree.at complete (of_tree S ps env c) k) (before (of_code S ps q regs opened) c)) (sym far) (done m le ps env regs c opened st))
 
       pub more_arms_goes : (e : Exp) (block : Block) (arms : Arms) → BlockLaw block → ArmsLaw arms → ArmsLaw (MoreArms e block arms)
-      more_arms_goes e block arms law more otherwise code n closing closed t j pc line named loops reach k fewer has placed inside under plain jumps done others m le ps env regs c opened st =
+      more_arms_goes e block arms law more otherwise code n closing closed t j pc line named loops reach k fewer has placed titles inside under clear plain jumps done others m le ps env regs c opened st =
           let size = st.size in
           let room = room_some e in
           go_left S m _ (tree.at (evaluate e) (of_tree S ps env c) (if_test block arms otherwise ∷ k)) _ refl
@@ -447,33 +450,33 @@ module _ (S : Setting) where
               go_left S m _ (tree.at (run (point_of block (length env))) (of_tree S ps env c) k) _ (ap (λ b. cond b (begins block (of_tree S ps env c) k) (go (choose arms otherwise) (of_tree S ps env c) k)) is)
               (past_test m false t (length inner + length (past rest line)) line (pc + lt) (inner ++ (past rest line ++ rest)) ps regs c opened _ at_test room st.rel.room (omega (arith, inside)) (ap (λ v. same_truth (holds (shape v)) false) eq ∙ ap (λ b. same_truth b false) is)
               (subst (λ u. Agree S m (tree.at (run (point_of block u)) (of_tree S ps env c) k) (before (of_code S ps (pc + lt + 2) regs opened) c)) (sym st.size)
-              (law m closing closed t t (j + made_by e) (pc + lt + 2) named loops reach k (omega (arith, fewer, le)) at_block placed.1.1.0 (omega (arith, inside)) under (omega arith) plain (within m (pc + lt + 2) (pc + lt + 2 + lb) le (omega arith) (omega arith))
+              (law m closing closed t t (j + made_by e) (pc + lt + 2) named loops reach k (omega (arith, fewer, le)) at_block placed.1.1.0 titles.0 (omega (arith, inside)) under clear (omega arith) plain (within m (pc + lt + 2) (pc + lt + 2 + lb) le (omega arith) (omega arith))
               (goes_fewer S m n t closed complete k (pc + lt + 2 + lb) le done_block) m (omega arith) ps env regs c opened st)))
           turn m le false vs ps env regs c opened st eq room is =
               go_left S m _ (tree.at (choose arms otherwise) (of_tree S ps env c) k) _ (ap (λ b. cond b (begins block (of_tree S ps env c) k) (go (choose arms otherwise) (of_tree S ps env c) k)) is)
               (by_test m false t (length inner + length (past rest line)) line (pc + lt) (inner ++ (past rest line ++ rest)) ps regs c opened _ at_test room st.rel.room (omega (arith, inner_sized, skip_sized, inside)) (ap (λ v. same_truth (holds (shape v)) false) eq ∙ ap (λ b. same_truth b false) is)
               (let there : pc + lt + 2 + (length inner + length (past rest line)) ≡ pc + lt + 2 + lb + skip = omega (arith, inner_sized, skip_sized) in
               subst (λ q. Agree S m (tree.at (choose arms otherwise) (of_tree S ps env c) k) (before (of_code S ps q regs opened) c)) (sym there)
-              (more otherwise code m closing closed t (j + made_by e + made_in_block block) (pc + lt + 2 + lb + skip) line named loops reach k (omega (arith, fewer, le)) at_rest placed.1.1.1 (omega (arith, inside)) under plain
+              (more otherwise code m closing closed t (j + made_by e + made_in_block block) (pc + lt + 2 + lb + skip) line named loops reach k (omega (arith, fewer, le)) at_rest placed.1.1.1 titles.1 (omega (arith, inside)) under clear plain
               (within m (pc + lt + 2 + lb + skip) (pc + lt + 2 + lb + skip + (lo + length code)) le (omega arith) (omega arith))
               (goes_from S m t closed complete k exit (pc + lt + 2 + lb + skip + (lo + length code)) exit_rest (goes_fewer S m n t closed complete k exit le done))
               (goes_from S m t closed (choose EndArms otherwise) k (pc + (lt + (lb + (skip + lo + 2)))) (pc + lt + 2 + lb + skip + lo) others_at (goes_fewer S m n t closed (choose EndArms otherwise) k (pc + (lt + (lb + (skip + lo + 2)))) le others))
               m (omega arith) ps env regs c opened st)))
 
       pub if_goes : (line : ℕ) (arms : Arms) → ArmsLaw arms → StatLaw S back (If line arms)
-      if_goes line arms law n closing closed t j pc named loops reach k fewer has placed inside under plain jumps done ps env regs c opened s st standing =
+      if_goes line arms law n closing closed t j pc named loops reach k fewer has placed titles inside under clear plain jumps done ps env regs c opened s st standing =
           let size = arms_size S.code.own.constants back arms 0 closing t j in
           let none : pc + size ≡ pc + (size + 0) = omega arith in
           let done' = goes_from S n t closed complete k (pc + size) (pc + (size + 0)) none done in
           go_left S n s (tree.at (choose arms None) (of_tree S ps env c) k) _ st
-          (law None [] n closing closed t j pc line named loops reach k fewer has placed (omega (arith, inside)) under plain (subst (λ q. Jumps S back n pc q t closed named loops reach k) none (jumps refl)) done'
+          (law None [] n closing closed t j pc line named loops reach k fewer has placed titles (omega (arith, inside)) under clear plain (subst (λ q. Jumps S back n pc q t closed named loops reach k) none (jumps refl)) done'
           (λ m le ps env regs c opened st. go_left S m _ (tree.at complete (of_tree S ps env c) k) _ refl (done m le ps env regs c opened st))
           n (omega arith) ps env regs c opened standing)
 
       pub if_else_goes : (line : ℕ) (arms : Arms) (block : Block) → ArmsLaw arms → BlockLaw block → StatLaw S back (IfElse line arms block)
-      if_else_goes line arms block law last n closing closed t j pc named loops reach k fewer has placed inside under plain jumps done ps env regs c opened s st standing =
+      if_else_goes line arms block law last n closing closed t j pc named loops reach k fewer has placed titles inside under clear plain jumps done ps env regs c opened s st standing =
           go_left S n s (tree.at (choose arms (Some block)) (of_tree S ps env c) k) _ st
-          (law (Some block) code n closing closed t j pc line named loops reach k fewer has placed.0 (subst (λ m. pc + (arms_size S.code.own.constants back arms m closing t j + m) < length S.code.own.code) (sym sized) inside) under plain
+          (law (Some block) code n closing closed t j pc line named loops reach k fewer has placed.0 (subst (λ m. ArmsAreNamed S.lines S.code back arms m closing t j pc) (sym sized) titles.0) (subst (λ m. pc + (arms_size S.code.own.constants back arms m closing t j + m) < length S.code.own.code) (sym sized) inside) under clear plain
           (subst (λ m. Jumps S back n pc (pc + (arms_size S.code.own.constants back arms m closing t j + m)) t closed named loops reach k) (sym sized) (jumps refl))
           (subst (λ m. GoesOn S n t closed complete k (pc + (arms_size S.code.own.constants back arms m closing t j + m))) (sym sized) done)
           (subst (λ m. GoesOn S n t closed (choose EndArms (Some block)) k (pc + arms_size S.code.own.constants back arms m closing t j)) (sym sized) others)
@@ -501,6 +504,6 @@ module _ (S : Setting) where
           others m le ps env regs c opened st =
               go_left S m _ (tree.at (run (point_of block (length env))) (of_tree S ps env c) k) _ refl
               (subst (λ u. Agree S m (tree.at (run (point_of block u)) (of_tree S ps env c) k) (before (of_code S ps (pc + lo) regs opened) c)) (sym st.size)
-              (last m closing closed t t (j + made_in_arms arms) (pc + lo) named loops reach k (omega (arith, fewer, le)) at_block placed.1 (omega (arith, inside)) under (omega arith) plain
+              (last m closing closed t t (j + made_in_arms arms) (pc + lo) named loops reach k (omega (arith, fewer, le)) at_block placed.1 titles.1 (omega (arith, inside)) under clear (omega arith) plain
               (subst (λ l. Jumps S back m (pc + lo) (pc + lo + lb) t l named loops reach k) (append_nil closed) (jumps_within S back n m pc (pc + (lo + lb)) (pc + lo) (pc + lo + lb) t t closed [] named loops reach k le (omega arith) (omega arith) (omega arith) tt (jumps refl)))
               (goes_from S m t closed complete k (pc + (lo + lb)) (pc + lo + lb) there (goes_fewer S m n t closed complete k (pc + (lo + lb)) le done)) m (omega arith) ps env regs c opened st))

@@ -29,7 +29,7 @@ use Rattle.code_of.specs.Sizes.{block_size}
 use Rattle.code_of.specs.Statements.{in_loop, block_code}
 use Rattle.exp_laws.specs.Setting.{Setting}
 use Rattle.exp_laws.specs.Placed.{ArePlaced}
-use Rattle.exp_laws.proofs.Registers.{Rel, Ascends, marked_in, told, share_same, after_share, after_above}
+use Rattle.exp_laws.proofs.Registers.{AllUnder, under_higher, Rel, Ascends, marked_in, told, share_same, after_share, after_above}
 use Rattle.exp_laws.proofs.Lists.{Holds, write_all_more, write_all_below, write_range_holds, drops_none}
 use Rattle.exp_laws.proofs.Talking.{Agree, down, go_left, go_right, both_ask, both_mark, of_tree, of_code}
 use Rattle.exp_laws.proofs.Placing.{HasAt, has_front, has_back, here_abc, here_abx}
@@ -54,7 +54,7 @@ first_nth : (vs : List Value) → nth vs 0 ≡ first vs
 first_nth [] = refl
 first_nth (v ∷ vs) = refl
 
-take_whole : (xs : List Value) → take (length xs) xs ≡ xs
+pub take_whole : (xs : List Value) → take (length xs) xs ≡ xs
 take_whole [] = refl
 take_whole (x ∷ xs) = ap (λ l. x ∷ l) (take_whole xs)
 
@@ -72,17 +72,17 @@ ascends_one from (p ∷ ps) t to needed h le lt =
     let below = h.1.0 in
     (h.0, (omega (arith, below, lt), ascends_one (suc p.number) ps t to needed h.1.1 (omega (arith, below)) lt))
 
-back_to : (q bx target : ℕ) → target + bx ≡ q + 1 → pos q +ℤ (pos 1 -ℤ pos bx) ≡ pos target
+pub back_to : (q bx target : ℕ) → target + bx ≡ q + 1 → pos q +ℤ (pos 1 -ℤ pos bx) ≡ pos target
 back_to q bx target e = grind (arith, e)
 
 -- the value that the loop closes is marked, and the block is jumped over
 module _ (S : Setting) (pending : List Pending) where
-  rel_one : (t : ℕ) (needed : Bool) (env : List Value) (c : Captured) (regs : List Value) → Ascends 0 pending t → t < length env → Rel S.code.own.stack pending env c regs → Rel S.code.own.stack (with_one S pending t needed) env c regs
+  rel_one : (t : ℕ) (needed : Bool) (env : List Value) (c : Captured) (regs : List Value) → Ascends 0 pending t → t < length env → Rel S.hidden S.code.own.stack pending env c regs → Rel S.hidden S.code.own.stack (with_one S pending t needed) env c regs
   rel_one t needed env c regs above lt rel =
-      record { agree = rel.agree; held = rel.held; ascends = ascends_one 0 pending t (length env) needed above (omega arith) lt; fits = rel.fits; room = rel.room }
+      record { agree = rel.agree; held = rel.held; hides = rel.hides; ascends = ascends_one 0 pending t (length env) needed above (omega arith) lt; fits = rel.fits; room = rel.room }
 
   prepares_goes : (n line t bx pc opened : ℕ) (next_of : Control) (env regs : List Value) (c : Captured) (k : List Work) → HasAt S pc (with_abx TForPrep t bx line ∷ []) → pc + (bx + 1) < length S.code.own.code → bx < 2 ^ 17
-      → variable_name S.code pc (t + 3) ≡ codes "?" → Ascends 0 pending (t + 3) → t + 3 < length env → Rel S.code.own.stack pending env c regs → GoesMarked S pending n (length env) (t + 3) (pc + (bx + 1)) opened next_of k
+      → variable_name S.code pc (t + 3) ≡ codes "?" → Ascends 0 pending (t + 3) → t + 3 < length env → Rel S.hidden S.code.own.stack pending env c regs → GoesMarked S pending n (length env) (t + 3) (pc + (bx + 1)) opened next_of k
       → Agree S n (tree.at (mark line (codes "?") (t + 3) next_of) (of_tree S pending env c) k) (before (of_code S pending pc regs opened) c)
   prepares_goes n line t bx pc opened next_of env regs c k has inside fits unnamed above lt rel goes = by (holds (shape (nth env (t + 3)))) refl
     where
@@ -94,7 +94,7 @@ module _ (S : Setting) (pending : List Pending) where
           prepare_step S.code t bx (of_code S pending pc regs opened) c has.0 (omega (arith, lt, rel.fits, S.small)) fits (omega (arith, lt, rel.fits, rel.room))
           ∙ ap (λ v. talk S.code (preparing S.code pc (t + 3) bx (holds (shape v))) (nth regs (t + 3) ∷ []) (of_code S pending pc regs opened) c) (sym (rel.agree (t + 3) lt))
 
-      sets : (n : ℕ) (env1 regs1 had : List Value) (c1 : Captured) → length env1 ≡ length env → Rel S.code.own.stack pending env1 c1 regs1 → GoesMarked S pending n (length env) (t + 3) (pc + (bx + 1)) opened next_of k
+      sets : (n : ℕ) (env1 regs1 had : List Value) (c1 : Captured) → length env1 ≡ length env → Rel S.hidden S.code.own.stack pending env1 c1 regs1 → GoesMarked S pending n (length env) (t + 3) (pc + (bx + 1)) opened next_of k
           → Agree S n (tree.at next_of (of_tree S (with_one S pending (t + 3) true) env1 c1) k) (amid (then (mark_pending (t + 3)) (text.go_by (pos (bx + 1)))) had (of_code S pending pc regs1 opened) c1)
       sets n env1 regs1 had c1 size rel1 goes =
           let more = marked_more pending (record { number = t + 3; needed = true }) refl in
@@ -111,16 +111,16 @@ module _ (S : Setting) (pending : List Pending) where
           both_mark S n _ _ (nth env (t + 3)) (nth regs (t + 3)) (codes "?") (variable_name S.code pc (t + 3)) line _ _ _ _ _
           (ap (λ b. cond b (trees.says_so (marks (nth env (t + 3)) (codes "?")) line (of_tree S pending env c) (λ x b. trees.marked x.reply line (t + 3) next_of b k)) (go next_of (with_pending (of_tree S pending env c) (t + 3) false) k)) is)
           (reads ∙ ap (λ b. talk S.code (preparing S.code pc (t + 3) bx b) (nth regs (t + 3) ∷ []) (of_code S pending pc regs opened) c) is)
-          (rel.agree (t + 3) lt) (named_so S.lines _ _ unnamed) (here_abx S TForPrep t bx line pc [] has).lined (share_same S.code.own.stack pending env c regs rel) (λ x fits. answered x.shared x.reply fits)
+          (rel.agree (t + 3) lt) (named_so S.lines _ _ unnamed) (here_abx S TForPrep t bx line pc [] has).lined (share_same S.hidden S.code.own.stack pending env c regs rel) (λ x fits. answered x.shared x.reply fits)
         where
           answered : (shared : List Value) (reply : Reply) → IsChecked reply
               → Agree S n (trees.marked reply line (t + 3) next_of (of_tree S pending (brought c.held shared env) (told c)) k)
               (amid (marked (then (mark_pending (t + 3)) (text.go_by (pos (bx + 1)))) S.code pc reply) (nth regs (t + 3) ∷ []) (of_code S pending pc (brought c.held shared regs) opened) (told c))
           answered shared (values vs) fits =
-              let af = after_share S.code.own.stack pending env regs shared c t rel in
+              let af = after_share S.hidden S.code.own.stack pending env regs shared c t rel in
               down S n _ _ (sets (suc n) (brought c.held shared env) (brought c.held shared regs) (nth regs (t + 3) ∷ []) (told c) af.size af.rel goes)
           answered shared (faulted words) fits =
-              faults_alike S n pending line pc opened (brought c.held shared env) (brought c.held shared regs) (told c) words _ _ (after_share S.code.own.stack pending env regs shared c t rel).rel (here_abx S TForPrep t bx line pc [] has) refl refl
+              faults_alike S n pending line pc opened (brought c.held shared env) (brought c.held shared regs) (told c) words _ _ (after_share S.hidden S.code.own.stack pending env regs shared c t rel).rel (here_abx S TForPrep t bx line pc [] has) refl refl
           answered shared (left e) fits = absurd fits
 
       by : (b : Bool) → holds (shape (nth env (t + 3))) ≡ b → Agree S n (tree.at (mark line (codes "?") (t + 3) next_of) (of_tree S pending env c) k) (before (of_code S pending pc regs opened) c)
@@ -136,7 +136,7 @@ module _ (S : Setting) (pending : List Pending) where
 
 module _ (S : Setting) (back_field : ℕ) where
   pub iterating_goes : (line : ℕ) (names : List Name) (es : Exps) (block : Block) → BlockLaw S back_field block → StatLaw S back_field (GenFor line names es block)
-  iterating_goes line names es block law n closing closed t j pc named loops reach k fewer has placed inside under plain jumps done ps env regs c opened s st standing =
+  iterating_goes line names es block law n closing closed t j pc named loops reach k fewer has placed titles inside under clear plain jumps done ps env regs c opened s st standing =
       go_left S n s (tree.at (collect (for_iterating line names block) [] es) (of_tree S ps env c) k) _ st
       (exps_same S ps es (for_iterating line names block) (Some 4) t 0 j line n pc opened [] env regs c k fewer tt
       (subst (λ r. HasAt S pc (exps_code S.code.own.constants es (Some 4) r j line)) (sym flat) (has_front S pc start behind has)) (lit< tt) (subst (λ u. ArePlaced S es u j) (sym standing.size) placed.0)
@@ -199,7 +199,7 @@ module _ (S : Setting) (back_field : ℕ) where
       some = placed.1.1.1.0
 
       near : lb + 2 < 2 ^ 17
-      near = placed.1.1.1.1.1.1.0 back_field
+      near = placed.1.1.1.1.1.0 back_field
 
       t_fits : t < 2 ^ 8
       t_fits = omega (arith, room, S.small)
@@ -209,6 +209,9 @@ module _ (S : Setting) (back_field : ℕ) where
 
       under' : AllBelow closed' (t + 4)
       under' = below_more closed ((t + 3) ∷ []) (t + 4) (below_higher t (t + 4) closed (omega arith) under) (omega arith, tt)
+
+      clear' : AllUnder S.hidden (t + 4)
+      clear' = under_higher S.hidden t (t + 4) (omega arith) clear
 
       Loop : ℕ → Type 0
       Loop m = m ≤ n → (ps : List Pending) (env regs : List Value) (c : Captured) (opened : ℕ) → Standing S (t + 4) closed' ps env c regs
@@ -237,18 +240,18 @@ module _ (S : Setting) (back_field : ℕ) where
           let more = length_write (t + 2) (first vs) env (omega (arith, size)) in
           let sum = length-append env1 (fitted wide vs) in
           let fit = length_fitted wide vs in
-          let rel1 = rel_assigned S.code.own.stack (t + 2) (first vs) ps env regs c (omega (arith, size)) st.rel in
+          let rel1 = rel_assigned S.hidden S.code.own.stack (t + 2) (first vs) ps env regs c (omega (arith, size)) (λ a. let low = clear (t + 2) a in absurd (omega (arith, low))) st.rel in
           go_left S m _ (tree.at (run (point_of block (t + 4))) (of_tree S ps (env1 ++ fitted wide vs) c) (w ∷ k)) _
           (ap (λ l. go (run (point_of block (t + 4))) (of_tree S ps (write (t + 2) (first vs) l ++ fitted wide vs) c) (w ∷ k)) whole)
           (go_right S m _ _ (before (of_code S ps (pc + li + 1) (write (t + 2) (first vs) regs) opened) c)
           (own_step S.code (write_register (t + 2) (read 0)) (λ _ _. back (length inner + 2)) (v ∷ had) (of_code S ps (pc + li + 1 + lb + 1) regs opened) c (lt-ltb (t + 2) (length regs) (omega (arith, room, st.rel.room)))
           ∙ landed ((v ∷ had) ++ []) (write (t + 2) v regs) ps c opened ∙ ap (λ x. goes_on (before (of_code S ps (pc + li + 1) (write (t + 2) x regs) opened) c)) is)
-          (law m true closed' (t + 4) (t + 4 + wide) (j + made_in es) (pc + li + 1) named true around (w ∷ k) (omega (arith, fewer, le)) at_block placed.1.1.1.1.1.1.1 (omega (arith, inside)) under' (omega arith) (one_is_some closed (t + 3)) (in_block m le)
+          (law m true closed' (t + 4) (t + 4 + wide) (j + made_in es) (pc + li + 1) named true around (w ∷ k) (omega (arith, fewer, le)) at_block placed.1.1.1.1.1.1 titles.1 (omega (arith, inside)) under' clear' (omega arith) (one_is_some closed (t + 3)) (in_block m le)
           (λ l less ps2 env2 regs2 c2 opened2 st2. loop l less (omega (arith, le, less)) ps2 env2 regs2 c2 opened2 st2) m (omega arith) ps (env1 ++ fitted wide vs) (write (t + 2) (first vs) regs) c opened
           (record {
             numbered = st.numbered;
             size = omega (arith, sum, fit, more, size);
-            rel = rel_declared S.code.own.stack (t + 4) wide ps env1 (write (t + 2) (first vs) regs) vs c (more ∙ size) room (λ i lt. nth_write_other (t + 2) (first vs) regs (t + 4 + i) (λ e. absurd (omega (arith, e))) ∙ held i lt) rel1;
+            rel = rel_declared S.hidden S.code.own.stack (t + 4) wide ps env1 (write (t + 2) (first vs) regs) vs c (more ∙ size) room clear' (λ i lt. nth_write_other (t + 2) (first vs) regs (t + 4 + i) (λ e. absurd (omega (arith, e))) ∙ held i lt) rel1;
           })))
 
       turn : (m : ℕ) → m ≤ n → ((l : ℕ) → l < m → Loop l) → (b : Bool) (vs : List Value) (ps : List Pending) (env regs : List Value) (c : Captured) (opened : ℕ) → Standing S (t + 4) closed' ps env c regs → Holds (t + 4) wide vs regs
@@ -282,8 +285,8 @@ module _ (S : Setting) (back_field : ℕ) where
           paid : (m : ℕ) → ((l : ℕ) → l < m → Loop l) → m ≤ n → Agree S m (tree.at (pay line (enter_round vs)) (of_tree S ps env c) (w ∷ k)) (before (of_code S ps (pc + li + 1 + lb + 1) regs opened) c)
           paid zero loop le = tt
           paid (suc m) loop le =
-              both_ask S m _ _ pays pays line _ _ _ _ _ refl reads tt refl at_turns.1.1.1.0 (share_same S.code.own.stack ps env c regs st.rel)
-              (λ x fits. let af = after_share S.code.own.stack ps env regs x.shared c (t + 4 + wide) st.rel in
+              both_ask S m _ _ pays pays line _ _ _ _ _ refl reads tt refl at_turns.1.1.1.0 (share_same S.hidden S.code.own.stack ps env c regs st.rel)
+              (λ x fits. let af = after_share S.hidden S.code.own.stack ps env regs x.shared c (t + 4 + wide) st.rel in
               let size = st.size in
               enters m (omega (arith, le)) (λ l less. loop l (omega (arith, less))) vs (values_in x.reply) (brought c.held x.shared env) (brought c.held x.shared regs) ps (told c) opened (nth regs (t + 4))
               (record { numbered = st.numbered; size = af.size ∙ st.size; rel = af.rel }) (λ i lt. af.keeps (t + 4 + i) (omega (arith, size)) (omega (arith, lt)) ∙ held i lt) eq)
@@ -293,7 +296,7 @@ module _ (S : Setting) (back_field : ℕ) where
           let size = st.size in
           let cut = blanked (λ i. nat_lt i (t + 4)) 0 S.code.own.stack regs in
           let long = length_blanked (λ i. nat_lt i (t + 4)) 0 S.code.own.stack regs in
-          let af = after_above S.code.own.stack ps env regs cut c (t + 4) (omega (arith, size)) st.rel (λ r lt. blanked_keeps (λ i. nat_lt i (t + 4)) S.code.own.stack regs r (omega (arith, room)) (lt_true r (t + 4) lt)) (omega (arith, long)) in
+          let af = after_above S.hidden S.code.own.stack ps env regs cut c (t + 4) (omega (arith, size)) st.rel (λ r lt. blanked_keeps (λ i. nat_lt i (t + 4)) S.code.own.stack regs r (omega (arith, room)) (lt_true r (t + 4) lt)) (omega (arith, long)) in
           let third : suc (t + 1) ≡ t + 2 = omega arith in
           let flat' : t + 4 + 0 ≡ t + 4 = omega arith in
           asks_alike S ps m for_iterator told_iterator _ _ (calls (nth env t) (nth env (t + 1) ∷ nth env (t + 2) ∷ [])) (calls (nth env t) (nth env (t + 1) ∷ nth env (t + 2) ∷ [])) line (pc + li + 1 + lb) 0 (t + 4) env cut c (w ∷ k) test_round refl
@@ -306,7 +309,7 @@ module _ (S : Setting) (back_field : ℕ) where
           let to = next_there S (pc + li + 1 + lb + 1) (omega (arith, inside)) in
           let long1 = write_all_more (t + 4) (range 0 wide vs) regs1 in
           let size1 = af1.size in
-          let af2 = after_above S.code.own.stack ps env1 regs1 (filled (suc wide) (t + 4) vs regs1) c1 (t + 4) (omega (arith, size, size1)) af1.rel (λ r lt. write_all_below (t + 4) (range 0 wide vs) regs1 r lt) (omega (arith, long1, af1.rel.room)) in
+          let af2 = after_above S.hidden S.code.own.stack ps env1 regs1 (filled (suc wide) (t + 4) vs regs1) c1 (t + 4) (omega (arith, size, size1)) af1.rel (λ r lt. write_all_below (t + 4) (range 0 wide vs) regs1 r lt) (omega (arith, long1, af1.rel.room)) in
           let held : Holds (t + 4) wide vs (filled (suc wide) (t + 4) vs regs1) = write_range_holds (t + 4) wide vs regs1 in
           go_right S m _ _ (before (of_code S ps (pc + li + 1 + lb + 1) (filled (suc wide) (t + 4) vs regs1) 0) c1)
           (ap (λ x. talk S.code x vs (of_code S ps (pc + li + 1 + lb) regs1 0) c1) (iterator_rest S.code t wide (pc + li + 1 + lb) at_turns.0 t_fits placed.1.1.1.1.0)
@@ -314,18 +317,18 @@ module _ (S : Setting) (back_field : ℕ) where
           (turn m le loop (is_nil (first vs)) vs ps env1 (filled (suc wide) (t + 4) vs regs1) c1 0 (record { numbered = st.numbered; size = af1.size ∙ st.size; rel = af2.rel }) held
           (ap (nth (filled (suc wide) (t + 4) vs regs1)) (sym flat') ∙ held 0 some ∙ first_nth vs) refl))
 
-      started : (vs env1 regs1 : List Value) (c1 : Captured) (opened1 : ℕ) → length env1 ≡ t → Rel S.code.own.stack ps env1 c1 regs1 → Holds t (0 + 4) vs regs1
+      started : (vs env1 regs1 : List Value) (c1 : Captured) (opened1 : ℕ) → length env1 ≡ t → Rel S.hidden S.code.own.stack ps env1 c1 regs1 → Holds t (0 + 4) vs regs1
           → Agree S n (tree.at (collect (for_iterating line names block) vs EndExps) (of_tree S ps env1 c1) k) (before (of_code S ps (pc + length (exps_code S.code.own.constants es (Some 4) (t + 0) j line)) regs1 opened1) c1)
       started vs env1 regs1 c1 opened1 size1 rel1 held =
           let sum = length-append env1 (fitted 4 vs) in
           let fit = length_fitted 4 vs in
-          let rel2 = rel_declared S.code.own.stack t 4 ps env1 regs1 vs c1 size1 (omega (arith, room)) (λ i lt. held i (omega (arith, lt))) rel1 in
+          let rel2 = rel_declared S.hidden S.code.own.stack t 4 ps env1 regs1 vs c1 size1 (omega (arith, room)) clear (λ i lt. held i (omega (arith, lt))) rel1 in
           let to : pc + li + (length inner + 1) ≡ pc + li + 1 + lb = omega (arith, sized) in
           go_left S n _ (tree.at (mark line (codes "?") (length env1 + 3) complete) (of_tree S ps (env1 ++ fitted 4 vs) c1) (iterating line names block (length env1) ∷ k)) _ refl
           (subst (λ u. Agree S n (tree.at (mark line (codes "?") (u + 3) complete) (of_tree S ps (env1 ++ fitted 4 vs) c1) (iterating line names block u ∷ k)) (before (of_code S ps (pc + length (exps_code S.code.own.constants es (Some 4) (t + 0) j line)) regs1 opened1) c1)) (sym size1)
           (at_place S ps n _ (pc + li) opened1 _ regs1 c1 there
           (prepares_goes S ps n line t (length inner) (pc + li) opened1 complete (env1 ++ fitted 4 vs) regs1 c1 (w ∷ k) (at_prep.0, (at_prep.1.0, tt)) (omega (arith, sized, inside)) (omega (arith, sized, near))
-          (placed.1.1.1.1.1.0 (pc + li) (length inner) at_prep.0) (ascends_from (t + 3) (omega arith)) (omega (arith, sum, fit, size1)) rel2
+          titles.0 (ascends_from (t + 3) (omega arith)) (omega (arith, sum, fit, size1)) rel2
           (λ needed env2 regs2 c2 size2 rel3. at_place S (with_one S ps (t + 3) needed) n _ (pc + li + 1 + lb) opened1 _ regs2 c2 to
           (strong Loop round n (omega arith) (with_one S ps (t + 3) needed) env2 regs2 c2 opened1
           (record { numbered = numbers_both ps (record { number = t + 3; needed = needed } ∷ []) ∙ ap (λ l. l ++ (t + 3) ∷ []) standing.numbered; size = omega (arith, size2, sum, fit, size1); rel = rel3 }))))))

@@ -138,7 +138,7 @@ module _ (S : Setting) (back : ℕ) where
   abbrev pub JumpGoes : (n lo hi t : ℕ) (closed : List ℕ) → (ℕ → tree.Activation → List Work → Next Body State) → Option Landing → (k : List Work) → Type 0
   JumpGoes n lo hi t closed jump there k =
       (m line pc : ℕ) (ps : List Pending) (env regs : List Value) (c : Captured) (opened : ℕ) (more : List ℕ) (s : State) → m ≤ n → HasAt S pc (leads there pc line) → lo ≤ pc → pc + 2 ≤ hi
-      → numbers ps ≡ closed ++ more → AllFrom t more → t ≤ length env → Rel S.code.own.stack ps env c regs → step s ≡ jump line (of_tree S ps env c) k
+      → numbers ps ≡ closed ++ more → AllFrom t more → t ≤ length env → Rel S.hidden S.code.own.stack ps env c regs → step s ≡ jump line (of_tree S ps env c) k
       → Agree S m s (before (of_code S ps pc regs opened) c)
 
   pub record Jumps (n lo hi t : ℕ) (closed : List ℕ) (named : List Named) (loops : Bool) (reach : Reach) (k : List Work) : Type 0 where
@@ -243,7 +243,7 @@ module _ (S : Setting) (back : ℕ) where
     module _ (n lo hi t : ℕ) (closed front : List ℕ) (reach : Reach) (named : List Named) (loops : Bool) (whole : closed ≡ base ++ front) (front_from : AllFrom outer front) (base_under : AllBelow base outer) (closed_under : AllBelow closed t) (outer_low : outer ≤ t)
         (outward : Jumps n lo hi outer base named loops reach k)
         (here : Stats) (passed : List Passed) (name : List ℕ) (m line pc : ℕ) (ps : List Pending) (env regs : List Value) (c : Captured) (opened : ℕ) (more : List ℕ) (s : State) (fewer : m ≤ n) (low : lo ≤ pc) (high : pc + 2 ≤ hi) (end : pc + 2 < length S.code.own.code)
-        (numbered : numbers ps ≡ closed ++ more) (above : AllFrom t more) (size : t ≤ length env) (rel : Rel S.code.own.stack ps env c regs) where
+        (numbered : numbers ps ≡ closed ++ more) (above : AllFrom t more) (size : t ≤ length env) (rel : Rel S.hidden S.code.own.stack ps env c regs) where
       abbrev a : tree.Activation
       a = of_tree S ps env c
 

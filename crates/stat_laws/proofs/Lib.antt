@@ -1,4 +1,7 @@
 mod Sizes
+mod Naming
+mod Alive
+mod Scopes
 mod Closing
 mod Standing
 mod Labels
@@ -12,6 +15,10 @@ mod Values
 mod Targets
 mod Assigning
 mod Iterating
+mod Counting
+mod Hiding
+mod Numeric
+mod Bounds
 mod Statements
 mod Lines
 mod Raised

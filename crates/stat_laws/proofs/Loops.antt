@@ -32,7 +32,7 @@ use Rattle.stat_laws.proofs.Forms.{ExpLaw, room_some, past_test, by_test, loop_j
 
 module _ (S : Setting) (back : ℕ) (exps : ExpLaw S) where
   pub repeat_goes : (line : ℕ) (ss : Stats) (tokens last : ℕ) (e : Exp) → ((outer : ℕ) (closed : List ℕ) (k : List Work) → StatsLaw S back (until last e) false outer closed k (λ ss. refl) ss) → StatLaw S back (Repeat line (Falls ss tokens last) e)
-  repeat_goes line ss tokens last e law n closing closed t j pc named loops reach k fewer has placed inside under plain jumps done ps env regs c opened s st standing =
+  repeat_goes line ss tokens last e law n closing closed t j pc named loops reach k fewer has placed titles inside under clear plain jumps done ps env regs c opened s st standing =
       go_left S n s (tree.at (run (repeat_point (Falls ss tokens last) e (length env))) (of_tree S ps env c) (repeating line e (Falls ss tokens last) (length env) ∷ k)) _ st
       (subst (λ u. Agree S n (tree.at (run (repeat_point (Falls ss tokens last) e u)) (of_tree S ps env c) (repeating line e (Falls ss tokens last) u ∷ k)) (before (of_code S ps pc regs opened) c)) (sym standing.size)
       (strong Loop round n (omega arith) ps env regs c opened standing))
@@ -157,7 +157,7 @@ module _ (S : Setting) (back : ℕ) (exps : ExpLaw S) where
           (again m loop le base numbered env1 regs1 c1 opened1 size1 rel1))
           ps env regs c opened st))
         where
-          again : (m : ℕ) → ((l : ℕ) → l < m → Loop l) → m ≤ n → (base : List Pending) → numbers base ≡ closed → (env1 regs1 : List Value) (c1 : Captured) (opened1 : ℕ) → length env1 ≡ t → Rel S.code.own.stack base env1 c1 regs1
+          again : (m : ℕ) → ((l : ℕ) → l < m → Loop l) → m ≤ n → (base : List Pending) → numbers base ≡ closed → (env1 regs1 : List Value) (c1 : Captured) (opened1 : ℕ) → length env1 ≡ t → Rel S.hidden S.code.own.stack base env1 c1 regs1
               → Agree S m (tree.at (pay line (run (repeat_point (Falls ss tokens last) e t))) (of_tree S base env1 c1) (w ∷ k)) (before (of_code S base (pc + li + lt + 2 + length close) regs1 opened1) c1)
           again zero loop le base numbered env1 regs1 c1 opened1 size1 rel1 = tt
           again (suc l) loop le base numbered env1 regs1 c1 opened1 size1 rel1 =
@@ -188,6 +188,8 @@ module _ (S : Setting) (back : ℕ) (exps : ExpLaw S) where
             passed = tt;
             added = added_none t closed;
             base_under = under;
+            clear = clear;
+            titles = titles;
             under = under;
             outer_low = omega arith;
             known = plain;

@@ -3,11 +3,11 @@ use Rattle.std.proofs.Common.{◌≡◌, ℕ, ◌+◌, ◌-◌, ◌<◌, ◌≤�
 use Rattle.std.specs.Prelude.{◌==◌}
 use Rattle.int_core.specs.Value.{Value}
 use Rattle.int_core.specs.Ask.{goes_on, Captured}
-use Rattle.tree_core.specs.Tree.{Returns, Stats, EndStats, Nil, True, False, Int, Str, Vararg, Function, Var, Index, Call, Method, Unary, Binary, And, Or, Paren, Table, Exps, EndExps, MoreExps, MoreStats}
-use Rattle.tree_activation.specs.Work.{complete, collect, evaluate, callee_of, method_of, for_return, finish, leave_scope, run, Work, Pending, Passed, returns_list, Activation, State}
+use Rattle.tree_core.specs.Tree.{Block, Returns, Stats, EndStats, Repeat, Exp, Nil, True, False, Int, Str, Vararg, Function, Var, Index, Call, Method, Unary, Binary, And, Or, Paren, Table, Exps, EndExps, MoreExps, MoreStats}
+use Rattle.tree_activation.specs.Work.{complete, collect, evaluate, callee_of, method_of, for_return, finish, leave_scope, run, repeating, Work, Pending, Passed, returns_list, Activation, State}
 use Rattle.tree_activation.specs.Work as tree
 use Rattle.tree_activation.specs.Activation.{step}
-use Rattle.tree_activation.specs.Statements.{begins_return}
+use Rattle.tree_activation.specs.Statements.{repeat_point, begins_return}
 use Rattle.code_core.specs.declared.opcode.Opcode.TheVariants.{OpSelf, TailCall, Return}
 use Rattle.code_core.specs.Instruction.{abc}
 use Rattle.code_core.specs.Check.{at}
@@ -16,6 +16,7 @@ use Rattle.code_core.proofs.FieldLemmas.{opcode_of-abc, a_of-abc, b_of-abc}
 use Rattle.machine_core.specs.InstructionRows as rows
 use Rattle.machine_core.specs.InstructionRows.{read_values, counted}
 use Rattle.machine_core.specs.Talk.{talk, talk_step, before}
+use Rattle.machine_join.proofs.Lists.{append_nil}
 use Rattle.code_of.specs.Coded.{Coded, with_abc}
 use Rattle.code_of.specs.Expressions.{made_by, count, list_field, exp_code, exps_code}
 use Rattle.code_of.specs.Constants.{loads}
@@ -23,8 +24,8 @@ use Rattle.code_core.specs.declared.proto.Const.TheVariants.{Str as StrConst}
 use Rattle.code_of.specs.Jumps.{Reach}
 use Rattle.code_of.specs.Levels.{level_after, levels_after, closing_after, closings_after, made_in_stats}
 use Rattle.code_of.specs.Parts.{values_last, return_code}
-use Rattle.code_of.specs.Sizes.{stats_size, block_size}
-use Rattle.code_of.specs.Statements.{stats_code}
+use Rattle.code_of.specs.Sizes.{stat_size, stats_size, block_size, open_size}
+use Rattle.code_of.specs.Statements.{in_loop, stats_code, open_code}
 use Rattle.exp_laws.proofs.Registers.{Rel}
 use Rattle.exp_laws.specs.Setting.{Setting}
 use Rattle.exp_laws.proofs.Talking.{Agree, go_left, of_tree, of_code}
@@ -36,9 +37,9 @@ use Rattle.exp_laws.proofs.LastCalls.{call_last_same, method_last_same}
 use Rattle.stat_laws.proofs.Standing.{numbers, GoesOn}
 use Rattle.stat_laws.specs.Scoped.{ListIsPlaced, LastIsPlaced, ReturnIsPlaced}
 use Rattle.stat_laws.proofs.Sizes.{stats_sized}
-use Rattle.stat_laws.proofs.Labels.{closed_after}
-use Rattle.stat_laws.proofs.Blocks.{has_some, no_some, closeds_after, known_after, added_none, StatsLaw}
-use Rattle.stat_laws.proofs.Forms.{BlockLaw, below_level}
+use Rattle.stat_laws.proofs.Labels.{closed_after, Jumps}
+use Rattle.stat_laws.proofs.Blocks.{has_some, no_some, closeds_after, known_after, added_none, StatLaw, StatsLaw}
+use Rattle.stat_laws.proofs.Forms.{BlockLaw, below_level, loop_jumps}
 use Rattle.exp_laws.proofs.Returns.{return_list_same}
 
 pub no_numbers : (ps : List Pending) → numbers ps ≡ [] → ps ≡ []
@@ -158,7 +159,7 @@ module _ (S : Setting) where
   module _ (back : ℕ) where
     -- the values of a list
     list_returns : (ps : List Pending) (es : Exps) (n t j line pc opened : ℕ) (env regs : List Value) (c : Captured) (k : List Work) → n ≤ S.bound → HasAt S pc (values_last S.code.own.constants es t j line back) → ArePlaced S es t j
-        → t + room_of_list S.code.own.constants 0 es None ≤ S.code.own.stack → count es + 1 < 2 ^ 8 → pc + length (values_last S.code.own.constants es t j line back) ≤ length S.code.own.code → length env ≡ t → Rel S.code.own.stack ps env c regs
+        → t + room_of_list S.code.own.constants 0 es None ≤ S.code.own.stack → count es + 1 < 2 ^ 8 → pc + length (values_last S.code.own.constants es t j line back) ≤ length S.code.own.code → length env ≡ t → Rel S.hidden S.code.own.stack ps env c regs
         → Agree S n (tree.at (collect (for_return line) [] es) (of_tree S ps env c) k) (before (of_code S ps pc regs opened) c)
     list_returns ps es n t j line pc opened env regs c k fewer has placed room few inside size rel =
         let sum = length-append (exps_code S.code.own.constants es None t j line) (with_abc Return t (list_field 0 es) back line ∷ []) in
@@ -166,7 +167,7 @@ module _ (S : Setting) where
 
     -- `return`, where no variable to be closed is in scope
     return_goes : (es : Exps) (n t j line pc opened : ℕ) (env regs : List Value) (c : Captured) (k : List Work) (s : tree.State) → step s ≡ begins_return line es (of_tree S [] env c) k → n ≤ S.bound
-        → HasAt S pc (return_code S.code.own.constants false es t j line back) → LastIsPlaced S es t j → pc + length (return_code S.code.own.constants false es t j line back) ≤ length S.code.own.code → length env ≡ t → Rel S.code.own.stack [] env c regs
+        → HasAt S pc (return_code S.code.own.constants false es t j line back) → LastIsPlaced S es t j → pc + length (return_code S.code.own.constants false es t j line back) ≤ length S.code.own.code → length env ≡ t → Rel S.hidden S.code.own.stack [] env c regs
         → Agree S n s (before (of_code S [] pc regs opened) c)
     return_goes (MoreExps (Call l f es) EndExps) n t j line pc opened env regs c k s st fewer has h inside size rel =
         let first_code = exp_code S.code.own.constants f t j 2 in
@@ -292,7 +293,7 @@ module _ (S : Setting) where
         state : List Pending → tree.State
         state qs = tree.at (run (record { rest = EndStats; ending = returns_list line es; level = outer; labels = labels })) (of_tree S qs env c) k
 
-        listed : (qs : List Pending) → has_some (numbers qs) ≡ true → Rel S.code.own.stack qs env c regs → HasAt S (pc + size) (values_last S.code.own.constants es level (j + made_in_stats ss) line back) → ListIsPlaced S es level (j + made_in_stats ss)
+        listed : (qs : List Pending) → has_some (numbers qs) ≡ true → Rel S.hidden S.code.own.stack qs env c regs → HasAt S (pc + size) (values_last S.code.own.constants es level (j + made_in_stats ss) line back) → ListIsPlaced S es level (j + made_in_stats ss)
             → pc + (size + length (values_last S.code.own.constants es level (j + made_in_stats ss) line back)) ≤ length S.code.own.code → Agree S m (state qs) (before (of_code S qs (pc + size) regs opened) c)
         listed [] some rel at_values ok end = absurd (cc)
         listed (q ∷ qs) some rel at_values ok end =
@@ -306,11 +307,11 @@ module _ (S : Setting) where
             let none = no_numbers ps (st.numbered ∙ no_some (closeds_after ss t closed) some) in
             subst (λ qs. Agree S m (state qs) (before (of_code S qs (pc + size) regs opened) c)) (sym none)
             (return_goes es m level (j + made_in_stats ss) line (pc + size) opened env regs c k _ refl (omega (arith, fewer, le)) at_values ok (omega (arith, end)) st.size
-            (subst (λ qs. Rel S.code.own.stack qs env c regs) none st.rel))
+            (subst (λ qs. Rel S.hidden S.code.own.stack qs env c regs) none st.rel))
 
     -- a block that ends by `return`
     pub returns_goes : (ss : Stats) (es : Exps) (tokens line : ℕ) → ((outer : ℕ) (closed : List ℕ) (k : List Work) → StatsLaw S back (returns_list line es) false outer closed k (λ ss. refl) ss) → BlockLaw S back (Returns ss es tokens line)
-    returns_goes ss es tokens line law n closing closed outer t j pc named loops reach k fewer has placed inside under outer_low plain jumps done =
+    returns_goes ss es tokens line law n closing closed outer t j pc named loops reach k fewer has placed titles inside under clear outer_low plain jumps done =
         (law outer closed k n pc (pc + block_size S.code.own.constants back (Returns ss es tokens line) closing outer t j) closing closed t j pc [] [] [] named loops reach (record {
           fewer = fewer;
           has = has_front S pc (stats_code S.code.own.constants back ss false closing outer t j pc [] reach) (return_code S.code.own.constants (closings_after ss closing) es (levels_after ss t) (j + made_in_stats ss) line back) has;
@@ -322,8 +323,61 @@ module _ (S : Setting) where
           passed = tt;
           added = added_none outer closed;
           base_under = under;
+          clear = clear;
+          titles = titles;
           under = below_level S back closed outer t under outer_low;
           outer_low = outer_low;
           known = plain;
           ends = record { full = return_ends ss es line n closing closed outer t j pc reach k fewer has placed.1 (omega (arith, inside)) plain; low = λ is. absurd (cc) };
         })).0
+
+    -- a `repeat` whose block ends by `return`: its test is never reached
+    pub repeat_returns_goes : (line : ℕ) (ss : Stats) (es : Exps) (tokens last : ℕ) (e : Exp) → ((outer : ℕ) (closed : List ℕ) (k : List Work) → StatsLaw S back (returns_list last es) false outer closed k (λ ss. refl) ss)
+        → StatLaw S back (Repeat line (Returns ss es tokens last) e)
+    repeat_returns_goes line ss es tokens last e law n closing closed t j pc named loops reach k fewer has placed titles inside under clear plain jumps done ps env regs c opened s st standing =
+        go_left S n s (tree.at (run (repeat_point (Returns ss es tokens last) e (length env))) (of_tree S ps env c) (repeating line e (Returns ss es tokens last) (length env) ∷ k)) _ st
+        (subst (λ u. Agree S n (tree.at (run (repeat_point (Returns ss es tokens last) e u)) (of_tree S ps env c) (repeating line e (Returns ss es tokens last) u ∷ k)) (before (of_code S ps pc regs opened) c)) (sym standing.size)
+        ((law t closed (w ∷ k) n pc (pc + size) closing closed t j pc [] [] [] named true around (record {
+          fewer = fewer;
+          has = has_front S pc code (return_code S.code.own.constants (closings_after ss closing) es (levels_after ss t) (j + made_in_stats ss) last back) at_open;
+          placed = placed.0.0;
+          from = omega arith;
+          to = omega arith;
+          inside = omega (arith, inside);
+          jumps = in_block;
+          passed = tt;
+          added = added_none t closed;
+          base_under = under;
+          clear = clear;
+          titles = titles;
+          under = under;
+          outer_low = omega arith;
+          known = plain;
+          ends = record { full = return_ends ss es last n closing closed t t j pc around (w ∷ k) fewer at_open placed.0.1 (omega (arith, inside)) plain; low = λ is. absurd (cc) };
+        })).0 n (omega arith) ps env regs c opened standing))
+      where
+        block : Block
+        block = Returns ss es tokens last
+
+        w : Work
+        w = repeating line e (Returns ss es tokens last) t
+
+        size : ℕ
+        size = open_size S.code.own.constants back (Returns ss es tokens last) closing t j
+
+        exit : ℕ
+        exit = pc + stat_size S.code.own.constants back (Repeat line (Returns ss es tokens last) e) closing t j
+
+        around : Reach
+        around = in_loop reach (pc + stat_size S.code.own.constants back (Repeat line (Returns ss es tokens last) e) closing t j) t
+
+        code : List Coded
+        code = stats_code S.code.own.constants back ss false closing t t j pc [] around
+
+        at_open : HasAt S pc (open_code S.code.own.constants back (Returns ss es tokens last) closing t j pc around)
+        at_open = has_front S pc (open_code S.code.own.constants back (Returns ss es tokens last) closing t j pc around) _ has
+
+        in_block : Jumps S back n pc (pc + size) t closed named true around (w ∷ k)
+        in_block =
+            subst (λ l. Jumps S back n pc (pc + size) t l named true around (w ∷ k)) (append_nil closed)
+            (loop_jumps S back w n pc exit pc (pc + size) t t exit closed [] named loops reach k (λ name line a. refl) (λ line a. refl) (omega arith) (omega arith) (omega arith) inside (omega arith) tt under (jumps refl) done)

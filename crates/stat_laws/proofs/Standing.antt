@@ -107,7 +107,7 @@ module _ (S : Setting) where
   pub record Standing (t : ℕ) (closed : List ℕ) (ps : List Pending) (env : List Value) (c : Captured) (regs : List Value) : Type 0 where
     pub numbered : numbers ps ≡ closed
     pub size : length env ≡ t
-    pub rel : Rel S.code.own.stack ps env c regs
+    pub rel : Rel S.hidden S.code.own.stack ps env c regs
 
   -- what the tree does next is what the code does from a place on, through n asks or fewer
   abbrev pub GoesOn : (n t : ℕ) (closed : List ℕ) (goes : Control) (k : List Work) (pc : ℕ) → Type 0
@@ -150,12 +150,12 @@ module _ (S : Setting) where
 
     -- the tree pays too, and both go on
     pub back_goes : (n : ℕ) (s : tree.State) (goes : Control) (env regs : List Value) (c : Captured) (opened : ℕ) (k : List Work)
-        → step s ≡ asks_quickly pays line (of_tree S ps env c) k (λ _. goes) → Rel S.code.own.stack ps env c regs
-        → ((env' regs' : List Value) (c' : Captured) → length env' ≡ length env → Rel S.code.own.stack ps env' c' regs' → Agree S n (tree.at goes (of_tree S ps env' c') k) (before (of_code S ps target regs' opened) c'))
+        → step s ≡ asks_quickly pays line (of_tree S ps env c) k (λ _. goes) → Rel S.hidden S.code.own.stack ps env c regs
+        → ((env' regs' : List Value) (c' : Captured) → length env' ≡ length env → Rel S.hidden S.code.own.stack ps env' c' regs' → Agree S n (tree.at goes (of_tree S ps env' c') k) (before (of_code S ps target regs' opened) c'))
         → Agree S (suc n) s (before (of_code S ps pc regs opened) c)
     back_goes n s goes env regs c opened k st rel after =
-        both_ask S n s _ pays pays line _ _ _ _ _ st (back_step regs c opened) tt refl has.1.0 (share_same S.code.own.stack ps env c regs rel)
-        (λ x fits. let af = after_share S.code.own.stack ps env regs x.shared c 0 rel in
+        both_ask S n s _ pays pays line _ _ _ _ _ st (back_step regs c opened) tt refl has.1.0 (share_same S.hidden S.code.own.stack ps env c regs rel)
+        (λ x fits. let af = after_share S.hidden S.code.own.stack ps env regs x.shared c 0 rel in
         go_right S n _ _ (before (of_code S ps target (brought c.held x.shared regs) opened) (told c)) (landed ([] ++ values_in x.reply) (brought c.held x.shared regs) (told c) opened)
         (after (brought c.held x.shared env) (brought c.held x.shared regs) (told c) af.size af.rel))
 
@@ -173,7 +173,7 @@ module _ (S : Setting) where
 
   module _ (n : ℕ) (x : Landing) (closed : List ℕ) (pc line : ℕ) (ps : List Pending) (env regs : List Value) (c : Captured) (opened : ℕ) (s : tree.State) (k : List Work)
       (has : HasAt S pc (jump_code x pc line)) (end : pc + 2 < length S.code.own.code) (inside : x.place < length S.code.own.code) (more : List ℕ) (numbered : numbers ps ≡ closed ++ more) (from : AllFrom x.level more) (under : AllBelow closed x.level)
-      (low : x.level ≤ length env) (rel : Rel S.code.own.stack ps env c regs) where
+      (low : x.level ≤ length env) (rel : Rel S.hidden S.code.own.stack ps env c regs) where
     parted : Parted x.level closed ps
     parted = part x.level closed more ps numbered from
 
@@ -202,7 +202,7 @@ module _ (S : Setting) where
         (λ env1 regs1 c1 opened1 size1 rel1. again n after h.1.1 env1 regs1 c1 opened1 size1 rel1) ps parted.grown env regs c opened low rel)
       where
         again : (n : ℕ) → ((m : ℕ) → m < n → GoesOn m x.level closed goes k x.place) → HasAt S (pc + 1) (jump_back (pc + 2 - x.place) line ∷ [])
-            → (env1 regs1 : List Value) (c1 : Captured) (opened1 : ℕ) → length env1 ≡ x.level → Rel S.code.own.stack parted.base env1 c1 regs1
+            → (env1 regs1 : List Value) (c1 : Captured) (opened1 : ℕ) → length env1 ≡ x.level → Rel S.hidden S.code.own.stack parted.base env1 c1 regs1
             → Agree S n (tree.at (pay line goes) (of_tree S parted.base env1 c1) k) (before (of_code S parted.base (pc + 1) regs1 opened1) c1)
         again zero after h env1 regs1 c1 opened1 size1 rel1 = tt
         again (suc m) after h env1 regs1 c1 opened1 size1 rel1 =

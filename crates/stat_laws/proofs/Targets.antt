@@ -22,7 +22,7 @@ use Rattle.code_of.specs.Coded.{Coded, with_abc}
 use Rattle.code_of.specs.Constants.{loads}
 use Rattle.code_of.specs.Expressions.{made_by, count, exp_code}
 use Rattle.code_of.specs.Parts.{name_target, target_code, targets_code, name_store, store_code}
-use Rattle.exp_laws.proofs.Registers.{Rel, After, after_none, after_then, after_put}
+use Rattle.exp_laws.proofs.Registers.{Among, none_among, Rel, After, after_none, after_then, after_put}
 use Rattle.exp_laws.specs.Setting.{Setting}
 use Rattle.exp_laws.proofs.Talking.{Agree, go_left, go_right, of_tree, of_code}
 use Rattle.exp_laws.proofs.Placing.{HasAt, has_front, has_back, here_abc}
@@ -32,7 +32,7 @@ use Rattle.exp_laws.proofs.Asking.{one_alike}
 use Rattle.exp_laws.proofs.NameForms.{load_right}
 use Rattle.exp_laws.proofs.Exps.{exp_same}
 use Rattle.exp_laws.proofs.Steps.{move_step, to_register_step, upvalue_step}
-use Rattle.stat_laws.specs.Scoped.{IsTarget, TargetsArePlaced}
+use Rattle.stat_laws.specs.Scoped.{MayAssign, IsTarget, TargetsArePlaced}
 
 -- the value in register v goes to a target, whose table and key stand in the registers from r on
 abbrev pub store_to : Target → (line r v : ℕ) → List Coded
@@ -40,22 +40,22 @@ store_to (to_local n) line r v = with_abc Move n v 0 line ∷ []
 store_to (to_upvalue l u) line r v = with_abc SetUpval v u 0 l ∷ []
 store_to (to_field l o key) line r v = with_abc SetTable r (r + 1) v l ∷ []
 
-abbrev pub Stands : Target → (r t : ℕ) → List Value → Type 0
-Stands (to_local n) r t regs = n < t
-Stands (to_upvalue l u) r t regs = u < 2 ^ 8
-Stands (to_field l o key) r t regs = (nth regs r ≡ o) × (nth regs (r + 1) ≡ key)
+abbrev pub Stands : (hidden : List ℕ) → Target → (r t : ℕ) → List Value → Type 0
+Stands hidden (to_local n) r t regs = (n < t) × (Among n hidden → ⊥)
+Stands hidden (to_upvalue l u) r t regs = u < 2 ^ 8
+Stands hidden (to_field l o key) r t regs = (nth regs r ≡ o) × (nth regs (r + 1) ≡ key)
 
-pub stands_still : (x : Target) (r t : ℕ) (regs regs' : List Value) → nth regs' r ≡ nth regs r → nth regs' (r + 1) ≡ nth regs (r + 1) → Stands x r t regs → Stands x r t regs'
-stands_still (to_local n) r t regs regs' a b h = h
-stands_still (to_upvalue l u) r t regs regs' a b h = h
-stands_still (to_field l o key) r t regs regs' a b h = (a ∙ h.0, b ∙ h.1)
+pub stands_still : (hidden : List ℕ) (x : Target) (r t : ℕ) (regs regs' : List Value) → nth regs' r ≡ nth regs r → nth regs' (r + 1) ≡ nth regs (r + 1) → Stands hidden x r t regs → Stands hidden x r t regs'
+stands_still hidden (to_local n) r t regs regs' a b h = h
+stands_still hidden (to_upvalue l u) r t regs regs' a b h = h
+stands_still hidden (to_field l o key) r t regs regs' a b h = (a ∙ h.0, b ∙ h.1)
 
 module _ (S : Setting) where
   -- what the tree knows of a target is what the code will store to
   pub record Aimed (e : Exp) (r t : ℕ) (x : Target) (regs : List Value) : Type 0 where
     pub line : ℕ
     pub stores : (v : ℕ) → store_code S.code.own.constants e r v ≡ store_to x line r v
-    pub stands : Stands x r t regs
+    pub stands : Stands S.hidden x r t regs
 
   abbrev pub AllAimed : Exps → (r t : ℕ) → List Target → List Value → Type 0
   AllAimed EndExps r t [] regs = Unit {0}
@@ -64,7 +64,7 @@ module _ (S : Setting) where
   AllAimed (MoreExps e es) r t [] regs = ⊥
 
   still : (e : Exp) (r t : ℕ) (x : Target) (regs regs' : List Value) → nth regs' r ≡ nth regs r → nth regs' (r + 1) ≡ nth regs (r + 1) → Aimed e r t x regs → Aimed e r t x regs'
-  still e r t x regs regs' a b h = record { line = h.line; stores = h.stores; stands = stands_still x r t regs regs' a b h.stands }
+  still e r t x regs regs' a b h = record { line = h.line; stores = h.stores; stands = stands_still S.hidden x r t regs regs' a b h.stands }
 
   pub all_still : (ts : Exps) (r t v : ℕ) (xs : List Target) (regs regs' : List Value) → t ≤ r → r + 2 * count ts ≤ v → ((q : ℕ) → t ≤ q → q < v → nth regs' q ≡ nth regs q) → AllAimed ts r t xs regs → AllAimed ts r t xs regs'
   all_still EndExps r t v [] regs regs' le room same h = tt
@@ -77,13 +77,13 @@ module _ (S : Setting) (ps : List Pending) where
   -- the code at pc goes on as the tree does with one more target
   abbrev Reaches : (n : ℕ) (e : Exp) (ts es : Exps) (aimed : List Target) (r t : ℕ) (env regs : List Value) (pc : ℕ) (k : List Work) → Type 0
   Reaches n e ts es aimed r t env regs pc k =
-      (x : Target) (env1 regs1 : List Value) (c1 : Captured) (opened1 : ℕ) → After S.code.own.stack ps env regs r env1 regs1 c1 → Aimed S e r t x regs1
+      (x : Target) (env1 regs1 : List Value) (c1 : Captured) (opened1 : ℕ) → After S.hidden S.code.own.stack ps env regs r env1 regs1 c1 → Aimed S e r t x regs1
       → Agree S n (tree.at (aim (aimed ++ x ∷ []) ts es) (of_tree S ps env1 c1) k) (before (of_code S ps pc regs1 opened1) c1)
 
   -- the table of a global name is in its register, and the key follows
   key_follows : (o : Value) (text : List ℕ) (l r t n pc opened : ℕ) (e : Exp) (ts es : Exps) (aimed : List Target) (env regs env1 regs1 : List Value) (c1 : Captured) (k : List Work)
       → ((v : ℕ) → store_code S.code.own.constants e r v ≡ with_abc SetTable r (r + 1) v l ∷ []) → Found S.code.own.constants (StrConst text) → HasAt S (pc + 1) (loads S.code.own.constants (StrConst text) (r + 1) l)
-      → pc + suc (length (loads S.code.own.constants (StrConst text) (r + 1) l)) < length S.code.own.code → length env ≡ t → t ≤ r → r + 1 < S.code.own.stack → After S.code.own.stack ps env regs r env1 regs1 c1
+      → pc + suc (length (loads S.code.own.constants (StrConst text) (r + 1) l)) < length S.code.own.code → length env ≡ t → t ≤ r → r + 1 < S.code.own.stack → After S.hidden S.code.own.stack ps env regs r env1 regs1 c1
       → Reaches n e ts es aimed r t env regs (pc + suc (length (loads S.code.own.constants (StrConst text) (r + 1) l))) k
       → Agree S n (tree.at (aim (aimed ++ to_field l o (known (string text)) ∷ []) ts es) (of_tree S ps env1 c1) k) (before (of_code S ps (pc + 1) (write r o regs1) opened) c1)
   key_follows o text l r t n pc opened e ts es aimed env regs env1 regs1 c1 k stores found has inside size le room af goes =
@@ -91,37 +91,37 @@ module _ (S : Setting) (ps : List Pending) where
       let key_code = loads S.code.own.constants (StrConst text) (r + 1) l in
       let regs2 = write r o regs1 in
       let regs3 = write (r + 1) key regs2 in
-      let one = after_put S.code.own.stack ps env1 regs1 c1 r o (omega (arith, size, le, af.size)) af.rel in
-      let two = after_put S.code.own.stack ps env1 regs2 c1 (r + 1) key (omega (arith, size, le, af.size)) one.rel in
+      let one = after_put S.hidden S.code.own.stack ps env1 regs1 c1 r o (omega (arith, size, le, af.size)) af.rel in
+      let two = after_put S.hidden S.code.own.stack ps env1 regs2 c1 (r + 1) key (omega (arith, size, le, af.size)) one.rel in
       load_right S ps (StrConst text) (r + 1) l n (pc + 1) opened _ regs2 c1 found has (omega (arith, inside)) (omega (arith, room, S.small)) (omega (arith, room, one.rel.room))
       (at_place S ps n (pc + 1 + length key_code) (pc + suc (length key_code)) opened _ regs3 c1 (omega arith)
       (goes (to_field l o key) env1 regs3 c1 opened
-      (after_then S.code.own.stack ps env regs env1 regs1 env1 regs3 c1 c1 r r (omega arith) af (after_then S.code.own.stack ps env1 regs1 env1 regs2 env1 regs3 c1 c1 r (r + 1) (omega arith) one two))
+      (after_then S.hidden S.code.own.stack ps env regs env1 regs1 env1 regs3 c1 c1 r r (omega arith) af (after_then S.hidden S.code.own.stack ps env1 regs1 env1 regs2 env1 regs3 c1 c1 r (r + 1) (omega arith) one two))
       (record { line = l; stores = stores; stands = (nth_write_other (r + 1) key regs2 r (λ d. absurd (omega (arith, d))) ∙ nth_write_same r o regs1, nth_write_same (r + 1) key regs2) })))
 
   name_aims : (place : Place) (text : List ℕ) (l r t n pc opened : ℕ) (e : Exp) (ts es : Exps) (aimed : List Target) (s : tree.State) (env regs : List Value) (c : Captured) (k : List Work)
       → step s ≡ aims_at_name l text place aimed ts es (of_tree S ps env c) k → ((v : ℕ) → store_code S.code.own.constants e r v ≡ name_store S.code.own.constants place r v l)
-      → HasAt S pc (name_target S.code.own.constants place text r l) → NameIsPlaced S place text t → pc + length (name_target S.code.own.constants place text r l) < length S.code.own.code
-      → length env ≡ t → t ≤ r → r + 1 < S.code.own.stack → Rel S.code.own.stack ps env c regs → Reaches n e ts es aimed r t env regs (pc + length (name_target S.code.own.constants place text r l)) k
+      → HasAt S pc (name_target S.code.own.constants place text r l) → NameIsPlaced S place text t → MayAssign S.hidden place → pc + length (name_target S.code.own.constants place text r l) < length S.code.own.code
+      → length env ≡ t → t ≤ r → r + 1 < S.code.own.stack → Rel S.hidden S.code.own.stack ps env c regs → Reaches n e ts es aimed r t env regs (pc + length (name_target S.code.own.constants place text r l)) k
       → Agree S n s (before (of_code S ps pc regs opened) c)
-  name_aims Unset text l r t n pc opened e ts es aimed s env regs c k st stores has ok inside size le room rel goes = absurd ok
-  name_aims (LocalPlace m) text l r t n pc opened e ts es aimed s env regs c k st stores has ok inside size le room rel goes =
+  name_aims Unset text l r t n pc opened e ts es aimed s env regs c k st stores has ok free inside size le room rel goes = absurd ok
+  name_aims (LocalPlace m) text l r t n pc opened e ts es aimed s env regs c k st stores has ok free inside size le room rel goes =
       let same : pc ≡ pc + 0 = omega arith in
       go_left S n s (tree.at (aim (aimed ++ to_local m ∷ []) ts es) (of_tree S ps env c) k) _ st
-      (at_place S ps n pc (pc + 0) opened _ regs c same (goes (to_local m) env regs c opened (after_none S.code.own.stack ps env regs c r rel) (record { line = l; stores = stores; stands = ok })))
-  name_aims (Upvalue u) text l r t n pc opened e ts es aimed s env regs c k st stores has ok inside size le room rel goes =
+      (at_place S ps n pc (pc + 0) opened _ regs c same (goes (to_local m) env regs c opened (after_none S.hidden S.code.own.stack ps env regs c r rel) (record { line = l; stores = stores; stands = (ok, none_among m S.hidden free) })))
+  name_aims (Upvalue u) text l r t n pc opened e ts es aimed s env regs c k st stores has ok free inside size le room rel goes =
       let same : pc ≡ pc + 0 = omega arith in
       go_left S n s (tree.at (aim (aimed ++ to_upvalue l u ∷ []) ts es) (of_tree S ps env c) k) _ st
-      (at_place S ps n pc (pc + 0) opened _ regs c same (goes (to_upvalue l u) env regs c opened (after_none S.code.own.stack ps env regs c r rel) (record { line = l; stores = stores; stands = ok })))
-  name_aims (GlobalIn m) text l r t n pc opened e ts es aimed s env regs c k st stores has ok inside size le room rel goes =
+      (at_place S ps n pc (pc + 0) opened _ regs c same (goes (to_upvalue l u) env regs c opened (after_none S.hidden S.code.own.stack ps env regs c r rel) (record { line = l; stores = stores; stands = ok })))
+  name_aims (GlobalIn m) text l r t n pc opened e ts es aimed s env regs c k st stores has ok free inside size le room rel goes =
       let there = next_there S (pc + 1) (omega (arith, inside)) in
       let below = ok.0 in
       go_left S n s (tree.at (aim (aimed ++ to_field l (nth env m) (known (string text)) ∷ []) ts es) (of_tree S ps env c) k) _ st
       (go_right S n _ _ (before (of_code S ps (pc + 1) (write r (nth env m) regs) opened) c)
       (move_step S.code (of_code S ps pc regs opened) c there.0 there.1 r m has.0 (omega (arith, room, S.small)) (omega (arith, below, le, room, S.small)) (omega (arith, below, le, room, rel.room)) (omega (arith, room, rel.room))
       ∙ ap (λ v. goes_on (before (of_code S ps (pc + 1) (write r v regs) opened) c)) (sym (rel.agree m (omega (arith, below, size)))))
-      (key_follows (nth env m) text l r t n pc opened e ts es aimed env regs env regs c k stores ok.1 has.1.1 inside size le room (after_none S.code.own.stack ps env regs c r rel) goes))
-  name_aims (GlobalOf u) text l r t n pc opened e ts es aimed s env regs c k st stores has ok inside size le room rel goes =
+      (key_follows (nth env m) text l r t n pc opened e ts es aimed env regs env regs c k stores ok.1 has.1.1 inside size le room (after_none S.hidden S.code.own.stack ps env regs c r rel) goes))
+  name_aims (GlobalOf u) text l r t n pc opened e ts es aimed s env regs c k st stores has ok free inside size le room rel goes =
       one_alike S ps n s _ (reads_upvalue u) (reads_upvalue u) l pc opened r env regs c k (λ vs. aim (aimed ++ to_field l (first vs) (known (string text)) ∷ []) ts es) (to_register r (read 0)) [] st
       (upvalue_step S.code r u (of_code S ps pc regs opened) c has.0 (omega (arith, room, S.small)) ok.0) (λ m lt. refl) refl (λ reply fits. fits) rel
       (here_abc S GetUpval r u 0 false l pc (loads S.code.own.constants (StrConst text) (r + 1) l) has)
@@ -133,8 +133,8 @@ module _ (S : Setting) (ps : List Pending) where
   abbrev AimLaw : Exp → Type 0
   AimLaw e =
       (r t n j pc opened : ℕ) (ts es : Exps) (aimed : List Target) (env regs : List Value) (c : Captured) (k : List Work)
-      → n ≤ S.bound → HasAt S pc (target_code S.code.own.constants e r j) → IsTarget e → IsPlaced S e t j → pc + length (target_code S.code.own.constants e r j) < length S.code.own.code
-      → length env ≡ t → t ≤ r → r + 1 < S.code.own.stack → r + room_of S.code.own.constants e 2 ≤ S.code.own.stack → Rel S.code.own.stack ps env c regs
+      → n ≤ S.bound → HasAt S pc (target_code S.code.own.constants e r j) → IsTarget S.hidden e → IsPlaced S e t j → pc + length (target_code S.code.own.constants e r j) < length S.code.own.code
+      → length env ≡ t → t ≤ r → r + 1 < S.code.own.stack → r + room_of S.code.own.constants e 2 ≤ S.code.own.stack → Rel S.hidden S.code.own.stack ps env c regs
       → Reaches n e ts es aimed r t env regs (pc + length (target_code S.code.own.constants e r j)) k
       → Agree S n (tree.at (aim aimed (MoreExps e ts) es) (of_tree S ps env c) k) (before (of_code S ps pc regs opened) c)
 
@@ -151,14 +151,14 @@ module _ (S : Setting) (ps : List Pending) where
       (subst (λ u. IsPlaced S key u (j + made_by object)) (sym (af.size ∙ size)) ok.1) (omega (arith, inside, sum)) (omega (arith, size, le, af.size)) (omega (arith, room)) af.rel
       (λ ws env2 regs2 c2 o2 af2 eq2 one2. go_left S n _ (tree.at (aim (aimed ++ to_field l (first vs) (first ws) ∷ []) ts es) (of_tree S ps env2 c2) k) _ refl
       (at_place S ps n (pc + length first_code + length key_code) (pc + length (first_code ++ key_code)) o2 _ regs2 c2 (omega (arith, sum))
-      (goes (to_field l (first vs) (first ws)) env2 regs2 c2 o2 (after_then S.code.own.stack ps env regs env1 regs1 env2 regs2 c1 c2 r (r + 1) (omega arith) af af2)
+      (goes (to_field l (first vs) (first ws)) env2 regs2 c2 o2 (after_then S.hidden S.code.own.stack ps env regs env1 regs1 env2 regs2 c1 c2 r (r + 1) (omega arith) af af2)
       (record { line = l; stores = λ v. refl; stands = (af2.keeps r (omega (arith, size, le, af.size)) (omega arith) ∙ eq, eq2) })))))))
 
   variable_aims : (l : ℕ) (name : Name) → AimLaw (Var l name)
   variable_aims l name r t n j pc opened ts es aimed env regs c k fewer has is ok inside size le two room rel goes =
-      name_aims name.place name.text l r t n pc opened (Var l name) ts es aimed _ env regs c k refl (λ v. refl) has ok inside size le two rel goes
+      name_aims name.place name.text l r t n pc opened (Var l name) ts es aimed _ env regs c k refl (λ v. refl) has ok is inside size le two rel goes
 
-  no_target : (e : Exp) → (IsTarget e → ⊥) → AimLaw e
+  no_target : (e : Exp) → (IsTarget S.hidden e → ⊥) → AimLaw e
   no_target e none r t n j pc opened ts es aimed env regs c k fewer has is = absurd (none is)
 
   target_aims : (e : Exp) → AimLaw e
@@ -183,8 +183,8 @@ module _ (S : Setting) (ps : List Pending) where
   -- all targets, and the values are next
   pub aim_goes : (ts : Exps) (r t n j pc opened : ℕ) (es : Exps) (aimed : List Target) (env regs : List Value) (c : Captured) (k : List Work)
       → n ≤ S.bound → HasAt S pc (targets_code S.code.own.constants ts r j) → TargetsArePlaced S ts r t j → pc + length (targets_code S.code.own.constants ts r j) < length S.code.own.code
-      → length env ≡ t → t ≤ r → r + 2 * count ts ≤ S.code.own.stack → Rel S.code.own.stack ps env c regs
-      → ((xs : List Target) (env1 regs1 : List Value) (c1 : Captured) (opened1 : ℕ) → After S.code.own.stack ps env regs r env1 regs1 c1 → AllAimed S ts r t xs regs1
+      → length env ≡ t → t ≤ r → r + 2 * count ts ≤ S.code.own.stack → Rel S.hidden S.code.own.stack ps env c regs
+      → ((xs : List Target) (env1 regs1 : List Value) (c1 : Captured) (opened1 : ℕ) → After S.hidden S.code.own.stack ps env regs r env1 regs1 c1 → AllAimed S ts r t xs regs1
       → Agree S n (tree.at (collect (for_assignment (aimed ++ xs)) [] es) (of_tree S ps env1 c1) k) (before (of_code S ps (pc + length (targets_code S.code.own.constants ts r j)) regs1 opened1) c1))
       → Agree S n (tree.at (aim aimed ts es) (of_tree S ps env c) k) (before (of_code S ps pc regs opened) c)
   aim_goes EndExps r t n j pc opened es aimed env regs c k fewer has ok inside size le room rel goes =
@@ -192,7 +192,7 @@ module _ (S : Setting) (ps : List Pending) where
       go_left S n _ (tree.at (collect (for_assignment aimed) [] es) (of_tree S ps env c) k) _ refl
       (at_place S ps n pc (pc + 0) opened _ regs c same
       (subst (λ l. Agree S n (tree.at (collect (for_assignment l) [] es) (of_tree S ps env c) k) (before (of_code S ps (pc + 0) regs opened) c)) (append_nil aimed)
-      (goes [] env regs c opened (after_none S.code.own.stack ps env regs c r rel) tt)))
+      (goes [] env regs c opened (after_none S.hidden S.code.own.stack ps env regs c r rel) tt)))
   aim_goes (MoreExps e ts) r t n j pc opened es aimed env regs c k fewer has ok inside size le room rel goes =
       let head = target_code S.code.own.constants e r j in
       let tail = targets_code S.code.own.constants ts (r + 2) (j + made_by e) in
@@ -202,5 +202,5 @@ module _ (S : Setting) (ps : List Pending) where
       (af.size ∙ size) (omega arith) (omega (arith, room)) af.rel
       (λ xs env2 regs2 c2 o2 af2 all. at_place S ps n (pc + length head + length tail) (pc + length (head ++ tail)) o2 _ regs2 c2 (omega (arith, sum))
       (subst (λ l. Agree S n (tree.at (collect (for_assignment l) [] es) (of_tree S ps env2 c2) k) (before (of_code S ps (pc + length (head ++ tail)) regs2 o2) c2)) (sym (append_assoc aimed (x ∷ []) xs))
-      (goes (x ∷ xs) env2 regs2 c2 o2 (after_then S.code.own.stack ps env regs env1 regs1 env2 regs2 c1 c2 r (r + 2) (omega arith) af af2)
+      (goes (x ∷ xs) env2 regs2 c2 o2 (after_then S.hidden S.code.own.stack ps env regs env1 regs1 env2 regs2 c1 c2 r (r + 2) (omega arith) af af2)
       (still S e r t x regs1 regs2 (af2.keeps r (omega (arith, size, le, af.size)) (omega arith)) (af2.keeps (r + 1) (omega (arith, size, le, af.size)) (omega arith)) one, all)))))

@@ -29,7 +29,7 @@ use Rattle.code_of.specs.Parts.{return_code}
 use Rattle.code_of.specs.Sizes.{stats_size}
 use Rattle.code_of.specs.Statements.{stats_code, whole_code}
 use Rattle.code_of.specs.CodeOf.{back_field, opening, body_code, code_of}
-use Rattle.exp_laws.proofs.Registers.{Rel}
+use Rattle.exp_laws.proofs.Registers.{AllUnder, Rel}
 use Rattle.exp_laws.specs.Setting.{Setting, Alike}
 use Rattle.exp_laws.proofs.Talking.{Agree, go_left, go_right, of_tree, of_code}
 use Rattle.exp_laws.proofs.Placing.{HasAt, has_front, has_back}
@@ -46,6 +46,8 @@ use Rattle.exp_laws.proofs.Calls.{behind_fits}
 use Rattle.code_core.specs.Instruction.{abc}
 use Rattle.code_core.proofs.FieldLemmas.{opcode_of-abc, a_of-abc}
 use Rattle.stat_laws.proofs.Values.{length_fitted, nth_fitted}
+use Rattle.stat_laws.proofs.Naming.{BlockIsNamed}
+use Rattle.stat_laws.proofs.Scopes.{body_named}
 use Rattle.stat_laws.proofs.Statements.{stats_goes}
 use Rattle.stat_laws.proofs.Lines.{lines_back, has_all}
 use Rattle.stat_laws.specs.Fits.{is_known, setting, BlockFits, BodyFits, InBlock}
@@ -93,7 +95,7 @@ module _ (S : Setting) (back : ℕ) where
 
   -- the function's end, without values
   end_goes : (n t line line' pc : ℕ) (labels : List Passed) (e : line ≡ line') → HasAt S pc (with_abc Return t 1 back line ∷ []) → t < 2 ^ 8
-      → (m : ℕ) → m ≤ n → (ps : List Pending) (env regs : List Value) (c : Captured) (opened : ℕ) → t + 0 ≤ length regs → Rel S.code.own.stack ps env c regs
+      → (m : ℕ) → m ≤ n → (ps : List Pending) (env regs : List Value) (c : Captured) (opened : ℕ) → t + 0 ≤ length regs → Rel S.hidden S.code.own.stack ps env c regs
       → Agree S m (tree.at (run (record { rest = EndStats; ending = falls_off line; level = 0; labels = labels })) (of_tree S ps env c) (end_of_body line' ∷ [])) (before (of_code S ps pc regs opened) c)
   end_goes n t line line' pc labels e has small m le ps env regs c opened width rel =
       subst (λ l. Agree S m (tree.at (run (record { rest = EndStats; ending = falls_off line; level = 0; labels = labels })) (of_tree S ps env c) (end_of_body l ∷ [])) (before (of_code S ps pc regs opened) c)) e
@@ -104,14 +106,14 @@ module _ (S : Setting) (back : ℕ) where
 
   abbrev Runs : Block → (n params pc : ℕ) → Type 0
   Runs inner n params pc =
-      (env regs : List Value) (opened : ℕ) → length env ≡ params → Rel S.code.own.stack [] env no_cells regs
+      (env regs : List Value) (opened : ℕ) → length env ≡ params → Rel S.hidden S.code.own.stack [] env no_cells regs
       → Agree S n (tree.at (run (point_of inner 0)) (of_tree S [] env no_cells) (end_of_body (line_of_end inner) ∷ [])) (before (of_code S [] pc regs opened) no_cells)
 
   -- a function's block, at its first instruction
   block_runs : (inner : Block) (n params pc : ℕ) → n ≤ S.bound → HasAt S pc (whole_code S.code.own.constants back inner params pc) → pc + length (whole_code S.code.own.constants back inner params pc) ≤ length S.code.own.code
-      → BlockFits S params inner → Runs inner n params pc
-  block_runs (Falls ss tokens line) n params pc fewer has inside fits env regs opened size rel =
-      (stats_goes S back ss (falls_off line) true 0 [] (end_of_body line ∷ []) (λ more. refl) n pc (pc + length body) false [] params 0 pc [] [] [] [] false start_reach (record {
+      → BlockFits S params inner → AllUnder S.hidden 0 → BlockIsNamed S.lines S.code back inner false 0 params 0 pc → Runs inner n params pc
+  block_runs (Falls ss tokens line) n params pc fewer has inside fits clear titles env regs opened size rel =
+      (stats_goes back S ss (falls_off line) true 0 [] (end_of_body line ∷ []) (λ more. refl) n pc (pc + length body) false [] params 0 pc [] [] [] [] false start_reach (record {
         fewer = fewer;
         has = has_front S pc body last has;
         placed = fits.0;
@@ -122,6 +124,8 @@ module _ (S : Setting) (back : ℕ) where
         passed = tt;
         added = added_none 0 [];
         base_under = tt;
+        clear = clear;
+        titles = titles;
         under = tt;
         outer_low = omega arith;
         known = refl;
@@ -148,8 +152,8 @@ module _ (S : Setting) (back : ℕ) where
 
       at_last : HasAt S (pc + size_of) last
       at_last = subst (λ q. HasAt S (pc + q) last) sized (has_back S pc body last has)
-  block_runs (Returns ss es tokens line) n params pc fewer has inside fits env regs opened size rel =
-      (stats_goes S back ss (returns_list line es) false 0 [] (end_of_body line ∷ []) (λ more. refl) n pc (pc + length body) false [] params 0 pc [] [] [] [] false start_reach (record {
+  block_runs (Returns ss es tokens line) n params pc fewer has inside fits clear titles env regs opened size rel =
+      (stats_goes back S ss (returns_list line es) false 0 [] (end_of_body line ∷ []) (λ more. refl) n pc (pc + length body) false [] params 0 pc [] [] [] [] false start_reach (record {
         fewer = fewer;
         has = has_front S pc body last has;
         placed = fits.0;
@@ -160,6 +164,8 @@ module _ (S : Setting) (back : ℕ) where
         passed = tt;
         added = added_none 0 [];
         base_under = tt;
+        clear = clear;
+        titles = titles;
         under = tt;
         outer_low = omega arith;
         known = refl;
@@ -208,7 +214,7 @@ module _ (source : Option (List ℕ)) where
   body_alike : (N : ℕ) → ((b : Body) → BodyFits source b → (m : ℕ) → m < N → Alike (is_known source) m b (code_of source b)) → (body : Body) → BodyFits source body → Alike (is_known source) N body (code_of source body)
   body_alike N below (BodyOf params vararg inner ups line) fits arguments =
       opens S (back_field vararg (length params)) vararg N (length params) line _ regs (has_front S 0 begin whole has) (omega (arith, sized, some))
-      (block_runs S (back_field vararg (length params)) inner N (length params) (length begin) (omega arith) at_whole (omega (arith, sized)) (raised inner fits.0.placed fits.1)
+      (block_runs S (back_field vararg (length params)) inner N (length params) (length begin) (omega arith) at_whole (omega (arith, sized)) (raised inner fits.0.placed fits.1) (λ r a. absurd a) (body_named source params vararg inner ups line)
       (trees.fitted (length params) arguments) regs 0 (length_fitted (length params) arguments) rel)
     where
       p : Prototype
@@ -238,7 +244,7 @@ module _ (source : Option (List ℕ)) where
       some : 1 ≤ length whole
       some = whole_some (of_block inner []) (back_field vararg (length params)) inner (length params) (length begin)
 
-      rel : Rel S.code.own.stack [] (trees.fitted (length params) arguments) no_cells regs
+      rel : Rel S.hidden S.code.own.stack [] (trees.fitted (length params) arguments) no_cells regs
       rel =
           let wide = length_fitted (length params) arguments in
           let room = fits.0.room in
@@ -246,16 +252,17 @@ module _ (source : Option (List ℕ)) where
           record {
             agree = λ r lr. nth_fitted (length params) arguments r (omega (arith, lr, wide)) ∙ sym (nth_registers (code_of source (BodyOf params vararg inner ups line)).own.stack (length params) arguments r (omega (arith, lr, wide)) room);
             held = tt;
+            hides = record { free = λ r a. absurd a; whole = λ r a. absurd a };
             ascends = tt;
             fits = omega (arith, wide, room);
             room = omega (arith, all);
           }
 
       raised : (inner' : Block) → BlockFits (setting source p 0 [] fits.0.small fits.0.short) (length params) inner' → InBlock source p inner' 0 → BlockFits S (length params) inner'
-      raised (Falls ss tokens end) h g = (stats_up source p N (cond vararg (drop (length params) arguments) []) fits.0.small fits.0.short below ss true false (length params) 0 [] [] false h.0 g, h.1)
+      raised (Falls ss tokens end) h g = (stats_up source p N (cond vararg (drop (length params) arguments) []) fits.0.small fits.0.short below [] ss true false (length params) 0 [] [] false h.0 g, h.1)
       raised (Returns ss es tokens end) h g = (
-        stats_up source p N (cond vararg (drop (length params) arguments) []) fits.0.small fits.0.short below ss false false (length params) 0 [] [] false h.0 g.0,
-        return_up source p N (cond vararg (drop (length params) arguments) []) fits.0.small fits.0.short below es (closings_after ss false) (levels_after ss (length params)) (0 + made_in_stats ss) h.1 g.1,
+        stats_up source p N (cond vararg (drop (length params) arguments) []) fits.0.small fits.0.short below [] ss false false (length params) 0 [] [] false h.0 g.0,
+        return_up source p N (cond vararg (drop (length params) arguments) []) fits.0.small fits.0.short below [] es (closings_after ss false) (levels_after ss (length params)) (0 + made_in_stats ss) h.1 g.1,
       )
 
   -- the code of a body means it

@@ -5,6 +5,5 @@ use Rattle.code_means.specs.Means.{Means}
 use Rattle.code_of.specs.CodeOf.{code_of}
 use Rattle.stat_laws.specs.Fits.{is_known, BodyFits}
 
--- of the bodies whose forms are covered
 abbrev pub CodeMeansBody : Type 0
 CodeMeansBody = (source : Option (List ℕ)) (body : Body) → BodyFits source body → Means (is_known source) (code_of source body) body

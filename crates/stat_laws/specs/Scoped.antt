@@ -1,15 +1,8 @@
 -- What is assumed of a statement where t locals are in scope and j functions of its function are made before it: names and labels are in scope, and
--- there are registers enough. It also says which forms are proved: for the others nothing is assumed that holds.
-use Rattle.std.specs.Prelude.{◌≡◌, ℕ, ◌+◌, ◌*◌, ◌<◌, ◌≤◌, ◌^◌, Bool, true, false, cond, ◌&&◌, ◌||◌, List, [], ◌∷◌, ◌++◌, length, Some, None, nat_le, bytes_eq, codes}
-use Rattle.tree_core.specs.declared.name.Name.{Name}
-use Rattle.tree_core.specs.declared.name.Declared.{Declared}
-use Rattle.tree_activation.specs.Statements.{is_closed}
-use Rattle.code_core.specs.declared.opcode.Opcode.TheVariants.{Tbc, TForPrep}
-use Rattle.code_core.specs.Instruction.{abc, abx}
-use Rattle.code_core.specs.Prototype.{Prototype}
-use Rattle.code_core.specs.Check.{at}
-use Rattle.machine_core.specs.Moves.{line_of}
-use Rattle.machine_core.specs.InstructionRows.{variable_name}
+-- there are registers enough.
+use Rattle.std.specs.Prelude.{◌≡◌, ℕ, ◌+◌, ◌*◌, ◌<◌, ◌≤◌, ◌^◌, Bool, true, false, cond, ◌&&◌, ◌||◌, List, [], ◌∷◌, ◌++◌, length, Some, None, nat_le, bytes_eq}
+use Rattle.tree_core.specs.declared.name.Place.{Place}
+use Rattle.tree_core.specs.declared.name.Place.TheVariants.{Local as LocalPlace}
 use Rattle.tree_core.specs.Tree.{Block, Falls, Returns, Stats, EndStats, MoreStats, Stat, Empty, Local, LocalFunction, Assign, CallStat, Do, While, Repeat, If, IfElse, NumFor, NumForStep, GenFor, Label, Goto, Break, Arms, EndArms, MoreArms, Exp, Var, Index, Call, Method, Exps, EndExps, MoreExps}
 use Rattle.tree_activation.specs.Asking.{upvalues_of}
 use Rattle.tree_activation.specs.Jumps.{are_void}
@@ -18,8 +11,8 @@ use Rattle.code_core.specs.declared.proto.Const.TheVariants.{Str as StrConst}
 use Rattle.code_of.specs.Expressions.{made_by, made_in, count, is_open}
 use Rattle.code_of.specs.Levels.{made_by_stat, made_in_arms, made_in_stats, made_in_block, level_after, levels_after, levels_in, closing_after, closings_after}
 use Rattle.code_of.specs.Sizes.{block_size}
-use Rattle.exp_laws.specs.Setting.{Setting}
-use Rattle.exp_laws.specs.Placed.{Found, Inner, Captures, IsPlaced, ArePlaced, room_of, room_of_list}
+use Rattle.exp_laws.specs.Setting.{Setting, hiding}
+use Rattle.exp_laws.specs.Placed.{Found, Inner, IsNoneOf, Captures, IsPlaced, ArePlaced, room_of, room_of_list}
 
 -- names that a `goto` may have: those of the labels around it, and whether it may go there without entering the scope of a local
 
@@ -40,34 +33,26 @@ abbrev pub names_passed : Stat → List Named → List Named
 names_passed (Label line name) named = (name.text, true) ∷ named
 names_passed _ named = named
 
--- what can be assigned: a name or an index
-abbrev pub IsTarget : Exp → Type 0
-IsTarget (Var line name) = Unit {0}
-IsTarget (Index line object key) = Unit {0}
-IsTarget _ = ⊥
+-- what can be assigned: a name, though no hidden local has one, or an index
+abbrev pub MayAssign : (hidden : List ℕ) → Place → Type 0
+MayAssign hidden (LocalPlace n) = IsNoneOf n hidden
+MayAssign hidden _ = Unit {0}
 
--- a variable to be closed has its name, where lines are known, at each mark of its register on its line
-abbrev pub IsNamed : (lines : Bool) → Prototype → Name → (r : ℕ) → Type 0
-IsNamed lines p name r = (pc : ℕ) → at p pc ≡ Some (abc Tbc r 0 0 false) → line_of p pc ≡ cond lines (Some name.line) None → variable_name p pc r ≡ cond lines name.text (codes "?")
-
-abbrev pub AreNamed : (lines : Bool) → Prototype → List Declared → (r : ℕ) → Type 0
-AreNamed lines p [] r = Unit {0}
-AreNamed lines p (d ∷ names) r = (is_closed d.attrib ≡ true → IsNamed lines p d.name r) × AreNamed lines p names (r + 1)
-
--- the value that a generic `for` closes has no name
-abbrev pub IsUnnamed : Prototype → (t : ℕ) → Type 0
-IsUnnamed p t = (pc bx : ℕ) → at p pc ≡ Some (abx TForPrep t bx) → variable_name p pc (t + 3) ≡ codes "?"
+abbrev pub IsTarget : (hidden : List ℕ) → Exp → Type 0
+IsTarget hidden (Var line name) = MayAssign hidden name.place
+IsTarget hidden (Index line object key) = Unit {0}
+IsTarget hidden _ = ⊥
 
 -- the block of a loop is short enough for the loop's instructions to name its length
-abbrev pub IsNear : List Const → Block → (outer t j : ℕ) → Type 0
-IsNear constants block outer t j = (back : ℕ) → block_size constants back block true outer t j + 2 < 2 ^ 17
+abbrev pub IsNear : List Const → Block → (closing : Bool) → (outer t j : ℕ) → Type 0
+IsNear constants block closing outer t j = (back : ℕ) → block_size constants back block closing outer t j + 2 < 2 ^ 17
 
 module _ (S : Setting) where
   -- targets whose tables and keys go to the registers from r on, two for each
   abbrev pub TargetsArePlaced : Exps → (r t j : ℕ) → Type 0
   TargetsArePlaced EndExps r t j = Unit {0}
   TargetsArePlaced (MoreExps e targets) r t j =
-      IsTarget e × (IsPlaced S e t j × ((r + room_of S.code.own.constants e 2 ≤ S.code.own.stack) × TargetsArePlaced targets (r + 2) t (j + made_by e)))
+      IsTarget S.hidden e × (IsPlaced S e t j × ((r + room_of S.code.own.constants e 2 ≤ S.code.own.stack) × TargetsArePlaced targets (r + 2) t (j + made_by e)))
 
   abbrev pub ListIsPlaced : Exps → (t j : ℕ) → Type 0
   ListIsPlaced es t j = ArePlaced S es t j × ((t + room_of_list S.code.own.constants 0 es None ≤ S.code.own.stack) × (count es + 1 < 2 ^ 8))
@@ -86,50 +71,62 @@ module _ (S : Setting) where
   ReturnIsPlaced es false t j = LastIsPlaced es t j
   ReturnIsPlaced es true t j = ListIsPlaced es t j
 
-  abbrev mutual
-    pub StatIsPlaced : Stat → (closing : Bool) → (t j : ℕ) → List Named → (loops : Bool) → Type 0
-    StatIsPlaced (Empty line) closing t j named loops = Unit {0}
-    StatIsPlaced (Local line names es) closing t j named loops =
-        ArePlaced S es t j × ((t + room_of_list S.code.own.constants 0 es (Some (length names)) ≤ S.code.own.stack) × ((t + length names ≤ S.code.own.stack) × ((length names + 1 < 2 ^ 8) × AreNamed S.lines S.code names t)))
-    StatIsPlaced (LocalFunction line name body) closing t j named loops = Inner S j body × (Captures (upvalues_of body) (t + 1) × (t < S.code.own.stack))
-    StatIsPlaced (Assign line targets es) closing t j named loops =
-        TargetsArePlaced targets t t j × (ArePlaced S es t (j + made_in targets)
-        × ((t + 2 * count targets + room_of_list S.code.own.constants 0 es (Some (count targets)) ≤ S.code.own.stack) × ((t + 2 * count targets + count targets ≤ S.code.own.stack) × (count targets + 1 < 2 ^ 8))))
-    StatIsPlaced (CallStat line e) closing t j named loops = (is_open e ≡ true) × (IsPlaced S e t j × (t + room_of S.code.own.constants e 1 ≤ S.code.own.stack))
-    StatIsPlaced (Do line block) closing t j named loops = BlockIsPlaced block closing t j named loops
-    StatIsPlaced (While line e block) closing t j named loops =
-        IsPlaced S e t j × ((t + room_of S.code.own.constants e 2 ≤ S.code.own.stack) × BlockIsPlaced block closing t (j + made_by e) named true)
-    StatIsPlaced (Repeat line block e) closing t j named loops =
-        OpenIsPlaced block closing t j named true × (IsPlaced S e (levels_in block t) (j + made_in_block block) × (levels_in block t + room_of S.code.own.constants e 2 ≤ S.code.own.stack))
-    StatIsPlaced (If line arms) closing t j named loops = ArmsArePlaced arms closing t j named loops
-    StatIsPlaced (IfElse line arms block) closing t j named loops = ArmsArePlaced arms closing t j named loops × BlockIsPlaced block closing t (j + made_in_arms arms) named loops
-    StatIsPlaced (NumFor line name from limit block) closing t j named loops = ⊥
-    StatIsPlaced (NumForStep line name from limit step block) closing t j named loops = ⊥
-    StatIsPlaced (GenFor line names es block) closing t j named loops =
-        ArePlaced S es t j × ((t + room_of_list S.code.own.constants 0 es (Some 4) ≤ S.code.own.stack) × ((t + 4 + length names ≤ S.code.own.stack) × ((0 < length names) × ((length names < 2 ^ 8)
-        × (IsUnnamed S.code t × (IsNear S.code.own.constants block (t + 4) (t + 4 + length names) (j + made_in es) × BlockIsPlaced block true (t + 4 + length names) (j + made_in es) named true))))))
-    StatIsPlaced (Label line name) closing t j named loops = Unit {0}
-    StatIsPlaced (Goto line name) closing t j named loops = legal name.text named ≡ true
-    StatIsPlaced (Break line) closing t j named loops = loops ≡ true
+  -- the first two values of a numeric `for`
+  abbrev pub BoundsArePlaced : (from limit : Exp) → (t j : ℕ) → Type 0
+  BoundsArePlaced from limit t j =
+      IsPlaced S from t j × ((t + room_of S.code.own.constants from 2 ≤ S.code.own.stack)
+      × (IsPlaced S limit t (j + made_by from) × (t + 1 + room_of S.code.own.constants limit 2 ≤ S.code.own.stack)))
 
-    pub ArmsArePlaced : Arms → (closing : Bool) → (t j : ℕ) → List Named → (loops : Bool) → Type 0
-    ArmsArePlaced EndArms closing t j named loops = Unit {0}
-    ArmsArePlaced (MoreArms e block arms) closing t j named loops =
-        IsPlaced S e t j × ((t + room_of S.code.own.constants e 2 ≤ S.code.own.stack)
-        × (BlockIsPlaced block closing t (j + made_by e) named loops × ArmsArePlaced arms closing t (j + made_by e + made_in_block block) named loops))
+abbrev mutual
+  pub StatIsPlaced : Setting → Stat → (closing : Bool) → (t j : ℕ) → List Named → (loops : Bool) → Type 0
+  StatIsPlaced S (Empty line) closing t j named loops = Unit {0}
+  StatIsPlaced S (Local line names es) closing t j named loops =
+      ArePlaced S es t j × ((t + room_of_list S.code.own.constants 0 es (Some (length names)) ≤ S.code.own.stack) × ((t + length names ≤ S.code.own.stack) × (length names + 1 < 2 ^ 8)))
+  StatIsPlaced S (LocalFunction line name body) closing t j named loops = Inner S j body × (Captures S.hidden (upvalues_of body) (t + 1) × (t < S.code.own.stack))
+  StatIsPlaced S (Assign line targets es) closing t j named loops =
+      TargetsArePlaced S targets t t j × (ArePlaced S es t (j + made_in targets)
+      × ((t + 2 * count targets + room_of_list S.code.own.constants 0 es (Some (count targets)) ≤ S.code.own.stack) × ((t + 2 * count targets + count targets ≤ S.code.own.stack) × (count targets + 1 < 2 ^ 8))))
+  StatIsPlaced S (CallStat line e) closing t j named loops = (is_open e ≡ true) × (IsPlaced S e t j × (t + room_of S.code.own.constants e 1 ≤ S.code.own.stack))
+  StatIsPlaced S (Do line block) closing t j named loops = BlockIsPlaced S block closing t j named loops
+  StatIsPlaced S (While line e block) closing t j named loops =
+      IsPlaced S e t j × ((t + room_of S.code.own.constants e 2 ≤ S.code.own.stack) × BlockIsPlaced S block closing t (j + made_by e) named true)
+  StatIsPlaced S (Repeat line block e) closing t j named loops =
+      OpenIsPlaced S block closing t j named true × (IsPlaced S e (levels_in block t) (j + made_in_block block) × (levels_in block t + room_of S.code.own.constants e 2 ≤ S.code.own.stack))
+  StatIsPlaced S (If line arms) closing t j named loops = ArmsArePlaced S arms closing t j named loops
+  StatIsPlaced S (IfElse line arms block) closing t j named loops = ArmsArePlaced S arms closing t j named loops × BlockIsPlaced S block closing t (j + made_in_arms arms) named loops
+  StatIsPlaced S (NumFor line name from limit block) closing t j named loops =
+      BoundsArePlaced S from limit t j × ((t + 4 ≤ S.code.own.stack) × (IsNear S.code.own.constants block closing (t + 3) (t + 4) (j + made_by from + made_by limit)
+      × BlockIsPlaced (hiding S t) block closing (t + 4) (j + made_by from + made_by limit) named true))
+  StatIsPlaced S (NumForStep line name from limit step block) closing t j named loops =
+      BoundsArePlaced S from limit t j × (IsPlaced S step t (j + made_by from + made_by limit) × ((t + 2 + room_of S.code.own.constants step 2 ≤ S.code.own.stack)
+      × ((t + 4 ≤ S.code.own.stack) × (IsNear S.code.own.constants block closing (t + 3) (t + 4) (j + made_by from + made_by limit + made_by step)
+      × BlockIsPlaced (hiding S t) block closing (t + 4) (j + made_by from + made_by limit + made_by step) named true))))
+  StatIsPlaced S (GenFor line names es block) closing t j named loops =
+      ArePlaced S es t j × ((t + room_of_list S.code.own.constants 0 es (Some 4) ≤ S.code.own.stack) × ((t + 4 + length names ≤ S.code.own.stack) × ((0 < length names) × ((length names < 2 ^ 8)
+      × (IsNear S.code.own.constants block true (t + 4) (t + 4 + length names) (j + made_in es) × BlockIsPlaced S block true (t + 4 + length names) (j + made_in es) named true)))))
+  StatIsPlaced S (Label line name) closing t j named loops = Unit {0}
+  StatIsPlaced S (Goto line name) closing t j named loops = legal name.text named ≡ true
+  StatIsPlaced S (Break line) closing t j named loops = loops ≡ true
 
-    pub StatsArePlaced : Stats → (falls closing : Bool) → (t j : ℕ) → (names named : List Named) → (loops : Bool) → Type 0
-    StatsArePlaced EndStats falls closing t j names named loops = Unit {0}
-    StatsArePlaced (MoreStats s ss) falls closing t j names named loops =
-        StatIsPlaced s closing t j (names_ahead ss falls t (level_after s t) ++ (names ++ named)) loops
-        × StatsArePlaced ss falls (closing_after s closing) (level_after s t) (j + made_by_stat s) (names_passed s names) named loops
+  pub ArmsArePlaced : Setting → Arms → (closing : Bool) → (t j : ℕ) → List Named → (loops : Bool) → Type 0
+  ArmsArePlaced S EndArms closing t j named loops = Unit {0}
+  ArmsArePlaced S (MoreArms e block arms) closing t j named loops =
+      IsPlaced S e t j × ((t + room_of S.code.own.constants e 2 ≤ S.code.own.stack)
+      × (BlockIsPlaced S block closing t (j + made_by e) named loops × ArmsArePlaced S arms closing t (j + made_by e + made_in_block block) named loops))
 
-    pub BlockIsPlaced : Block → (closing : Bool) → (t j : ℕ) → List Named → (loops : Bool) → Type 0
-    BlockIsPlaced (Falls ss tokens line) closing t j named loops = StatsArePlaced ss true closing t j [] named loops
-    BlockIsPlaced (Returns ss es tokens line) closing t j named loops =
-        StatsArePlaced ss false closing t j [] named loops × ReturnIsPlaced es (closings_after ss closing) (levels_after ss t) (j + made_in_stats ss)
+  pub StatsArePlaced : Setting → Stats → (falls closing : Bool) → (t j : ℕ) → (names named : List Named) → (loops : Bool) → Type 0
+  StatsArePlaced S EndStats falls closing t j names named loops = Unit {0}
+  StatsArePlaced S (MoreStats s ss) falls closing t j names named loops =
+      StatIsPlaced S s closing t j (names_ahead ss falls t (level_after s t) ++ (names ++ named)) loops
+      × StatsArePlaced S ss falls (closing_after s closing) (level_after s t) (j + made_by_stat s) (names_passed s names) named loops
 
-    -- the block of a `repeat`, whose labels stand in the scope of its locals
-    pub OpenIsPlaced : Block → (closing : Bool) → (t j : ℕ) → List Named → (loops : Bool) → Type 0
-    OpenIsPlaced (Falls ss tokens line) closing t j named loops = StatsArePlaced ss false closing t j [] named loops
-    OpenIsPlaced (Returns ss es tokens line) closing t j named loops = ⊥
+  pub BlockIsPlaced : Setting → Block → (closing : Bool) → (t j : ℕ) → List Named → (loops : Bool) → Type 0
+  BlockIsPlaced S (Falls ss tokens line) closing t j named loops = StatsArePlaced S ss true closing t j [] named loops
+  BlockIsPlaced S (Returns ss es tokens line) closing t j named loops =
+      StatsArePlaced S ss false closing t j [] named loops × ReturnIsPlaced S es (closings_after ss closing) (levels_after ss t) (j + made_in_stats ss)
+
+  -- the block of a `repeat`, whose labels stand in the scope of its locals
+  pub OpenIsPlaced : Setting → Block → (closing : Bool) → (t j : ℕ) → List Named → (loops : Bool) → Type 0
+  OpenIsPlaced S (Falls ss tokens line) closing t j named loops = StatsArePlaced S ss false closing t j [] named loops
+  OpenIsPlaced S (Returns ss es tokens line) closing t j named loops =
+      StatsArePlaced S ss false closing t j [] named loops × ReturnIsPlaced S es (closings_after ss closing) (levels_after ss t) (j + made_in_stats ss)

@@ -1,0 +1,103 @@
+-- Within a numeric `for` its three hidden locals are there besides, and what stands around it holds as well.
+use Rattle.std.proofs.Common.{inr, ⊎_elim, ◌≡◌, ℕ, ◌+◌, ◌<◌, ◌≤◌, Bool, List, [], ◌∷◌, length, Option, sym, subst, arith}
+use Rattle.int_core.specs.Value.{Value, nth}
+use Rattle.int_core.specs.Ask.{Captured, Next}
+use Rattle.tree_core.specs.Tree.{Body}
+use Rattle.tree_activation.specs.Work.{Control, Work, Pending, State}
+use Rattle.tree_activation.specs.Work as tree
+use Rattle.tree_activation.specs.Jumps.{goes_to, breaks}
+use Rattle.code_of.specs.Coded.{Coded}
+use Rattle.code_of.specs.Jumps.{Reach, Landing, label_in}
+use Rattle.exp_laws.specs.Setting.{Setting, hiding}
+use Rattle.exp_laws.proofs.Registers.{Among, AllUnder, IsFree, IsInteger, HeldBelow, Rel}
+use Rattle.exp_laws.proofs.Placing.{HasAt}
+use Rattle.stat_laws.specs.Scoped.{Named}
+use Rattle.stat_laws.proofs.Standing.{Standing, GoesOn}
+use Rattle.stat_laws.proofs.Values.{split_at}
+use Rattle.stat_laws.proofs.Labels.{JumpGoes, Jumps}
+
+-- captured locals
+
+pub held_free : (held : List (ℕ × ℕ)) (n r : ℕ) → n ≤ r → HeldBelow held n → IsFree r held
+held_free [] n r le h = tt
+held_free (x ∷ held) n r le h = let below = h.0 in ((λ e. absurd (omega (arith, e, below))), held_free held n r le h.1)
+
+none_between : (m t : ℕ) → m < t + 3 → (t ≡ m → ⊥) → (t + 1 ≡ m → ⊥) → (t + 2 ≡ m → ⊥) → m < t
+none_between m t lt a b c =
+    ⊎_elim (λ h. h)
+    (λ h. ⊎_elim (λ g. absurd (a (omega arith)))
+    (λ g. ⊎_elim (λ f. absurd (b (omega arith))) (λ f. absurd (c (omega arith))) (split_at m (t + 2)))
+    (split_at m (t + 1)))
+    (split_at m t)
+
+-- where no local behind the hidden ones is captured, and none of these, all captured ones are in front of them
+pub held_down : (held : List (ℕ × ℕ)) (t : ℕ) → HeldBelow held (t + 3) → IsFree t held → IsFree (t + 1) held → IsFree (t + 2) held → HeldBelow held t
+held_down [] t h a b c = tt
+held_down (x ∷ held) t h a b c = (none_between x.0 t h.0 a.0 b.0 c.0, held_down held t h.1 a.1 b.1 c.1)
+
+pub under_hiding : (hidden : List ℕ) (t : ℕ) → AllUnder hidden t → AllUnder (t ∷ (t + 1) ∷ (t + 2) ∷ hidden) (t + 3)
+under_hiding hidden t h r a =
+    ⊎_elim (λ e. omega (arith, e))
+    (λ b. ⊎_elim (λ e. omega (arith, e)) (λ d. ⊎_elim (λ e. omega (arith, e)) (λ m. let lt = h r m in omega (arith, lt)) d) b)
+    a
+
+-- the relation within the loop and around it
+
+module _ (hidden : List ℕ) (stack t : ℕ) (ps : List Pending) (env : List Value) (c : Captured) (regs : List Value) where
+  pub rel_outer : Rel (t ∷ (t + 1) ∷ (t + 2) ∷ hidden) stack ps env c regs → Rel hidden stack ps env c regs
+  rel_outer h = record {
+    agree = h.agree;
+    held = h.held;
+    hides = record { free = λ r m. h.hides.free r (inr (inr (inr m))); whole = λ r m lt. h.hides.whole r (inr (inr (inr m))) lt };
+    ascends = h.ascends;
+    fits = h.fits;
+    room = h.room;
+  }
+
+  pub rel_hiding : HeldBelow c.held t → IsInteger (nth env t) → IsInteger (nth env (t + 1)) → IsInteger (nth env (t + 2)) → Rel hidden stack ps env c regs → Rel (t ∷ (t + 1) ∷ (t + 2) ∷ hidden) stack ps env c regs
+  rel_hiding low a b d h = record {
+    agree = h.agree;
+    held = h.held;
+    hides = record { free = λ r m. free r m; whole = λ r m lt. whole r m lt };
+    ascends = h.ascends;
+    fits = h.fits;
+    room = h.room;
+  }
+    where
+      one_free : (r q : ℕ) → r ≡ q → t ≤ q → IsFree r c.held
+      one_free r q e le = held_free c.held t r (omega (arith, e)) low
+
+      free : (r : ℕ) → Among r (t ∷ (t + 1) ∷ (t + 2) ∷ hidden) → IsFree r c.held
+      free r m = ⊎_elim (λ e. one_free r t e (omega arith)) (λ m1. ⊎_elim (λ e. one_free r (t + 1) e (omega arith)) (λ m2. ⊎_elim (λ e. one_free r (t + 2) e (omega arith)) (λ m3. h.hides.free r m3) m2) m1) m
+
+      one_whole : (r q : ℕ) → r ≡ q → IsInteger (nth env q) → IsInteger (nth env r)
+      one_whole r q e i = subst (λ n. IsInteger (nth env n)) (sym e) i
+
+      whole : (r : ℕ) → Among r (t ∷ (t + 1) ∷ (t + 2) ∷ hidden) → r < length env → IsInteger (nth env r)
+      whole r m lt = ⊎_elim (λ e. one_whole r t e a) (λ m1. ⊎_elim (λ e. one_whole r (t + 1) e b) (λ m2. ⊎_elim (λ e. one_whole r (t + 2) e d) (λ m3. h.hides.whole r m3 lt) m2) m1) m
+
+module _ (S : Setting) (u : ℕ) where
+  pub has_hiding : (pc : ℕ) (code : List Coded) → HasAt S pc code → HasAt (hiding S u) pc code
+  has_hiding pc [] h = tt
+  has_hiding pc (x ∷ code) h = (h.0, (h.1.0, has_hiding (pc + 1) code h.1.1))
+
+  pub standing_outer : (t : ℕ) (closed : List ℕ) (ps : List Pending) (env : List Value) (c : Captured) (regs : List Value) → Standing (hiding S u) t closed ps env c regs → Standing S t closed ps env c regs
+  standing_outer t closed ps env c regs st = record { numbered = st.numbered; size = st.size; rel = rel_outer S.hidden S.code.own.stack u ps env c regs st.rel }
+
+  pub goes_hiding : (n t : ℕ) (closed : List ℕ) (goes : Control) (k : List Work) (pc : ℕ) → GoesOn S n t closed goes k pc → GoesOn (hiding S u) n t closed goes k pc
+  goes_hiding n t closed goes k pc h m le ps env regs c opened st = h m le ps env regs c opened (standing_outer t closed ps env c regs st)
+
+  jump_hiding : (back n lo hi t : ℕ) (closed : List ℕ) (jump : ℕ → tree.Activation → List Work → Next Body State) (there : Option Landing) (k : List Work)
+      → JumpGoes S back n lo hi t closed jump there k → JumpGoes (hiding S u) back n lo hi t closed jump there k
+  jump_hiding back n lo hi t closed jump there k h m line pc ps env regs c opened more s le has x y numbered above size rel st =
+      h m line pc ps env regs c opened more s le (has_outer pc _ has) x y numbered above size (rel_outer S.hidden S.code.own.stack u ps env c regs rel) st
+    where
+      has_outer : (pc : ℕ) (code : List Coded) → HasAt (hiding S u) pc code → HasAt S pc code
+      has_outer pc [] h = tt
+      has_outer pc (x ∷ code) h = (h.0, (h.1.0, has_outer (pc + 1) code h.1.1))
+
+  pub jumps_hiding : (back n lo hi t : ℕ) (closed : List ℕ) (named : List Named) (loops : Bool) (reach : Reach) (k : List Work) → Jumps S back n lo hi t closed named loops reach k → Jumps (hiding S u) back n lo hi t closed named loops reach k
+  jumps_hiding back n lo hi t closed named loops reach k h = record {
+    gotos = λ name ok. jump_hiding back n lo hi t closed (goes_to name) (label_in name reach.labels) k (h.gotos name ok);
+    exits = λ ok. jump_hiding back n lo hi t closed breaks reach.exit k (h.exits ok);
+  }
