@@ -1,0 +1,168 @@
+-- An expression has no more registers than values that it holds, and those that are wanted of it.
+use Rattle.std.proofs.Common.{◌≡◌, ℕ, zero, suc, ◌+◌, ◌-◌, ◌≤◌, max, Bool, true, false, cond, List, Some, None, nat_lt, refl, ap, arith}
+use Rattle.tree_core.specs.declared.name.Place.{Place}
+use Rattle.tree_core.specs.declared.name.Place.TheVariants.{Unset, Upvalue, GlobalIn, GlobalOf}
+use Rattle.tree_core.specs.declared.name.Place.TheVariants.{Local as LocalPlace}
+use Rattle.tree_core.specs.Tree.{Exp, Nil, True, False, Int, Str, Vararg, Function, Var, Index, Call, Method, Unary, Binary, And, Or, Paren, Table, Exps, EndExps, MoreExps, Fields, EndFields, MoreFields, Item, Keyed}
+use Rattle.code_core.specs.declared.proto.Const.{Const}
+use Rattle.code_core.specs.declared.proto.Const.TheVariants.{Str as StrConst}
+use Rattle.code_of.specs.Constants.{number_in}
+use Rattle.code_of.specs.Expressions.{count, is_open, is_last_item, Wanted, results_field, one_less}
+use Rattle.scope_core.specs.Held.{positional, held_name, held, held_behind, held_fields, held_field}
+use Rattle.scope_core.specs.Held as held_specs
+use Rattle.exp_laws.specs.Placed.{room_of_values, room_of_nils, room_of_name, room_of, room_of_list, room_of_fields}
+
+-- both counts of a list are one
+pub same_count : (es : Exps) → held_specs.count es ≡ count es
+same_count EndExps = refl
+same_count (MoreExps e es) = let rest = same_count es in omega (arith, rest)
+
+some_name : (p : Place) → 1 ≤ held_name p
+some_name Unset = omega arith
+some_name (LocalPlace n) = omega arith
+some_name (Upvalue u) = omega arith
+some_name (GlobalIn n) = omega arith
+some_name (GlobalOf u) = omega arith
+
+pub some_held : (e : Exp) → 1 ≤ held e
+some_held (Nil line) = omega arith
+some_held (True line) = omega arith
+some_held (False line) = omega arith
+some_held (Int line z) = omega arith
+some_held (Str line bytes) = omega arith
+some_held (Vararg line) = omega arith
+some_held (Function line body) = omega arith
+some_held (Var line name) = some_name name.place
+some_held (Index line object key) = omega arith
+some_held (Call line f es) = omega arith
+some_held (Method line object name es) = omega arith
+some_held (Unary line op e) = some_held e
+some_held (Binary line op e d) = omega arith
+some_held (And line e d) = omega arith
+some_held (Or line e d) = omega arith
+some_held (Paren line e) = some_held e
+some_held (Table line fs) = omega arith
+
+pub count_held : (es : Exps) (before : ℕ) → before + count es ≤ max before (held_behind before es)
+count_held EndExps before = omega arith
+count_held (MoreExps e es) before =
+    let some = some_held e in
+    let rest = count_held es (before + 1) in
+    omega (arith, some, rest)
+
+-- values that stand higher
+pub held_shifted : (es : Exps) (a b : ℕ) → a + held_behind b es ≤ max a (held_behind (a + b) es)
+held_shifted EndExps a b = omega arith
+held_shifted (MoreExps e es) a b =
+    let rest = held_shifted es a (b + 1) in
+    let place : a + (b + 1) ≡ a + b + 1 = omega arith in
+    let same = ap (λ n. held_behind n es) place in
+    by (held e) (held_behind (b + 1) es) (held_behind (a + (b + 1)) es) (held_behind (a + b + 1) es) rest same
+  where
+    by : (h m n o : ℕ) → a + m ≤ max a n → n ≡ o → a + max (b + h) m ≤ max a (max (a + b + h) o)
+    by h m n o rest same = omega arith
+
+either_two : (b : Bool) → cond b 1 2 ≤ 2
+either_two true = omega arith
+either_two false = omega arith
+
+module _ (cs : List Const) where
+  pub name_held : (p : Place) (text : List ℕ) → room_of_name cs p text ≤ held_name p
+  name_held Unset text = omega arith
+  name_held (LocalPlace n) text = omega arith
+  name_held (Upvalue u) text = omega arith
+  name_held (GlobalIn n) text = omega arith
+  name_held (GlobalOf u) text = either_two (nat_lt (number_in cs (StrConst text)) 256)
+
+  pub name_two : (p : Place) (text : List ℕ) → room_of_name cs p text ≤ 2
+  name_two Unset text = omega arith
+  name_two (LocalPlace n) text = omega arith
+  name_two (Upvalue u) text = omega arith
+  name_two (GlobalIn n) text = omega arith
+  name_two (GlobalOf u) text = either_two (nat_lt (number_in cs (StrConst text)) 256)
+
+  -- where one value or all are wanted
+  item_by : (e : Exp) (b : Bool) → ((field : ℕ) → room_of cs e field ≤ max (held e) (room_of_values field)) → room_of cs e (cond b 0 2) ≤ held e
+  item_by e true h = let some = some_held e in let k = h 0 in omega (arith, some, k)
+  item_by e false h = let some = some_held e in let k = h 2 in omega (arith, some, k)
+
+  -- how many are wanted, or none
+  abbrev pub wanted_count : Wanted → ℕ
+  wanted_count None = 0
+  wanted_count (Some n) = n
+
+  nils_held : (wanted : Wanted) (above : ℕ) → room_of_nils above wanted ≤ above + wanted_count wanted
+  nils_held None above = omega arith
+  nils_held (Some zero) above = omega arith
+  nils_held (Some (suc n)) above = omega arith
+
+  values_held : (wanted : Wanted) → room_of_values (results_field wanted) ≤ max 1 (wanted_count wanted)
+  values_held None = omega arith
+  values_held (Some n) = let e : n + 1 ≡ suc n = omega arith in let f = ap room_of_values e in omega (arith, f)
+
+  less_count : (wanted : Wanted) → wanted_count (one_less wanted) ≡ wanted_count wanted - 1
+  less_count None = omega arith
+  less_count (Some n) = refl
+
+  -- the last expression of a list, from which it is wanted what is left
+  last_held : (e : Exp) (wanted : Wanted) (above : ℕ) (b : Bool) → ((field : ℕ) → room_of cs e field ≤ max (held e) (room_of_values field)) →
+      max (above + room_of cs e (cond b (results_field wanted) 2)) (room_of_nils (above + 1) (cond b None (one_less wanted))) ≤ max (max (above + held e) 0) (above + wanted_count wanted)
+  last_held e wanted above true h =
+      let mine = h (results_field wanted) in
+      let some = some_held e in
+      let values = values_held wanted in
+      omega (arith, mine, some, values)
+  last_held e wanted above false h =
+      let mine = item_by e false h in
+      let some = some_held e in
+      let rest = nils_held (one_less wanted) (above + 1) in
+      let less = less_count wanted in
+      omega (arith, mine, some, rest, less)
+
+  mutual
+    pub exp_held : (e : Exp) (field : ℕ) → room_of cs e field ≤ max (held e) (room_of_values field)
+    exp_held (Nil line) field = omega arith
+    exp_held (True line) field = omega arith
+    exp_held (False line) field = omega arith
+    exp_held (Int line z) field = omega arith
+    exp_held (Str line bytes) field = omega arith
+    exp_held (Vararg line) field = omega arith
+    exp_held (Function line body) field = omega arith
+    exp_held (Var line name) field = let h = name_held name.place name.text in omega (arith, h)
+    exp_held (Index line object key) field = let a = item_by object false (exp_held object) in let b = item_by key false (exp_held key) in omega (arith, a, b)
+    exp_held (Call line f es) field = let a = item_by f false (exp_held f) in let b = exps_held es None 1 in omega (arith, a, b)
+    exp_held (Method line object name es) field = let a = item_by object false (exp_held object) in let b = exps_held es None 2 in omega (arith, a, b)
+    exp_held (Unary line op e) field = let a = item_by e false (exp_held e) in omega (arith, a)
+    exp_held (Binary line op e d) field = let a = item_by e false (exp_held e) in let b = item_by d false (exp_held d) in omega (arith, a, b)
+    exp_held (And line e d) field = let a = item_by e false (exp_held e) in let b = item_by d false (exp_held d) in omega (arith, a, b)
+    exp_held (Or line e d) field = let a = item_by e false (exp_held e) in let b = item_by d false (exp_held d) in omega (arith, a, b)
+    exp_held (Paren line e) field = let a = item_by e false (exp_held e) in omega (arith, a)
+    exp_held (Table line fs) field = let a = fields_held fs 0 in omega (arith, a)
+
+    pub exps_held : (es : Exps) (wanted : Wanted) (above : ℕ) → room_of_list cs above es wanted ≤ max (held_behind above es) (above + wanted_count wanted)
+    exps_held EndExps wanted above = let h = nils_held wanted above in omega (arith, h)
+    exps_held (MoreExps e EndExps) wanted above = last_held e wanted above (is_open e) (exp_held e)
+    exps_held (MoreExps e (MoreExps d es)) wanted above =
+        let mine = item_by e false (exp_held e) in
+        let some = some_held e in
+        let rest = exps_held (MoreExps d es) (one_less wanted) (above + 1) in
+        let less = less_count wanted in
+        omega (arith, mine, some, rest, less)
+
+    fields_held : (fs : Fields) (items : ℕ) → 1 + room_of_fields cs fs ≤ max 1 (held_fields items fs)
+    fields_held EndFields items = omega arith
+    fields_held (MoreFields (Item e) fs) items =
+        let a = item_by e (is_last_item e fs) (exp_held e) in
+        let b = fields_held fs (items + 1) in
+        omega (arith, a, b)
+    fields_held (MoreFields (Keyed line e d) fs) items =
+        let a = item_by e false (exp_held e) in
+        let b = item_by d false (exp_held d) in
+        let c = fields_held fs (items + 0) in
+        omega (arith, a, b, c)
+
+  pub one_held : (e : Exp) → room_of cs e 2 ≤ held e
+  one_held e = item_by e false (exp_held e)
+
+  pub all_held : (es : Exps) (above : ℕ) → room_of_list cs above es None ≤ max (held_behind above es) above
+  all_held es above = let h = exps_held es None above in omega (arith, h)

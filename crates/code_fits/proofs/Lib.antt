@@ -1,0 +1,12 @@
+mod Constants
+mod Functions
+mod Tops
+mod Pieces
+mod Expressions
+mod Holding
+mod Room
+mod Simple
+mod Assigning
+mod Jumping
+mod Statements
+mod Body

@@ -1,0 +1,5 @@
+pub mod Constants
+pub mod Functions
+pub mod InScope
+pub mod Limits
+pub mod Registers
