@@ -6,3 +6,5 @@ mod Metatables
 mod Coroutines
 pub mod Runs
 mod Limits
+mod Endless
+mod StackOverflow
