@@ -1,0 +1,5 @@
+pub mod Counts
+mod Expressions
+pub mod Sizes
+pub mod Statements
+pub mod Bodies
