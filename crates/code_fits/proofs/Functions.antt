@@ -1,12 +1,12 @@
 -- The functions of a body's code stand at their numbers.
-use Rattle.std.proofs.Common.{◌≡◌, ℕ, zero, suc, ◌+◌, List, [], ◌∷◌, drop, Option, Some, slice_get, map, refl, subst, ap, arith}
+use Rattle.std.proofs.Common.{◌≡◌, ℕ, zero, suc, ◌+◌, List, [], ◌∷◌, length, drop, ◌<◌, ◌≤◌, ◌^◌, Option, Some, slice_get, refl, subst, ap, arith}
+use Rattle.std.proofs.lemmas.Option.{slice_get_within}
 use Rattle.tree_core.specs.Tree.{Block, Falls, Returns, Body, BodyOf, Stats, EndStats, MoreStats, Stat, Empty, Local, LocalFunction, Assign, CallStat, Do, While, Repeat, If, IfElse, NumFor, NumForStep, GenFor, Label, Goto, Break, Arms, EndArms, MoreArms, Exp, Nil, True, False, Int, Str, Vararg, Function, Var, Index, Call, Method, Unary, Binary, And, Or, Paren, Table, Exps, EndExps, MoreExps, Fields, EndFields, MoreFields, Field, Item, Keyed}
-use Rattle.tree_activation.specs.Asking.{upvalues_of}
 use Rattle.code_core.specs.Prototype.{Prototype, Prototypes, none, list_of}
-use Rattle.code_of.specs.CodeOf.{upvalue, code_of, from_exp, from_exps, from_fields, from_field, from_stat, from_arms, from_stats, from_block}
+use Rattle.code_of.specs.CodeOf.{code_of, from_exp, from_exps, from_fields, from_field, from_stat, from_arms, from_stats, from_block}
 use Rattle.code_of.specs.Expressions.{made_by, made_in, made_in_fields, made_by_field}
 use Rattle.code_of.specs.Levels.{made_by_stat, made_in_arms, made_in_stats, made_in_block}
-use Rattle.code_fits.specs.Functions.{IsMade, ExpMakes, ExpsMake, FieldsMake, FieldMakes, StatMakes, ArmsMake, StatsMake, BlockMakes, inner_of}
+use Rattle.code_fits.specs.Functions.{IsMade, ExpMakes, ExpsMake, FieldsMake, FieldMakes, StatMakes, ArmsMake, StatsMake, BlockMakes, FunctionsAreNumbered}
 
 -- a list goes on with one function at a number, and with others behind it
 stands_here : (fs : List Prototype) (j : ℕ) (p : Prototype) (rest : List Prototype) → drop j fs ≡ p ∷ rest → (slice_get fs j ≡ Some p) × (drop (j + 1) fs ≡ rest)
@@ -140,5 +140,99 @@ module _ (source : Option (List ℕ)) (fs : List Prototype) where
     block_made (Returns ss es tokens line) j rest h =
         two j (made_in_stats ss) (made_in es) (from_exps source es rest) rest (stats_made ss j (from_exps source es rest) h) (λ k. exps_made es (j + made_in_stats ss) rest k)
 
-pub body_made : (source : Option (List ℕ)) (body : Body) → BlockMakes source (list_of (code_of source body).inner) (inner_of body) 0 × ((code_of source body).own.upvalues ≡ map upvalue (upvalues_of body))
-body_made source (BodyOf params vararg inner ups line) = ((block_made source (list_of (from_block source inner none)) inner 0 none refl).0, refl)
+-- a piece makes as many functions as are counted
+
+module _ (source : Option (List ℕ)) where
+  abbrev Counts : (Prototypes → Prototypes) → ℕ → Type 0
+  Counts from n = (rest : Prototypes) → length (list_of (from rest)) ≡ n + length (list_of rest)
+
+  none_more : (rest : Prototypes) → length (list_of rest) ≡ 0 + length (list_of rest)
+  none_more rest = omega arith
+
+  mutual
+    exp_counts : (e : Exp) → Counts (from_exp source e) (made_by e)
+    exp_counts (Nil line) = none_more
+    exp_counts (True line) = none_more
+    exp_counts (False line) = none_more
+    exp_counts (Int line z) = none_more
+    exp_counts (Str line bytes) = none_more
+    exp_counts (Vararg line) = none_more
+    exp_counts (Function line body) = λ rest. omega arith
+    exp_counts (Var line name) = none_more
+    exp_counts (Index line object key) = λ rest. let a = exp_counts object (from_exp source key rest) in let b = exp_counts key rest in omega (arith, a, b)
+    exp_counts (Call line f es) = λ rest. let a = exp_counts f (from_exps source es rest) in let b = exps_count es rest in omega (arith, a, b)
+    exp_counts (Method line object name es) = λ rest. let a = exp_counts object (from_exps source es rest) in let b = exps_count es rest in omega (arith, a, b)
+    exp_counts (Unary line op e) = exp_counts e
+    exp_counts (Binary line op e d) = λ rest. let a = exp_counts e (from_exp source d rest) in let b = exp_counts d rest in omega (arith, a, b)
+    exp_counts (And line e d) = λ rest. let a = exp_counts e (from_exp source d rest) in let b = exp_counts d rest in omega (arith, a, b)
+    exp_counts (Or line e d) = λ rest. let a = exp_counts e (from_exp source d rest) in let b = exp_counts d rest in omega (arith, a, b)
+    exp_counts (Paren line e) = exp_counts e
+    exp_counts (Table line fs) = fields_count fs
+
+    exps_count : (es : Exps) → Counts (from_exps source es) (made_in es)
+    exps_count EndExps = none_more
+    exps_count (MoreExps e es) = λ rest. let a = exp_counts e (from_exps source es rest) in let b = exps_count es rest in omega (arith, a, b)
+
+    fields_count : (fs : Fields) → Counts (from_fields source fs) (made_in_fields fs)
+    fields_count EndFields = none_more
+    fields_count (MoreFields f fs) = λ rest. let a = field_counts f (from_fields source fs rest) in let b = fields_count fs rest in omega (arith, a, b)
+
+    field_counts : (f : Field) → Counts (from_field source f) (made_by_field f)
+    field_counts (Item e) = exp_counts e
+    field_counts (Keyed line e d) = λ rest. let a = exp_counts e (from_exp source d rest) in let b = exp_counts d rest in omega (arith, a, b)
+
+  mutual
+    stat_counts : (s : Stat) → Counts (from_stat source s) (made_by_stat s)
+    stat_counts (Empty line) = none_more
+    stat_counts (Local line names es) = exps_count es
+    stat_counts (LocalFunction line name body) = λ rest. omega arith
+    stat_counts (Assign line targets es) = λ rest. let a = exps_count targets (from_exps source es rest) in let b = exps_count es rest in omega (arith, a, b)
+    stat_counts (CallStat line e) = exp_counts e
+    stat_counts (Do line block) = block_counts block
+    stat_counts (While line e block) = λ rest. let a = exp_counts e (from_block source block rest) in let b = block_counts block rest in omega (arith, a, b)
+    stat_counts (Repeat line block e) = λ rest. let a = block_counts block (from_exp source e rest) in let b = exp_counts e rest in omega (arith, a, b)
+    stat_counts (If line arms) = arms_count arms
+    stat_counts (IfElse line arms block) = λ rest. let a = arms_count arms (from_block source block rest) in let b = block_counts block rest in omega (arith, a, b)
+    stat_counts (NumFor line name from limit block) =
+        λ rest.
+        let a = exp_counts from (from_exp source limit (from_block source block rest)) in
+        let b = exp_counts limit (from_block source block rest) in
+        let c = block_counts block rest in
+        omega (arith, a, b, c)
+    stat_counts (NumForStep line name from limit step block) =
+        λ rest.
+        let a = exp_counts from (from_exp source limit (from_exp source step (from_block source block rest))) in
+        let b = exp_counts limit (from_exp source step (from_block source block rest)) in
+        let c = exp_counts step (from_block source block rest) in
+        let d = block_counts block rest in
+        omega (arith, a, b, c, d)
+    stat_counts (GenFor line names es block) = λ rest. let a = exps_count es (from_block source block rest) in let b = block_counts block rest in omega (arith, a, b)
+    stat_counts (Label line name) = none_more
+    stat_counts (Goto line name) = none_more
+    stat_counts (Break line) = none_more
+
+    arms_count : (arms : Arms) → Counts (from_arms source arms) (made_in_arms arms)
+    arms_count EndArms = none_more
+    arms_count (MoreArms e block arms) =
+        λ rest.
+        let a = exp_counts e (from_block source block (from_arms source arms rest)) in
+        let b = block_counts block (from_arms source arms rest) in
+        let c = arms_count arms rest in
+        omega (arith, a, b, c)
+
+    stats_count : (ss : Stats) → Counts (from_stats source ss) (made_in_stats ss)
+    stats_count EndStats = none_more
+    stats_count (MoreStats s ss) = λ rest. let a = stat_counts s (from_stats source ss rest) in let b = stats_count ss rest in omega (arith, a, b)
+
+    block_counts : (b : Block) → Counts (from_block source b) (made_in_block b)
+    block_counts (Falls ss tokens line) = stats_count ss
+    block_counts (Returns ss es tokens line) = λ rest. let a = stats_count ss (from_exps source es rest) in let b = exps_count es rest in omega (arith, a, b)
+
+pub body_made : FunctionsAreNumbered
+body_made source (BodyOf params vararg inner ups line) =
+    let all = block_counts source inner none in
+    ((block_made source (list_of (from_block source inner none)) inner 0 none refl).0, (omega (arith, all), refl))
+
+-- numbers of functions have 17 bits where a function makes no more
+pub near : (source : Option (List ℕ)) (fs : List Prototype) (j : ℕ) (body : Body) → length fs ≤ 2 ^ 17 → IsMade source fs j body → j < 2 ^ 17
+near source fs j body few h = let within = slice_get_within fs j (code_of source body) h in omega arith

@@ -1,5 +1,5 @@
-mod Constants
-mod Functions
+pub mod Constants
+pub mod Functions
 mod Tops
 mod Pieces
 mod Expressions
@@ -9,4 +9,7 @@ mod Simple
 mod Assigning
 mod Jumping
 mod Statements
-mod Body
+pub mod Body
+mod Counted
+pub mod Widths
+mod Example

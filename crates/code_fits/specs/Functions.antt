@@ -1,5 +1,5 @@
 -- That each function that a body makes is among the functions of its code, at its number, and that they have the body's upvalues.
-use Rattle.std.specs.Prelude.{◌≡◌, ℕ, ◌+◌, List, Option, Some, map, slice_get}
+use Rattle.std.specs.Prelude.{◌≡◌, ℕ, ◌+◌, List, Option, Some, length, map, slice_get}
 use Rattle.tree_core.specs.Tree.{Block, Falls, Returns, Body, BodyOf, Stats, EndStats, MoreStats, Stat, Empty, Local, LocalFunction, Assign, CallStat, Do, While, Repeat, If, IfElse, NumFor, NumForStep, GenFor, Label, Goto, Break, Arms, EndArms, MoreArms, Exp, Nil, True, False, Int, Str, Vararg, Function, Var, Index, Call, Method, Unary, Binary, And, Or, Paren, Table, Exps, EndExps, MoreExps, Fields, EndFields, MoreFields, Field, Item, Keyed}
 use Rattle.tree_activation.specs.Asking.{upvalues_of}
 use Rattle.code_core.specs.Prototype.{Prototype, list_of}
@@ -82,8 +82,9 @@ module _ (source : Option (List ℕ)) (functions : List Prototype) where
 abbrev pub inner_of : Body → Block
 inner_of (BodyOf params vararg inner ups line) = inner
 
--- the code of a body has the functions that its block makes, from number 0 on, and the body's upvalues
+-- the code of a body has the functions that its block makes, from number 0 on, and no others; and it has the body's upvalues
 abbrev pub FunctionsAreNumbered : Type 0
 FunctionsAreNumbered =
     (source : Option (List ℕ)) (body : Body) →
-    BlockMakes source (list_of (code_of source body).inner) (inner_of body) 0 × ((code_of source body).own.upvalues ≡ map upvalue (upvalues_of body))
+    BlockMakes source (list_of (code_of source body).inner) (inner_of body) 0
+    × ((length (list_of (code_of source body).inner) ≡ made_in_block (inner_of body)) × ((code_of source body).own.upvalues ≡ map upvalue (upvalues_of body)))

@@ -1,11 +1,14 @@
 -- That a function has the registers that its code names: `stack` of them, where t locals are in scope before a statement.
-use Rattle.std.specs.Prelude.{ℕ, ◌+◌, ◌*◌, ◌≤◌, List, length, Option, Some, None}
+use Rattle.std.specs.Prelude.{◌≡◌, ℕ, ◌+◌, ◌*◌, ◌≤◌, List, length, Option, Some, None, true, nat_lt}
+use Rattle.std.specs.List.{list_all}
 use Rattle.tree_core.specs.Tree.{Block, Falls, Returns, Body, BodyOf, Stats, EndStats, MoreStats, Stat, Empty, Local, LocalFunction, Assign, CallStat, Do, While, Repeat, If, IfElse, NumFor, NumForStep, GenFor, Label, Goto, Break, Arms, EndArms, MoreArms, Exp, Var, Index, Exps, EndExps, MoreExps}
+use Rattle.code_core.specs.declared.instruction.Instruction.{Instruction}
 use Rattle.code_core.specs.declared.proto.Const.{Const}
+use Rattle.code_core.specs.Check.{at}
 use Rattle.code_core.specs.Prototype.{Prototype}
 use Rattle.code_of.specs.Expressions.{count}
 use Rattle.code_of.specs.Levels.{level_after, levels_after, levels_in}
-use Rattle.code_of.specs.CodeOf.{code_of}
+use Rattle.code_of.specs.CodeOf.{named_by, code_of}
 use Rattle.exp_laws.specs.Placed.{room_of, room_of_list}
 use Rattle.code_fits.specs.InScope.{BodyInScope}
 use Rattle.code_fits.specs.Limits.{BodyKeepsLimits}
@@ -69,3 +72,9 @@ abbrev pub RegistersAreEnough : Type 0
 RegistersAreEnough =
     (source : Option (List ℕ)) (body : Body) → BodyInScope body → BodyKeepsLimits body →
     ((code_of source body).own.stack ≤ 250) × BodyHasRoom (code_of source body) body
+
+-- every register that an instruction names is there
+abbrev pub RegistersAreCounted : Type 0
+RegistersAreCounted =
+    (source : Option (List ℕ)) (body : Body) (pc : ℕ) (w : Instruction) → at (code_of source body) pc ≡ Some w →
+    list_all (λ r. nat_lt r (code_of source body).own.stack) (named_by w) ≡ true
