@@ -36,7 +36,8 @@ fn inner_functions_reach_the_last_variable_of_a_name(rt: HostRuntime) -> Result<
         scopes: vec![in alloc; main, middle, FunctionScope::new(alloc)]?,
     };
     for (name, index) in [(&x, 0), (&y, 1), (&x, 0)] {
-        let found = functions.reach(alloc, 3, name)?;
+        let count = functions.scopes.len();
+        let found = functions.reach(alloc, count, name)?;
         assert_eq!(rt;
             found,
             Source {
