@@ -1,2 +1,3 @@
-//! The code that a function's body is compiled to, as a definition on placed trees. The crate has no code that runs.
+//! The code that a function's body is compiled to, as a definition on placed trees. The crate has no code that runs. Its proofs
+//! have what all laws of code need: code is as long as its size says.
 #![tactic(auto)]

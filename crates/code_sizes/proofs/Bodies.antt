@@ -10,7 +10,7 @@ use Rattle.code_of.specs.Jumps.{Reach}
 use Rattle.code_of.specs.Levels.{levels_after}
 use Rattle.code_of.specs.Statements.{stats_code, whole_code}
 use Rattle.code_sizes.specs.Weight.{weight_of_block, weight_of_body}
-use Rattle.code_sizes.proofs.Sizes.{stats_sized, block_sized}
+use Rattle.code_of.proofs.Sizes.{stats_sized, block_sized}
 use Rattle.code_sizes.proofs.Statements.{stats_short, block_short}
 
 opening_short : (vararg : Bool) (params line : ℕ) → length (opening vararg params line) ≤ 1

@@ -20,7 +20,7 @@ use Rattle.exp_laws.proofs.Talking.{Agree, go_left, of_tree, of_code}
 use Rattle.exp_laws.proofs.Placing.{HasAt, has_front, has_back}
 use Rattle.stat_laws.proofs.Closing.{AllBelow}
 use Rattle.stat_laws.proofs.Standing.{strong, AllFrom, from_lower, from_more, below_higher, Standing, GoesOn, goes_from}
-use Rattle.stat_laws.proofs.Sizes.{stat_sized}
+use Rattle.code_of.proofs.Sizes.{stat_sized}
 use Rattle.stat_laws.proofs.Naming.{StatIsNamed, StatsAreNamed}
 use Rattle.stat_laws.specs.Scoped.{Named, names_ahead, StatIsPlaced, StatsArePlaced}
 use Rattle.stat_laws.proofs.Labels.{closed_numbers, closed_after, IsNoLabel, level_rises, level_still, runs_stat, passed_other, named_other, Jumps, jumps_within, point, RunGoes, AllAhead, all_other, AllPassed, passed_within, rest_jumps}

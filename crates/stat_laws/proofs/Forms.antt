@@ -36,7 +36,7 @@ use Rattle.stat_laws.proofs.Closing.{AllBelow, ends_goes}
 use Rattle.stat_laws.proofs.Standing.{strong, numbers, AllFrom, from_lower, from_more, part, ascends_under, Standing, GoesOn, goes_fewer, goes_from, back_goes, lands_ahead, below_higher}
 use Rattle.stat_laws.proofs.Naming.{BlockIsNamed, ArmsAreNamed}
 use Rattle.stat_laws.specs.Scoped.{Named, ArmsArePlaced, BlockIsPlaced}
-use Rattle.stat_laws.proofs.Sizes.{past_sized, block_sized, arms_sized, stats_sized}
+use Rattle.code_of.proofs.Sizes.{past_sized, block_sized, arms_sized, stats_sized}
 use Rattle.stat_laws.proofs.Labels.{Jumps, jumps_within}
 use Rattle.stat_laws.proofs.Blocks.{has_some, Added, added_all, added_none, levels_rise, closeds_after, StatLaw, StatsLaw}
 

@@ -40,7 +40,7 @@ use Rattle.exp_laws.proofs.Steps.{own_step, go_step}
 use Rattle.exp_laws.proofs.Calls.{filled, values_step}
 use Rattle.exp_laws.proofs.Marking.{with_one, GoesMarked}
 use Rattle.exp_laws.proofs.Exps.{exps_same}
-use Rattle.stat_laws.proofs.Sizes.{block_sized}
+use Rattle.code_of.proofs.Sizes.{block_sized}
 use Rattle.stat_laws.proofs.Closing.{AllBelow, close_goes}
 use Rattle.stat_laws.proofs.Standing.{strong, part, ascends_under, below_higher, Standing, goes_fewer}
 use Rattle.stat_laws.proofs.Labels.{Jumps, jumps_within}

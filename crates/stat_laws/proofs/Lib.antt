@@ -1,4 +1,3 @@
-mod Sizes
 mod Naming
 mod Alive
 mod Scopes

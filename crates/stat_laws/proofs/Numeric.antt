@@ -34,7 +34,7 @@ use Rattle.exp_laws.proofs.Leaving.{faults_alike}
 use Rattle.exp_laws.proofs.Going.{next_there, at_place}
 use Rattle.exp_laws.proofs.Steps.{go_step}
 use Rattle.stat_laws.specs.Scoped.{Named, IsNear, BlockIsPlaced}
-use Rattle.stat_laws.proofs.Sizes.{block_sized}
+use Rattle.code_of.proofs.Sizes.{block_sized}
 use Rattle.stat_laws.proofs.Naming.{BlockIsNamed}
 use Rattle.stat_laws.proofs.Closing.{AllBelow, cut, cut_none, length_take, rel_left, leave_done}
 use Rattle.stat_laws.proofs.Standing.{strong, numbers, ascends_under, below_higher, Standing, GoesOn, goes_fewer}

@@ -36,7 +36,7 @@ use Rattle.exp_laws.proofs.Steps.{row_step}
 use Rattle.exp_laws.proofs.LastCalls.{call_last_same, method_last_same}
 use Rattle.stat_laws.proofs.Standing.{numbers, GoesOn}
 use Rattle.stat_laws.specs.Scoped.{ListIsPlaced, LastIsPlaced, ReturnIsPlaced}
-use Rattle.stat_laws.proofs.Sizes.{stats_sized}
+use Rattle.code_of.proofs.Sizes.{stats_sized}
 use Rattle.stat_laws.proofs.Labels.{closed_after, Jumps}
 use Rattle.stat_laws.proofs.Blocks.{has_some, no_some, closeds_after, known_after, added_none, StatLaw, StatsLaw}
 use Rattle.stat_laws.proofs.Forms.{BlockLaw, below_level, loop_jumps}

@@ -18,7 +18,7 @@ use Rattle.code_of.specs.CodeOf.{back_field, opening, body_code, code_of}
 use Rattle.code_of.specs.Constants.{of_block}
 use Rattle.code_of.specs.Statements.{stats_code, whole_code}
 use Rattle.stat_laws.specs.Fits.{is_known}
-use Rattle.stat_laws.proofs.Sizes.{stats_sized, block_sized}
+use Rattle.code_of.proofs.Sizes.{stats_sized, block_sized}
 use Rattle.code_of.specs.Sizes.{stat_size, arms_size, stats_size, block_size, open_size}
 use Rattle.code_of.specs.Variables.{names_of, variables, hidden, looped, declared_by, within_stat, within_arms, within_stats, within_block, within_open}
 use Rattle.stat_laws.proofs.Naming.{StatIsNamed, ArmsAreNamed, StatsAreNamed, BlockIsNamed, OpenIsNamed}

@@ -36,7 +36,7 @@ use Rattle.exp_laws.proofs.Placing.{HasAt, has_front, has_back}
 use Rattle.exp_laws.proofs.Going.{next_there}
 use Rattle.exp_laws.proofs.Steps.{row_step, go_step}
 use Rattle.stat_laws.proofs.Standing.{strong}
-use Rattle.stat_laws.proofs.Sizes.{stats_sized}
+use Rattle.code_of.proofs.Sizes.{stats_sized}
 use Rattle.stat_laws.proofs.Labels.{Jumps}
 use Rattle.stat_laws.proofs.Blocks.{added_none}
 use Rattle.stat_laws.proofs.Returns.{return_step, return_ends, return_some}
