@@ -5,5 +5,5 @@ mod Storing
 mod Turning
 mod Ticking
 mod Runs
-mod Begun
-mod Letter
+pub mod Begun
+pub mod Letter

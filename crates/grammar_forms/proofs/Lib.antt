@@ -1,4 +1,4 @@
 mod Keeping
 mod Parts
-mod Readings
-mod Placed
+pub mod Readings
+pub mod Placed

@@ -8,4 +8,4 @@ mod Ticks
 pub mod Endings
 mod Opened
 pub mod Sides
-mod Openings
+pub mod Openings

@@ -16,4 +16,4 @@ mod PlacedBlocks
 mod PlacedLines
 mod Rules
 mod Fitting
-mod Whole
+pub mod Whole

@@ -21,5 +21,5 @@ mod Bounds
 mod Statements
 mod Lines
 mod Raised
-mod Whole
+pub mod Whole
 mod Example
