@@ -1,0 +1,12 @@
+// Cases of sources, from their bytes to trees: what no clause of the crates up to the parser says.
+// They stand in a crate of their own, so that the crates are not proved once more for them.
+#![tactic(auto)]
+
+#[cfg(test)]
+mod levels;
+#[cfg(test)]
+mod tokens;
+#[cfg(test)]
+mod trees;
+#[cfg(test)]
+mod words;
