@@ -4,3 +4,5 @@
 
 #[cfg(test)]
 mod expressions;
+#[cfg(test)]
+mod statements;

@@ -3,3 +3,4 @@ pub mod Joining
 pub mod Rows
 pub mod Ends
 pub mod Going
+pub mod Patching

@@ -1,9 +1,10 @@
 // The code of a function while it is written.
-ghost use Rattle.std.specs.Prelude.{◌≡◌, ◌+◌, ℕ, List, false, [], ◌∷◌, OnOk, IfOk, length};
+ghost use Rattle.std.specs.Prelude.{◌≡◌, ◌+◌, ◌-◌, ℕ, List, false, [], ◌∷◌, OnOk, IfOk, length};
 ghost use Rattle.code_core.specs.declared.opcode.Opcode.TheVariants.{Closure};
 ghost use Rattle.code_core.specs.Instruction.{abc, op_ax};
-ghost use Rattle.code_of.specs.Coded.{Coded, with_abc, with_abx, jump_over};
+ghost use Rattle.code_of.specs.Coded.{Coded, with_abc, with_abx, jump_over, jump_back};
 ghost use Rattle.code_expr.specs.Listing.{Listing, listed, followed, put};
+ghost use Rattle.code_expr.specs.Patches.{set, replaced, jump_to};
 
 use crate::constants::Constants;
 use crate::word::{word_abc, word_abx, word_ax};
@@ -146,6 +147,59 @@ impl Emitter {
             let places = self.steps.len() - place - 1;
             self.steps[place].instruction = word_ax(Opcode::Jmp, 16777215 + places);
         }
+    }
+
+    /// Takes back the code from a place on. The functions that it makes stay counted.
+    pub fn cut(&mut self, place: usize)
+        ensures { (before : Listing) (code : List Coded) (made : ℕ) → place ≡ length before.steps → self.old ≡ followed before code made → self.new ≡ followed before [] made }
+    {
+        self.steps.truncate(place);
+    }
+
+    /// Puts a jump back to an earlier place last.
+    pub fn put_jump_back(&mut self, to: usize, line: u32) -> Result<(), AllocError>
+        ensures { OnOk result (self.new ≡ listed self.old (jump_back (length self.old.steps + 1 - to) line ∷ [])) }
+    {
+        let places = (self.steps.len() + 1).saturating_sub(to);
+        self.put_ax(Opcode::Jmp, 16777215usize.saturating_sub(places), line)
+    }
+
+    /// Puts another instruction at a place.
+    fn set(&mut self, place: usize, instruction: Instruction, line: u32)
+        ensures { self.new ≡ set self.old place (record { instruction = instruction; line = line }) }
+    {
+        if place < self.steps.len() {
+            self.steps[place] = Step { instruction, line };
+        }
+    }
+
+    /// Puts another instruction with three fields at a place.
+    pub fn set_abc(&mut self, place: usize, op: Opcode, a: usize, b: usize, c: usize, line: u32)
+        ensures { self.new ≡ replaced self.old place (with_abc op a b c line) }
+    {
+        self.set(place, word_abc(op, a, b, c, false), line);
+    }
+
+    /// Puts another instruction with a field Bx at a place.
+    pub fn set_abx(&mut self, place: usize, op: Opcode, a: usize, bx: usize, line: u32)
+        ensures { self.new ≡ replaced self.old place (with_abx op a bx line) }
+    {
+        self.set(place, word_abx(op, a, bx), line);
+    }
+
+    /// Puts a jump to some place at another.
+    pub fn set_jump(&mut self, place: usize, to: usize, line: u32) -> Result<(), AllocError>
+        ensures { OnOk result (self.new ≡ replaced self.old place (jump_to place to line)) }
+    {
+        let behind = next(place)?;
+        if behind <= to {
+            let places = (to - behind).checked_add(16777215).ok_or(AllocError)?;
+            self.set(place, word_ax(Opcode::Jmp, places), line);
+            return Ok(());
+        }
+        let places = 16777215usize.saturating_sub(behind - to);
+        self.set(place, word_ax(Opcode::Jmp, places), line);
+        Ok(())
     }
 
     /// Puts the making of the next inner function last.

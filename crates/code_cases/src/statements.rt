@@ -1,0 +1,131 @@
+// The words of whole sources, worked out by hand from the opcodes and fields that lopcodes.h of Lua 5.4 has.
+use code_expr::{Constants, Emitter};
+use code_stat::write_body;
+use lua_lex::tokens;
+use lua_parse::parse;
+use lua_scope::resolve;
+use scope_core::Resolved;
+use std::alloc::{AllocError, Global};
+use std::test::Fail;
+
+// Sources without constants, and the words of their code.
+static WORDS: [(&[u8], &[u32]); 8] = [
+    (
+        b"while true do break end",
+        &[
+            0x51,
+            0x07,
+            0x42,
+            0x8000_0138,
+            0x36,
+            0x8000_0038,
+            0x7fff_fcb8,
+            0x0101_0046,
+        ],
+    ),
+    (
+        b"for i = 1, 2 do end",
+        &[
+            0x51,
+            0x8000_0001,
+            0x8000_8081,
+            0x8000_0101,
+            0x804a,
+            0x01b6,
+            0x0001_0049,
+            0x0101_0046,
+        ],
+    ),
+    (b"goto a ::a::", &[0x51, 0x36, 0x7fff_ffb8, 0x0101_0046]),
+    (
+        b"repeat local x until x",
+        &[
+            0x51,
+            0x08,
+            0x80,
+            0x80c2,
+            0x8000_00b8,
+            0x36,
+            0x7fff_fcb8,
+            0x36,
+            0x0101_0046,
+        ],
+    ),
+    (
+        b"local x if x then x = nil else x = 1 end",
+        &[
+            0x51,
+            0x08,
+            0x80,
+            0xc2,
+            0x8000_0138,
+            0x0188,
+            0x0003_0000,
+            0x8000_00b8,
+            0x8000_0181,
+            0x0003_0000,
+            0x0101_00c6,
+        ],
+    ),
+    (
+        b"local x if x then x = nil else ; end",
+        &[
+            0x51,
+            0x08,
+            0x80,
+            0xc2,
+            0x8000_00b8,
+            0x0188,
+            0x0003_0000,
+            0x0101_00c6,
+        ],
+    ),
+    (
+        b"local f return f()",
+        &[0x51, 0x08, 0x80, 0x0001_00c5, 0x0100_00c6],
+    ),
+    (
+        b"local f for k in f do end",
+        &[
+            0x51,
+            0x08,
+            0x80,
+            0x0002_0108,
+            0x80cb,
+            0x02b6,
+            0x0100_00cc,
+            0x0001_80cd,
+            0xb6,
+            0x0101_00c6,
+        ],
+    ),
+];
+
+fn words(emitter: &Emitter, alloc: Global) -> Result<Vec<u32>, AllocError> {
+    let mut words = Vec::new(alloc);
+    for step in emitter.steps().iter() {
+        words.push(step.instruction.0)?;
+    }
+    Ok(words)
+}
+
+fn source_words(alloc: Global, source: &[u8]) -> Result<Vec<u32>, Fail> {
+    let list = tokens(alloc, source)?;
+    let Ok(block) = parse(alloc, &list) else {
+        return Err(Fail::from("no tree"));
+    };
+    let Ok(Resolved { main }) = resolve(alloc, block) else {
+        return Err(Fail::from("against the rules"));
+    };
+    let emitter = write_body(alloc, Constants::new(alloc), &main)?;
+    Ok(words(&emitter, alloc)?)
+}
+
+#[test]
+fn sources_have_their_words(rt: HostRuntime) -> Result<(), Fail> {
+    for (source, expected) in WORDS.iter().copied() {
+        let words = source_words(rt.alloc(), source)?;
+        assert_eq!(rt; words.as_slice(), expected);
+    }
+    Ok(())
+}

@@ -1,0 +1,84 @@
+-- The ends of blocks, behind their statements.
+use Rattle.std.proofs.Common.{arith, ℕ, ◌+◌, ◌≡◌, Bool, true, false, List, [], ◌++◌, refl, sym, ap, ap₂, ◌∙◌, subst, length}
+use Rattle.std.proofs.lemmas.List.{append-nil}
+use Rattle.tree_core.specs.Tree.{Falls, Returns, Stat, Stats, Exps}
+use Rattle.code_of.specs.Coded.{Coded}
+use Rattle.code_of.specs.Expressions.{made_in}
+use Rattle.code_of.specs.Jumps.{Reach}
+use Rattle.code_of.specs.Levels.{made_by_stat, made_in_stats, levels_after, closings_after}
+use Rattle.code_of.specs.Parts.{close_code, return_code}
+use Rattle.code_of.specs.Statements.{stat_code, stats_code}
+use Rattle.code_expr.specs.Listing.{followed, listed}
+use Rattle.code_expr.proofs.Joining.{none_made}
+use Rattle.code_stat.specs.declared.writer.Writer.{Writer}
+use Rattle.code_stat.specs.Drafts.{Wrote, WroteStat, WroteStats, WroteBlock, WroteOpen}
+use Rattle.code_stat.proofs.Blocks.{nowhere}
+use Rattle.code_stat.proofs.Drafting.{Form, formed, draft_sized, recoded, plainly, then_wrote, then_formed}
+
+pub remade : (a b : Writer) (m n : ℕ) (f : Reach → List Coded) → m ≡ n → Wrote a b m f → Wrote a b n f
+remade a b m n f e w = subst (λ k. Wrote a b k f) e w
+
+none_more : (n : ℕ) → n + 0 ≡ n
+none_more n = omega arith
+
+pub nothing_wrote : (a : Writer) → Wrote a a 0 (λ reach. [])
+nothing_wrote a =
+    plainly a a 0 []
+    (ap (λ xs. record { constants = a.emitter.constants; steps = xs; made = a.emitter.made }) (sym (append-nil a.emitter.steps)) ∙ sym (none_made a.emitter [])) refl refl
+
+pub falls_wrote :
+    (a q b : Writer) (ss : Stats) (tokens line : ℕ) (closing : Bool) (outer level end : ℕ)
+    → WroteStats a q ss true closing outer level → end ≡ levels_after ss level
+    → b.emitter ≡ listed q.emitter (close_code outer end line) → b.jumps.items ≡ q.jumps.items → b.back ≡ q.back
+    → WroteBlock a b (Falls ss tokens line) closing outer level
+falls_wrote a q b ss tokens line closing outer level end w end_is e jumps back =
+    let m = made_in_stats ss in
+    let close = close_code outer (levels_after ss level) line in
+    let closed : b.emitter ≡ followed q.emitter close 0 = e ∙ ap (λ n. listed q.emitter (close_code outer n line)) end_is ∙ sym (none_made q.emitter close) in
+    remade a b (m + 0) m (λ reach. stats_code a.emitter.constants a.back ss true closing outer level a.emitter.made (length a.emitter.steps) [] reach ++ close) (none_more m)
+    (then_wrote a q b m 0 (λ reach. stats_code a.emitter.constants a.back ss true closing outer level a.emitter.made (length a.emitter.steps) [] reach) (λ reach. close) w (plainly q b 0 close closed jumps back))
+
+abbrev return_form : Stats → Exps → (closing : Bool) → (level line : ℕ) → Form
+return_form ss es closing level line k back j pc reach = return_code k (closings_after ss closing) es (levels_after ss level) j line back
+
+last_wrote :
+    (a q b : Writer) (ss : Stats) (es : Exps) (line : ℕ) (closing closing' : Bool) (outer level end back : ℕ)
+    → WroteStats a q ss false closing outer level → end ≡ levels_after ss level → closing' ≡ closings_after ss closing → back ≡ q.back
+    → b.emitter ≡ followed q.emitter (return_code q.emitter.constants closing' es end q.emitter.made line back) (made_in es) → b.jumps.items ≡ q.jumps.items → b.back ≡ q.back
+    → Wrote a b (made_in_stats ss + made_in es) (λ reach. stats_code a.emitter.constants a.back ss false closing outer level a.emitter.made (length a.emitter.steps) [] reach
+    ++ return_code a.emitter.constants (closings_after ss closing) es (levels_after ss level) (a.emitter.made + made_in_stats ss) line a.back)
+last_wrote a q b ss es line closing closing' outer level end back w end_is closing_is back_is e jumps kept =
+    let returned : b.emitter ≡ followed q.emitter (return_code q.emitter.constants (closings_after ss closing) es (levels_after ss level) q.emitter.made line q.back) (made_in es) =
+    e
+    ∙ ap₂ (λ c n. followed q.emitter (return_code q.emitter.constants c es n q.emitter.made line back) (made_in es)) closing_is end_is
+    ∙ ap (λ k. followed q.emitter (return_code q.emitter.constants (closings_after ss closing) es (levels_after ss level) q.emitter.made line k) (made_in es)) back_is in
+    then_formed a q b (made_in_stats ss) (made_in es) (length w.draft) (λ reach. stats_code a.emitter.constants a.back ss false closing outer level a.emitter.made (length a.emitter.steps) [] reach) (return_form ss es closing level line) w refl
+    (plainly q b (made_in es) (return_code q.emitter.constants (closings_after ss closing) es (levels_after ss level) q.emitter.made line q.back) returned jumps kept)
+
+pub returns_wrote :
+    (a q b : Writer) (ss : Stats) (es : Exps) (tokens line : ℕ) (closing closing' : Bool) (outer level end back : ℕ)
+    → WroteStats a q ss false closing outer level → end ≡ levels_after ss level → closing' ≡ closings_after ss closing → back ≡ q.back
+    → b.emitter ≡ followed q.emitter (return_code q.emitter.constants closing' es end q.emitter.made line back) (made_in es) → b.jumps.items ≡ q.jumps.items → b.back ≡ q.back
+    → WroteBlock a b (Returns ss es tokens line) closing outer level
+returns_wrote a q b ss es tokens line closing closing' outer level end back w end_is closing_is back_is e jumps kept = last_wrote a q b ss es line closing closing' outer level end back w end_is closing_is back_is e jumps kept
+
+pub open_returns :
+    (a q b : Writer) (ss : Stats) (es : Exps) (tokens line : ℕ) (closing closing' : Bool) (level end back : ℕ)
+    → WroteStats a q ss false closing level level → end ≡ levels_after ss level → closing' ≡ closings_after ss closing → back ≡ q.back
+    → b.emitter ≡ followed q.emitter (return_code q.emitter.constants closing' es end q.emitter.made line back) (made_in es) → b.jumps.items ≡ q.jumps.items → b.back ≡ q.back
+    → WroteOpen a b (Returns ss es tokens line) closing level
+open_returns a q b ss es tokens line closing closing' level end back w end_is closing_is back_is e jumps kept = last_wrote a q b ss es line closing closing' level level end back w end_is closing_is back_is e jumps kept
+
+-- the values of a `for`, and its rounds
+
+pub range_wrote :
+    (a q b : Writer) (s : Stat) (start : List Coded) (m n : ℕ) (closing : Bool) (level : ℕ) (g : Form)
+    → q.emitter ≡ followed a.emitter start m → q.jumps.items ≡ a.jumps.items → q.back ≡ a.back → Wrote q b n (formed g q)
+    → made_by_stat s ≡ m + n
+    → ((reach : Reach) → start ++ g a.emitter.constants a.back (a.emitter.made + m) (length a.emitter.steps + length start) reach ≡ stat_code a.emitter.constants a.back s closing level a.emitter.made (length a.emitter.steps) reach)
+    → WroteStat a b s closing level
+range_wrote a q b s start m n closing level g e jumps back w made code =
+    let begun : Wrote a q m (λ reach. start) = plainly a q m start e jumps back in
+    remade a b (m + n) (made_by_stat s) (λ reach. stat_code a.emitter.constants a.back s closing level a.emitter.made (length a.emitter.steps) reach) (sym made)
+    (recoded a b (m + n) (λ reach. start ++ g a.emitter.constants a.back (a.emitter.made + m) (length a.emitter.steps + length start) reach) _
+    (then_formed a q b m n (length start) (λ reach. start) g begun (sym (draft_sized a q m (λ reach. start) begun nowhere)) w) code)

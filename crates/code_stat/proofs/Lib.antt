@@ -1,0 +1,15 @@
+pub mod Going
+pub mod Returning
+pub mod Leading
+pub mod Sizes
+pub mod Drafting
+pub mod Blocks
+pub mod Scoping
+pub mod Jumping
+pub mod Ends
+pub mod Looping
+pub mod Lists
+pub mod Heights
+pub mod Choosing
+pub mod Plain
+pub mod Filling

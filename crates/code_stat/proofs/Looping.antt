@@ -1,0 +1,392 @@
+-- Loops: a block between the code in front of it and the code behind it, whose `break`s lead to a place behind.
+use Rattle.std.proofs.Common.{arith, ℕ, ◌+◌, ◌-◌, ◌≡◌, Bool, true, List, [], ◌∷◌, ◌++◌, refl, sym, ap, ap₂, ◌∙◌, subst, append_assoc, length, take, drop, Option, Some, None}
+use Rattle.std.proofs.lemmas.List.{length-append}
+use Rattle.std.proofs.Math.Seq.{set-append_seam}
+use Rattle.tree_core.specs.declared.name.Name.{Name}
+use Rattle.tree_core.specs.Tree.{Block, Exp, Exps, While, Repeat, NumFor, NumForStep, GenFor}
+use Rattle.tree_core.specs.Plain.{num_for_of}
+use Rattle.tree_activation.specs.Activation.{line_of_end}
+use Rattle.code_core.specs.declared.opcode.Opcode.TheVariants.{Test, Close, ForLoop, ForPrep, TForPrep, TForCall, TForLoop}
+use Rattle.code_core.specs.declared.proto.Const.{Const}
+use Rattle.code_core.specs.Instruction.{abc}
+use Rattle.code_of.specs.Coded.{Coded, with_abc, with_abx, jump_over, jump_back}
+use Rattle.code_of.specs.Expressions.{made_by, made_in, exp_code, exps_code}
+use Rattle.code_of.specs.Jumps.{Reach}
+use Rattle.code_of.specs.Levels.{made_in_block, levels_in}
+use Rattle.code_of.specs.Parts.{close_code, while_code, counting_code, iterating_code, bounds_code, steps_code}
+use Rattle.code_of.specs.Sizes.{stat_size, block_size, open_size}
+use Rattle.code_of.specs.Statements.{in_loop, stat_code, block_code, open_code}
+use Rattle.code_expr.specs.declared.emitter.Step.{Step}
+use Rattle.code_expr.specs.Listing.{Listing, followed, listed, step, steps}
+use Rattle.code_expr.specs.Patches.{replaced}
+use Rattle.code_expr.proofs.Joining.{listing, jumped, after, both_listed, none_made, listed_after, then_listed}
+use Rattle.code_stat.specs.declared.writer.Writer.{Writer}
+use Rattle.code_stat.specs.Drafts.{arrives, fill, Wrote, WroteStat, WroteBlock, WroteOpen}
+use Rattle.code_stat.specs.Forms.{until_code, counted_code, iterated_code, range_code, made_in_range}
+use Rattle.code_stat.proofs.Sizes.{block_sized, open_sized, close_sized}
+use Rattle.code_stat.proofs.Going.{two_listed, nothing}
+use Rattle.code_stat.proofs.Blocks.{nowhere}
+use Rattle.code_stat.proofs.Ends.{range_wrote}
+use Rattle.code_stat.proofs.Drafting.{Form, formed, draft_sized, recoded, enclosed, led_anew, behind_seam, written_sized}
+
+pub form_at :
+    (g : Form) (a p : Writer) (m : ℕ) (code : List Coded) (n : ℕ) → p.emitter ≡ followed a.emitter code m → p.back ≡ a.back → length code ≡ n
+    → (reach : Reach) → formed g p reach ≡ g a.emitter.constants a.back (a.emitter.made + m) (length a.emitter.steps + n) reach
+form_at g a p m code n e k h reach =
+    ap (λ s. g s.constants p.back s.made (length p.emitter.steps) reach) e
+    ∙ ap (λ b. g a.emitter.constants b (a.emitter.made + m) (length p.emitter.steps) reach) k
+    ∙ ap (λ l. g a.emitter.constants a.back (a.emitter.made + m) l reach) (written_sized a.emitter p.emitter code m e ∙ ap (λ l. length a.emitter.steps + l) h)
+
+-- a loop has ended: its code is this, and its `break`s lead behind it
+pub record Ended (q b : Writer) (s : Listing) (first t : ℕ) : Type 0 where
+  pub emitter_is : b.emitter ≡ s
+  pub back_is : b.back ≡ q.back
+  pub front : take first b.jumps.items ≡ take first q.jumps.items
+  pub leads : (reach : Reach) (xs : List Step) → fill (arrives reach) (drop first b.jumps.items) xs ≡ fill (arrives (in_loop reach (length s.steps) t)) (drop first q.jumps.items) xs
+
+ended_wrote :
+    (a p q b : Writer) (s : Listing) (m n total t : ℕ) (g : Form) (w : Wrote p q n (formed g p)) (x0 x y : List Coded)
+    → p.emitter ≡ followed a.emitter x0 m → length x0 ≡ length x → p.jumps.items ≡ a.jumps.items → p.back ≡ a.back
+    → s ≡ followed a.emitter (x ++ (w.draft ++ y)) total → Ended q b s (length a.jumps.items) t
+    → Wrote a b total (λ reach. x ++ (g a.emitter.constants a.back (a.emitter.made + m) (length a.emitter.steps + length x) (in_loop reach (length s.steps) t) ++ y))
+ended_wrote a p q b s m n total t g w x0 x y p_is same jumps back s_is d =
+    let old : q.jumps.items ≡ a.jumps.items ++ w.jumps = w.jumps_are ∙ ap (λ l. l ++ w.jumps) jumps in
+    recoded a b total (λ reach. x ++ (formed g p (in_loop reach (length s.steps) t) ++ y)) _
+    (enclosed a p q b total n (formed g p) w x y (drop (length a.jumps.items) b.jumps.items) (λ reach. in_loop reach (length s.steps) t)
+    (written_sized a.emitter p.emitter x0 m p_is ∙ ap (λ l. length a.emitter.steps + l) same) (d.emitter_is ∙ s_is)
+    (led_anew a.jumps.items q.jumps.items b.jumps.items w.jumps old d.front) (d.back_is ∙ w.back_is ∙ back)
+    (λ reach xs. d.leads reach xs ∙ ap (λ js. fill (arrives (in_loop reach (length s.steps) t)) js xs) (behind_seam a.jumps.items q.jumps.items w.jumps old)))
+    (λ reach. ap (λ c. x ++ (c ++ y)) (form_at g a p m x0 (length x) p_is back same (in_loop reach (length s.steps) t)))
+
+pub looped :
+    (a p q b : Writer) (s : Listing) (m n total first t : ℕ) (g : Form) (w : Wrote p q n (formed g p)) (x0 x y : List Coded)
+    → p.emitter ≡ followed a.emitter x0 m → length x0 ≡ length x → p.jumps.items ≡ a.jumps.items → p.back ≡ a.back
+    → s ≡ followed a.emitter (x ++ (w.draft ++ y)) total → first ≡ length a.jumps.items → Ended q b s first t
+    → Wrote a b total (λ reach. x ++ (g a.emitter.constants a.back (a.emitter.made + m) (length a.emitter.steps + length x) (in_loop reach (length s.steps) t) ++ y))
+looped a p q b s m n total first t g w x0 x y p_is same jumps back s_is first_is d = ended_wrote a p q b s m n total t g w x0 x y p_is same jumps back s_is (subst (λ f. Ended q b s f t) first_is d)
+
+none_more : (n : ℕ) → n + 0 ≡ n
+none_more n = omega arith
+
+abbrev pub block_form : Block → (closing : Bool) → (outer t : ℕ) → Form
+block_form block closing outer t k back j pc reach = block_code k back block closing outer t j pc reach
+
+pub block_long :
+    (a p q : Writer) (m x n : ℕ) (block : Block) (closing : Bool) (outer t : ℕ) (code : List Coded) (w : Wrote p q n (formed (block_form block closing outer t) p))
+    → p.emitter ≡ followed a.emitter code m → p.back ≡ a.back → length code ≡ x
+    → length w.draft ≡ block_size a.emitter.constants a.back block closing outer t (a.emitter.made + m)
+block_long a p q m x n block closing outer t code w e k h =
+    sym (draft_sized p q n (formed (block_form block closing outer t) p) w nowhere)
+    ∙ ap length (form_at (block_form block closing outer t) a p m code x e k h nowhere)
+    ∙ block_sized a.emitter.constants a.back block closing outer t (a.emitter.made + m) (length a.emitter.steps + x) nowhere
+
+-- `while`
+
+abbrev pub while_front : (test : List Coded) → (places t line : ℕ) → List Coded
+while_front test places t line = test ++ (with_abc Test t 0 0 line ∷ jump_over places line ∷ [])
+
+while_form :
+    (test block : List Coded) (t line d places : ℕ) → d ≡ length block + 1 → places ≡ length test + length block + 3
+    → while_front test d t line ++ (block ++ jump_back places line ∷ []) ≡ while_code test block t line
+while_form test block t line d places d_is places_is =
+    append_assoc test (with_abc Test t 0 0 line ∷ jump_over d line ∷ []) (block ++ jump_back places line ∷ [])
+    ∙ ap₂ (λ u v. test ++ (with_abc Test t 0 0 line ∷ jump_over u line ∷ (block ++ jump_back v line ∷ []))) d_is places_is
+
+while_is :
+    (k : List Const) (back : ℕ) (e : Exp) (block : Block) (closing : Bool) (t line j pc d x places end : ℕ) (reach : Reach)
+    → x ≡ length (exp_code k e t j 2) + 2 → d ≡ block_size k back block closing t t (j + made_by e) + 1
+    → places ≡ length (exp_code k e t j 2) + block_size k back block closing t t (j + made_by e) + 3
+    → end ≡ pc + (length (exp_code k e t j 2) + (block_size k back block closing t t (j + made_by e) + 3))
+    → while_front (exp_code k e t j 2) d t line ++ (block_code k back block closing t t (j + made_by e) (pc + x) (in_loop reach end t) ++ jump_back places line ∷ []) ≡ stat_code k back (While line e block) closing t j pc reach
+while_is k back e block closing t line j pc d x places end reach x_is d_is places_is end_is =
+    let test = exp_code k e t j 2 in
+    let inner : List Coded = block_code k back block closing t t (j + made_by e) (pc + length test + 2) (in_loop reach (pc + stat_size k back (While line e block) closing t j) t) in
+    let size : length inner ≡ block_size k back block closing t t (j + made_by e) = block_sized k back block closing t t (j + made_by e) (pc + length test + 2) (in_loop reach (pc + stat_size k back (While line e block) closing t j) t) in
+    let place : pc + x ≡ pc + length test + 2 = omega (arith, x_is) in
+    ap₂ (λ n m. while_front test d t line ++ (block_code k back block closing t t (j + made_by e) n (in_loop reach m t) ++ jump_back places line ∷ [])) place end_is
+    ∙ while_form test inner t line d places (d_is ∙ ap (λ n. n + 1) (sym size)) (places_is ∙ ap (λ n. length test + n + 3) (sym size))
+
+pub while_wrote :
+    (a p q b : Writer) (s1 s2 s5 s6 : Listing) (e : Exp) (block : Block) (closing : Bool) (t line place start first : ℕ)
+    → start ≡ length a.emitter.steps → first ≡ length a.jumps.items
+    → s1 ≡ followed a.emitter (exp_code a.emitter.constants e t a.emitter.made 2) (made_by e)
+    → s2 ≡ listed s1 (with_abc Test t 0 0 line ∷ [])
+    → p.emitter ≡ listed s2 (jump_over 0 line ∷ []) → place ≡ length s2.steps → p.jumps.items ≡ a.jumps.items → p.back ≡ a.back
+    → WroteBlock p q block closing t t
+    → s5 ≡ listed q.emitter (jump_back (length q.emitter.steps + 1 - start) line ∷ [])
+    → ((before : Listing) (line : ℕ) (code : List Coded) (made : ℕ) → place ≡ length before.steps → s5 ≡ followed (listed before (jump_over 0 line ∷ [])) code made → s6 ≡ followed before (jump_over (length code) line ∷ code) made)
+    → Ended q b s6 first t
+    → WroteStat a b (While line e block) closing t
+while_wrote a p q b s1 s2 s5 s6 e block closing t line place start first start_is first_is e1 e2 e3 place_is jumps back w e5 lands end =
+    let k = a.emitter.constants in
+    let j = a.emitter.made in
+    let pc = length a.emitter.steps in
+    let test = exp_code k e t j 2 in
+    let size = block_size k a.back block closing t t (j + made_by e) in
+    let m = made_in_block block in
+    let places = length q.emitter.steps + 1 - start in
+    let behind = jump_back places line ∷ [] in
+    let d = length w.draft + 1 in
+    let tests = with_abc Test t 0 0 line in
+    let p_is : p.emitter ≡ followed a.emitter (while_front test 0 t line) (made_by e) =
+    then_listed a.emitter s1 p.emitter test (made_by e) (λ k. tests ∷ jump_over 0 line ∷ []) e1 (two_listed s1 s2 p.emitter tests (jump_over 0 line) e2 e3) in
+    let x_long : length (while_front test d t line) ≡ length test + 2 = length-append test (tests ∷ jump_over d line ∷ []) in
+    let same : length (while_front test 0 t line) ≡ length (while_front test d t line) = length-append test (tests ∷ jump_over 0 line ∷ []) ∙ sym x_long in
+    let five : s5 ≡ followed p.emitter (w.draft ++ behind) m = e5 ∙ ap (λ s. listed s behind) w.emitter_is ∙ listed_after p.emitter w.draft m behind in
+    let whole : s6 ≡ followed a.emitter (test ++ (tests ∷ jump_over (length (w.draft ++ behind)) line ∷ (w.draft ++ behind))) (made_by e + m) =
+    jumped a.emitter s1 s2 p.emitter s5 s6 test (made_by e) tests line (λ k j. w.draft ++ behind) m place e1 e2 e3 place_is five lands in
+    let placed : s6 ≡ followed a.emitter (while_front test d t line ++ (w.draft ++ behind)) (made_by e + m) =
+    whole
+    ∙ ap (λ n. followed a.emitter (test ++ (tests ∷ jump_over n line ∷ (w.draft ++ behind))) (made_by e + m)) (length-append w.draft behind)
+    ∙ ap (λ c. followed a.emitter c (made_by e + m)) (sym (append_assoc test (tests ∷ jump_over d line ∷ []) (w.draft ++ behind))) in
+    let long : length w.draft ≡ size = block_long a p q (made_by e) (length (while_front test d t line)) m block closing t t (while_front test 0 t line) w p_is back same in
+    let p_long = written_sized a.emitter p.emitter (while_front test 0 t line) (made_by e) p_is in
+    let q_long = written_sized p.emitter q.emitter w.draft m w.emitter_is in
+    let s_long = written_sized a.emitter s6 (while_front test d t line ++ (w.draft ++ behind)) (made_by e + m) placed in
+    let s_parts = length-append (while_front test d t line) (w.draft ++ behind) in
+    let s_ends : length (w.draft ++ behind) ≡ length w.draft + 1 = length-append w.draft behind in
+    let ends : length s6.steps ≡ pc + (length test + (size + 3)) = omega (arith, s_long, s_parts, s_ends, x_long, long) in
+    let goes_back : places ≡ length test + size + 3 = omega (arith, start_is, p_long, q_long, same, x_long, long) in
+    recoded a b (made_by e + m) _ _
+    (looped a p q b s6 (made_by e) m (made_by e + m) first t (block_form block closing t t) w (while_front test 0 t line) (while_front test d t line) behind p_is same jumps back placed first_is end)
+    (λ reach. while_is k a.back e block closing t line j pc d (length (while_front test d t line)) places (length s6.steps) reach x_long (ap (λ n. n + 1) long) goes_back ends)
+
+-- `repeat`
+
+abbrev pub open_form : Block → (closing : Bool) → (t : ℕ) → Form
+open_form block closing t k back j pc reach = open_code k back block closing t j pc reach
+
+repeat_is :
+    (k : List Const) (back : ℕ) (e : Exp) (block : Block) (closing : Bool) (t line end_line j pc inner places end : ℕ) (reach : Reach)
+    → inner ≡ levels_in block t → end_line ≡ line_of_end block
+    → places ≡ open_size k back block closing t j + length (exp_code k e inner (j + made_in_block block) 2) + length (close_code t inner end_line) + 3
+    → end ≡ pc + (open_size k back block closing t j + (length (exp_code k e inner (j + made_in_block block) 2) + (length (close_code t inner end_line) + length (close_code t inner end_line) + 3)))
+    → open_code k back block closing t j pc (in_loop reach end t) ++ until_code (exp_code k e inner (j + made_in_block block) 2) (close_code t inner end_line) places inner line
+    ≡ stat_code k back (Repeat line block e) closing t j pc reach
+repeat_is k back e block closing t line end_line j pc inner places end reach inner_is line_is places_is end_is =
+    subst (λ i. (l : ℕ) → l ≡ line_of_end block
+    → places ≡ open_size k back block closing t j + length (exp_code k e i (j + made_in_block block) 2) + length (close_code t i l) + 3
+    → end ≡ pc + (open_size k back block closing t j + (length (exp_code k e i (j + made_in_block block) 2) + (length (close_code t i l) + length (close_code t i l) + 3)))
+    → open_code k back block closing t j pc (in_loop reach end t) ++ until_code (exp_code k e i (j + made_in_block block) 2) (close_code t i l) places i line ≡ stat_code k back (Repeat line block e) closing t j pc reach)
+    (sym inner_is) at_level end_line line_is places_is end_is
+  where
+    at_level : (l : ℕ) → l ≡ line_of_end block
+        → places ≡ open_size k back block closing t j + length (exp_code k e (levels_in block t) (j + made_in_block block) 2) + length (close_code t (levels_in block t) l) + 3
+        → end ≡ pc + (open_size k back block closing t j + (length (exp_code k e (levels_in block t) (j + made_in_block block) 2) + (length (close_code t (levels_in block t) l) + length (close_code t (levels_in block t) l) + 3)))
+        → open_code k back block closing t j pc (in_loop reach end t) ++ until_code (exp_code k e (levels_in block t) (j + made_in_block block) 2) (close_code t (levels_in block t) l) places (levels_in block t) line ≡ stat_code k back (Repeat line block e) closing t j pc reach
+    at_level l l_is p_is e_is =
+        let within = levels_in block t in
+        let test = exp_code k e within (j + made_in_block block) 2 in
+        let close = close_code t within (line_of_end block) in
+        let place : end ≡ pc + stat_size k back (Repeat line block e) closing t j =
+        e_is ∙ ap (λ n. pc + (open_size k back block closing t j + (length test + (n + n + 3)))) (close_sized t within l line) in
+        let size = open_sized k back block closing t j pc (in_loop reach (pc + stat_size k back (Repeat line block e) closing t j) t) in
+        let back_is : places ≡ length (open_code k back block closing t j pc (in_loop reach (pc + stat_size k back (Repeat line block e) closing t j) t)) + length test + length close + 3 =
+        p_is ∙ ap₂ (λ m n. m + length test + n + 3) (sym size) (close_sized t within l (line_of_end block)) in
+        ap (λ m. open_code k back block closing t j pc (in_loop reach m t) ++ until_code test (close_code t within l) places within line) place
+        ∙ ap₂ (λ m n. open_code k back block closing t j pc (in_loop reach (pc + stat_size k back (Repeat line block e) closing t j) t) ++ until_code test (close_code t within m) n within line) l_is back_is
+
+-- the place where a `repeat` begins is the place of its block
+pub repeat_wrote :
+    (a q b : Writer) (s6 : Listing) (e : Exp) (block : Block) (closing : Bool) (t line end_line inner start first : ℕ)
+    → start ≡ length a.emitter.steps → first ≡ length a.jumps.items
+    → WroteOpen a q block closing t → inner ≡ levels_in block t → end_line ≡ line_of_end block
+    → s6 ≡ followed q.emitter (until_code (exp_code q.emitter.constants e inner q.emitter.made 2) (close_code t inner end_line)
+    (length q.emitter.steps + length (exp_code q.emitter.constants e inner q.emitter.made 2) + length (close_code t inner end_line) + 3 - start) inner line) (made_by e)
+    → Ended q b s6 first t
+    → WroteStat a b (Repeat line block e) closing t
+repeat_wrote a q b s6 e block closing t line end_line inner start first start_is first_is w inner_is line_is e6 end =
+    let k = a.emitter.constants in
+    let j = a.emitter.made in
+    let pc = length a.emitter.steps in
+    let m = made_in_block block in
+    let test = exp_code k e inner (j + m) 2 in
+    let close = close_code t inner end_line in
+    let size = open_size k a.back block closing t j in
+    let places = length q.emitter.steps + length test + length close + 3 - start in
+    let ends = until_code test close places inner line in
+    let a_is : a.emitter ≡ followed a.emitter [] 0 = nothing a.emitter ∙ sym (none_made a.emitter []) in
+    let six : s6 ≡ followed q.emitter ends (made_by e) =
+    e6 ∙ ap (λ s. followed q.emitter (until_code (exp_code s.constants e inner s.made 2) close (length q.emitter.steps + length (exp_code s.constants e inner s.made 2) + length close + 3 - start) inner line) (made_by e)) w.emitter_is in
+    let placed : s6 ≡ followed a.emitter (w.draft ++ ends) (m + made_by e) = six ∙ ap (λ s. followed s ends (made_by e)) w.emitter_is ∙ after a.emitter w.draft m ends (made_by e) in
+    let long : length w.draft ≡ size = sym (draft_sized a q m (formed (open_form block closing t) a) w nowhere) ∙ open_sized k a.back block closing t j pc nowhere in
+    let q_long = written_sized a.emitter q.emitter w.draft m w.emitter_is in
+    let s_long = written_sized a.emitter s6 (w.draft ++ ends) (m + made_by e) placed in
+    let s_parts = length-append w.draft ends in
+    let s_ends = until_sized test close places inner line in
+    let goes_back : places ≡ size + length test + length close + 3 = omega (arith, start_is, q_long, long) in
+    let end_is : length s6.steps ≡ pc + (size + (length test + (length close + length close + 3))) = omega (arith, s_long, s_parts, s_ends, long) in
+    recoded a b (m + made_by e) _ _
+    (looped a a q b s6 0 m (m + made_by e) first t (open_form block closing t) w [] [] ends a_is refl refl refl placed first_is end)
+    (λ reach. ap₂ (λ i n. open_code k a.back block closing t i n (in_loop reach (length s6.steps) t) ++ ends) (none_more j) (none_more pc) ∙ repeat_is k a.back e block closing t line end_line j pc inner places (length s6.steps) reach inner_is line_is goes_back end_is)
+  where
+    until_sized : (test close : List Coded) (places inner line : ℕ) → length (until_code test close places inner line) ≡ length test + (length close + length close + 3)
+    until_sized test close places inner line =
+        let behind = jump_back places line ∷ close in
+        let x = length-append test ((abc Test inner 0 0 true, line) ∷ jump_over (length close + 1) line ∷ (close ++ behind)) in
+        let y = length-append close behind in
+        omega (arith, x, y)
+
+-- `for`, behind its values. The instruction in front of the rounds is put anew once their number of instructions is known
+
+replaced_first : (s : Listing) (x y : Coded) (code : List Coded) (m : ℕ) → replaced (followed s (x ∷ code) m) (length s.steps) y ≡ followed s (y ∷ code) m
+replaced_first s x y code m = ap (λ l. listing s.constants l (s.made + m)) (set-append_seam s.steps (step x) (steps code) (step y))
+
+rounds_placed :
+    (a p q : Writer) (s4 s5 : Listing) (m : ℕ) (f : Reach → List Coded) (w : Wrote p q m f) (prep prep' : Coded) (y : List Coded)
+    → p.emitter ≡ listed a.emitter (prep ∷ []) → s4 ≡ listed q.emitter y → s5 ≡ replaced s4 (length a.emitter.steps) prep'
+    → s5 ≡ followed a.emitter (prep' ∷ (w.draft ++ y)) m
+rounds_placed a p q s4 s5 m f w prep prep' y e1 e4 e5 =
+    let p_is : p.emitter ≡ followed a.emitter (prep ∷ []) 0 = e1 ∙ sym (none_made a.emitter (prep ∷ [])) in
+    let four : s4 ≡ followed a.emitter (prep ∷ (w.draft ++ y)) (0 + m) =
+    e4 ∙ ap (λ s. listed s y) w.emitter_is ∙ listed_after p.emitter w.draft m y ∙ ap (λ s. followed s (w.draft ++ y) m) p_is ∙ after a.emitter (prep ∷ []) 0 (w.draft ++ y) m in
+    e5 ∙ ap (λ s. replaced s (length a.emitter.steps) prep') four ∙ replaced_first a.emitter prep prep' (w.draft ++ y) (0 + m) ∙ ap (followed a.emitter (prep' ∷ (w.draft ++ y))) (zero_more m)
+  where
+    zero_more : (n : ℕ) → 0 + n ≡ n
+    zero_more n = omega arith
+
+pub rounds_wrote :
+    (a p q b : Writer) (s4 s5 : Listing) (block : Block) (closing : Bool) (outer inner t first : ℕ) (prep prep' : Coded) (y : List Coded)
+    → first ≡ length a.jumps.items
+    → p.emitter ≡ listed a.emitter (prep ∷ []) → p.jumps.items ≡ a.jumps.items → p.back ≡ a.back
+    → (w : WroteBlock p q block closing outer inner)
+    → s4 ≡ listed q.emitter y → s5 ≡ replaced s4 (length a.emitter.steps) prep'
+    → Ended q b s5 first t
+    → Wrote a b (made_in_block block) (λ reach. prep' ∷ (block_code a.emitter.constants a.back block closing outer inner a.emitter.made (length a.emitter.steps + 1) (in_loop reach (length s5.steps) t) ++ y))
+rounds_wrote a p q b s4 s5 block closing outer inner t first prep prep' y first_is e1 jumps back w e4 e5 end =
+    let m = made_in_block block in
+    recoded a b m _ _
+    (looped a p q b s5 0 m m first t (block_form block closing outer inner) w (prep ∷ []) (prep' ∷ []) y (e1 ∙ sym (none_made a.emitter (prep ∷ []))) refl jumps back
+    (rounds_placed a p q s4 s5 m (formed (block_form block closing outer inner) p) w prep prep' y e1 e4 e5) first_is end)
+    (λ reach. ap (λ i. prep' ∷ (block_code a.emitter.constants a.back block closing outer inner i (length a.emitter.steps + 1) (in_loop reach (length s5.steps) t) ++ y)) (none_more a.emitter.made))
+
+rounds_long :
+    (a p q : Writer) (s4 s5 : Listing) (block : Block) (closing : Bool) (outer inner : ℕ) (prep prep' : Coded) (y : List Coded) (w : WroteBlock p q block closing outer inner)
+    → p.emitter ≡ listed a.emitter (prep ∷ []) → p.back ≡ a.back → s4 ≡ listed q.emitter y → s5 ≡ replaced s4 (length a.emitter.steps) prep'
+    → (length q.emitter.steps - (length a.emitter.steps + 1) ≡ block_size a.emitter.constants a.back block closing outer inner a.emitter.made)
+    × (length s5.steps ≡ length a.emitter.steps + (block_size a.emitter.constants a.back block closing outer inner a.emitter.made + (length y + 1)))
+rounds_long a p q s4 s5 block closing outer inner prep prep' y w e1 back e4 e5 =
+    let m = made_in_block block in
+    let p_is : p.emitter ≡ followed a.emitter (prep ∷ []) 0 = e1 ∙ sym (none_made a.emitter (prep ∷ [])) in
+    let long : length w.draft ≡ block_size a.emitter.constants a.back block closing outer inner a.emitter.made =
+    block_long a p q 0 1 m block closing outer inner (prep ∷ []) w p_is back refl ∙ ap (block_size a.emitter.constants a.back block closing outer inner) (none_more a.emitter.made) in
+    let p_long = written_sized a.emitter p.emitter (prep ∷ []) 0 p_is in
+    let q_long = written_sized p.emitter q.emitter w.draft m w.emitter_is in
+    let s_long = written_sized a.emitter s5 (prep' ∷ (w.draft ++ y)) m (rounds_placed a p q s4 s5 m (formed (block_form block closing outer inner) p) w prep prep' y e1 e4 e5) in
+    let parts = length-append w.draft y in
+    (omega (arith, long, p_long, q_long), omega (arith, long, s_long, parts))
+
+pub counted_is :
+    (k : List Const) (back : ℕ) (block : Block) (closing : Bool) (t line j pc size end : ℕ) (reach : Reach)
+    → size ≡ block_size k back block closing (t + 3) (t + 4) j → end ≡ pc + (block_size k back block closing (t + 3) (t + 4) j + 2)
+    → with_abx ForPrep t size line ∷ (block_code k back block closing (t + 3) (t + 4) j (pc + 1) (in_loop reach end t) ++ with_abx ForLoop t (size + 1) line ∷ []) ≡ counted_code k back block closing t j pc line reach
+counted_is k back block closing t line j pc size end reach size_is end_is =
+    let inner : List Coded = block_code k back block closing (t + 3) (t + 4) j (pc + 1) (in_loop reach (pc + (block_size k back block closing (t + 3) (t + 4) j + 2)) t) in
+    let long : size ≡ length inner = size_is ∙ sym (block_sized k back block closing (t + 3) (t + 4) j (pc + 1) (in_loop reach (pc + (block_size k back block closing (t + 3) (t + 4) j + 2)) t)) in
+    ap (λ n. with_abx ForPrep t size line ∷ (block_code k back block closing (t + 3) (t + 4) j (pc + 1) (in_loop reach n t) ++ with_abx ForLoop t (size + 1) line ∷ [])) end_is
+    ∙ ap (λ n. with_abx ForPrep t n line ∷ (inner ++ with_abx ForLoop t (n + 1) line ∷ [])) long
+
+pub iterated_is :
+    (k : List Const) (back : ℕ) (block : Block) (n t line j pc size end : ℕ) (reach : Reach)
+    → size ≡ block_size k back block true (t + 4) (t + 4 + n) j → end ≡ pc + (block_size k back block true (t + 4) (t + 4 + n) j + 4)
+    → with_abx TForPrep t size line ∷ (block_code k back block true (t + 4) (t + 4 + n) j (pc + 1) (in_loop reach end t) ++ (with_abc TForCall t 0 n line ∷ with_abx TForLoop t (size + 2) line ∷ with_abc Close t 0 0 line ∷ []))
+    ≡ iterated_code k back block n t j pc line reach
+iterated_is k back block n t line j pc size end reach size_is end_is =
+    let inner : List Coded = block_code k back block true (t + 4) (t + 4 + n) j (pc + 1) (in_loop reach (pc + (block_size k back block true (t + 4) (t + 4 + n) j + 4)) t) in
+    let long : size ≡ length inner = size_is ∙ sym (block_sized k back block true (t + 4) (t + 4 + n) j (pc + 1) (in_loop reach (pc + (block_size k back block true (t + 4) (t + 4 + n) j + 4)) t)) in
+    ap (λ m. with_abx TForPrep t size line ∷ (block_code k back block true (t + 4) (t + 4 + n) j (pc + 1) (in_loop reach m t) ++ (with_abc TForCall t 0 n line ∷ with_abx TForLoop t (size + 2) line ∷ with_abc Close t 0 0 line ∷ []))) end_is
+    ∙ ap (λ m. with_abx TForPrep t m line ∷ (inner ++ (with_abc TForCall t 0 n line ∷ with_abx TForLoop t (m + 2) line ∷ with_abc Close t 0 0 line ∷ []))) long
+
+pub counted_wrote :
+    (a p q b : Writer) (s4 s5 : Listing) (block : Block) (closing : Bool) (t line first size outer inner : ℕ)
+    → first ≡ length a.jumps.items → outer ≡ t + 3 → inner ≡ t + 4
+    → p.emitter ≡ listed a.emitter (with_abx ForPrep t 0 line ∷ []) → p.jumps.items ≡ a.jumps.items → p.back ≡ a.back
+    → WroteBlock p q block closing outer inner → size ≡ length q.emitter.steps - (length a.emitter.steps + 1)
+    → s4 ≡ listed q.emitter (with_abx ForLoop t (size + 1) line ∷ []) → s5 ≡ replaced s4 (length a.emitter.steps) (with_abx ForPrep t size line)
+    → Ended q b s5 first t
+    → Wrote a b (made_in_block block) (λ reach. counted_code a.emitter.constants a.back block closing t a.emitter.made (length a.emitter.steps) line reach)
+counted_wrote a p q b s4 s5 block closing t line first size outer inner first_is outer_is inner_is e1 jumps back w size_is e4 e5 end =
+    let v : WroteBlock p q block closing (t + 3) (t + 4) = subst (λ n. WroteBlock p q block closing (t + 3) n) inner_is (subst (λ n. WroteBlock p q block closing n inner) outer_is w) in
+    let ends = with_abx ForLoop t (size + 1) line ∷ [] in
+    let long = rounds_long a p q s4 s5 block closing (t + 3) (t + 4) (with_abx ForPrep t 0 line) (with_abx ForPrep t size line) ends v e1 back e4 e5 in
+    recoded a b (made_in_block block) _ _
+    (rounds_wrote a p q b s4 s5 block closing (t + 3) (t + 4) t first (with_abx ForPrep t 0 line) (with_abx ForPrep t size line) ends first_is e1 jumps back v e4 e5 end)
+    (λ reach. counted_is a.emitter.constants a.back block closing t line a.emitter.made (length a.emitter.steps) size (length s5.steps) reach (size_is ∙ long.0) long.1)
+
+pub iterated_wrote :
+    (a p q b : Writer) (s2 s3 s4 s5 : Listing) (block : Block) (n t line first size outer inner : ℕ)
+    → first ≡ length a.jumps.items → outer ≡ t + 4 → inner ≡ outer + n
+    → p.emitter ≡ listed a.emitter (with_abx TForPrep t 0 line ∷ []) → p.jumps.items ≡ a.jumps.items → p.back ≡ a.back
+    → WroteBlock p q block true outer inner → size ≡ length q.emitter.steps - (length a.emitter.steps + 1)
+    → s2 ≡ listed q.emitter (with_abc TForCall t 0 n line ∷ []) → s3 ≡ listed s2 (with_abx TForLoop t (size + 2) line ∷ []) → s4 ≡ listed s3 (with_abc Close t 0 0 line ∷ [])
+    → s5 ≡ replaced s4 (length a.emitter.steps) (with_abx TForPrep t size line)
+    → Ended q b s5 first t
+    → Wrote a b (made_in_block block) (λ reach. iterated_code a.emitter.constants a.back block n t a.emitter.made (length a.emitter.steps) line reach)
+iterated_wrote a p q b s2 s3 s4 s5 block n t line first size outer inner first_is outer_is inner_is e1 jumps back w size_is e2 e3 e4 e5 end =
+    let v : WroteBlock p q block true (t + 4) (t + 4 + n) =
+    subst (λ i. WroteBlock p q block true (t + 4) i) (inner_is ∙ ap (λ o. o + n) outer_is) (subst (λ o. WroteBlock p q block true o inner) outer_is w) in
+    let ends = with_abc TForCall t 0 n line ∷ with_abx TForLoop t (size + 2) line ∷ with_abc Close t 0 0 line ∷ [] in
+    let four : s4 ≡ listed q.emitter ends =
+    e4 ∙ ap (λ s. listed s (with_abc Close t 0 0 line ∷ [])) (two_listed q.emitter s2 s3 (with_abc TForCall t 0 n line) (with_abx TForLoop t (size + 2) line) e2 e3)
+    ∙ both_listed q.emitter (with_abc TForCall t 0 n line ∷ with_abx TForLoop t (size + 2) line ∷ []) (with_abc Close t 0 0 line ∷ []) in
+    let long = rounds_long a p q s4 s5 block true (t + 4) (t + 4 + n) (with_abx TForPrep t 0 line) (with_abx TForPrep t size line) ends v e1 back four e5 in
+    recoded a b (made_in_block block) _ _
+    (rounds_wrote a p q b s4 s5 block true (t + 4) (t + 4 + n) t first (with_abx TForPrep t 0 line) (with_abx TForPrep t size line) ends first_is e1 jumps back v four e5 end)
+    (λ reach. iterated_is a.emitter.constants a.back block n t line a.emitter.made (length a.emitter.steps) size (length s5.steps) reach (size_is ∙ long.0) long.1)
+
+-- behind their values
+
+farther : (pc n size : ℕ) → pc + n + size ≡ pc + (n + size)
+farther pc n size = omega arith
+
+counting_joined :
+    (k : List Const) (back : ℕ) (start : List Coded) (block : Block) (closing : Bool) (t line i j pc : ℕ) (reach : Reach) → i ≡ j
+    → start ++ counted_code k back block closing t i (pc + length start) line reach
+    ≡ counting_code start (block_code k back block closing (t + 3) (t + 4) j (pc + length start + 1) (in_loop reach (pc + (length start + (block_size k back block closing (t + 3) (t + 4) j + 2))) t)) t line
+counting_joined k back start block closing t line i j pc reach e =
+    ap (λ n. start ++ counted_code k back block closing t n (pc + length start) line reach) e
+    ∙ ap (λ n. counting_code start (block_code k back block closing (t + 3) (t + 4) j (pc + length start + 1) (in_loop reach n t)) t line) (farther pc (length start) (block_size k back block closing (t + 3) (t + 4) j + 2))
+
+iterating_joined :
+    (k : List Const) (back : ℕ) (start : List Coded) (block : Block) (n t line j pc : ℕ) (reach : Reach)
+    → start ++ iterated_code k back block n t j (pc + length start) line reach
+    ≡ iterating_code start (block_code k back block true (t + 4) (t + 4 + n) j (pc + length start + 1) (in_loop reach (pc + (length start + (block_size k back block true (t + 4) (t + 4 + n) j + 4))) t)) t n line
+iterating_joined k back start block n t line j pc reach =
+    ap (λ m. iterating_code start (block_code k back block true (t + 4) (t + 4 + n) j (pc + length start + 1) (in_loop reach m t)) t n line) (farther pc (length start) (block_size k back block true (t + 4) (t + 4 + n) j + 4))
+
+abbrev counted_form : Block → (closing : Bool) → (t line : ℕ) → Form
+counted_form block closing t line k back j pc reach = counted_code k back block closing t j pc line reach
+
+abbrev iterated_form : Block → (n t line : ℕ) → Form
+iterated_form block n t line k back j pc reach = iterated_code k back block n t j pc line reach
+
+pub num_for_wrote :
+    (a q b : Writer) (s : Listing) (name : Name) (from limit : Exp) (step : Option Exp) (block : Block) (closing : Bool) (t line : ℕ)
+    → s ≡ followed a.emitter (range_code a.emitter.constants from limit step t a.emitter.made line) (made_in_range from limit step)
+    → q.emitter ≡ s → q.jumps.items ≡ a.jumps.items → q.back ≡ a.back
+    → Wrote q b (made_in_block block) (formed (counted_form block closing t line) q)
+    → WroteStat a b (num_for_of line name from limit step block) closing t
+num_for_wrote a q b s name from limit None block closing t line e s_is jumps back w =
+    let j = a.emitter.made in
+    range_wrote a q b (NumFor line name from limit block) (bounds_code a.emitter.constants from limit t j line) (made_by from + made_by limit) (made_in_block block) closing t (counted_form block closing t line) (s_is ∙ e) jumps back w
+    refl
+    (λ reach. counting_joined a.emitter.constants a.back (bounds_code a.emitter.constants from limit t j line) block closing t line (j + (made_by from + made_by limit)) (j + made_by from + made_by limit) (length a.emitter.steps) reach (omega arith))
+num_for_wrote a q b s name from limit (Some step) block closing t line e s_is jumps back w =
+    let j = a.emitter.made in
+    range_wrote a q b (NumForStep line name from limit step block) (steps_code a.emitter.constants from limit step t j) (made_by from + made_by limit + made_by step) (made_in_block block) closing t (counted_form block closing t line)
+    (s_is ∙ e) jumps back w refl
+    (λ reach. counting_joined a.emitter.constants a.back (steps_code a.emitter.constants from limit step t j) block closing t line (j + (made_by from + made_by limit + made_by step)) (j + made_by from + made_by limit + made_by step)
+    (length a.emitter.steps) reach (omega arith))
+
+pub gen_for_wrote :
+    (a q b : Writer) (s : Listing) (names : List Name) (es : Exps) (block : Block) (closing : Bool) (n t line : ℕ) → n ≡ length names
+    → s ≡ followed a.emitter (exps_code a.emitter.constants es (Some 4) t a.emitter.made line) (made_in es)
+    → q.emitter ≡ s → q.jumps.items ≡ a.jumps.items → q.back ≡ a.back
+    → Wrote q b (made_in_block block) (formed (iterated_form block n t line) q)
+    → WroteStat a b (GenFor line names es block) closing t
+gen_for_wrote a q b s names es block closing n t line n_is e s_is jumps back w =
+    let j = a.emitter.made in
+    let start = exps_code a.emitter.constants es (Some 4) t j line in
+    let v : Wrote q b (made_in_block block) (formed (iterated_form block (length names) t line) q) = subst (λ m. Wrote q b (made_in_block block) (formed (iterated_form block m t line) q)) n_is w in
+    range_wrote a q b (GenFor line names es block) start (made_in es) (made_in_block block) closing t (iterated_form block (length names) t line) (s_is ∙ e) jumps back v refl
+    (λ reach. iterating_joined a.emitter.constants a.back start block (length names) t line (j + made_in es) (length a.emitter.steps) reach)

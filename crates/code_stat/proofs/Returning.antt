@@ -1,0 +1,133 @@
+-- Which calls take the place of their caller.
+use Rattle.std.proofs.Common.{arith, ℕ, ◌+◌, ◌≡◌, Bool, true, false, List, [], ◌∷◌, refl, sym, ap, ap₂, ◌∙◌, subst, length}
+use Rattle.std.specs.Prelude.{slice_index_or}
+use Rattle.tree_core.specs.declared.tree.Exp.{Exp}
+use Rattle.tree_core.specs.declared.name.Name.{Name}
+use Rattle.tree_core.specs.Tree as tree
+use Rattle.tree_core.specs.Plain.{plain_exp, plain_exps}
+use Rattle.code_core.specs.declared.proto.Const.{Const}
+use Rattle.code_of.specs.Expressions.{made_by, made_in}
+use Rattle.code_of.specs.Parts.{call_last, method_last, return_code, values_last}
+use Rattle.code_expr.specs.Listing.{Listing, followed}
+use Rattle.code_stat.specs.Tails.{is_called, tail_code}
+
+pub single : (xs : List Exp) (x : Exp) → length xs ≡ 1 → x ≡ slice_index_or xs 0 x → tree.exps (plain_exps xs) ≡ tree.MoreExps (plain_exp x) tree.EndExps
+single [] x h e = absurd (omega (arith, h))
+single (y ∷ []) x h e = ap (λ z. tree.MoreExps (plain_exp z) tree.EndExps) (sym e)
+single (y ∷ z ∷ xs) x h e = absurd (omega (arith, h))
+
+module _ (k : List Const) where
+  pub closing_return : (closing : Bool) (es : tree.Exps) (t j line back : ℕ) → closing ≡ true → return_code k closing es t j line back ≡ values_last k es t j line back
+  closing_return closing es t j line back e = ap (λ b. return_code k b es t j line back) e
+
+  pub other_return : (closing : Bool) (e : tree.Exp) (t j line back : ℕ) → is_called e ≡ false → return_code k closing (tree.MoreExps e tree.EndExps) t j line back ≡ values_last k (tree.MoreExps e tree.EndExps) t j line back
+  other_return true e t j line back h = refl
+  other_return false (tree.Nil l) t j line back h = refl
+  other_return false (tree.True l) t j line back h = refl
+  other_return false (tree.False l) t j line back h = refl
+  other_return false (tree.Int l n) t j line back h = refl
+  other_return false (tree.Str l bytes) t j line back h = refl
+  other_return false (tree.Vararg l) t j line back h = refl
+  other_return false (tree.Function l body) t j line back h = refl
+  other_return false (tree.Var l name) t j line back h = refl
+  other_return false (tree.Index l object key) t j line back h = refl
+  other_return false (tree.Call l f es) t j line back h = absurd (cc)
+  other_return false (tree.Method l object name es) t j line back h = absurd (cc)
+  other_return false (tree.Unary l op e) t j line back h = refl
+  other_return false (tree.Binary l op e d) t j line back h = refl
+  other_return false (tree.And l e d) t j line back h = refl
+  other_return false (tree.Or l e d) t j line back h = refl
+  other_return false (tree.Paren l e) t j line back h = refl
+  other_return false (tree.Table l fs) t j line back h = refl
+
+  longer : (closing : Bool) (e d : tree.Exp) (ds : tree.Exps) (t j line back : ℕ) → return_code k closing (tree.MoreExps e (tree.MoreExps d ds)) t j line back ≡ values_last k (tree.MoreExps e (tree.MoreExps d ds)) t j line back
+  longer true e d ds t j line back = refl
+  longer false (tree.Nil l) d ds t j line back = refl
+  longer false (tree.True l) d ds t j line back = refl
+  longer false (tree.False l) d ds t j line back = refl
+  longer false (tree.Int l n) d ds t j line back = refl
+  longer false (tree.Str l bytes) d ds t j line back = refl
+  longer false (tree.Vararg l) d ds t j line back = refl
+  longer false (tree.Function l body) d ds t j line back = refl
+  longer false (tree.Var l name) d ds t j line back = refl
+  longer false (tree.Index l object key) d ds t j line back = refl
+  longer false (tree.Call l f es) d ds t j line back = refl
+  longer false (tree.Method l object name es) d ds t j line back = refl
+  longer false (tree.Unary l op e) d ds t j line back = refl
+  longer false (tree.Binary l op e e') d ds t j line back = refl
+  longer false (tree.And l e e') d ds t j line back = refl
+  longer false (tree.Or l e e') d ds t j line back = refl
+  longer false (tree.Paren l e) d ds t j line back = refl
+  longer false (tree.Table l fs) d ds t j line back = refl
+
+  empty_return : (closing : Bool) (t j line back : ℕ) → return_code k closing tree.EndExps t j line back ≡ values_last k tree.EndExps t j line back
+  empty_return true t j line back = refl
+  empty_return false t j line back = refl
+
+  pub several_return : (closing : Bool) (xs : List Exp) (t j line back : ℕ) → (length xs ≡ 1 → ⊥) → return_code k closing (tree.exps (plain_exps xs)) t j line back ≡ values_last k (tree.exps (plain_exps xs)) t j line back
+  several_return closing [] t j line back h = empty_return closing t j line back
+  several_return closing (x ∷ []) t j line back h = absurd (h refl)
+  several_return closing (x ∷ y ∷ xs) t j line back h = longer closing (plain_exp x) (plain_exp y) (tree.exps (plain_exps xs)) t j line back
+
+-- what is written for a list of values is what is written for the return of it
+
+pub closing_follows :
+    (s r : Listing) (closing : Bool) (es : tree.Exps) (t line back : ℕ) → closing ≡ true
+    → r ≡ followed s (values_last s.constants es t s.made line back) (made_in es) → r ≡ followed s (return_code s.constants closing es t s.made line back) (made_in es)
+closing_follows s r closing es t line back e h = h ∙ sym (ap (λ code. followed s code (made_in es)) (closing_return s.constants closing es t s.made line back e))
+
+pub several_follow :
+    (s r : Listing) (closing : Bool) (xs : List Exp) (n t line back : ℕ) → n ≡ length xs → (n ≡ 1 → ⊥)
+    → r ≡ followed s (values_last s.constants (tree.exps (plain_exps xs)) t s.made line back) (made_in (tree.exps (plain_exps xs)))
+    → r ≡ followed s (return_code s.constants closing (tree.exps (plain_exps xs)) t s.made line back) (made_in (tree.exps (plain_exps xs)))
+several_follow s r closing xs n t line back n_is e h =
+    h ∙ sym (ap (λ code. followed s code (made_in (tree.exps (plain_exps xs)))) (several_return s.constants closing xs t s.made line back (λ one. e (n_is ∙ one))))
+
+none_more : (n : ℕ) → n + 0 ≡ n
+none_more n = omega arith
+
+tail_is : (k : List Const) (e : tree.Exp) (t j line back : ℕ) → is_called e ≡ true → return_code k false (tree.MoreExps e tree.EndExps) t j line back ≡ tail_code k e t j back
+tail_is k (tree.Call l f es) t j line back h = refl
+tail_is k (tree.Method l object name es) t j line back h = refl
+tail_is k (tree.Nil l) t j line back h = absurd (cc)
+tail_is k (tree.True l) t j line back h = absurd (cc)
+tail_is k (tree.False l) t j line back h = absurd (cc)
+tail_is k (tree.Int l n) t j line back h = absurd (cc)
+tail_is k (tree.Str l bytes) t j line back h = absurd (cc)
+tail_is k (tree.Vararg l) t j line back h = absurd (cc)
+tail_is k (tree.Function l body) t j line back h = absurd (cc)
+tail_is k (tree.Var l name) t j line back h = absurd (cc)
+tail_is k (tree.Index l object key) t j line back h = absurd (cc)
+tail_is k (tree.Unary l op e) t j line back h = absurd (cc)
+tail_is k (tree.Binary l op e d) t j line back h = absurd (cc)
+tail_is k (tree.And l e d) t j line back h = absurd (cc)
+tail_is k (tree.Or l e d) t j line back h = absurd (cc)
+tail_is k (tree.Paren l e) t j line back h = absurd (cc)
+tail_is k (tree.Table l fs) t j line back h = absurd (cc)
+
+pub tail_follows :
+    (s r : Listing) (closing : Bool) (all : tree.Exps) (e : tree.Exp) (t line back : ℕ) → closing ≡ false → is_called e ≡ true → all ≡ tree.MoreExps e tree.EndExps
+    → r ≡ followed s (tail_code s.constants e t s.made back) (made_by e)
+    → r ≡ followed s (return_code s.constants closing all t s.made line back) (made_in all)
+tail_follows s r closing all e t line back open_now called a h =
+    let same : followed s (return_code s.constants closing all t s.made line back) (made_in all) ≡ followed s (tail_code s.constants e t s.made back) (made_by e) =
+    ap₂ (λ b l. followed s (return_code s.constants b l t s.made line back) (made_in l)) open_now a
+    ∙ ap₂ (followed s) (tail_is s.constants e t s.made line back called) (none_more (made_by e)) in
+    h ∙ sym same
+
+pub other_follows :
+    (s r : Listing) (closing : Bool) (all : tree.Exps) (e : tree.Exp) (t line back : ℕ) → is_called e ≡ false → all ≡ tree.MoreExps e tree.EndExps
+    → r ≡ followed s (values_last s.constants all t s.made line back) (made_in all)
+    → r ≡ followed s (return_code s.constants closing all t s.made line back) (made_in all)
+other_follows s r closing all e t line back other a h =
+    h ∙ ap (λ code. followed s code (made_in all)) (ap (λ l. values_last s.constants l t s.made line back) a ∙ sym (other_return s.constants closing e t s.made line back other) ∙ sym (ap (λ l. return_code s.constants closing l t s.made line back) a))
+
+pub call_tail :
+    (s r : Listing) (e f : tree.Exp) (es : tree.Exps) (t line back : ℕ) → e ≡ tree.Call line f es
+    → r ≡ followed s (call_last s.constants f es t s.made line back) (made_by (tree.Call line f es)) → r ≡ followed s (tail_code s.constants e t s.made back) (made_by e)
+call_tail s r e f es t line back is h = subst (λ d. r ≡ followed s (tail_code s.constants d t s.made back) (made_by d)) (sym is) h
+
+pub method_tail :
+    (s r : Listing) (e object : tree.Exp) (name : Name) (es : tree.Exps) (t line back : ℕ) → e ≡ tree.Method line object name es
+    → r ≡ followed s (method_last s.constants object name.text es t s.made line back) (made_by (tree.Method line object name es)) → r ≡ followed s (tail_code s.constants e t s.made back) (made_by e)
+method_tail s r e object name es t line back is h = subst (λ d. r ≡ followed s (tail_code s.constants d t s.made back) (made_by d)) (sym is) h

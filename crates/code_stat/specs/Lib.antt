@@ -1,0 +1,4 @@
+pub mod Tails
+pub mod Drafts
+pub mod Forms
+pub mod Whole

@@ -1,0 +1,115 @@
+// Statements that have no block, and the parts without one of those that have.
+ghost use Rattle.std.specs.Prelude.{◌≡◌, ◌+◌, ◌-◌, Bool, ℕ, length, map, OnOk};
+ghost use Rattle.std.specs.Option.{option_map};
+ghost use Rattle.tree_core.specs.declared.name.Name.{Name};
+ghost use Rattle.tree_core.specs.Tree.{exps, Empty, Label, Local, LocalFunction, Assign, CallStat, Goto};
+ghost use Rattle.tree_core.specs.Plain.{plain_exp, plain_exps, plain_stat, plain_body};
+ghost use Rattle.code_of.specs.Expressions.{exp_code, exps_code, made_by, made_in};
+ghost use Rattle.code_of.specs.Parts.{close_code};
+ghost use Rattle.code_expr.specs.Listing.{followed};
+ghost use Rattle.code_stat.specs.Drafts.{WroteStat};
+ghost use Rattle.code_stat.specs.Forms.{until_code, range_code, made_in_range};
+
+use crate::marks::write_close;
+use crate::ranges::{write_bounds, write_steps};
+use crate::simple::{write_assign, write_call, write_local, write_local_function};
+use crate::writer::Writer;
+use code_core::Opcode;
+use code_expr::Emitter;
+use int_core::Bytes;
+use std::alloc::AllocError;
+use tree_core::{Body, Declared, Exp, Name};
+
+/// Writes the values of a numeric `for`. Without a step it is 1.
+pub(crate) fn write_range(
+    emitter: &mut Emitter,
+    from: &Exp,
+    limit: &Exp,
+    step: &Option<Box<Exp>>,
+    register: usize,
+    line: u32,
+) -> Result<(), AllocError>
+    ensures { OnOk result (emitter.new ≡ followed emitter.old (range_code emitter.old.constants (plain_exp from.now) (plain_exp limit.now) (option_map (λ e. plain_exp e.value) step.now) register emitter.old.made line) (made_in_range (plain_exp from.now) (plain_exp limit.now) (option_map (λ e. plain_exp e.value) step.now))) }
+{
+    match step {
+        None => write_bounds(emitter, from, limit, register, line),
+        Some(step) => write_steps(emitter, from, limit, step, register),
+    }
+}
+
+/// Writes the end of a `repeat`: its test, with `inner` locals in scope, and the jump back to its start.
+pub(crate) fn write_until(
+    emitter: &mut Emitter,
+    test: &Exp,
+    start: usize,
+    level: usize,
+    inner: usize,
+    end_line: u32,
+    line: u32,
+) -> Result<(), AllocError>
+    ensures { OnOk result (emitter.new ≡ followed emitter.old (until_code (exp_code emitter.old.constants (plain_exp test.now) inner emitter.old.made 2) (close_code level inner end_line) (length emitter.old.steps + length (exp_code emitter.old.constants (plain_exp test.now) inner emitter.old.made 2) + length (close_code level inner end_line) + 3 - start) inner line) (made_by (plain_exp test.now))) }
+{
+    emitter.expression(test, inner, 2)?;
+    emitter.put_flagged(Opcode::Test, inner, 0, 0, true, line)?;
+    let jump = emitter.put_open_jump(line)?;
+    write_close(emitter, level, inner, end_line)?;
+    emitter.put_jump_back(start, line)?;
+    emitter.land(jump);
+    write_close(emitter, level, inner, end_line)?;
+    Ok(())
+}
+
+impl Writer {
+    /// Writes `local` names and their values.
+    pub(crate) fn local(
+        &mut self,
+        names: &Vec<Declared>,
+        values: &Vec<Exp>,
+        level: usize,
+        line: u32,
+    ) -> Result<(), AllocError>
+        ensures { (closing : Bool) → OnOk result (WroteStat self.old self.new (Local line names.now.items (exps (plain_exps values.now.items))) closing level) }
+    {
+        write_local(&mut self.emitter, names, values, level, line)?;
+        Ok(())
+    }
+
+    /// Writes `local function`.
+    pub(crate) fn local_function(&mut self, body: &Body, level: usize) -> Result<(), AllocError>
+        ensures { (line : ℕ) (name : Name) (closing : Bool) → OnOk result (WroteStat self.old self.new (LocalFunction line name (plain_body body.now)) closing level) }
+    {
+        write_local_function(&mut self.emitter, body, level)?;
+        Ok(())
+    }
+
+    /// Writes an assignment.
+    pub(crate) fn assign(
+        &mut self,
+        targets: &Vec<Exp>,
+        values: &Vec<Exp>,
+        level: usize,
+        line: u32,
+    ) -> Result<(), AllocError>
+        ensures { (closing : Bool) → OnOk result (WroteStat self.old self.new (Assign line (exps (plain_exps targets.now.items)) (exps (plain_exps values.now.items))) closing level) }
+    {
+        write_assign(&mut self.emitter, targets, values, level, line)?;
+        Ok(())
+    }
+
+    /// Writes a call that stands alone.
+    pub(crate) fn call(&mut self, call: &Exp, level: usize) -> Result<(), AllocError>
+        ensures { (line : ℕ) (closing : Bool) → OnOk result (WroteStat self.old self.new (CallStat line (plain_exp call.now)) closing level) }
+    {
+        write_call(&mut self.emitter, call, level)?;
+        Ok(())
+    }
+
+    /// Writes `goto`.
+    pub(crate) fn goto(&mut self, name: &Name, line: u32) -> Result<(), AllocError>
+        ensures { (closing : Bool) (level : ℕ) → OnOk result (WroteStat self.old self.new (Goto line name.now) closing level) }
+    {
+        let label = Bytes::of(name.text.as_slice().to_vec(self.alloc)?);
+        self.jump(Some(label), line)?;
+        Ok(())
+    }
+}

@@ -1,0 +1,123 @@
+// `return` (Lua 5.4 manual, 3.3.4), where a call that is all of its list takes the place of its caller.
+ghost use Rattle.std.specs.Prelude.{◌≡◌, OnOk};
+ghost use Rattle.tree_core.specs.Tree.{exps, Call, Method};
+ghost use Rattle.tree_core.specs.Plain.{plain_exp, plain_exps};
+ghost use Rattle.code_of.specs.Expressions.{made_by, made_in};
+ghost use Rattle.code_of.specs.Parts.{call_last, method_last, return_code, values_last};
+ghost use Rattle.code_stat.specs.Tails.{is_called, tail_code};
+ghost use Rattle.code_expr.specs.Listing.{followed};
+
+use crate::targets::count_made;
+use code_core::Opcode;
+use code_expr::{Emitter, list_field, next};
+use std::alloc::AllocError;
+use tree_core::{Exp, ExpNode, Name};
+
+/// Writes a call in the place of its caller.
+fn write_call_last(
+    emitter: &mut Emitter,
+    called: &Exp,
+    arguments: &Vec<Exp>,
+    register: usize,
+    line: u32,
+    back: usize,
+) -> Result<(), AllocError>
+    ensures { OnOk result (emitter.new ≡ followed emitter.old (call_last emitter.old.constants (plain_exp called.now) (exps (plain_exps arguments.now.items)) register emitter.old.made line back) (made_by (Call line (plain_exp called.now) (exps (plain_exps arguments.now.items))))) }
+{
+    emitter.expression(called, register, 2)?;
+    emitter.list(arguments, None, next(register)?, line)?;
+    let field = list_field(0, arguments);
+    emitter.put_abc(Opcode::TailCall, register, field, 0, line)?;
+    emitter.put_abc(Opcode::Return, register, 0, back, line)?;
+    Ok(())
+}
+
+/// Writes the call of a method in the place of its caller.
+fn write_method_last(
+    emitter: &mut Emitter,
+    object: &Exp,
+    name: &Name,
+    arguments: &Vec<Exp>,
+    register: usize,
+    line: u32,
+    back: usize,
+) -> Result<(), AllocError>
+    ensures { OnOk result (emitter.new ≡ followed emitter.old (method_last emitter.old.constants (plain_exp object.now) name.now.text (exps (plain_exps arguments.now.items)) register emitter.old.made line back) (made_by (Method line (plain_exp object.now) name.now (exps (plain_exps arguments.now.items))))) }
+{
+    let above = next(register)?;
+    emitter.expression(object, register, 2)?;
+    emitter.load_text(&name.text, above, line)?;
+    emitter.put_abc(Opcode::OpSelf, register, register, above, line)?;
+    emitter.list(arguments, None, next(above)?, line)?;
+    let field = list_field(1, arguments);
+    emitter.put_abc(Opcode::TailCall, register, field, 0, line)?;
+    emitter.put_abc(Opcode::Return, register, 0, back, line)?;
+    Ok(())
+}
+
+/// Whether an expression is a call.
+fn is_called(exp: &Exp) -> bool
+    ensures { result ≡ is_called (plain_exp exp.now) }
+{
+    matches!(&exp.node, ExpNode::Call(_, _) | ExpNode::Method(_, _, _))
+}
+
+/// Writes a call of either kind in the place of its caller. Of another expression nothing is written.
+fn write_tail(
+    emitter: &mut Emitter,
+    call: &Exp,
+    register: usize,
+    back: usize,
+) -> Result<(), AllocError>
+    ensures { OnOk result (emitter.new ≡ followed emitter.old (tail_code emitter.old.constants (plain_exp call.now) register emitter.old.made back) (made_by (plain_exp call.now))) }
+{
+    match &call.node {
+        ExpNode::Call(called, arguments) => {
+            write_call_last(emitter, called, arguments, register, call.line, back)
+        }
+        ExpNode::Method(object, name, arguments) => write_method_last(
+            emitter, object, name, arguments, register, call.line, back,
+        ),
+        _ => count_made(emitter, call),
+    }
+}
+
+/// Writes a list of values and the return of them.
+fn write_values_last(
+    emitter: &mut Emitter,
+    values: &Vec<Exp>,
+    register: usize,
+    line: u32,
+    back: usize,
+) -> Result<(), AllocError>
+    ensures { OnOk result (emitter.new ≡ followed emitter.old (values_last emitter.old.constants (exps (plain_exps values.now.items)) register emitter.old.made line back) (made_in (exps (plain_exps values.now.items)))) }
+{
+    emitter.list(values, None, register, line)?;
+    let field = list_field(0, values);
+    emitter.put_abc(Opcode::Return, register, field, back, line)?;
+    Ok(())
+}
+
+/// Writes `return`, where variables are to be closed or none is. `back` is its field C.
+pub fn write_return(
+    emitter: &mut Emitter,
+    closing: bool,
+    values: &Vec<Exp>,
+    register: usize,
+    line: u32,
+    back: usize,
+) -> Result<(), AllocError>
+    ensures { OnOk result (emitter.new ≡ followed emitter.old (return_code emitter.old.constants closing (exps (plain_exps values.now.items)) register emitter.old.made line back) (made_in (exps (plain_exps values.now.items)))) }
+{
+    if closing {
+        return write_values_last(emitter, values, register, line, back);
+    }
+    if values.len() != 1 {
+        return write_values_last(emitter, values, register, line, back);
+    }
+    let only = &values[0];
+    if is_called(only) {
+        return write_tail(emitter, only, register, back);
+    }
+    write_values_last(emitter, values, register, line, back)
+}

@@ -1,0 +1,322 @@
+// Statements and blocks (Lua 5.4 manual, 3.3).
+ghost use Rattle.std.specs.Prelude.{◌≡◌, OnOk, IfOk, length, map, drop};
+ghost use Rattle.std.specs.Option.{option_map};
+ghost use Rattle.tree_core.specs.Tree.{stats, arms, EndArms, While, Repeat};
+ghost use Rattle.tree_core.specs.Plain.{plain_arm, plain_exp, plain_stat, plain_block};
+ghost use Rattle.code_of.specs.Levels.{levels_after, levels_in, closings_after, made_in_block};
+ghost use Rattle.code_stat.specs.Drafts.{Wrote, WroteStat, WroteStats, WroteBlock, WroteOpen};
+ghost use Rattle.code_stat.specs.Forms.{choice, counted_code, iterated_code};
+
+use crate::forms::{write_range, write_until};
+use crate::jumps::{Destination, settle_all};
+use crate::labels::{Frame, meet_label};
+use crate::marks::write_close;
+use crate::returns::write_return;
+use crate::scope::{Scope, scope_after};
+use crate::stores::behind;
+use crate::writer::Writer;
+use code_core::Opcode;
+use code_expr::next;
+use std::alloc::AllocError;
+use tree_core::{Arm, Block, Exp, Stat, StatNode};
+
+impl Writer {
+    /// Writes a statement, where so many locals are in scope, and a variable is to be closed or none is.
+    #[cycle(statements)]
+    fn statement(&mut self, stat: &Stat, closing: bool, level: usize) -> Result<(), AllocError>
+        ensures { OnOk result (WroteStat self.old self.new (plain_stat stat.now) closing level) }
+    {
+        let line = stat.line;
+        match &stat.node {
+            StatNode::Empty => Ok(()),
+            StatNode::Label(_) => Ok(()),
+            StatNode::Local(names, values) => self.local(names, values, level, line),
+            StatNode::LocalFunction(_, body) => self.local_function(body, level),
+            StatNode::Assign(targets, values) => self.assign(targets, values, level, line),
+            StatNode::Call(call) => self.call(call, level),
+            StatNode::Do(block) => self.block(block, closing, level, level),
+            StatNode::While(test, block) => self.while_loop(test, block, closing, level, line),
+            StatNode::Repeat(block, test) => self.repeat_loop(block, test, closing, level, line),
+            StatNode::If(list, otherwise) => self.arms(list, 0, otherwise, closing, level, line),
+            StatNode::NumFor(_, from, limit, step, block) => {
+                write_range(&mut self.emitter, from, limit, step, level, line)?;
+                self.counted(block, closing, level, line)?;
+                Ok(())
+            }
+            StatNode::GenFor(names, values, block) => {
+                self.emitter.list(values, Some(4), level, line)?;
+                self.iterated(block, names.len(), level, line)?;
+                Ok(())
+            }
+            StatNode::Goto(name) => self.goto(name, line),
+            StatNode::Break => self.jump(None, line),
+        }
+    }
+
+    /// Writes statements of a block, and answers what is in scope behind them.
+    #[cycle(statements)]
+    pub(crate) fn statements(
+        &mut self,
+        list: &Vec<Stat>,
+        falls: bool,
+        closing: bool,
+        outer: usize,
+        level: usize,
+    ) -> Result<Scope, AllocError>
+        ensures code { OnOk result (WroteStats self.old self.new (stats (map plain_stat list.now.items)) falls closing outer level) }
+        ensures level { IfOk result (λ scope. scope.level ≡ levels_after (stats (map plain_stat list.now.items)) level) }
+        ensures closing { IfOk result (λ scope. scope.closing ≡ closings_after (stats (map plain_stat list.now.items)) closing) }
+    {
+        let first = self.jumps.len();
+        let frame = Frame {
+            falls,
+            outer,
+            first,
+        };
+        let mut passed = Vec::new(self.alloc);
+        let mut scope = Scope { level, closing };
+        let mut done = 0;
+        for stat in list.iter() {
+            done = next(done)?;
+            let from = self.jumps.len();
+            let here = Destination {
+                place: self.place(),
+                level: scope.level,
+            };
+            self.statement(stat, scope.closing, scope.level)?;
+            settle_all(&mut self.jumps, from, &passed);
+            meet_label(
+                self.alloc,
+                &mut self.jumps,
+                &mut passed,
+                list,
+                done,
+                frame,
+                here,
+                stat,
+            )?;
+            scope = scope_after(stat, scope)?;
+        }
+        Ok(scope)
+    }
+
+    /// Writes a block around which `outer` locals are in scope, and `level` with those that stand in front of it.
+    #[cycle(statements)]
+    pub(crate) fn block(
+        &mut self,
+        block: &Block,
+        closing: bool,
+        outer: usize,
+        level: usize,
+    ) -> Result<(), AllocError>
+        ensures { OnOk result (WroteBlock self.old self.new (plain_block block.now) closing outer level) }
+    {
+        match &block.result {
+            None => {
+                let end = self.statements(&block.stats, true, closing, outer, level)?;
+                write_close(&mut self.emitter, outer, end.level, block.line)?;
+                Ok(())
+            }
+            Some(values) => {
+                let end = self.statements(&block.stats, false, closing, outer, level)?;
+                let back = self.back;
+                write_return(
+                    &mut self.emitter,
+                    end.closing,
+                    values,
+                    end.level,
+                    block.line,
+                    back,
+                )?;
+                Ok(())
+            }
+        }
+    }
+
+    /// Writes the block of a `repeat` up to its test, and answers how many locals are in scope there.
+    #[cycle(statements)]
+    fn open_block(
+        &mut self,
+        block: &Block,
+        closing: bool,
+        level: usize,
+    ) -> Result<usize, AllocError>
+        ensures code { OnOk result (WroteOpen self.old self.new (plain_block block.now) closing level) }
+        ensures level { IfOk result (λ n. n ≡ levels_in (plain_block block.now) level) }
+    {
+        let end = self.statements(&block.stats, false, closing, level, level)?;
+        match &block.result {
+            None => Ok(end.level),
+            Some(values) => {
+                let back = self.back;
+                write_return(
+                    &mut self.emitter,
+                    end.closing,
+                    values,
+                    end.level,
+                    block.line,
+                    back,
+                )?;
+                Ok(end.level)
+            }
+        }
+    }
+
+    /// Writes `while`.
+    #[cycle(statements)]
+    fn while_loop(
+        &mut self,
+        test: &Exp,
+        block: &Block,
+        closing: bool,
+        level: usize,
+        line: u32,
+    ) -> Result<(), AllocError>
+        ensures { OnOk result (WroteStat self.old self.new (While line (plain_exp test.now) (plain_block block.now)) closing level) }
+    {
+        let start = self.place();
+        let first = self.jumps.len();
+        self.emitter.expression(test, level, 2)?;
+        self.emitter.put_abc(Opcode::Test, level, 0, 0, line)?;
+        let jump = self.emitter.put_open_jump(line)?;
+        self.block(block, closing, level, level)?;
+        self.emitter.put_jump_back(start, line)?;
+        self.emitter.land(jump);
+        self.end_loop(first, level);
+        Ok(())
+    }
+
+    /// Writes `repeat`.
+    #[cycle(statements)]
+    fn repeat_loop(
+        &mut self,
+        block: &Block,
+        test: &Exp,
+        closing: bool,
+        level: usize,
+        line: u32,
+    ) -> Result<(), AllocError>
+        ensures { OnOk result (WroteStat self.old self.new (Repeat line (plain_block block.now) (plain_exp test.now)) closing level) }
+    {
+        let start = self.place();
+        let first = self.jumps.len();
+        let inner = self.open_block(block, closing, level)?;
+        let end_line = block.line;
+        write_until(&mut self.emitter, test, start, level, inner, end_line, line)?;
+        self.end_loop(first, level);
+        Ok(())
+    }
+
+    /// Writes the rounds of a numeric `for`, behind its values.
+    #[cycle(statements)]
+    fn counted(
+        &mut self,
+        block: &Block,
+        closing: bool,
+        level: usize,
+        line: u32,
+    ) -> Result<(), AllocError>
+        ensures { OnOk result (Wrote self.old self.new (made_in_block (plain_block block.now)) (λ reach. counted_code self.old.emitter.constants self.old.back (plain_block block.now) closing level self.old.emitter.made (length self.old.emitter.steps) line reach)) }
+    {
+        let first = self.jumps.len();
+        let start = self.place();
+        let outer = behind(level, 3)?;
+        let inner = behind(level, 4)?;
+        self.emitter.put_abx(Opcode::ForPrep, level, 0, line)?;
+        self.block(block, closing, outer, inner)?;
+        let size = self.place().saturating_sub(start + 1);
+        self.emitter
+            .put_abx(Opcode::ForLoop, level, size + 1, line)?;
+        self.emitter
+            .set_abx(start, Opcode::ForPrep, level, size, line);
+        self.end_loop(first, level);
+        Ok(())
+    }
+
+    /// Writes the rounds of a generic `for` with so many names, behind its values.
+    #[cycle(statements)]
+    fn iterated(
+        &mut self,
+        block: &Block,
+        names: usize,
+        level: usize,
+        line: u32,
+    ) -> Result<(), AllocError>
+        ensures { OnOk result (Wrote self.old self.new (made_in_block (plain_block block.now)) (λ reach. iterated_code self.old.emitter.constants self.old.back (plain_block block.now) names level self.old.emitter.made (length self.old.emitter.steps) line reach)) }
+    {
+        let first = self.jumps.len();
+        let start = self.place();
+        let outer = behind(level, 4)?;
+        let inner = behind(outer, names)?;
+        self.emitter.put_abx(Opcode::TForPrep, level, 0, line)?;
+        self.block(block, true, outer, inner)?;
+        let size = self.place().saturating_sub(start + 1);
+        self.emitter
+            .put_abc(Opcode::TForCall, level, 0, names, line)?;
+        self.emitter
+            .put_abx(Opcode::TForLoop, level, behind(size, 2)?, line)?;
+        self.emitter.put_abc(Opcode::Close, level, 0, 0, line)?;
+        self.emitter
+            .set_abx(start, Opcode::TForPrep, level, size, line);
+        self.end_loop(first, level);
+        Ok(())
+    }
+
+    /// Writes the arms of an `if` from one on, and what stands behind `else`.
+    #[cycle(statements)]
+    fn arms(
+        &mut self,
+        list: &Vec<Arm>,
+        at: usize,
+        otherwise: &Option<Box<Block>>,
+        closing: bool,
+        level: usize,
+        line: u32,
+    ) -> Result<(), AllocError>
+        ensures { OnOk result (WroteStat self.old self.new (choice line (arms (map plain_arm (drop at list.now.items))) (option_map (λ b. plain_block b.value) otherwise.now)) closing level) }
+    {
+        if at >= list.len() {
+            self.otherwise(otherwise, closing, level, line)?;
+            return Ok(());
+        }
+        let arm = &list[at];
+        self.emitter.expression(&arm.test, level, 2)?;
+        self.emitter.put_abc(Opcode::Test, level, 0, 0, line)?;
+        let jump = self.emitter.put_open_jump(line)?;
+        self.block(&arm.block, closing, level, level)?;
+        let past = self.emitter.put_open_jump(line)?;
+        self.emitter.land(jump);
+        let first = self.jumps.len();
+        let place = self.place();
+        self.arms(list, at + 1, otherwise, closing, level, line)?;
+        let end = self.place();
+        if end > place {
+            self.emitter.land(past);
+            return Ok(());
+        }
+        self.emitter.cut(past);
+        self.emitter.set_jump(jump, past, line)?;
+        self.jumps.truncate(first);
+        Ok(())
+    }
+
+    /// Writes what stands behind `else`.
+    #[cycle(statements)]
+    fn otherwise(
+        &mut self,
+        otherwise: &Option<Box<Block>>,
+        closing: bool,
+        level: usize,
+        line: u32,
+    ) -> Result<(), AllocError>
+        ensures { OnOk result (WroteStat self.old self.new (choice line EndArms (option_map (λ b. plain_block b.value) otherwise.now)) closing level) }
+    {
+        match otherwise {
+            None => Ok(()),
+            Some(block) => {
+                self.block(block, closing, level, level)?;
+                Ok(())
+            }
+        }
+    }
+}

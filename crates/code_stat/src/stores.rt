@@ -1,0 +1,89 @@
+// The stores of an assignment (Lua 5.4 manual, 3.3.3), from right to left.
+ghost use Rattle.std.specs.Prelude.{◌≡◌, ◌+◌, [], ◌∷◌, OnOk, IfOk};
+ghost use Rattle.code_core.specs.declared.opcode.Opcode.TheVariants.{SetTable};
+ghost use Rattle.code_of.specs.Coded.{with_abc};
+ghost use Rattle.tree_core.specs.Tree.{exps};
+ghost use Rattle.tree_core.specs.Plain.{plain_exp, plain_exps};
+ghost use Rattle.code_of.specs.Parts.{name_store, store_code, stores_code};
+ghost use Rattle.code_expr.specs.Listing.{listed};
+
+use code_core::Opcode;
+use code_expr::{Emitter, next};
+use std::alloc::AllocError;
+use tree_core::{Exp, ExpNode, Name, Place};
+
+/// A number and some more. For as many things as `usize` counts there is no memory.
+pub(crate) fn behind(number: usize, more: usize) -> Result<usize, AllocError>
+    ensures { IfOk result (λ n. n ≡ number + more) }
+{
+    number.checked_add(more).ok_or(AllocError)
+}
+
+/// Writes the store of a register's value in a table that has a register, too, with its key above it.
+fn write_entry(
+    emitter: &mut Emitter,
+    register: usize,
+    value: usize,
+    line: u32,
+) -> Result<(), AllocError>
+    ensures { OnOk result (emitter.new ≡ listed emitter.old (with_abc SetTable register (register + 1) value line ∷ [])) }
+{
+    let key = next(register)?;
+    emitter.put_abc(Opcode::SetTable, register, key, value, line)
+}
+
+/// Writes the store of a register's value in a name.
+fn write_name_store(
+    emitter: &mut Emitter,
+    name: &Name,
+    register: usize,
+    value: usize,
+    line: u32,
+) -> Result<(), AllocError>
+    ensures { OnOk result (emitter.new ≡ listed emitter.old (name_store emitter.old.constants name.now.place register value line)) }
+{
+    match name.place {
+        Place::Unset => Ok(()),
+        Place::Local(to) => emitter.put_abc(Opcode::Move, usize::from(to), value, 0, line),
+        Place::Upvalue(to) => emitter.put_abc(Opcode::SetUpval, value, usize::from(to), 0, line),
+        Place::GlobalIn(_) | Place::GlobalOf(_) => write_entry(emitter, register, value, line),
+    }
+}
+
+/// Writes the store of a register's value in a target, whose table and key are in the registers from one on.
+fn write_store(
+    emitter: &mut Emitter,
+    target: &Exp,
+    register: usize,
+    value: usize,
+) -> Result<(), AllocError>
+    ensures { OnOk result (emitter.new ≡ listed emitter.old (store_code emitter.old.constants (plain_exp target.now) register value)) }
+{
+    match &target.node {
+        ExpNode::Var(name) => write_name_store(emitter, name, register, value, target.line),
+        ExpNode::Index(_, _) => write_entry(emitter, register, value, target.line),
+        _ => Ok(()),
+    }
+}
+
+/// Writes the stores of values in targets. The tables and keys of the targets are in the registers
+/// from one on, and the values in those from another on.
+pub(crate) fn write_stores(
+    emitter: &mut Emitter,
+    targets: &Vec<Exp>,
+    register: usize,
+    value: usize,
+) -> Result<(), AllocError>
+    ensures { OnOk result (emitter.new ≡ listed emitter.old (stores_code emitter.old.constants (exps (plain_exps targets.now.items)) register value)) }
+{
+    let mut left = targets.len();
+    let mut register = behind(behind(register, left)?, left)?;
+    let mut value = behind(value, left)?;
+    while left > 0 {
+        left -= 1;
+        register -= 2;
+        value -= 1;
+        write_store(emitter, &targets[left], register, value)?;
+    }
+    Ok(())
+}

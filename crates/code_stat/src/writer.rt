@@ -1,0 +1,61 @@
+// The code of a function while its statements are written, and the jumps in it whose ends are not known yet.
+ghost use Rattle.std.specs.Prelude.{◌≡◌, List, take, drop, length, OnOk};
+ghost use Rattle.code_of.specs.Jumps.{Reach, leads};
+ghost use Rattle.code_of.specs.Statements.{in_loop};
+ghost use Rattle.code_expr.specs.declared.emitter.Step.{Step};
+ghost use Rattle.code_stat.specs.Drafts.{Wrote, beyond, arrives, fill};
+
+use crate::jumps::{Destination, Jump, leave_all};
+use code_core::Opcode;
+use code_expr::Emitter;
+use int_core::Bytes;
+use std::alloc::{AllocError, Global};
+
+/// What is written of a function's code.
+#[derive(Drop)]
+pub(crate) struct Writer {
+    /// The code.
+    pub(crate) emitter: Emitter,
+    /// The `goto`s and `break`s in it, in the order of the text.
+    pub(crate) jumps: Vec<Jump>,
+    /// The field C of each RETURN.
+    pub(crate) back: usize,
+    pub(crate) alloc: Global,
+}
+
+impl Writer {
+    /// The place of the next instruction.
+    pub(crate) fn place(&self) -> usize
+        ensures { result ≡ length self.now.emitter.steps }
+    {
+        self.emitter.steps().len()
+    }
+
+    /// Ends a loop that holds the jumps from one on and around which so many locals are in scope.
+    pub(crate) fn end_loop(&mut self, first: usize, level: usize)
+        ensures emitter { self.new.emitter ≡ self.old.emitter }
+        ensures back { self.new.back ≡ self.old.back }
+        ensures front { take first self.new.jumps.items ≡ take first self.old.jumps.items }
+        ensures leads { (reach : Reach) (xs : List Step) → fill (arrives reach) (drop first self.new.jumps.items) xs ≡ fill (arrives (in_loop reach (length self.old.emitter.steps) level)) (drop first self.old.jumps.items) xs }
+    {
+        let place = self.place();
+        leave_all(&mut self.jumps, first, Destination { place, level });
+    }
+
+    /// Writes a `goto`, or a `break` where there is no label. Where it leads is not known yet.
+    pub(crate) fn jump(&mut self, label: Option<Bytes>, line: u32) -> Result<(), AllocError>
+        ensures { OnOk result (Wrote self.old self.new 0 (λ reach. leads (beyond label reach) (length self.old.emitter.steps) line)) }
+    {
+        let place = self.emitter.steps().len();
+        self.emitter.put_abc(Opcode::Close, 0, 0, 0, line)?;
+        self.emitter.put_jump_over(0, line)?;
+        self.jumps.push(Jump {
+            place,
+            line,
+            label,
+            landing: None,
+            settled: false,
+        })?;
+        Ok(())
+    }
+}
