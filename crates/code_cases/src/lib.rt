@@ -5,4 +5,6 @@
 #[cfg(test)]
 mod expressions;
 #[cfg(test)]
+mod parts;
+#[cfg(test)]
 mod statements;

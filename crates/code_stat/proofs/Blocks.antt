@@ -16,7 +16,7 @@ use Rattle.code_stat.specs.declared.writer.Writer.{Writer}
 use Rattle.code_stat.specs.Drafts.{arrives, leads_to, first_of, among, landing_if, beyond, within, fill, Wrote, Underway, WroteStat}
 use Rattle.code_stat.specs.Forms.{ahead_with, level_at}
 use Rattle.code_stat.proofs.Going.{nothing}
-use Rattle.code_stat.proofs.Sizes.{stat_sized}
+use Rattle.code_of.proofs.Sizes.{stat_sized}
 use Rattle.code_stat.proofs.Leading.{fill_both, fill_alike}
 use Rattle.code_stat.proofs.Drafting.{seam, front_sized, written_sized, draft_sized, led_anew, behind_seam}
 

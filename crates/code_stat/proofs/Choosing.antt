@@ -21,7 +21,7 @@ use Rattle.code_stat.specs.declared.writer.Writer.{Writer}
 use Rattle.code_stat.specs.Drafts.{Wrote, WroteStat, WroteBlock}
 use Rattle.code_stat.specs.Forms.{choice}
 use Rattle.code_stat.proofs.Going.{two_listed}
-use Rattle.code_stat.proofs.Sizes.{stat_sized, block_sized}
+use Rattle.code_of.proofs.Sizes.{stat_sized, block_sized}
 use Rattle.code_stat.proofs.Blocks.{nowhere}
 use Rattle.code_stat.proofs.Ends.{remade}
 use Rattle.code_stat.proofs.Looping.{form_at, block_form, block_long, while_front}

@@ -1,7 +1,6 @@
 pub mod Going
 pub mod Returning
 pub mod Leading
-pub mod Sizes
 pub mod Drafting
 pub mod Blocks
 pub mod Scoping

@@ -23,7 +23,7 @@ use Rattle.code_expr.proofs.Joining.{listing, jumped, after, both_listed, none_m
 use Rattle.code_stat.specs.declared.writer.Writer.{Writer}
 use Rattle.code_stat.specs.Drafts.{arrives, fill, Wrote, WroteStat, WroteBlock, WroteOpen}
 use Rattle.code_stat.specs.Forms.{until_code, counted_code, iterated_code, range_code, made_in_range}
-use Rattle.code_stat.proofs.Sizes.{block_sized, open_sized, close_sized}
+use Rattle.code_of.proofs.Sizes.{block_sized, open_sized, close_sized}
 use Rattle.code_stat.proofs.Going.{two_listed, nothing}
 use Rattle.code_stat.proofs.Blocks.{nowhere}
 use Rattle.code_stat.proofs.Ends.{range_wrote}

@@ -1,0 +1,6 @@
+pub mod Rows
+pub mod Joining
+pub mod Written
+pub mod Whole
+pub mod Ending
+pub mod Compiling

@@ -1,0 +1,3 @@
+pub mod Bodies
+pub mod Assembled
+pub mod Scopes

@@ -1,0 +1,49 @@
+// How a function begins and ends.
+ghost use Rattle.std.specs.Prelude.{◌≡◌, OnOk, IfOk};
+ghost use Rattle.tree_core.specs.Plain.{plain_block};
+ghost use Rattle.code_of.specs.CodeOf.{opening, back_field, last_line_of};
+ghost use Rattle.code_expr.specs.Listing.{listed};
+
+use code_core::Opcode;
+use code_expr::{Emitter, next};
+use std::alloc::AllocError;
+use tree_core::Block;
+
+/// Puts what a function with `...` begins by last.
+pub fn put_opening(
+    emitter: &mut Emitter,
+    vararg: bool,
+    params: usize,
+    line: u32,
+) -> Result<(), AllocError>
+    ensures { OnOk result (emitter.new ≡ listed emitter.old (opening vararg params line)) }
+{
+    if vararg {
+        return emitter.put_abc(Opcode::VarArgPrep, params, 0, 0, line);
+    }
+    Ok(())
+}
+
+/// The field C of a function's returns: one more than the number of parameters where the function
+/// has `...`, else 0.
+pub fn back_field(vararg: bool, params: usize) -> Result<usize, AllocError>
+    ensures { IfOk result (λ field. field ≡ back_field vararg params) }
+{
+    if vararg { next(params) } else { Ok(0) }
+}
+
+/// The line on which a function ends, from its first line; the main function has neither.
+pub fn last_line(block: &Block, line: u32) -> u32
+    ensures { result ≡ last_line_of (plain_block block.now) line }
+{
+    if line == 0 { 0 } else { block.line }
+}
+
+/// A number of parameters or registers as a prototype keeps it, in 8 bits. The static rules limit
+/// variables and held values, so that none should be greater; as no proof says so, a greater one
+/// is answered as want of memory.
+pub fn byte(number: usize) -> Result<u8, AllocError>
+    ensures { IfOk result (λ byte. byte ≡ number) }
+{
+    u8::try_from(number).map_err(|_| AllocError)
+}
