@@ -1,0 +1,206 @@
+-- Pieces that open and take lists of values: calls, `...`, returns and the items of a constructor.
+use Rattle.std.proofs.Common.{◌≡◌, ℕ, ◌<◌, ◌≤◌, ◌^◌, ◌/◌, ◌%◌, lit<, Bool, true, false, not, cond, if◌then◌else◌, ◌&&◌, ◌==◌, [], ◌∷◌, Some, None, refl, sym, ap, ap₂, ◌∙◌, arith, ltb-true, ne_eqb}
+use Rattle.std.specs.Prelude.{nat_lt}
+use Rattle.code_core.specs.declared.opcode.Opcode.{Opcode}
+use Rattle.code_core.specs.declared.opcode.Opcode.TheVariants.{Jmp, Call, TailCall, VarArg, Return, SetList, NewTable, ExtraArg}
+use Rattle.code_core.specs.Instruction.{abc, op_ax, a_of, b_of, c_of}
+use Rattle.code_core.specs.Fields.{takes_list, opens}
+use Rattle.code_core.specs.Prototype.{Prototype}
+use Rattle.code_core.proofs.FieldLemmas.{opcode_of-abc, a_of-abc, b_of-abc, c_of-abc, opcode_of-ax}
+use Rattle.code_of.specs.Coded.{with_abc}
+use Rattle.code_of.specs.Expressions.{set_list}
+use Rattle.code_checked.proofs.Pieces.{Seam, closed, listed, returned, Piece}
+use Rattle.code_checked.proofs.Units.{starts_by, leaves_none, begins_none, Takes, Gives, Plain, StillCouple, one, two}
+use Rattle.code_checked.proofs.Words.{abc_fits, ax_fits, k_of-abc, pair, first_new_table, last_extra}
+
+-- a field that says how many values there are, one more than their number, or 0 for an open list
+
+abbrev pub TakesField : Seam → (t field : ℕ) → Type 0
+TakesField closed t b = 0 < b
+TakesField (listed r) t b = (b ≡ 0) × (t ≤ r)
+TakesField returned t b = ⊥
+
+abbrev pub GivesField : Seam → (t field : ℕ) → Type 0
+GivesField closed t c = 0 < c
+GivesField (listed r) t c = (c ≡ 0) × (r ≡ t)
+GivesField returned t c = ⊥
+
+not_zero : (n : ℕ) → 0 < n → (n == 0) ≡ false
+not_zero n h = ne_eqb n 0 (λ e. absurd (omega (arith, h, e)))
+
+is_zero : (n : ℕ) → n ≡ 0 → (n == 0) ≡ true
+is_zero n e = ap (λ n. n == 0) e
+
+in_front_of : (a v : Bool) → v ≡ true → not (a && v) ≡ true → (not a && v) ≡ true
+in_front_of true true h k = k
+in_front_of true false h k = absurd (cc)
+in_front_of false true h k = refl
+in_front_of false false h k = h
+
+module _ (p : Prototype) where
+  takes_by : (f : Seam) (op : Opcode) (a b c : ℕ) (k : Bool) → a < 2 ^ 8 → b < 2 ^ 8 → takes_list op (abc op a b c k) ≡ (b_of (abc op a b c k) == 0) → TakesField f a b → Takes p f op (abc op a b c k)
+  takes_by closed op a b c k af bf e h = e ∙ ap (λ n. n == 0) (b_of-abc op a b c k af bf) ∙ not_zero b h
+  takes_by (listed r) op a b c k af bf e h =
+      let same = a_of-abc op a b c k af in
+      let le = h.1 in
+      (e ∙ ap (λ n. n == 0) (b_of-abc op a b c k af bf) ∙ is_zero b h.0, omega (arith, same, le))
+  takes_by returned op a b c k af bf e h = absurd h
+
+  gives_by : (m : Seam) (op : Opcode) (a b c : ℕ) (k : Bool) → a < 2 ^ 8 → b < 2 ^ 8 → c < 2 ^ 8 → opens op (abc op a b c k) ≡ (if c_of (abc op a b c k) == 0 then Some (a_of (abc op a b c k)) else None) → GivesField m a c
+      → Gives p m op (abc op a b c k)
+  gives_by closed op a b c k af bf cf e h =
+      e ∙ ap₂ (λ n r. if n == 0 then Some r else None) (c_of-abc op a b c k af bf cf) (a_of-abc op a b c k af) ∙ ap (λ t. if t then Some a else None) (not_zero c h)
+  gives_by (listed r) op a b c k af bf cf e h =
+      e ∙ ap₂ (λ n r. if n == 0 then Some r else None) (c_of-abc op a b c k af bf cf) (a_of-abc op a b c k af) ∙ ap (λ t. if t then Some a else None) (is_zero c h.0) ∙ ap Some (sym h.1)
+  gives_by returned op a b c k af bf cf e h = absurd h
+
+  pub call_piece : {H : Type 0} {pc : ℕ} (f m : Seam) (t b c line : ℕ) → t < 2 ^ 8 → b < 2 ^ 8 → c < 2 ^ 8 → TakesField f t b → GivesField m t c → Piece p H f m pc (with_abc Call t b c line ∷ [])
+  call_piece {H} {pc} f m t b c line tf bf cf takes gives = one p f m (abc Call t b c false) line (record {
+    single = record {
+      opcode = Call;
+      is = opcode_of-abc Call t b c false;
+      whole = refl;
+      fits = abc_fits Call t b c false tf bf cf;
+      alone = refl;
+      constant = λ extra. refl;
+      upvalue = refl;
+      inner = λ pc here. refl;
+      half = refl;
+      gives = gives_by m Call t b c false tf bf cf refl gives;
+      takes = takes_by f Call t b c false tf bf refl takes;
+      varargs = λ pc h. h;
+    };
+    still = λ pc. refl;
+  })
+
+  pub vararg_piece : {H : Type 0} {pc : ℕ} (m : Seam) (t c line : ℕ) → t < 2 ^ 8 → c < 2 ^ 8 → p.own.vararg ≡ true → GivesField m t c → Piece p H closed m pc (with_abc VarArg t 0 c line ∷ [])
+  vararg_piece {H} {pc} m t c line tf cf has gives = one p closed m (abc VarArg t 0 c false) line (record {
+    single = record {
+      opcode = VarArg;
+      is = opcode_of-abc VarArg t 0 c false;
+      whole = refl;
+      fits = abc_fits VarArg t 0 c false tf (lit< tt) cf;
+      alone = refl;
+      constant = λ extra. refl;
+      upvalue = refl;
+      inner = λ pc here. refl;
+      half = refl;
+      gives = gives_by m VarArg t 0 c false tf (lit< tt) cf refl gives;
+      takes = refl;
+      varargs = λ pc h. in_front_of (pc == 0) p.own.vararg has h;
+    };
+    still = λ pc. refl;
+  })
+
+  pub return_piece : {H : Type 0} {pc : ℕ} (f : Seam) (t b back line : ℕ) → t < 2 ^ 8 → b < 2 ^ 8 → back < 2 ^ 8 → TakesField f t b → Piece p H f returned pc (with_abc Return t b back line ∷ [])
+  return_piece {H} {pc} f t b back line tf bf cf takes = one p f returned (abc Return t b back false) line (record {
+    single = record {
+      opcode = Return;
+      is = opcode_of-abc Return t b back false;
+      whole = refl;
+      fits = abc_fits Return t b back false tf bf cf;
+      alone = refl;
+      constant = λ extra. refl;
+      upvalue = refl;
+      inner = λ pc here. refl;
+      half = refl;
+      gives = (refl, refl);
+      takes = takes_by f Return t b back false tf bf refl takes;
+      varargs = λ pc h. h;
+    };
+    still = λ pc. refl;
+  })
+
+  pub tail_piece : {H : Type 0} {pc : ℕ} (f : Seam) (t b line : ℕ) → t < 2 ^ 8 → b < 2 ^ 8 → TakesField f t b → Piece p H f (listed t) pc (with_abc TailCall t b 0 line ∷ [])
+  tail_piece {H} {pc} f t b line tf bf takes = one p f (listed t) (abc TailCall t b 0 false) line (record {
+    single = record {
+      opcode = TailCall;
+      is = opcode_of-abc TailCall t b 0 false;
+      whole = refl;
+      fits = abc_fits TailCall t b 0 false tf bf (lit< tt);
+      alone = refl;
+      constant = λ extra. refl;
+      upvalue = refl;
+      inner = λ pc here. refl;
+      half = refl;
+      gives = ap Some (a_of-abc TailCall t b 0 false tf);
+      takes = takes_by f TailCall t b 0 false tf bf refl takes;
+      varargs = λ pc h. h;
+    };
+    still = λ pc. refl;
+  })
+
+  near_list : (f : Seam) (t b items : ℕ) → t < 2 ^ 8 → b < 2 ^ 8 → items < 2 ^ 8 → TakesField f t b → Plain p f closed (abc SetList t b items false)
+  near_list f t b items tf bf cf takes = record {
+    single = record {
+      opcode = SetList;
+      is = opcode_of-abc SetList t b items false;
+      whole = refl;
+      fits = abc_fits SetList t b items false tf bf cf;
+      alone = refl;
+      constant = λ extra. refl;
+      upvalue = refl;
+      inner = λ pc here. refl;
+      half = ap (λ b. if b then Some ExtraArg else None) (k_of-abc SetList t b items false tf);
+      gives = refl;
+      takes = takes_by f SetList t b items false tf bf refl takes;
+      varargs = λ pc h. h;
+    };
+    still = λ pc. refl;
+  }
+
+  far_list : (f : Seam) (t b items more : ℕ) → t < 2 ^ 8 → b < 2 ^ 8 → items < 2 ^ 8 → more < 2 ^ 25 → TakesField f t b → StillCouple p f (abc SetList t b items true) (op_ax ExtraArg more)
+  far_list f t b items more tf bf cf xf takes = record {
+    couple = record {
+      opcode = SetList;
+      is = opcode_of-abc SetList t b items true;
+      whole = refl;
+      fits = abc_fits SetList t b items true tf bf cf;
+      alone = refl;
+      constant = refl;
+      upvalue = refl;
+      inner = refl;
+      still = λ pc. refl;
+      gives = refl;
+      takes = takes_by f SetList t b items true tf bf refl takes;
+      varargs = λ pc h. h;
+      second = ExtraArg;
+      half = ap (λ b. if b then Some ExtraArg else None) (k_of-abc SetList t b items true tf);
+      agree = refl;
+      second_is = opcode_of-ax ExtraArg more;
+      second_whole = refl;
+      second_fits = ax_fits ExtraArg more xf;
+      second_constant = λ extra. refl;
+      second_upvalue = refl;
+      second_inner = refl;
+      second_half_none = refl;
+      second_gives = refl;
+      second_takes = refl;
+      second_varargs = λ pc h. h;
+    };
+    still = λ pc. refl;
+  }
+
+  pub list_piece : {H : Type 0} {pc : ℕ} (f : Seam) (t b items line : ℕ) → t < 2 ^ 8 → b < 2 ^ 8 → (H → items < 2 ^ 33) → TakesField f t b → Piece p H f closed pc (set_list t b items line)
+  list_piece {H} {pc} f t b items line tf bf few takes = by (nat_lt items 256) refl
+    where
+      by : (near : Bool) → nat_lt items 256 ≡ near
+          → Piece p H f closed pc (cond near (with_abc SetList t b items line ∷ []) ((abc SetList t b (items % 256) true, line) ∷ (op_ax ExtraArg (items / 256), line) ∷ []))
+      by true e = let cf : items < 2 ^ 8 = ltb-true items 256 e in one p f closed (abc SetList t b items false) line (near_list f t b items tf bf cf takes)
+      by false e =
+          let cf : items % 256 < 2 ^ 8 = omega arith in
+          let w = abc SetList t b (items % 256) true in
+          let v = op_ax ExtraArg (items / 256) in
+          let is = opcode_of-abc SetList t b (items % 256) true in
+          record {
+            starts = starts_by p f SetList (w, line) ((v, line) ∷ []) is refl (takes_by f SetList t b (items % 256) true tf bf refl takes);
+            ends = (leaves_none ExtraArg v (opcode_of-ax ExtraArg (items / 256)) refl, begins_none Jmp ExtraArg v (opcode_of-ax ExtraArg (items / 256)) refl);
+            kept = λ h. (let fits = few h in let xf : items / 256 < 2 ^ 25 = omega (arith, fits) in (two p {H = H} {pc = pc} f w v line line (far_list f t b (items % 256) (items / 256) tf bf cf xf takes)).kept h);
+          }
+
+  pub table_piece : {H : Type 0} {pc : ℕ} (t line : ℕ) → t < 2 ^ 8 → Piece p H closed closed pc (with_abc NewTable t 0 0 line ∷ (op_ax ExtraArg 0, line) ∷ [])
+  table_piece {H} {pc} t line tf = two p closed (abc NewTable t 0 0 false) (op_ax ExtraArg 0) line line (record {
+    couple = pair p NewTable ExtraArg (first_new_table p) (last_extra p) (abc NewTable t 0 0 false) (op_ax ExtraArg 0) (opcode_of-abc NewTable t 0 0 false) (abc_fits NewTable t 0 0 false tf (lit< tt) (lit< tt))
+        (opcode_of-ax ExtraArg 0) (ax_fits ExtraArg 0 (lit< tt)) refl;
+    still = λ pc. refl;
+  })

@@ -1,0 +1,295 @@
+-- The lines of a tree's code fit, where those of the tree do.
+use Rattle.std.proofs.Common.{◌≡◌, ℕ, zero, suc, ◌+◌, ◌*◌, Bool, true, false, cond, ◌&&◌, List, [], ◌∷◌, ◌++◌, length, Option, Some, None, refl, ap₂}
+use Rattle.std.specs.Prelude.{ℤ, nat_lt, nat_le, nat_eq, ◌-◌}
+use Rattle.std.specs.List.{list_all}
+use Rattle.tree_core.specs.declared.name.Declared.{Declared}
+use Rattle.tree_core.specs.declared.name.Place.{Place}
+use Rattle.tree_core.specs.declared.name.Place.TheVariants.{Unset, Upvalue, GlobalIn, GlobalOf}
+use Rattle.tree_core.specs.declared.name.Place.TheVariants.{Local as LocalPlace}
+use Rattle.tree_core.specs.declared.operator.BinOp.{BinOp}
+use Rattle.tree_core.specs.declared.operator.BinOp.TheVariants.{Add as Plus, Sub as Minus, Mul as Times, Mod as Modulo, Idiv, Band, Bor, Bxor, Shl as ShiftLeft, Shr as ShiftRight, Concat as Join, Eq as Equal, Ne, Lt as Less, Le as AtMost, Gt, Ge}
+use Rattle.tree_core.specs.Tree.{Block, Falls, Returns, Body, BodyOf, Stats, EndStats, MoreStats, Stat, Empty, Local, LocalFunction, Assign, CallStat, Do, While, Repeat, If, IfElse, NumFor, NumForStep, GenFor, Label, Goto, Break, Arms, EndArms, MoreArms, Exp, Nil, True, False, Int, Str, Vararg, Function, Var, Index, Call, Method, Unary, Binary, And, Or, Paren, Table, Exps, EndExps, MoreExps, Fields, EndFields, MoreFields, Item, Keyed}
+use Rattle.tree_activation.specs.Activation.{line_of_end}
+use Rattle.tree_activation.specs.Asking.{line_of_body}
+use Rattle.tree_activation.specs.Statements.{is_closed}
+use Rattle.code_core.specs.declared.proto.Const.{Const}
+use Rattle.code_core.specs.declared.proto.Const.TheVariants.{Int as IntConst, Str as StrConst}
+use Rattle.code_core.specs.Writable.{number_fits}
+use Rattle.code_of.specs.Coded.{Coded, lines, jump_over, jump_back}
+use Rattle.code_of.specs.Constants.{is_small, number_in, loads, loads_integer}
+use Rattle.code_of.specs.Operators.{name_code, operator_code}
+use Rattle.code_of.specs.Expressions.{made_by, made_in, count, Wanted, is_last_item, field_of, wanted_after, nils_code, set_list, exp_code, exps_code, fields_code}
+use Rattle.code_of.specs.Jumps.{Landing, Visible, Reach, label_in, leads}
+use Rattle.code_of.specs.Levels.{made_by_stat, made_in_arms, made_in_stats, made_in_block, level_after, levels_after, levels_in, closing_after, closings_after}
+use Rattle.code_of.specs.Parts.{marks_code, close_code, past, past_size, name_target, target_code, targets_code, name_store, store_code, stores_code, assign_code, values_last, return_code, bounds_code, steps_code}
+use Rattle.code_of.specs.Sizes.{stat_size, arms_size, block_size}
+use Rattle.code_of.specs.Statements.{in_loop, passed_after, labels_ahead, stat_code, arms_code, stats_code, block_code, open_code, whole_code}
+use Rattle.code_of.specs.Constants.{of_block}
+use Rattle.code_of.specs.CodeOf.{back_field, body_code}
+use Rattle.code_checked.specs.Written.{LineFits, DeclaredFit, ExpIsWritten, ExpsAreWritten, FieldsAreWritten, StatIsWritten, ArmsAreWritten, StatsAreWritten, BlockIsWritten, BodyIsWritten}
+
+abbrev pub LinesFit : List Coded → Type 0
+LinesFit [] = Unit {0}
+LinesFit (x ∷ xs) = LineFits x.1 × LinesFit xs
+
+pub all_lines : (xs : List Coded) → LinesFit xs → list_all number_fits (lines xs) ≡ true
+all_lines [] h = refl
+all_lines (x ∷ xs) h = ap₂ (λ a b. a && b) h.0 (all_lines xs h.1)
+
+pub lines_both : (xs ys : List Coded) → LinesFit xs → LinesFit ys → LinesFit (xs ++ ys)
+lines_both [] ys h k = k
+lines_both (x ∷ xs) ys h k = (h.0, lines_both xs ys h.1 k)
+
+either : (b : Bool) (xs ys : List Coded) → LinesFit xs → LinesFit ys → LinesFit (cond b xs ys)
+either true xs ys h k = h
+either false xs ys h k = k
+
+-- loads, names and operators
+
+loads_lines : (cs : List Const) (x : Const) (t line : ℕ) → LineFits line → LinesFit (loads cs x t line)
+loads_lines cs x t line h = either (nat_lt (number_in cs x) 131072) _ _ (h, tt) (h, (h, tt))
+
+integer_lines : (cs : List Const) (z : ℤ) (t line : ℕ) → LineFits line → LinesFit (loads_integer cs z t line)
+integer_lines cs z t line h = either (is_small z) _ _ (h, tt) (loads_lines cs (IntConst z) t line h)
+
+name_lines : (cs : List Const) (place : Place) (text : List ℕ) (t line : ℕ) → LineFits line → LinesFit (name_code cs place text t line)
+name_lines cs Unset text t line h = tt
+name_lines cs (LocalPlace n) text t line h = (h, tt)
+name_lines cs (Upvalue u) text t line h = (h, tt)
+name_lines cs (GlobalIn n) text t line h = lines_both (loads cs (StrConst text) t line) _ (loads_lines cs (StrConst text) t line h) (h, tt)
+name_lines cs (GlobalOf u) text t line h =
+    either (nat_lt (number_in cs (StrConst text)) 256) _ _ (h, tt) (h, lines_both (loads cs (StrConst text) (t + 1) line) _ (loads_lines cs (StrConst text) (t + 1) line h) (h, tt))
+
+operator_lines : (op : BinOp) (t line : ℕ) → LineFits line → LinesFit (operator_code op t line)
+operator_lines Plus t line h = (h, (h, tt))
+operator_lines Minus t line h = (h, (h, tt))
+operator_lines Times t line h = (h, (h, tt))
+operator_lines Modulo t line h = (h, (h, tt))
+operator_lines Idiv t line h = (h, (h, tt))
+operator_lines Band t line h = (h, (h, tt))
+operator_lines Bor t line h = (h, (h, tt))
+operator_lines Bxor t line h = (h, (h, tt))
+operator_lines ShiftLeft t line h = (h, (h, tt))
+operator_lines ShiftRight t line h = (h, (h, tt))
+operator_lines Join t line h = (h, tt)
+operator_lines Equal t line h = (h, (h, (h, (h, tt))))
+operator_lines Ne t line h = (h, (h, (h, (h, tt))))
+operator_lines Less t line h = (h, (h, (h, (h, tt))))
+operator_lines AtMost t line h = (h, (h, (h, (h, tt))))
+operator_lines Gt t line h = (h, (h, (h, (h, tt))))
+operator_lines Ge t line h = (h, (h, (h, (h, tt))))
+
+nils_lines : (wanted : Wanted) (t line : ℕ) → LineFits line → LinesFit (nils_code wanted t line)
+nils_lines None t line h = tt
+nils_lines (Some zero) t line h = tt
+nils_lines (Some (suc n)) t line h = (h, tt)
+
+set_list_lines : (t b items line : ℕ) → LineFits line → LinesFit (set_list t b items line)
+set_list_lines t b items line h = either (nat_lt items 256) _ _ (h, tt) (h, (h, tt))
+
+body_line : (body : Body) → BodyIsWritten body → LineFits (line_of_body body)
+body_line (BodyOf params vararg inner ups line) w = w.0
+
+pub block_line : (block : Block) → BlockIsWritten block → LineFits (line_of_end block)
+block_line (Falls ss tokens line) w = w.0
+block_line (Returns ss es tokens line) w = w.0
+
+past_lines : (rest : List Coded) (line : ℕ) → LineFits line → LinesFit (past rest line)
+past_lines [] line h = tt
+past_lines (x ∷ rest) line h = (h, tt)
+
+jump_line : (b : Bool) (m n line : ℕ) → LineFits line → LineFits (cond b (jump_over m line) (jump_back n line)).1
+jump_line true m n line h = h
+jump_line false m n line h = h
+
+leads_lines : (o : Option Landing) (pc line : ℕ) → LineFits line → LinesFit (leads o pc line)
+leads_lines None pc line h = (h, (jump_line (nat_le (pc + 2) 0) (0 - (pc + 2)) (pc + 2 - 0) line h, tt))
+leads_lines (Some x) pc line h = (h, (jump_line (nat_le (pc + 2) x.place) (x.place - (pc + 2)) (pc + 2 - x.place) line h, tt))
+
+module _ (cs : List Const) where
+  mutual
+    pub exp_lines : (e : Exp) (t j c : ℕ) → ExpIsWritten e → LinesFit (exp_code cs e t j c)
+    exp_lines (Nil line) t j c w = (w, tt)
+    exp_lines (True line) t j c w = (w, tt)
+    exp_lines (False line) t j c w = (w, tt)
+    exp_lines (Int line z) t j c w = integer_lines cs z t line w.0
+    exp_lines (Str line bytes) t j c w = loads_lines cs (StrConst bytes) t line w.0
+    exp_lines (Vararg line) t j c w = (w, tt)
+    exp_lines (Function line body) t j c w = (body_line body w.1, tt)
+    exp_lines (Var line name) t j c w = name_lines cs name.place name.text t line w.0
+    exp_lines (Index line o k) t j c w = lines_both (exp_code cs o t j 2) _ (exp_lines o t j 2 w.1.0) (lines_both (exp_code cs k (t + 1) (j + made_by o) 2) _ (exp_lines k (t + 1) (j + made_by o) 2 w.1.1) (w.0, tt))
+    exp_lines (Call line f es) t j c w = lines_both (exp_code cs f t j 2) _ (exp_lines f t j 2 w.1.0) (lines_both (exps_code cs es None (t + 1) (j + made_by f) line) _ (exps_lines es None (t + 1) (j + made_by f) line w.0 w.1.1) (w.0, tt))
+    exp_lines (Method line o name es) t j c w =
+        lines_both (exp_code cs o t j 2) _ (exp_lines o t j 2 w.1.0) (lines_both (loads cs (StrConst name.text) (t + 1) line) _ (loads_lines cs (StrConst name.text) (t + 1) line w.0)
+        (w.0, lines_both (exps_code cs es None (t + 2) (j + made_by o) line) _ (exps_lines es None (t + 2) (j + made_by o) line w.0 w.1.1.1) (w.0, tt)))
+    exp_lines (Unary line op e) t j c w = lines_both (exp_code cs e t j 2) _ (exp_lines e t j 2 w.1) (w.0, tt)
+    exp_lines (Binary line op e d) t j c w = lines_both (exp_code cs e t j 2) _ (exp_lines e t j 2 w.1.0) (lines_both (exp_code cs d (t + 1) (j + made_by e) 2) _ (exp_lines d (t + 1) (j + made_by e) 2 w.1.1) (operator_lines op t line w.0))
+    exp_lines (And line e d) t j c w = lines_both (exp_code cs e t j 2) _ (exp_lines e t j 2 w.1.0) (w.0, (w.0, exp_lines d t (j + made_by e) 2 w.1.1))
+    exp_lines (Or line e d) t j c w = lines_both (exp_code cs e t j 2) _ (exp_lines e t j 2 w.1.0) (w.0, (w.0, exp_lines d t (j + made_by e) 2 w.1.1))
+    exp_lines (Paren line e) t j c w = exp_lines e t j 2 w.1
+    exp_lines (Table line fs) t j c w = (w.0, (w.0, fields_lines fs 0 t j line w.0 w.1))
+
+    pub exps_lines : (es : Exps) (wanted : Wanted) (t j line : ℕ) → LineFits line → ExpsAreWritten es → LinesFit (exps_code cs es wanted t j line)
+    exps_lines EndExps wanted t j line h w = nils_lines wanted t line h
+    exps_lines (MoreExps e es) wanted t j line h w =
+        lines_both (exp_code cs e t j (field_of e es wanted)) _ (exp_lines e t j (field_of e es wanted) w.0) (exps_lines es (wanted_after e es wanted) (t + 1) (j + made_by e) line h w.1)
+
+    pub fields_lines : (fs : Fields) (items t j line : ℕ) → LineFits line → FieldsAreWritten fs → LinesFit (fields_code cs fs items t j line)
+    fields_lines EndFields items t j line h w = tt
+    fields_lines (MoreFields (Item e) fs) items t j line h w =
+        lines_both (exp_code cs e (t + 1) j (cond (is_last_item e fs) 0 2)) _ (exp_lines e (t + 1) j (cond (is_last_item e fs) 0 2) w.0)
+        (lines_both (set_list t (cond (is_last_item e fs) 0 1) items line) _ (set_list_lines t (cond (is_last_item e fs) 0 1) items line h) (fields_lines fs (items + 1) t (j + made_by e) line h w.1))
+    fields_lines (MoreFields (Keyed at_line e d) fs) items t j line h w =
+        lines_both (exp_code cs e (t + 1) j 2) _ (exp_lines e (t + 1) j 2 w.1.0) (lines_both (exp_code cs d (t + 2) (j + made_by e) 2) _ (exp_lines d (t + 2) (j + made_by e) 2 w.1.1.0)
+        (w.0, fields_lines fs items t (j + made_by e + made_by d) line h w.1.1.1))
+
+  -- statements without blocks
+
+  marks_lines : (names : List Declared) (t : ℕ) → DeclaredFit names → LinesFit (marks_code names t)
+  marks_lines [] t w = tt
+  marks_lines (d ∷ names) t w = either (is_closed d.attrib) _ _ (w.1.0, marks_lines names (t + 1) w.1.1) (marks_lines names (t + 1) w.1.1)
+
+  close_lines : (before after line : ℕ) → LineFits line → LinesFit (close_code before after line)
+  close_lines before after line h = either (nat_eq before after) _ _ tt (h, tt)
+
+  target_lines : (e : Exp) (r j : ℕ) → ExpIsWritten e → LinesFit (target_code cs e r j)
+  target_lines (Var line name) r j w = by name.place
+    where
+      by : (place : Place) → LinesFit (name_target cs place name.text r line)
+      by (GlobalIn n) = (w.0, loads_lines cs (StrConst name.text) (r + 1) line w.0)
+      by (GlobalOf u) = (w.0, loads_lines cs (StrConst name.text) (r + 1) line w.0)
+      by _ = tt
+  target_lines (Index line o k) r j w = lines_both (exp_code cs o r j 2) _ (exp_lines o r j 2 w.1.0) (exp_lines k (r + 1) (j + made_by o) 2 w.1.1)
+  target_lines _ r j w = tt
+
+  targets_lines : (es : Exps) (r j : ℕ) → ExpsAreWritten es → LinesFit (targets_code cs es r j)
+  targets_lines EndExps r j w = tt
+  targets_lines (MoreExps e es) r j w = lines_both (target_code cs e r j) _ (target_lines e r j w.0) (targets_lines es (r + 2) (j + made_by e) w.1)
+
+  store_lines : (e : Exp) (r v : ℕ) → ExpIsWritten e → LinesFit (store_code cs e r v)
+  store_lines (Var line name) r v w = by name.place
+    where
+      by : (place : Place) → LinesFit (name_store cs place r v line)
+      by Unset = tt
+      by (LocalPlace n) = (w.0, tt)
+      by (Upvalue u) = (w.0, tt)
+      by (GlobalIn n) = (w.0, tt)
+      by (GlobalOf u) = (w.0, tt)
+  store_lines (Index line o k) r v w = (w.0, tt)
+  store_lines _ r v w = tt
+
+  stores_lines : (es : Exps) (r v : ℕ) → ExpsAreWritten es → LinesFit (stores_code cs es r v)
+  stores_lines EndExps r v w = tt
+  stores_lines (MoreExps e es) r v w = lines_both (stores_code cs es (r + 2) (v + 1)) _ (stores_lines es (r + 2) (v + 1) w.1) (store_lines e r v w.0)
+
+  assign_lines : (ts es : Exps) (t j line : ℕ) → LineFits line → ExpsAreWritten ts → ExpsAreWritten es → LinesFit (assign_code cs ts es t j line)
+  assign_lines ts es t j line h wt we =
+      let v = t + 2 * count ts in
+      lines_both (targets_code cs ts t j) _ (targets_lines ts t j wt) (lines_both (exps_code cs es (Some (count ts)) v (j + made_in ts) line) _ (exps_lines es (Some (count ts)) v (j + made_in ts) line h we) (stores_lines ts t v wt))
+
+  values_lines : (es : Exps) (t j line back : ℕ) → LineFits line → ExpsAreWritten es → LinesFit (values_last cs es t j line back)
+  values_lines es t j line back h w = lines_both (exps_code cs es None t j line) _ (exps_lines es None t j line h w) (h, tt)
+
+  pub return_lines : (closing : Bool) (es : Exps) (t j line back : ℕ) → LineFits line → ExpsAreWritten es → LinesFit (return_code cs closing es t j line back)
+  return_lines false (MoreExps (Call at_line f es) EndExps) t j line back h w =
+      let c = w.0 in
+      lines_both (exp_code cs f t j 2) _ (exp_lines f t j 2 c.1.0) (lines_both (exps_code cs es None (t + 1) (j + made_by f) at_line) _ (exps_lines es None (t + 1) (j + made_by f) at_line c.0 c.1.1) (c.0, (c.0, tt)))
+  return_lines false (MoreExps (Method at_line o name es) EndExps) t j line back h w =
+      let c = w.0 in
+      lines_both (exp_code cs o t j 2) _ (exp_lines o t j 2 c.1.0) (lines_both (loads cs (StrConst name.text) (t + 1) at_line) _ (loads_lines cs (StrConst name.text) (t + 1) at_line c.0)
+      (c.0, lines_both (exps_code cs es None (t + 2) (j + made_by o) at_line) _ (exps_lines es None (t + 2) (j + made_by o) at_line c.0 c.1.1.1) (c.0, (c.0, tt))))
+  return_lines closing es t j line back h w = values_lines es t j line back h w
+
+  module _ (back : ℕ) where
+    mutual
+      pub stat_lines : (s : Stat) (closing : Bool) (t j pc : ℕ) (reach : Reach) → StatIsWritten s → LinesFit (stat_code cs back s closing t j pc reach)
+      stat_lines (Empty line) closing t j pc reach w = tt
+      stat_lines (Local line names es) closing t j pc reach w = lines_both (exps_code cs es (Some (length names)) t j line) _ (exps_lines es (Some (length names)) t j line w.0 w.1.1) (marks_lines names t w.1.0)
+      stat_lines (LocalFunction line name body) closing t j pc reach w = (body_line body w.1.1, (body_line body w.1.1, tt))
+      stat_lines (Assign line ts es) closing t j pc reach w = assign_lines ts es t j line w.0 w.1.0 w.1.1
+      stat_lines (CallStat line e) closing t j pc reach w = exp_lines e t j 1 w.1
+      stat_lines (Do line block) closing t j pc reach w = block_lines block closing t t j pc reach w.1
+      stat_lines (While line e block) closing t j pc reach w =
+          let test = exp_code cs e t j 2 in
+          let inner = in_loop reach (pc + stat_size cs back (While line e block) closing t j) t in
+          lines_both test _ (exp_lines e t j 2 w.1.0) (w.0, (w.0, lines_both (block_code cs back block closing t t (j + made_by e) (pc + length test + 2) inner) _ (block_lines block closing t t (j + made_by e) (pc + length test + 2) inner w.1.1) (w.0, tt)))
+      stat_lines (Repeat line block e) closing t j pc reach w =
+          let within = levels_in block t in
+          let inner = in_loop reach (pc + stat_size cs back (Repeat line block e) closing t j) t in
+          let close = close_code t within (line_of_end block) in
+          let closes = close_lines t within (line_of_end block) (block_line block w.1.0) in
+          lines_both (open_code cs back block closing t j pc inner) _ (open_lines block closing t j pc inner w.1.0)
+          (lines_both (exp_code cs e within (j + made_in_block block) 2) _ (exp_lines e within (j + made_in_block block) 2 w.1.1) (w.0, (w.0, lines_both close _ closes (w.0, closes))))
+      stat_lines (If line arms) closing t j pc reach w = arms_lines arms [] closing t j pc line reach w.0 w.1 tt
+      stat_lines (IfElse line arms block) closing t j pc reach w =
+          let k = j + made_in_arms arms in
+          let place = pc + arms_size cs back arms (block_size cs back block closing t t k) closing t j in
+          arms_lines arms (block_code cs back block closing t t k place reach) closing t j pc line reach w.0 w.1.0 (block_lines block closing t t k place reach w.1.1)
+      stat_lines (NumFor line name from limit block) closing t j pc reach w =
+          let start = bounds_code cs from limit t j line in
+          let k = j + made_by from + made_by limit in
+          let inner = in_loop reach (pc + stat_size cs back (NumFor line name from limit block) closing t j) t in
+          let pair = exp_code cs from t j 2 ++ exp_code cs limit (t + 1) (j + made_by from) 2 in
+          lines_both start _ (lines_both pair _ (lines_both (exp_code cs from t j 2) _ (exp_lines from t j 2 w.1.1.0) (exp_lines limit (t + 1) (j + made_by from) 2 w.1.1.1.0)) (w.0, tt))
+          (w.0, lines_both (block_code cs back block closing (t + 3) (t + 4) k (pc + length start + 1) inner) _ (block_lines block closing (t + 3) (t + 4) k (pc + length start + 1) inner w.1.1.1.1) (w.0, tt))
+      stat_lines (NumForStep line name from limit step block) closing t j pc reach w =
+          let start = steps_code cs from limit step t j in
+          let k = j + made_by from + made_by limit + made_by step in
+          let inner = in_loop reach (pc + stat_size cs back (NumForStep line name from limit step block) closing t j) t in
+          let pair = exp_code cs from t j 2 ++ exp_code cs limit (t + 1) (j + made_by from) 2 in
+          lines_both start _ (lines_both pair _ (lines_both (exp_code cs from t j 2) _ (exp_lines from t j 2 w.1.1.0) (exp_lines limit (t + 1) (j + made_by from) 2 w.1.1.1.0)) (exp_lines step (t + 2) (j + made_by from + made_by limit) 2 w.1.1.1.1.0))
+          (w.0, lines_both (block_code cs back block closing (t + 3) (t + 4) k (pc + length start + 1) inner) _ (block_lines block closing (t + 3) (t + 4) k (pc + length start + 1) inner w.1.1.1.1.1) (w.0, tt))
+      stat_lines (GenFor line names es block) closing t j pc reach w =
+          let start = exps_code cs es (Some 4) t j line in
+          let k = j + made_in es in
+          let inner = in_loop reach (pc + stat_size cs back (GenFor line names es block) closing t j) t in
+          lines_both start _ (exps_lines es (Some 4) t j line w.0 w.1.1.0)
+          (w.0, lines_both (block_code cs back block true (t + 4) (t + 4 + length names) k (pc + length start + 1) inner) _ (block_lines block true (t + 4) (t + 4 + length names) k (pc + length start + 1) inner w.1.1.1) (w.0, (w.0, (w.0, tt))))
+      stat_lines (Label line name) closing t j pc reach w = tt
+      stat_lines (Goto line name) closing t j pc reach w = leads_lines (label_in name.text reach.labels) pc line w
+      stat_lines (Break line) closing t j pc reach w = leads_lines reach.exit pc line w
+
+      pub arms_lines : (arms : Arms) (otherwise : List Coded) (closing : Bool) (t j pc line : ℕ) (reach : Reach) → LineFits line → ArmsAreWritten arms → LinesFit otherwise → LinesFit (arms_code cs back arms otherwise closing t j pc line reach)
+      arms_lines EndArms otherwise closing t j pc line reach h w others = others
+      arms_lines (MoreArms e block arms) otherwise closing t j pc line reach h w others =
+          let test = exp_code cs e t j 2 in
+          let k = j + made_by e + made_in_block block in
+          let inner = pc + length test + 2 in
+          let next = inner + block_size cs back block closing t t (j + made_by e) + past_size (arms_size cs back arms (length otherwise) closing t k + length otherwise) in
+          let behind = arms_code cs back arms otherwise closing t k next line reach in
+          lines_both test _ (exp_lines e t j 2 w.0) (
+            h,
+            (
+              h,
+              lines_both (block_code cs back block closing t t (j + made_by e) inner reach) _ (block_lines block closing t t (j + made_by e) inner reach w.1.0)
+                  (lines_both (past behind line) _ (past_lines behind line h) (arms_lines arms otherwise closing t k next line reach h w.1.1 others)),
+            ),
+          )
+
+      pub stats_lines : (ss : Stats) (falls closing : Bool) (outer t j pc : ℕ) (passed : List Visible) (reach : Reach) → StatsAreWritten ss → LinesFit (stats_code cs back ss falls closing outer t j pc passed reach)
+      stats_lines EndStats falls closing outer t j pc passed reach w = tt
+      stats_lines (MoreStats s ss) falls closing outer t j pc passed reach w =
+          let k = j + made_by_stat s in
+          let place = pc + stat_size cs back s closing t j in
+          let ahead = labels_ahead cs back ss falls (closing_after s closing) outer (level_after s t) k place in
+          let here : Reach = record { labels = ahead ++ (passed ++ reach.labels); exit = reach.exit } in
+          lines_both (stat_code cs back s closing t j pc here) _ (stat_lines s closing t j pc here w.0) (stats_lines ss falls (closing_after s closing) outer (level_after s t) k place (passed_after s t pc passed) reach w.1)
+
+      pub block_lines : (block : Block) (closing : Bool) (outer t j pc : ℕ) (reach : Reach) → BlockIsWritten block → LinesFit (block_code cs back block closing outer t j pc reach)
+      block_lines (Falls ss tokens line) closing outer t j pc reach w = lines_both (stats_code cs back ss true closing outer t j pc [] reach) _ (stats_lines ss true closing outer t j pc [] reach w.1) (close_lines outer (levels_after ss t) line w.0)
+      block_lines (Returns ss es tokens line) closing outer t j pc reach w =
+          lines_both (stats_code cs back ss false closing outer t j pc [] reach) _ (stats_lines ss false closing outer t j pc [] reach w.1.0) (return_lines (closings_after ss closing) es (levels_after ss t) (j + made_in_stats ss) line back w.0 w.1.1)
+
+      pub open_lines : (block : Block) (closing : Bool) (t j pc : ℕ) (reach : Reach) → BlockIsWritten block → LinesFit (open_code cs back block closing t j pc reach)
+      open_lines (Falls ss tokens line) closing t j pc reach w = stats_lines ss false closing t t j pc [] reach w.1
+      open_lines (Returns ss es tokens line) closing t j pc reach w =
+          lines_both (stats_code cs back ss false closing t t j pc [] reach) _ (stats_lines ss false closing t t j pc [] reach w.1.0) (return_lines (closings_after ss closing) es (levels_after ss t) (j + made_in_stats ss) line back w.0 w.1.1)
+
+    pub whole_lines : (block : Block) (params pc : ℕ) → BlockIsWritten block → LinesFit (whole_code cs back block params pc)
+    whole_lines (Falls ss tokens line) params pc w =
+        lines_both (stats_code cs back ss true false 0 params 0 pc [] (record { labels = []; exit = None })) _ (stats_lines ss true false 0 params 0 pc [] (record { labels = []; exit = None }) w.1) (w.0, tt)
+    whole_lines (Returns ss es tokens line) params pc w = block_lines (Returns ss es tokens line) false 0 params 0 pc (record { labels = []; exit = None }) w
+
+pub body_lines : (body : Body) → BodyIsWritten body → LinesFit (body_code body)
+body_lines (BodyOf params false inner ups line) w = whole_lines (of_block inner []) (back_field false (length params)) inner (length params) 0 w.1.1.1
+body_lines (BodyOf params true inner ups line) w = (w.0, whole_lines (of_block inner []) (back_field true (length params)) inner (length params) 1 w.1.1.1)

@@ -1,0 +1,100 @@
+-- The constants of a tree fit, where what it writes does.
+use Rattle.std.proofs.Common.{◌≡◌, ℕ, Bool, true, false, cond, ◌&&◌, List, [], ◌∷◌, refl, ap₂}
+use Rattle.std.specs.Prelude.{ℤ}
+use Rattle.std.specs.List.{list_all}
+use Rattle.tree_core.specs.declared.name.Place.{Place}
+use Rattle.tree_core.specs.declared.name.Place.TheVariants.{Unset, Upvalue, GlobalIn, GlobalOf}
+use Rattle.tree_core.specs.declared.name.Place.TheVariants.{Local as LocalPlace}
+use Rattle.tree_core.specs.Tree.{Block, Falls, Returns, Stats, EndStats, MoreStats, Stat, Empty, Local, LocalFunction, Assign, CallStat, Do, While, Repeat, If, IfElse, NumFor, NumForStep, GenFor, Label, Goto, Break, Arms, EndArms, MoreArms, Exp, Nil, True, False, Int, Str, Vararg, Function, Var, Index, Call, Method, Unary, Binary, And, Or, Paren, Table, Exps, EndExps, MoreExps, Fields, EndFields, MoreFields, Item, Keyed}
+use Rattle.code_core.specs.declared.proto.Const.{Const}
+use Rattle.code_core.specs.declared.proto.Const.TheVariants.{Int as IntConst, Str as StrConst}
+use Rattle.code_core.specs.Writable.{constant_fits, signed_fits}
+use Rattle.code_of.specs.Constants.{is_small, same_constant, with_constant, of_name, of_exp, of_exps, of_fields, of_stat, of_arms, of_stats, of_block}
+use Rattle.code_checked.specs.Written.{TextFits, ExpIsWritten, ExpsAreWritten, FieldsAreWritten, StatIsWritten, ArmsAreWritten, StatsAreWritten, BlockIsWritten}
+
+abbrev pub AllFit : List Const → Type 0
+AllFit [] = Unit {0}
+AllFit (c ∷ cs) = (constant_fits c ≡ true) × AllFit cs
+
+pub all_fit_in : (cs : List Const) → AllFit cs → list_all constant_fits cs ≡ true
+all_fit_in [] h = refl
+all_fit_in (c ∷ cs) h = ap₂ (λ a b. a && b) h.0 (all_fit_in cs h.1)
+
+with_fits : (x : Const) (cs : List Const) → constant_fits x ≡ true → AllFit cs → AllFit (with_constant x cs)
+with_fits x [] fits h = (fits, tt)
+with_fits x (c ∷ cs) fits h = by (same_constant c x) (with_fits x cs fits h.1)
+  where
+    by : (b : Bool) → AllFit (with_constant x cs) → AllFit (cond b (c ∷ cs) (c ∷ with_constant x cs))
+    by true others = h
+    by false others = (h.0, others)
+
+integer_fits : (b : Bool) (z : ℤ) (cs : List Const) → signed_fits 63 z ≡ true → AllFit cs → AllFit (cond b cs (with_constant (IntConst z) cs))
+integer_fits true z cs fits h = h
+integer_fits false z cs fits h = with_fits (IntConst z) cs fits h
+
+name_fits_in : (place : Place) (text : List ℕ) (cs : List Const) → TextFits text → AllFit cs → AllFit (of_name place text cs)
+name_fits_in Unset text cs fits h = h
+name_fits_in (LocalPlace n) text cs fits h = h
+name_fits_in (Upvalue u) text cs fits h = h
+name_fits_in (GlobalIn n) text cs fits h = with_fits (StrConst text) cs fits h
+name_fits_in (GlobalOf u) text cs fits h = with_fits (StrConst text) cs fits h
+
+mutual
+  pub exp_fits : (x : Exp) (cs : List Const) → ExpIsWritten x → AllFit cs → AllFit (of_exp x cs)
+  exp_fits (Nil line) cs w h = h
+  exp_fits (True line) cs w h = h
+  exp_fits (False line) cs w h = h
+  exp_fits (Int line z) cs w h = integer_fits (is_small z) z cs w.1 h
+  exp_fits (Str line bytes) cs w h = with_fits (StrConst bytes) cs w.1 h
+  exp_fits (Vararg line) cs w h = h
+  exp_fits (Function line body) cs w h = h
+  exp_fits (Var line name) cs w h = name_fits_in name.place name.text cs w.1 h
+  exp_fits (Index line object key) cs w h = exp_fits key (of_exp object cs) w.1.1 (exp_fits object cs w.1.0 h)
+  exp_fits (Call line f es) cs w h = exps_fits es (of_exp f cs) w.1.1 (exp_fits f cs w.1.0 h)
+  exp_fits (Method line object name es) cs w h = exps_fits es (with_constant (StrConst name.text) (of_exp object cs)) w.1.1.1 (with_fits (StrConst name.text) (of_exp object cs) w.1.1.0 (exp_fits object cs w.1.0 h))
+  exp_fits (Unary line op e) cs w h = exp_fits e cs w.1 h
+  exp_fits (Binary line op e d) cs w h = exp_fits d (of_exp e cs) w.1.1 (exp_fits e cs w.1.0 h)
+  exp_fits (And line e d) cs w h = exp_fits d (of_exp e cs) w.1.1 (exp_fits e cs w.1.0 h)
+  exp_fits (Or line e d) cs w h = exp_fits d (of_exp e cs) w.1.1 (exp_fits e cs w.1.0 h)
+  exp_fits (Paren line e) cs w h = exp_fits e cs w.1 h
+  exp_fits (Table line fs) cs w h = fields_fits fs cs w.1 h
+
+  pub exps_fits : (x : Exps) (cs : List Const) → ExpsAreWritten x → AllFit cs → AllFit (of_exps x cs)
+  exps_fits EndExps cs w h = h
+  exps_fits (MoreExps e es) cs w h = exps_fits es (of_exp e cs) w.1 (exp_fits e cs w.0 h)
+
+  pub fields_fits : (x : Fields) (cs : List Const) → FieldsAreWritten x → AllFit cs → AllFit (of_fields x cs)
+  fields_fits EndFields cs w h = h
+  fields_fits (MoreFields (Item e) fs) cs w h = fields_fits fs (of_exp e cs) w.1 (exp_fits e cs w.0 h)
+  fields_fits (MoreFields (Keyed line e d) fs) cs w h = fields_fits fs (of_exp d (of_exp e cs)) w.1.1.1 (exp_fits d (of_exp e cs) w.1.1.0 (exp_fits e cs w.1.0 h))
+
+mutual
+  pub stat_fits : (x : Stat) (cs : List Const) → StatIsWritten x → AllFit cs → AllFit (of_stat x cs)
+  stat_fits (Empty line) cs w h = h
+  stat_fits (Local line names es) cs w h = exps_fits es cs w.1.1 h
+  stat_fits (LocalFunction line name body) cs w h = h
+  stat_fits (Assign line targets es) cs w h = exps_fits es (of_exps targets cs) w.1.1 (exps_fits targets cs w.1.0 h)
+  stat_fits (CallStat line e) cs w h = exp_fits e cs w.1 h
+  stat_fits (Do line block) cs w h = block_fits block cs w.1 h
+  stat_fits (While line e block) cs w h = block_fits block (of_exp e cs) w.1.1 (exp_fits e cs w.1.0 h)
+  stat_fits (Repeat line block e) cs w h = exp_fits e (of_block block cs) w.1.1 (block_fits block cs w.1.0 h)
+  stat_fits (If line arms) cs w h = arms_fits arms cs w.1 h
+  stat_fits (IfElse line arms block) cs w h = block_fits block (of_arms arms cs) w.1.1 (arms_fits arms cs w.1.0 h)
+  stat_fits (NumFor line name from limit block) cs w h = block_fits block (of_exp limit (of_exp from cs)) w.1.1.1.1 (exp_fits limit (of_exp from cs) w.1.1.1.0 (exp_fits from cs w.1.1.0 h))
+  stat_fits (NumForStep line name from limit step block) cs w h = block_fits block (of_exp step (of_exp limit (of_exp from cs))) w.1.1.1.1.1 (exp_fits step (of_exp limit (of_exp from cs)) w.1.1.1.1.0 (exp_fits limit (of_exp from cs) w.1.1.1.0 (exp_fits from cs w.1.1.0 h)))
+  stat_fits (GenFor line names es block) cs w h = block_fits block (of_exps es cs) w.1.1.1 (exps_fits es cs w.1.1.0 h)
+  stat_fits (Label line name) cs w h = h
+  stat_fits (Goto line name) cs w h = h
+  stat_fits (Break line) cs w h = h
+
+  pub arms_fits : (x : Arms) (cs : List Const) → ArmsAreWritten x → AllFit cs → AllFit (of_arms x cs)
+  arms_fits EndArms cs w h = h
+  arms_fits (MoreArms e block arms) cs w h = arms_fits arms (of_block block (of_exp e cs)) w.1.1 (block_fits block (of_exp e cs) w.1.0 (exp_fits e cs w.0 h))
+
+  pub stats_fits : (x : Stats) (cs : List Const) → StatsAreWritten x → AllFit cs → AllFit (of_stats x cs)
+  stats_fits EndStats cs w h = h
+  stats_fits (MoreStats s ss) cs w h = stats_fits ss (of_stat s cs) w.1 (stat_fits s cs w.0 h)
+
+  pub block_fits : (x : Block) (cs : List Const) → BlockIsWritten x → AllFit cs → AllFit (of_block x cs)
+  block_fits (Falls ss tokens line) cs w h = stats_fits ss cs w.1 h
+  block_fits (Returns ss es tokens line) cs w h = exps_fits es (of_stats ss cs) w.1.1 (stats_fits ss cs w.1.0 h)

@@ -1,0 +1,248 @@
+-- The code of each form of expression is a piece, where the code of its parts is.
+use Rattle.std.specs.Prelude.{nat_lt, ◌%◌, ◌/◌}
+use Rattle.code_core.specs.Instruction.{abc, op_ax}
+use Rattle.std.proofs.Common.{◌≡◌, ℕ, ◌+◌, ◌<◌, ◌≤◌, ◌^◌, lit<, Bool, true, false, cond, List, [], ◌∷◌, ◌++◌, length, Option, Some, None, refl, sym, ap, subst, ◌∙◌, arith, length-append}
+use Rattle.tree_core.specs.declared.name.Name.{Name}
+use Rattle.tree_core.specs.Tree.{Body, BodyOf, Exp, Nil, True, False, Int, Str, Vararg, Function, Var, Index, Call, Method, Unary, Binary, And, Or, Paren, Table, Exps, EndExps, MoreExps, Fields, EndFields, MoreFields, Field, Item, Keyed}
+use Rattle.tree_core.specs.declared.operator.UnOp.{UnOp}
+use Rattle.tree_core.specs.declared.operator.BinOp.{BinOp}
+use Rattle.code_core.specs.declared.opcode.Opcode.TheVariants.{GetTable, SetList, SetTable, ExtraArg}
+use Rattle.code_core.specs.declared.proto.Const.{Const}
+use Rattle.code_core.specs.declared.proto.Const.TheVariants.{Str as StrConst}
+use Rattle.code_core.specs.Prototype.{Prototype, Prototypes}
+use Rattle.code_of.specs.Coded.{Coded, with_abc}
+use Rattle.code_of.specs.Constants.{with_constant, of_exp, of_exps, of_fields}
+use Rattle.code_of.specs.Expressions.{made_by, count, is_open, ends_open, list_field, one_less, nils_code, set_list, exp_code, exps_code, fields_code, is_last_item}
+use Rattle.code_of.specs.CodeOf.{parts_of, from_exp, from_exps, from_fields, from_body}
+use Rattle.code_checked.specs.Near.{IsRegister, ExpIsNear, ExpsAreNear, FieldsAreNear}
+use Rattle.code_checked.proofs.Pieces.{closed, listed, Piece, both, nothing}
+use Rattle.code_checked.proofs.Words.{simple, simple_get_table}
+use Rattle.code_checked.proofs.Found.{Grows, grows_then, grows_with, is_in, same_strings}
+use Rattle.code_checked.proofs.Loads.{Whole, Functions, loads_piece, closure_piece, set_table_piece, self_piece}
+use Rattle.code_checked.proofs.Seams.{alike}
+use Rattle.code_checked.proofs.Calls.{call_piece, list_piece}
+use Rattle.code_checked.proofs.Operators.{prefix_piece, operator_piece}
+use Rattle.code_checked.proofs.Lists.{list_at, mark_of, open_mark, gives_at, same_either, list_at_some, takes_list_field, field_below, HaveRoom, room_next, room_field, nils_piece}
+use Rattle.code_checked.proofs.Growing.{grows_exp, grows_exps, grows_fields, after_exp}
+
+pub append_nil : (xs : List Coded) → xs ++ [] ≡ xs
+append_nil [] = refl
+append_nil (x ∷ xs) = ap (λ l. x ∷ l) (append_nil xs)
+
+-- the part of a table that the last of two trees makes
+pub exp_register : (source : Option (List ℕ)) (p : Prototype) (e : Exp) (size t : ℕ) → ExpIsNear source p e size t → IsRegister t
+exp_register source p (Nil line) size t h = h.0
+exp_register source p (True line) size t h = h.0
+exp_register source p (False line) size t h = h.0
+exp_register source p (Int line z) size t h = h.0
+exp_register source p (Str line bytes) size t h = h.0
+exp_register source p (Vararg line) size t h = h.0
+exp_register source p (Function line body) size t h = h.0
+exp_register source p (Var line name) size t h = h.0
+exp_register source p (Index line o k) size t h = h.0
+exp_register source p (Call line f es) size t h = let r = h.0 in omega (arith, r)
+exp_register source p (Method line o name es) size t h = let r = h.0 in omega (arith, r)
+exp_register source p (Unary line op e) size t h = h.0
+exp_register source p (Binary line op e d) size t h = h.0
+exp_register source p (And line e d) size t h = h.0
+exp_register source p (Or line e d) size t h = h.0
+exp_register source p (Paren line e) size t h = h.0
+exp_register source p (Table line fs) size t h = h.0
+
+-- the items of a constructor that are stored by their number
+abbrev pub positional : Fields → ℕ
+positional EndFields = 0
+positional (MoreFields (Item e) fs) = 1 + positional fs
+positional (MoreFields (Keyed line e d) fs) = positional fs
+
+stored : (t b items line : ℕ) → 0 < length (set_list t b items line)
+stored t b items line = by (nat_lt items 256)
+  where
+    by : (near : Bool) → 0 < length (cond near (with_abc SetList t b items line ∷ []) ((abc SetList t b (items % 256) true, line) ∷ (op_ax ExtraArg (items / 256), line) ∷ []))
+    by true = omega arith
+    by false = omega arith
+
+-- each has an instruction at least
+pub positional_below : (cs : List Const) (fs : Fields) (items t j line : ℕ) → positional fs ≤ length (fields_code cs fs items t j line)
+positional_below cs EndFields items t j line = omega arith
+positional_below cs (MoreFields (Item e) fs) items t j line =
+    let first = exp_code cs e (t + 1) j (cond (is_last_item e fs) 0 2) in
+    let second = set_list t (cond (is_last_item e fs) 0 1) items line in
+    let rest = fields_code cs fs (items + 1) t (j + made_by e) line in
+    let a = length-append first (second ++ rest) in
+    let b = length-append second rest in
+    let c = stored t (cond (is_last_item e fs) 0 1) items line in
+    let d = positional_below cs fs (items + 1) t (j + made_by e) line in
+    omega (arith, a, b, c, d)
+positional_below cs (MoreFields (Keyed at_line e d) fs) items t j line =
+    let first = exp_code cs e (t + 1) j 2 in
+    let second = exp_code cs d (t + 2) (j + made_by e) 2 in
+    let rest = fields_code cs fs items t (j + made_by e + made_by d) line in
+    let a = length-append first (second ++ (with_abc SetTable t (t + 1) (t + 2) at_line ∷ rest)) in
+    let b = length-append second (with_abc SetTable t (t + 1) (t + 2) at_line ∷ rest) in
+    let c = positional_below cs fs items t (j + made_by e + made_by d) line in
+    omega (arith, a, b, c)
+
+module _ (p : Prototype) (W : Whole p) (source : Option (List ℕ)) (H : Type 0) where
+  abbrev pub C : List Const
+  C = p.own.constants
+
+  abbrev pub ExpLaw : Exp → Type 0
+  ExpLaw e =
+      (t j c pc size : ℕ) (cs : List Const) (rest : Prototypes) → ExpIsNear source p e size t → size ≤ t → c < 2 ^ 8 → Grows (of_exp e cs) p.own.constants → Functions p j (from_exp source e rest)
+      → Piece p H closed (mark_of e c t) pc (exp_code p.own.constants e t j c)
+
+  -- of which one value is wanted
+  abbrev pub OneLaw : Exp → Type 0
+  OneLaw e =
+      (t j pc size : ℕ) (cs : List Const) (rest : Prototypes) → ExpIsNear source p e size t → size ≤ t → Grows (of_exp e cs) p.own.constants → Functions p j (from_exp source e rest)
+      → Piece p H closed closed pc (exp_code p.own.constants e t j 2)
+
+  -- of which all values are
+  abbrev pub ListLaw : Exps → Type 0
+  ListLaw es =
+      (t j line pc size : ℕ) (cs : List Const) (rest : Prototypes) → ExpsAreNear source p es size t → size ≤ t → Grows (of_exps es cs) p.own.constants → Functions p j (from_exps source es rest)
+      → Piece p H closed (open_mark es t) pc (exps_code p.own.constants es None t j line)
+
+  -- of which n values are
+  abbrev pub ExactLaw : Exps → Type 0
+  ExactLaw es =
+      (n t j line pc size : ℕ) (cs : List Const) (rest : Prototypes) → ExpsAreNear source p es size t → size ≤ t → HaveRoom n t → Grows (of_exps es cs) p.own.constants → Functions p j (from_exps source es rest)
+      → Piece p H closed closed pc (exps_code p.own.constants es (Some n) t j line)
+
+  abbrev pub FieldsLaw : Fields → Type 0
+  FieldsLaw fs =
+      (items t j line pc size : ℕ) (cs : List Const) (rest : Prototypes) → (H → items + positional fs < 2 ^ 33) → FieldsAreNear source p fs size t → size ≤ t → IsRegister t → Grows (of_fields fs cs) p.own.constants → Functions p j (from_fields source fs rest)
+      → Piece p H closed closed pc (fields_code p.own.constants fs items t j line)
+
+  pub one_of_any : (e : Exp) → ExpLaw e → OneLaw e
+  one_of_any e law t j pc size cs rest near le g fs =
+      subst (λ m. Piece p H closed m pc (exp_code p.own.constants e t j 2)) (same_either (is_open e) closed) (law t j 2 pc size cs rest near le (lit< tt) g fs)
+
+  -- lists
+
+  pub no_list : ListLaw EndExps
+  no_list t j line pc size cs rest near le g fs = nothing p
+
+  pub no_values : ExactLaw EndExps
+  no_values n t j line pc size cs rest near le room g fs = nils_piece p n t line room
+
+  pub last_list : (e : Exp) → ExpLaw e → ListLaw (MoreExps e EndExps)
+  last_list e law t j line pc size cs rest near le g fs = by (is_open e) refl
+    where
+      by : (b : Bool) → is_open e ≡ b → Piece p H closed (cond b (listed t) closed) pc (exp_code p.own.constants e t j (cond b 0 2) ++ nils_code (cond b None None) (t + 1) line)
+      by true opens =
+          alike p (sym (append_nil (exp_code p.own.constants e t j 0)))
+          (subst (λ b. Piece p H closed (cond b (listed t) closed) pc (exp_code p.own.constants e t j 0)) opens (law t j 0 pc size cs rest near.0 le (lit< tt) g fs))
+      by false opens = alike p (sym (append_nil (exp_code p.own.constants e t j 2))) (one_of_any e law t j pc size cs rest near.0 le g fs)
+
+  pub last_values : (e : Exp) → ExpLaw e → ExactLaw (MoreExps e EndExps)
+  last_values e law n t j line pc size cs rest near le room g fs = by (is_open e) refl
+    where
+      by : (b : Bool) → is_open e ≡ b → Piece p H closed closed pc (exp_code p.own.constants e t j (cond b (n + 1) 2) ++ nils_code (cond b None (one_less (Some n))) (t + 1) line)
+      by true opens =
+          alike p (sym (append_nil (exp_code p.own.constants e t j (n + 1))))
+          (subst (λ m. Piece p H closed m pc (exp_code p.own.constants e t j (n + 1))) (ap (λ m. cond (is_open e) m closed) (list_at_some n t) ∙ same_either (is_open e) closed)
+          (law t j (n + 1) pc size cs rest near.0 le (room_field n t room) g fs))
+      by false opens = both p (one_of_any e law t j pc size cs rest near.0 le g fs) (nils_piece p _ (t + 1) line (room_next n t room))
+
+  pub more_list : (e d : Exp) (es : Exps) → ExpLaw e → ListLaw (MoreExps d es) → ListLaw (MoreExps e (MoreExps d es))
+  more_list e d es law laws t j line pc size cs rest near le g fs =
+      let first = of_exp e cs in
+      both p (one_of_any e law t j pc size cs (from_exps source (MoreExps d es) rest) near.0 le (grows_then first (of_exps (MoreExps d es) first) p.own.constants (grows_exps (MoreExps d es) first) g) fs)
+      (laws (t + 1) (j + made_by e) line (pc + length (exp_code p.own.constants e t j 2)) size first rest near.1 (omega (arith, le)) g (after_exp source p e j (from_exps source (MoreExps d es) rest) fs))
+
+  pub more_values : (e d : Exp) (es : Exps) → ExpLaw e → ExactLaw (MoreExps d es) → ExactLaw (MoreExps e (MoreExps d es))
+  more_values e d es law laws n t j line pc size cs rest near le room g fs =
+      let first = of_exp e cs in
+      both p (one_of_any e law t j pc size cs (from_exps source (MoreExps d es) rest) near.0 le (grows_then first (of_exps (MoreExps d es) first) p.own.constants (grows_exps (MoreExps d es) first) g) fs)
+      (laws _ (t + 1) (j + made_by e) line (pc + length (exp_code p.own.constants e t j 2)) size first rest near.1 (omega (arith, le)) (room_next n t room) g (after_exp source p e j (from_exps source (MoreExps d es) rest) fs))
+
+  -- forms
+
+  pub function_form : (line : ℕ) (body : Body) → ExpLaw (Function line body)
+  function_form line (BodyOf params vararg inner ups end) t j c pc size cs rest near le cf g fs =
+      let r = near.0 in
+      closure_piece p W t j end size ups (parts_of source (BodyOf params vararg inner ups end)) (from_body source (BodyOf params vararg inner ups end)) rest (omega (arith, r)) refl near.1.0 (omega (arith, le)) fs
+
+  pub index_form : (line : ℕ) (o k : Exp) → OneLaw o → OneLaw k → ExpLaw (Index line o k)
+  index_form line o k one_o one_k t j c pc size cs rest near le cf g fs =
+      let r = near.0 in
+      both p (one_o t j pc size cs (from_exp source k rest) near.1.0 le (grows_then (of_exp o cs) (of_exp k (of_exp o cs)) p.own.constants (grows_exp k (of_exp o cs)) g) fs)
+      (both p (one_k (t + 1) (j + made_by o) _ size (of_exp o cs) rest near.1.1 (omega (arith, le)) g (after_exp source p o j (from_exp source k rest) fs))
+      (simple p GetTable (simple_get_table p) t t (t + 1) line (omega (arith, r)) (omega (arith, r)) (omega (arith, r))))
+
+  pub call_form : (line : ℕ) (f : Exp) (es : Exps) → OneLaw f → ListLaw es → ExpLaw (Call line f es)
+  call_form line f es one_f list t j c pc size cs rest near le cf g fs =
+      let r = near.0 in
+      both p (one_f t j pc size cs (from_exps source es rest) near.1.0 le (grows_then (of_exp f cs) (of_exps es (of_exp f cs)) p.own.constants (grows_exps es (of_exp f cs)) g) fs)
+      (both p (list (t + 1) (j + made_by f) line _ size (of_exp f cs) rest near.1.1 (omega (arith, le)) g (after_exp source p f j (from_exps source es rest) fs))
+      (call_piece p (open_mark es (t + 1)) (list_at c t) t (list_field 0 es) c line (omega (arith, r)) (field_below (ends_open es) (0 + count es + 1) (omega (arith, r))) cf
+      (takes_list_field es (0 + count es + 1) t (t + 1) (omega arith) (omega arith)) (gives_at c t)))
+
+  pub method_form : (line : ℕ) (o : Exp) (name : Name) (es : Exps) → OneLaw o → ListLaw es → ExpLaw (Method line o name es)
+  method_form line o name es one_o list t j c pc size cs rest near le cf g fs =
+      let r = near.0 in
+      let made = of_exp o cs in
+      let named = with_constant (StrConst name.text) made in
+      let known = grows_then named (of_exps es named) p.own.constants (grows_exps es named) g in
+      both p (one_o t j pc size cs (from_exps source es rest) near.1.0 le (grows_then made named p.own.constants (grows_with (StrConst name.text) made) known) fs)
+      (both p (loads_piece p W (StrConst name.text) (t + 1) line (omega (arith, r)) (is_in (StrConst name.text) (same_strings name.text) made p.own.constants known))
+      (both p (self_piece p t t (t + 1) line (omega (arith, r)) (omega (arith, r)) (omega (arith, r)))
+      (both p (list (t + 2) (j + made_by o) line _ size named rest near.1.1 (omega (arith, le)) g (after_exp source p o j (from_exps source es rest) fs))
+      (call_piece p (open_mark es (t + 2)) (list_at c t) t (list_field 1 es) c line (omega (arith, r)) (field_below (ends_open es) (1 + count es + 1) (omega (arith, r))) cf
+      (takes_list_field es (1 + count es + 1) t (t + 2) (omega arith) (omega arith)) (gives_at c t)))))
+
+  pub unary_form : (line : ℕ) (op : UnOp) (e : Exp) → OneLaw e → ExpLaw (Unary line op e)
+  unary_form line op e one_e t j c pc size cs rest near le cf g fs =
+      let r = near.0 in
+      both p (one_e t j pc size cs rest near.1 le g fs) (prefix_piece p op t line (omega (arith, r)))
+
+  pub binary_form : (line : ℕ) (op : BinOp) (e d : Exp) → OneLaw e → OneLaw d → ExpLaw (Binary line op e d)
+  binary_form line op e d one_e one_d t j c pc size cs rest near le cf g fs =
+      let r = near.0 in
+      both p (one_e t j pc size cs (from_exp source d rest) near.1.0 le (grows_then (of_exp e cs) (of_exp d (of_exp e cs)) p.own.constants (grows_exp d (of_exp e cs)) g) fs)
+      (both p (one_d (t + 1) (j + made_by e) _ size (of_exp e cs) rest near.1.1 (omega (arith, le)) g (after_exp source p e j (from_exp source d rest) fs))
+      (operator_piece p op t line r))
+
+  pub paren_form : (line : ℕ) (e : Exp) → OneLaw e → ExpLaw (Paren line e)
+  paren_form line e one_e t j c pc size cs rest near le cf g fs =
+      subst (λ m. Piece p H closed m pc (exp_code p.own.constants e t j 2)) refl (one_e t j pc size cs rest near.1 le g fs)
+
+  -- fields of a constructor
+
+  pub no_fields : FieldsLaw EndFields
+  no_fields items t j line pc size cs rest few near le r g fs = nothing p
+
+  pub last_item : (e : Exp) → ExpLaw e → FieldsLaw (MoreFields (Item e) EndFields)
+  last_item e law items t j line pc size cs rest few near le r g fs = by (is_open e) refl
+    where
+      fits : H → items < 2 ^ 33
+      fits h = let all = few h in omega (arith, all)
+
+      by : (b : Bool) → is_open e ≡ b → Piece p H closed closed pc (exp_code p.own.constants e (t + 1) j (cond b 0 2) ++ (set_list t (cond b 0 1) items line ++ []))
+      by true opens =
+          both p
+          (subst (λ b. Piece p H closed (cond b (listed (t + 1)) closed) pc (exp_code p.own.constants e (t + 1) j 0)) opens (law (t + 1) j 0 pc size cs rest near.0 (omega (arith, le)) (lit< tt) g fs))
+          (alike p (sym (append_nil (set_list t 0 items line))) (list_piece p (listed (t + 1)) t 0 items line (omega (arith, r)) (lit< tt) fits (refl, omega arith)))
+      by false opens =
+          both p (one_of_any e law (t + 1) j pc size cs rest near.0 (omega (arith, le)) g fs)
+          (alike p (sym (append_nil (set_list t 1 items line))) (list_piece p closed t 1 items line (omega (arith, r)) (lit< tt) fits (omega arith)))
+
+  pub more_item : (e : Exp) (f : Field) (more_fields : Fields) → ExpLaw e → FieldsLaw (MoreFields f more_fields) → FieldsLaw (MoreFields (Item e) (MoreFields f more_fields))
+  more_item e f more_fields law laws items t j line pc size cs rest few near le r g fs =
+      let first = of_exp e cs in
+      both p (one_of_any e law (t + 1) j pc size cs (from_fields source (MoreFields f more_fields) rest) near.0 (omega (arith, le)) (grows_then first (of_fields (MoreFields f more_fields) first) p.own.constants (grows_fields (MoreFields f more_fields) first) g) fs)
+      (both p (list_piece p closed t 1 items line (omega (arith, r)) (lit< tt) (λ h. let all = few h in omega (arith, all)) (omega arith))
+      (laws (items + 1) t (j + made_by e) line _ size first rest (λ h. let all = few h in omega (arith, all)) near.1 le r g (after_exp source p e j (from_fields source (MoreFields f more_fields) rest) fs)))
+
+  pub more_keyed : (line : ℕ) (e d : Exp) (more_fields : Fields) → OneLaw e → OneLaw d → FieldsLaw more_fields → FieldsLaw (MoreFields (Keyed line e d) more_fields)
+  more_keyed at_line e d more_fields one_e one_d laws items t j line pc size cs rest few near le r g fs =
+      let first = of_exp e cs in
+      let second = of_exp d first in
+      let known = grows_then second (of_fields more_fields second) p.own.constants (grows_fields more_fields second) g in
+      let after_e = after_exp source p e j (from_exp source d (from_fields source more_fields rest)) fs in
+      both p (one_e (t + 1) j pc size cs (from_exp source d (from_fields source more_fields rest)) near.0 (omega (arith, le)) (grows_then first second p.own.constants (grows_exp d first) known) fs)
+      (both p (one_d (t + 2) (j + made_by e) _ size first (from_fields source more_fields rest) near.1.0 (omega (arith, le)) known after_e)
+      (both p (set_table_piece p t (t + 1) (t + 2) at_line (omega (arith, r)) (omega (arith, r)) (omega (arith, r)))
+      (laws items t (j + made_by e + made_by d) line _ size second rest (λ h. few h) near.1.1 le r g (after_exp source p d (j + made_by e) (from_fields source more_fields rest) after_e))))

@@ -1,0 +1,206 @@
+-- The forms of statements with blocks are pieces, where their parts are. `q` is the place behind a statement.
+use Rattle.std.proofs.Common.{◌≡◌, ℕ, suc, ◌+◌, ◌<◌, ◌^◌, lit<, true, false, pos, ◌-ℤ◌, List, [], ◌∷◌, ◌++◌, length, Some, refl, sym, ap, subst, ◌∙◌, arith, length-append, append_assoc}
+use Rattle.code_core.specs.declared.opcode.Opcode.TheVariants.{Test, ForLoop, ForPrep, TForPrep, TForCall, TForLoop, Close}
+use Rattle.code_core.specs.Instruction.{abc, abx}
+use Rattle.code_core.specs.Prototype.{Prototype}
+use Rattle.code_core.proofs.FieldLemmas.{opcode_of-abc, opcode_of-abx, a_of-abc, a_of-abx, bx_of-abx}
+use Rattle.code_of.specs.Coded.{Coded, with_abc, with_abx, jump_over, jump_back}
+use Rattle.code_of.specs.Parts.{while_code, repeat_code, past, arm_code, counting_code, iterating_code}
+use Rattle.code_checked.proofs.Pieces.{closed, Land, Lands, Piece, both, nothing}
+use Rattle.code_checked.proofs.Units.{Single, one_jump, two_jump}
+use Rattle.code_checked.proofs.Words.{abc_fits, abx_fits, pair, simple, simple_close, first_test, first_iterate, last_iterate}
+use Rattle.code_checked.proofs.Loads.{Whole}
+use Rattle.code_checked.proofs.Seams.{alike, beginning, ending, three, back_to}
+use Rattle.code_checked.proofs.Jumping.{shortly, over_piece, back_piece, test_over}
+use Rattle.std.proofs.Common.{eq-eqb}
+
+module _ (p : Prototype) (W : Whole p) where
+  pub while_piece : {G : Type 0} (test block : List Coded) (t line pc q : ℕ) → t < 2 ^ 8 → pc + length (while_code test block t line) ≡ q
+      → ((H : Type 0) → (H → G × Land p q) → Piece p H closed closed pc test) → ((H : Type 0) → (H → G × Land p q) → Piece p H closed closed (pc + length test + 2) block) → Piece p G closed closed pc (while_code test block t line)
+  while_piece {G} test block t line pc q tf e a b =
+      let n : ℕ = length test + length block + 3 in
+      let back : List Coded = jump_back n line ∷ [] in
+      let s1 = length-append test (with_abc Test t 0 0 line ∷ jump_over (length block + 1) line ∷ (block ++ back)) in
+      let s2 = length-append block back in
+      let H : Type 0 = ((G × Land p q) × Land p pc) × (length (while_code test block t line) < 2 ^ 24) in
+      let inner : Piece p H closed closed pc (while_code test block t line) =
+      both p (a H (λ h. h.0.0))
+      (both p (test_over p Test (first_test p) t 0 false (length block + 1) (pc + length test) q line tf (lit< tt) (λ h. let f = h.1 in omega (arith, f, s1, s2)) (omega (arith, e, s1, s2)) (λ h. h.0.0.1))
+      (both p (b H (λ h. h.0.0)) (back_piece p n (pc + length test + 2 + length block) pc line (λ h. let f = h.1 in omega (arith, f, s1, s2)) (omega arith) (λ h. h.0.1)))) in
+      ending p q e (beginning p (shortly p W inner))
+
+  pub repeat_piece : {G : Type 0} (block test close : List Coded) (within line pc q : ℕ) → within < 2 ^ 8 → pc + length (repeat_code block test close within line) ≡ q
+      → ((H : Type 0) → (H → G × Land p q) → Piece p H closed closed pc block) → ((H : Type 0) → (H → G × Land p q) → Piece p H closed closed (pc + length block) test) → ((H : Type 0) (r : ℕ) → Piece p H closed closed r close)
+      → Piece p G closed closed pc (repeat_code block test close within line)
+  repeat_piece {G} block test close within line pc q wf e a b c =
+      let n : ℕ = length block + length test + length close + 3 in
+      let x : Coded = (abc Test within 0 0 true, line) in
+      let y : Coded = jump_over (length close + 1) line in
+      let back : Coded = jump_back n line in
+      let front : List Coded = block ++ (test ++ x ∷ y ∷ []) in
+      let middle : List Coded = close ++ back ∷ [] in
+      let same : front ++ (middle ++ close) ≡ repeat_code block test close within line =
+      append_assoc block (test ++ x ∷ y ∷ []) (middle ++ close) ∙ ap (λ l. block ++ l) (append_assoc test (x ∷ y ∷ []) (middle ++ close)) ∙ ap (λ l. block ++ (test ++ x ∷ y ∷ l)) (append_assoc close (back ∷ []) close) in
+      let s1 = length-append block (test ++ x ∷ y ∷ []) in
+      let s2 = length-append test (x ∷ y ∷ []) in
+      let s3 = length-append close (back ∷ []) in
+      let s4 = length-append front (middle ++ close) in
+      let s5 = length-append middle close in
+      let all : length (front ++ (middle ++ close)) ≡ length (repeat_code block test close within line) = ap length same in
+      let begin : ℕ = pc + length front in
+      let last : ℕ = begin + length middle in
+      let H : Type 0 = (((G × Land p q) × Land p pc) × (length (front ++ (middle ++ close)) < 2 ^ 24)) × Land p begin × Land p last in
+      let inner : Piece p (((G × Land p q) × Land p pc) × (length (front ++ (middle ++ close)) < 2 ^ 24)) closed closed pc (front ++ (middle ++ close)) =
+      three p begin last refl refl
+      (both p (a H (λ h. h.0.0.0))
+      (both p (b H (λ h. h.0.0.0))
+      (test_over p Test (first_test p) within 0 true (length close + 1) (pc + length block + length test) last line wf (lit< tt) (λ h. let f = h.0.1 in omega (arith, f, s3, s4, s5)) (omega (arith, s1, s2, s3)) (λ h. h.2))))
+      (both p (c H begin) (back_piece p n (begin + length close) pc line (λ h. let f = h.0.1 in omega (arith, f, s1, s2, s3, s4, s5)) (omega (arith, s1, s2)) (λ h. h.0.0.1)))
+      (c H last) in
+      ending p q e (beginning p (alike p same (shortly p W inner)))
+
+  past_piece : {H : Type 0} (rest : List Coded) (line pc q : ℕ) → q ≡ pc + length (past rest line) + length rest → (H → length rest < 2 ^ 24) → (H → Land p q) → Piece p H closed closed pc (past rest line)
+  past_piece [] line pc q e short to = nothing p
+  past_piece (x ∷ rest) line pc q e short to = over_piece p (length (x ∷ rest)) pc q line short e to
+
+  pub arm_piece : {G : Type 0} (test block rest : List Coded) (t line pc : ℕ) → t < 2 ^ 8
+      → ((H : Type 0) → (H → G) → Piece p H closed closed pc test) → ((H : Type 0) → (H → G) → Piece p H closed closed (pc + length test + 2) block)
+      → ((H : Type 0) → (H → G) → Piece p H closed closed (pc + length test + 2 + length block + length (past rest line)) rest)
+      → Piece p G closed closed pc (arm_code test block rest t line)
+  arm_piece {G} test block rest t line pc tf a b c =
+      let over : List Coded = past rest line in
+      let n : ℕ = length block + length over in
+      let x : Coded = with_abc Test t 0 0 line in
+      let y : Coded = jump_over n line in
+      let front : List Coded = test ++ x ∷ y ∷ [] in
+      let middle : List Coded = block ++ over in
+      let same : front ++ (middle ++ rest) ≡ arm_code test block rest t line =
+      append_assoc test (x ∷ y ∷ []) (middle ++ rest) ∙ ap (λ l. test ++ x ∷ y ∷ l) (append_assoc block over rest) in
+      let s1 = length-append test (x ∷ y ∷ []) in
+      let s2 = length-append block over in
+      let s4 = length-append front (middle ++ rest) in
+      let s5 = length-append middle rest in
+      let all : length (front ++ (middle ++ rest)) ≡ length (arm_code test block rest t line) = ap length same in
+      let begin : ℕ = pc + length test + 2 in
+      let last : ℕ = begin + length block + length over in
+      let q : ℕ = pc + length (front ++ (middle ++ rest)) in
+      let H : Type 0 = ((G × Land p q) × (length (front ++ (middle ++ rest)) < 2 ^ 24)) × Land p begin × Land p last in
+      let inner : Piece p ((G × Land p q) × (length (front ++ (middle ++ rest)) < 2 ^ 24)) closed closed pc (front ++ (middle ++ rest)) =
+      three p begin last (omega (arith, s1)) (omega (arith, s2))
+      (both p (a H (λ h. h.0.0.0)) (test_over p Test (first_test p) t 0 false n (pc + length test) last line tf (lit< tt) (λ h. let f = h.0.1 in omega (arith, f, s2, s4, s5)) (omega arith) (λ h. h.2)))
+      (both p (b H (λ h. h.0.0.0)) (past_piece rest line (begin + length block) q (omega (arith, s1, s2, s4, s5)) (λ h. let f = h.0.1 in omega (arith, f, s4, s5)) (λ h. h.0.0.1)))
+      (c H (λ h. h.0.0.0)) in
+      alike p same (ending p q refl (shortly p W inner))
+
+  -- loops of `for`
+
+  abbrev prepare : (t bx : ℕ) → t < 2 ^ 8 → bx < 2 ^ 17 → Single p closed closed (abx ForPrep t bx)
+  prepare t bx tf bf = record {
+    opcode = ForPrep;
+    is = opcode_of-abx ForPrep t bx;
+    whole = refl;
+    fits = abx_fits ForPrep t bx tf bf;
+    alone = refl;
+    constant = λ extra. refl;
+    upvalue = refl;
+    inner = λ pc here. refl;
+    half = refl;
+    gives = refl;
+    takes = refl;
+    varargs = λ pc h. h;
+  }
+
+  abbrev again : (t bx : ℕ) → t < 2 ^ 8 → bx < 2 ^ 17 → Single p closed closed (abx ForLoop t bx)
+  again t bx tf bf = record {
+    opcode = ForLoop;
+    is = opcode_of-abx ForLoop t bx;
+    whole = refl;
+    fits = abx_fits ForLoop t bx tf bf;
+    alone = refl;
+    constant = λ extra. refl;
+    upvalue = refl;
+    inner = λ pc here. refl;
+    half = refl;
+    gives = refl;
+    takes = refl;
+    varargs = λ pc h. h;
+  }
+
+  abbrev prepare_generic : (t bx : ℕ) → t < 2 ^ 8 → bx < 2 ^ 17 → Single p closed closed (abx TForPrep t bx)
+  prepare_generic t bx tf bf = record {
+    opcode = TForPrep;
+    is = opcode_of-abx TForPrep t bx;
+    whole = refl;
+    fits = abx_fits TForPrep t bx tf bf;
+    alone = refl;
+    constant = λ extra. refl;
+    upvalue = refl;
+    inner = λ pc here. refl;
+    half = refl;
+    gives = refl;
+    takes = refl;
+    varargs = λ pc h. h;
+  }
+
+  prepare_piece : {H : Type 0} (t bx pc q line : ℕ) → t < 2 ^ 8 → bx < 2 ^ 17 → q ≡ pc + 2 + bx → (H → Land p q) → Piece p H closed closed pc (with_abx ForPrep t bx line ∷ [])
+  prepare_piece {H} t bx pc q line tf bf e to =
+      one_jump p closed (abx ForPrep t bx) line (prepare t bx tf bf) (λ h. subst (λ z. Lands p (Some z)) (ap pos (e ∙ ap (λ b. pc + 2 + b) (sym (bx_of-abx ForPrep t bx tf bf)))) (to h))
+
+  prepare_generic_piece : {H : Type 0} (t bx pc q line : ℕ) → t < 2 ^ 8 → bx < 2 ^ 17 → q ≡ pc + 1 + bx → (H → Land p q) → Piece p H closed closed pc (with_abx TForPrep t bx line ∷ [])
+  prepare_generic_piece {H} t bx pc q line tf bf e to =
+      one_jump p closed (abx TForPrep t bx) line (prepare_generic t bx tf bf) (λ h. subst (λ z. Lands p (Some z)) (ap pos (e ∙ ap (λ b. pc + 1 + b) (sym (bx_of-abx TForPrep t bx tf bf)))) (to h))
+
+  back_place : (pc bx q w : ℕ) → q + bx ≡ pc + 1 → w ≡ bx → pos q ≡ pos (pc + 1) -ℤ pos w
+  back_place pc bx q w e same = sym (ap (λ n. pos (pc + 1) -ℤ pos n) same ∙ ap (λ n. pos n -ℤ pos bx) (sym e) ∙ back_to q bx)
+
+  again_piece : {H : Type 0} (t bx pc q line : ℕ) → t < 2 ^ 8 → bx < 2 ^ 17 → q + bx ≡ pc + 1 → (H → Land p q) → Piece p H closed closed pc (with_abx ForLoop t bx line ∷ [])
+  again_piece {H} t bx pc q line tf bf e to =
+      one_jump p closed (abx ForLoop t bx) line (again t bx tf bf) (λ h. subst (λ z. Lands p (Some z)) (back_place pc bx q _ e (bx_of-abx ForLoop t bx tf bf)) (to h))
+
+  again_generic_piece : {H : Type 0} (t n bx pc q line : ℕ) → t < 2 ^ 8 → n < 2 ^ 8 → bx < 2 ^ 17 → q + bx ≡ pc + 2 → (H → Land p q) → Piece p H closed closed pc (with_abc TForCall t 0 n line ∷ with_abx TForLoop t bx line ∷ [])
+  again_generic_piece {H} t n bx pc q line tf nf bf e to =
+      two_jump p closed (abc TForCall t 0 n false) (abx TForLoop t bx) line line
+      (pair p TForCall TForLoop (first_iterate p) (last_iterate p) (abc TForCall t 0 n false) (abx TForLoop t bx) (opcode_of-abc TForCall t 0 n false) (abc_fits TForCall t 0 n false tf (lit< tt) nf)
+      (opcode_of-abx TForLoop t bx) (abx_fits TForLoop t bx tf bf)
+      (eq-eqb _ _ (a_of-abc TForCall t 0 n false tf ∙ sym (a_of-abx TForLoop t bx tf))))
+      (λ h. subst (λ z. Lands p (Some z)) (back_place (suc pc) bx q _ (omega (arith, e)) (bx_of-abx TForLoop t bx tf bf)) (to h))
+
+  pub counting_piece : {G : Type 0} (start block : List Coded) (t line pc q : ℕ) → t < 2 ^ 8 → length block + 2 < 2 ^ 17 → pc + length (counting_code start block t line) ≡ q
+      → ((H : Type 0) → (H → G × Land p q) → Piece p H closed closed pc start) → ((H : Type 0) → (H → G × Land p q) → Piece p H closed closed (pc + length start + 1) block) → Piece p G closed closed pc (counting_code start block t line)
+  counting_piece {G} start block t line pc q tf near e a b =
+      let x : Coded = with_abx ForPrep t (length block) line in
+      let z : Coded = with_abx ForLoop t (length block + 1) line in
+      let front : List Coded = start ++ x ∷ [] in
+      let same : front ++ (block ++ z ∷ []) ≡ counting_code start block t line = append_assoc start (x ∷ []) (block ++ z ∷ []) in
+      let s1 = length-append start (x ∷ []) in
+      let s2 = length-append start (x ∷ (block ++ z ∷ [])) in
+      let s3 = length-append block (z ∷ []) in
+      let begin : ℕ = pc + length start + 1 in
+      let last : ℕ = begin + length block in
+      let H : Type 0 = (G × Land p q) × Land p begin × Land p last in
+      let inner : Piece p (G × Land p q) closed closed pc (front ++ (block ++ z ∷ [])) =
+      three p begin last (omega (arith, s1)) refl
+      (both p (a H (λ h. h.0)) (prepare_piece t (length block) (pc + length start) q line tf (omega (arith, near)) (omega (arith, e, s2, s3)) (λ h. h.0.1)))
+      (b H (λ h. h.0))
+      (again_piece t (length block + 1) last begin line tf (omega (arith, near)) (omega arith) (λ h. h.1)) in
+      ending p q e (alike p same inner)
+
+  pub iterating_piece : {G : Type 0} (start block : List Coded) (t n line pc q : ℕ) → t < 2 ^ 8 → n < 2 ^ 8 → length block + 2 < 2 ^ 17 → pc + length (iterating_code start block t n line) ≡ q
+      → ((H : Type 0) → (H → G × Land p q) → Piece p H closed closed pc start) → ((H : Type 0) → (H → G × Land p q) → Piece p H closed closed (pc + length start + 1) block) → Piece p G closed closed pc (iterating_code start block t n line)
+  iterating_piece {G} start block t n line pc q tf nf near e a b =
+      let x : Coded = with_abx TForPrep t (length block) line in
+      let tail : List Coded = with_abc TForCall t 0 n line ∷ with_abx TForLoop t (length block + 2) line ∷ with_abc Close t 0 0 line ∷ [] in
+      let front : List Coded = start ++ x ∷ [] in
+      let same : front ++ (block ++ tail) ≡ iterating_code start block t n line = append_assoc start (x ∷ []) (block ++ tail) in
+      let s1 = length-append start (x ∷ []) in
+      let s2 = length-append start (x ∷ (block ++ tail)) in
+      let s3 = length-append block tail in
+      let begin : ℕ = pc + length start + 1 in
+      let last : ℕ = begin + length block in
+      let H : Type 0 = (G × Land p q) × Land p begin × Land p last in
+      let inner : Piece p (G × Land p q) closed closed pc (front ++ (block ++ tail)) =
+      three p begin last (omega (arith, s1)) refl
+      (both p (a H (λ h. h.0)) (prepare_generic_piece t (length block) (pc + length start) last line tf (omega (arith, near)) (omega arith) (λ h. h.2)))
+      (b H (λ h. h.0))
+      (both p (again_generic_piece t n (length block + 2) last begin line tf nf near (omega arith) (λ h. h.1)) (simple p Close (simple_close p) t 0 0 line tf (lit< tt) (lit< tt))) in
+      ending p q e (alike p same inner)

@@ -1,0 +1,166 @@
+-- The code of statements without blocks is a piece.
+use Rattle.std.proofs.Common.{ℕ, zero, suc, ◌+◌, ◌*◌, ◌<◌, ◌≤◌, ◌^◌, lit<, Bool, true, false, cond, List, [], ◌∷◌, length, Option, Some, refl, arith}
+use Rattle.std.specs.Prelude.{nat_eq}
+use Rattle.tree_core.specs.declared.name.Name.{Name}
+use Rattle.tree_core.specs.declared.name.Declared.{Declared}
+use Rattle.tree_core.specs.declared.name.Place.{Place}
+use Rattle.tree_core.specs.declared.name.Place.TheVariants.{Unset, Upvalue, GlobalIn, GlobalOf}
+use Rattle.tree_core.specs.declared.name.Place.TheVariants.{Local as LocalPlace}
+use Rattle.tree_core.specs.Tree.{Body, BodyOf, Exp, Var, Index, Call, Method, Exps, EndExps, MoreExps}
+use Rattle.tree_activation.specs.Asking.{upvalues_of}
+use Rattle.tree_activation.specs.Statements.{is_closed}
+use Rattle.code_core.specs.declared.opcode.Opcode.TheVariants.{Move, LoadNil, Close, Tbc}
+use Rattle.code_core.specs.declared.proto.Const.{Const}
+use Rattle.code_core.specs.declared.proto.Const.TheVariants.{Str as StrConst}
+use Rattle.code_core.specs.Prototype.{Prototype, Prototypes, more}
+use Rattle.code_of.specs.Coded.{Coded, with_abc}
+use Rattle.code_of.specs.Constants.{with_constant, of_name, of_exp, of_exps}
+use Rattle.code_of.specs.Expressions.{made_by, made_in, count, ends_open, list_field, exps_code}
+use Rattle.code_of.specs.Parts.{marks_code, close_code, function_code, name_target, target_code, targets_code, name_store, store_code, stores_code, assign_code, values_last, call_last, method_last, return_code}
+use Rattle.code_of.specs.CodeOf.{parts_of, from_exp, from_exps, from_body}
+use Rattle.code_checked.specs.Near.{IsRegister, NameIsNear, AreCaptured, ExpsAreNear, TargetIsNear, TargetsAreNear, ResultIsNear}
+use Rattle.code_checked.proofs.Pieces.{closed, listed, returned, Ends, Piece, both, nothing}
+use Rattle.code_checked.proofs.Words.{simple, simple_move, simple_load_nil, simple_close, simple_tbc}
+use Rattle.code_checked.proofs.Found.{Grows, grows_then, grows_with, is_in, same_strings}
+use Rattle.code_checked.proofs.Loads.{Whole, Functions, loads_piece, upvalue_piece, set_upvalue_piece, set_table_piece, self_piece, closure_piece}
+use Rattle.code_checked.proofs.Calls.{return_piece, tail_piece}
+use Rattle.code_checked.proofs.Lists.{open_mark, takes_list_field, field_below, HaveRoom}
+use Rattle.code_checked.proofs.Growing.{grows_exp, grows_exps, after_exp, after_exps}
+use Rattle.code_checked.proofs.Exps.{one_law, list_law, values_law}
+
+module _ (p : Prototype) where
+  pub marks_piece : {H : Type 0} (names : List Declared) (t pc : ℕ) → t + length names < 2 ^ 8 → Piece p H closed closed pc (marks_code names t)
+  marks_piece [] t pc h = nothing p
+  marks_piece {H} (d ∷ names) t pc h = by (is_closed d.attrib) (λ q. marks_piece names (t + 1) q (omega (arith, h)))
+    where
+      by : (b : Bool) → ((q : ℕ) → Piece p H closed closed q (marks_code names (t + 1))) → Piece p H closed closed pc (cond b (with_abc Tbc t 0 0 d.name.line ∷ marks_code names (t + 1)) (marks_code names (t + 1)))
+      by true more_marks = both p (simple p Tbc (simple_tbc p) t 0 0 d.name.line (omega (arith, h)) (lit< tt) (lit< tt)) (more_marks (pc + 1))
+      by false more_marks = more_marks pc
+
+  pub close_piece : {H : Type 0} (before after line pc : ℕ) → before < 2 ^ 8 → Piece p H closed closed pc (close_code before after line)
+  close_piece {H} before after line pc h = by (nat_eq before after)
+    where
+      by : (b : Bool) → Piece p H closed closed pc (cond b [] (with_abc Close before 0 0 line ∷ []))
+      by true = nothing p
+      by false = simple p Close (simple_close p) before 0 0 line h (lit< tt) (lit< tt)
+
+  -- what returns is closed too
+  pub as_closed : {H : Type 0} {pc : ℕ} {xs : List Coded} → Piece p H closed returned pc xs → Piece p H closed closed pc xs
+  as_closed {H} {pc} {xs} a = record { starts = a.starts; ends = ends xs a.ends; kept = λ h has front behind. a.kept h has front tt }
+    where
+      ends : (xs : List Coded) → Ends closed returned xs → Ends closed closed xs
+      ends [] h = absurd (cc)
+      ends (x ∷ []) h = (h.0, h.1)
+      ends (x ∷ y ∷ xs) h = ends (y ∷ xs) h
+
+  -- stores
+
+  name_store_piece : {H : Type 0} {pc : ℕ} (place : Place) (r v line : ℕ) → Whole p → NameIsNear (length p.own.upvalues) place → r + 1 < 2 ^ 8 → v < 2 ^ 8 → Piece p H closed closed pc (name_store p.own.constants place r v line)
+  name_store_piece Unset r v line W h rf vf = nothing p
+  name_store_piece (LocalPlace n) r v line W h rf vf = simple p Move (simple_move p) n v 0 line h vf (lit< tt)
+  name_store_piece (Upvalue u) r v line W h rf vf = let most = W.upvalues in set_upvalue_piece p v u line vf (omega (arith, h, most)) h
+  name_store_piece (GlobalIn n) r v line W h rf vf = set_table_piece p r (r + 1) v line (omega (arith, rf)) rf vf
+  name_store_piece (GlobalOf u) r v line W h rf vf = set_table_piece p r (r + 1) v line (omega (arith, rf)) rf vf
+
+  store_piece : {H : Type 0} {pc : ℕ} (source : Option (List ℕ)) (e : Exp) (size r v : ℕ) → Whole p → TargetIsNear source p e size r → r + 1 < 2 ^ 8 → v < 2 ^ 8 → Piece p H closed closed pc (store_code p.own.constants e r v)
+  store_piece source (Var line name) size r v W h rf vf = name_store_piece name.place r v line W h rf vf
+  store_piece source (Index line o k) size r v W h rf vf = set_table_piece p r (r + 1) v line (omega (arith, rf)) rf vf
+  store_piece source _ size r v W h rf vf = nothing p
+
+  pub stores_piece : {H : Type 0} (source : Option (List ℕ)) (es : Exps) (size r v pc : ℕ) → Whole p → TargetsAreNear source p es size r → r + 2 * count es < 2 ^ 8 → v + count es < 2 ^ 8 → Piece p H closed closed pc (stores_code p.own.constants es r v)
+  stores_piece source EndExps size r v pc W h rf vf = nothing p
+  stores_piece source (MoreExps e es) size r v pc W h rf vf =
+      both p (stores_piece source es size (r + 2) (v + 1) pc W h.1 (omega (arith, rf)) (omega (arith, vf))) (store_piece source e size r v W h.0 (omega (arith, rf)) (omega (arith, vf)))
+
+  module _ (W : Whole p) (source : Option (List ℕ)) (H : Type 0) where
+    pub function_piece : (body : Body) (t j pc : ℕ) (rest : Prototypes) → t < 2 ^ 8 → AreCaptured (upvalues_of body) (t + 1) (length p.own.upvalues) → Functions p j (more (parts_of source body) (from_body source body) rest)
+        → Piece p H closed closed pc (function_code body t j)
+    function_piece (BodyOf params vararg inner ups line) t j pc rest tf captured fs =
+        both p (simple p LoadNil (simple_load_nil p) t 0 0 line tf (lit< tt) (lit< tt))
+        (closure_piece p W t j line (t + 1) ups (parts_of source (BodyOf params vararg inner ups line)) (from_body source (BodyOf params vararg inner ups line)) rest tf refl captured (omega arith) fs)
+
+    -- targets
+
+    name_target_piece : {pc : ℕ} (place : Place) (text : List ℕ) (r line : ℕ) (cs : List Const) → NameIsNear (length p.own.upvalues) place → r + 1 < 2 ^ 8 → Grows (of_name place text cs) p.own.constants
+        → Piece p H closed closed pc (name_target p.own.constants place text r line)
+    name_target_piece Unset text r line cs h rf g = nothing p
+    name_target_piece (LocalPlace n) text r line cs h rf g = nothing p
+    name_target_piece (Upvalue u) text r line cs h rf g = nothing p
+    name_target_piece (GlobalIn n) text r line cs h rf g =
+        both p (simple p Move (simple_move p) r n 0 line (omega (arith, rf)) h (lit< tt)) (loads_piece p W (StrConst text) (r + 1) line rf (is_in (StrConst text) (same_strings text) cs p.own.constants g))
+    name_target_piece (GlobalOf u) text r line cs h rf g =
+        both p (upvalue_piece p W r u line (omega (arith, rf)) h) (loads_piece p W (StrConst text) (r + 1) line rf (is_in (StrConst text) (same_strings text) cs p.own.constants g))
+
+    target_piece : (e : Exp) (r j pc size : ℕ) (cs : List Const) (rest : Prototypes) → TargetIsNear source p e size r → size ≤ r → r + 1 < 2 ^ 8 → Grows (of_exp e cs) p.own.constants → Functions p j (from_exp source e rest)
+        → Piece p H closed closed pc (target_code p.own.constants e r j)
+    target_piece (Var line name) r j pc size cs rest h le rf g fs = name_target_piece name.place name.text r line cs h rf g
+    target_piece (Index line o k) r j pc size cs rest h le rf g fs =
+        both p (one_law p W source o H r j pc size cs (from_exp source k rest) h.0 le (grows_then (of_exp o cs) (of_exp k (of_exp o cs)) p.own.constants (grows_exp k (of_exp o cs)) g) fs)
+        (one_law p W source k H (r + 1) (j + made_by o) _ size (of_exp o cs) rest h.1 (omega (arith, le)) g (after_exp source p o j (from_exp source k rest) fs))
+    target_piece _ r j pc size cs rest h le rf g fs = nothing p
+
+    targets_piece : (es : Exps) (r j pc size : ℕ) (cs : List Const) (rest : Prototypes) → TargetsAreNear source p es size r → size ≤ r → r + 2 * count es < 2 ^ 8 → Grows (of_exps es cs) p.own.constants → Functions p j (from_exps source es rest)
+        → Piece p H closed closed pc (targets_code p.own.constants es r j)
+    targets_piece EndExps r j pc size cs rest h le rf g fs = nothing p
+    targets_piece (MoreExps e es) r j pc size cs rest h le rf g fs =
+        let first = of_exp e cs in
+        both p (target_piece e r j pc size cs (from_exps source es rest) h.0 le (omega (arith, rf)) (grows_then first (of_exps es first) p.own.constants (grows_exps es first) g) fs)
+        (targets_piece es (r + 2) (j + made_by e) _ size first rest h.1 (omega (arith, le)) (omega (arith, rf)) g (after_exp source p e j (from_exps source es rest) fs))
+
+    have_room : (n t : ℕ) → t + n + 2 < 2 ^ 8 → HaveRoom n t
+    have_room zero t h = tt
+    have_room (suc n) t h = omega (arith, h)
+
+    pub values_piece : (es : Exps) (n t j line pc size : ℕ) (cs : List Const) (rest : Prototypes) → ExpsAreNear source p es size t → size ≤ t → t + n + 2 < 2 ^ 8 → Grows (of_exps es cs) p.own.constants → Functions p j (from_exps source es rest)
+        → Piece p H closed closed pc (exps_code p.own.constants es (Some n) t j line)
+    values_piece es n t j line pc size cs rest h le room g fs = values_law p W source es H n t j line pc size cs rest h le (have_room n t room) g fs
+
+    pub assign_piece : (ts es : Exps) (t j line pc : ℕ) (cs : List Const) (rest : Prototypes) → IsRegister (t + 2 * count ts + count ts) → TargetsAreNear source p ts t t → ExpsAreNear source p es t (t + 2 * count ts) → Grows (of_exps es (of_exps ts cs)) p.own.constants
+        → Functions p j (from_exps source ts (from_exps source es rest)) → Piece p H closed closed pc (assign_code p.own.constants ts es t j line)
+    assign_piece ts es t j line pc cs rest r near_ts near_es g fs =
+        let first = of_exps ts cs in
+        both p (targets_piece ts t j pc t cs (from_exps source es rest) near_ts (omega arith) (omega (arith, r)) (grows_then first (of_exps es first) p.own.constants (grows_exps es first) g) fs)
+        (both p (values_piece es (count ts) (t + 2 * count ts) (j + made_in ts) line _ t first rest near_es (omega arith) (omega (arith, r)) g (after_exps source p ts j (from_exps source es rest) fs))
+        (stores_piece source ts t t (t + 2 * count ts) _ W near_ts (omega (arith, r)) (omega (arith, r))))
+
+    -- returns
+
+    values_return : (es : Exps) (t j line back pc : ℕ) (cs : List Const) (rest : Prototypes) → ResultIsNear source p es t → back < 2 ^ 8 → Grows (of_exps es cs) p.own.constants → Functions p j (from_exps source es rest)
+        → Piece p H closed returned pc (values_last p.own.constants es t j line back)
+    values_return es t j line back pc cs rest near bf g fs =
+        let r = near.0 in
+        both p (list_law p W source es H t j line pc t cs rest near.1 (omega arith) g fs)
+        (return_piece p (open_mark es t) t (list_field 0 es) back line (omega (arith, r)) (field_below (ends_open es) (0 + count es + 1) (omega (arith, r))) bf (takes_list_field es (0 + count es + 1) t t (omega arith) (omega arith)))
+
+    call_return : (call_line : ℕ) (f : Exp) (es : Exps) (t j back pc : ℕ) (cs : List Const) (rest : Prototypes) → ResultIsNear source p (MoreExps (Call call_line f es) EndExps) t → back < 2 ^ 8
+        → Grows (of_exps (MoreExps (Call call_line f es) EndExps) cs) p.own.constants → Functions p j (from_exps source (MoreExps (Call call_line f es) EndExps) rest)
+        → Piece p H closed returned pc (call_last p.own.constants f es t j call_line back)
+    call_return call_line f es t j back pc cs rest near bf g fs =
+        let n = near.1.0 in
+        let r = n.0 in
+        both p (one_law p W source f H t j pc t cs (from_exps source es rest) n.1.0 (omega arith) (grows_then (of_exp f cs) (of_exps es (of_exp f cs)) p.own.constants (grows_exps es (of_exp f cs)) g) fs)
+        (both p (list_law p W source es H (t + 1) (j + made_by f) call_line _ t (of_exp f cs) rest n.1.1 (omega arith) g (after_exp source p f j (from_exps source es rest) fs))
+        (both p (tail_piece p (open_mark es (t + 1)) t (list_field 0 es) call_line (omega (arith, r)) (field_below (ends_open es) (0 + count es + 1) (omega (arith, r))) (takes_list_field es (0 + count es + 1) t (t + 1) (omega arith) (omega arith)))
+        (return_piece p (listed t) t 0 back call_line (omega (arith, r)) (lit< tt) bf (refl, omega arith))))
+
+    method_return : (call_line : ℕ) (o : Exp) (name : Name) (es : Exps) (t j back pc : ℕ) (cs : List Const) (rest : Prototypes) → ResultIsNear source p (MoreExps (Method call_line o name es) EndExps) t → back < 2 ^ 8
+        → Grows (of_exps (MoreExps (Method call_line o name es) EndExps) cs) p.own.constants → Functions p j (from_exps source (MoreExps (Method call_line o name es) EndExps) rest)
+        → Piece p H closed returned pc (method_last p.own.constants o name.text es t j call_line back)
+    method_return call_line o name es t j back pc cs rest near bf g fs =
+        let n = near.1.0 in
+        let r = n.0 in
+        let made = of_exp o cs in
+        let named = with_constant (StrConst name.text) made in
+        let known = grows_then named (of_exps es named) p.own.constants (grows_exps es named) g in
+        both p (one_law p W source o H t j pc t cs (from_exps source es rest) n.1.0 (omega arith) (grows_then made named p.own.constants (grows_with (StrConst name.text) made) known) fs)
+        (both p (loads_piece p W (StrConst name.text) (t + 1) call_line (omega (arith, r)) (is_in (StrConst name.text) (same_strings name.text) made p.own.constants known))
+        (both p (self_piece p t t (t + 1) call_line (omega (arith, r)) (omega (arith, r)) (omega (arith, r)))
+        (both p (list_law p W source es H (t + 2) (j + made_by o) call_line _ t named rest n.1.1 (omega arith) g (after_exp source p o j (from_exps source es rest) fs))
+        (both p (tail_piece p (open_mark es (t + 2)) t (list_field 1 es) call_line (omega (arith, r)) (field_below (ends_open es) (1 + count es + 1) (omega (arith, r))) (takes_list_field es (1 + count es + 1) t (t + 2) (omega arith) (omega arith)))
+        (return_piece p (listed t) t 0 back call_line (omega (arith, r)) (lit< tt) bf (refl, omega arith))))))
+
+    pub return_law : (closing : Bool) (es : Exps) (t j line back pc : ℕ) (cs : List Const) (rest : Prototypes) → ResultIsNear source p es t → back < 2 ^ 8 → Grows (of_exps es cs) p.own.constants → Functions p j (from_exps source es rest)
+        → Piece p H closed returned pc (return_code p.own.constants closing es t j line back)
+    return_law false (MoreExps (Call call_line f es) EndExps) t j line back pc cs rest near bf g fs = call_return call_line f es t j back pc cs rest near bf g fs
+    return_law false (MoreExps (Method call_line o name es) EndExps) t j line back pc cs rest near bf g fs = method_return call_line o name es t j back pc cs rest near bf g fs
+    return_law closing es t j line back pc cs rest near bf g fs = values_return es t j line back pc cs rest near bf g fs

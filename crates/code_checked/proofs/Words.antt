@@ -1,0 +1,232 @@
+-- The words that code is made of, one by one.
+use Rattle.std.proofs.Common.{◌≡◌, ℕ, ◌<◌, ◌^◌, Bool, true, false, not, cond, ◌&&◌, ◌==◌, lit<, List, [], ◌∷◌, Option, Some, None, refl, ap, ◌∙◌, arith, lt-ltb}
+use Rattle.std.specs.List.{list_any}
+use Rattle.code_core.specs.declared.opcode.Opcode.{Opcode}
+use Rattle.code_core.specs.declared.opcode.Opcode.TheVariants.{Move, LoadI, LoadFalse, LoadTrue, LoadNil, GetTable, Unm, BNot, Not, Len, Concat, Close, Tbc, Add, Sub, Mul, Mod, IDiv, BAnd, BOr, BXor, Shl, Shr, Eq, Lt, Le, Test, NewTable, TForCall, TForLoop, MmBin, ExtraArg, Jmp}
+use Rattle.code_core.specs.declared.instruction.Instruction.{Instruction}
+use Rattle.code_core.specs.Instruction.{abc, abx, op_ax, opcode_of, bits_from, k_of}
+use Rattle.code_core.specs.Fields.{is_whole, constants, upvalues, target, second_half, stands_second, takes_list, opens}
+use Rattle.code_core.specs.Prototype.{Prototype}
+use Rattle.code_core.specs.Writable.{word_fits}
+use Rattle.code_core.specs.Check.{function_there, varargs_fit, agrees}
+use Rattle.code_core.proofs.Opcodes.{number_below}
+use Rattle.code_core.proofs.FieldLemmas.{opcode_of-abc, opcode_of-abx}
+use Rattle.code_of.specs.Coded.{with_abc, with_abx}
+use Rattle.code_checked.proofs.Pieces.{closed, Piece}
+use Rattle.code_checked.proofs.Units.{Plain, Couple, one, extra_of}
+
+-- fields that fit make a word that fits
+
+flag_below : (k : Bool) → cond k 1 0 < 2
+flag_below true = lit< tt
+flag_below false = lit< tt
+
+pub abc_fits : (op : Opcode) (a b c : ℕ) (k : Bool) → a < 2 ^ 8 → b < 2 ^ 8 → c < 2 ^ 8 → word_fits (abc op a b c k) ≡ true
+abc_fits op a b c k af bf cf = let small = number_below op in let flag = flag_below k in lt-ltb _ _ (omega (arith, small, flag, af, bf, cf))
+
+pub abx_fits : (op : Opcode) (a bx : ℕ) → a < 2 ^ 8 → bx < 2 ^ 17 → word_fits (abx op a bx) ≡ true
+abx_fits op a bx af bf = let small = number_below op in lt-ltb _ _ (omega (arith, small, af, bf))
+
+pub ax_fits : (op : Opcode) (ax : ℕ) → ax < 2 ^ 25 → word_fits (op_ax op ax) ≡ true
+ax_fits op ax af = let small = number_below op in lt-ltb _ _ (omega (arith, small, af))
+
+flag_bit : (op : Opcode) (a b c : ℕ) (k : Bool) → a < 2 ^ 8 → bits_from 15 1 (abc op a b c k) ≡ cond k 1 0
+flag_bit op a b c k fits = let below = number_below op in let flag = flag_below k in omega arith
+
+pub k_of-abc : (op : Opcode) (a b c : ℕ) (k : Bool) → a < 2 ^ 8 → k_of (abc op a b c k) ≡ k
+k_of-abc op a b c true fits = ap (λ n. n == 1) (flag_bit op a b c true fits)
+k_of-abc op a b c false fits = ap (λ n. n == 1) (flag_bit op a b c false fits)
+
+module _ (p : Prototype) where
+  -- an opcode without constants, upvalues, pairs, lists and jumps
+  pub record IsSimple (op : Opcode) : Type 0 where
+    pub whole : is_whole op ≡ true
+    pub alone : stands_second op ≡ false
+    pub constant : (w : Instruction) (extra : Option ℕ) → constants op w extra ≡ []
+    pub upvalue : (w : Instruction) → upvalues op w ≡ []
+    pub inner : (w : Instruction) → function_there p op w ≡ true
+    pub half : (w : Instruction) → second_half op w ≡ None
+    pub gives : (w : Instruction) → opens op w ≡ None
+    pub takes : (w : Instruction) → takes_list op w ≡ false
+    pub still : (pc : ℕ) (w : Instruction) → target pc op w ≡ None
+    pub varargs : (pc : ℕ) → varargs_fit p pc op ≡ not (pc == 0 && p.own.vararg)
+
+  -- one that begins a pair
+  pub record IsFirst (op second : Opcode) : Type 0 where
+    pub whole : is_whole op ≡ true
+    pub alone : stands_second op ≡ false
+    pub constant : (w : Instruction) (extra : Option ℕ) → constants op w extra ≡ []
+    pub upvalue : (w : Instruction) → upvalues op w ≡ []
+    pub inner : (w : Instruction) → function_there p op w ≡ true
+    pub half : (w : Instruction) → second_half op w ≡ Some second
+    pub gives : (w : Instruction) → opens op w ≡ None
+    pub takes : (w : Instruction) → takes_list op w ≡ false
+    pub still : (pc : ℕ) (w : Instruction) → target pc op w ≡ None
+    pub varargs : (pc : ℕ) → varargs_fit p pc op ≡ not (pc == 0 && p.own.vararg)
+
+  -- one that ends a pair
+  pub record IsLast (op : Opcode) : Type 0 where
+    pub whole : is_whole op ≡ true
+    pub constant : (w : Instruction) (extra : Option ℕ) → constants op w extra ≡ []
+    pub upvalue : (w : Instruction) → upvalues op w ≡ []
+    pub inner : (w : Instruction) → function_there p op w ≡ true
+    pub half : (w : Instruction) → second_half op w ≡ None
+    pub gives : (w : Instruction) → opens op w ≡ None
+    pub takes : (w : Instruction) → takes_list op w ≡ false
+    pub varargs : (pc : ℕ) → varargs_fit p pc op ≡ not (pc == 0 && p.own.vararg)
+
+  pub simple_move : IsSimple Move
+  simple_move = record { whole = refl; alone = refl; constant = λ w extra. refl; upvalue = λ w. refl; inner = λ w. refl; half = λ w. refl; gives = λ w. refl; takes = λ w. refl; still = λ pc w. refl; varargs = λ pc. refl }
+
+  pub simple_load_i : IsSimple LoadI
+  simple_load_i = record { whole = refl; alone = refl; constant = λ w extra. refl; upvalue = λ w. refl; inner = λ w. refl; half = λ w. refl; gives = λ w. refl; takes = λ w. refl; still = λ pc w. refl; varargs = λ pc. refl }
+
+  pub simple_load_false : IsSimple LoadFalse
+  simple_load_false = record { whole = refl; alone = refl; constant = λ w extra. refl; upvalue = λ w. refl; inner = λ w. refl; half = λ w. refl; gives = λ w. refl; takes = λ w. refl; still = λ pc w. refl; varargs = λ pc. refl }
+
+  pub simple_load_true : IsSimple LoadTrue
+  simple_load_true = record { whole = refl; alone = refl; constant = λ w extra. refl; upvalue = λ w. refl; inner = λ w. refl; half = λ w. refl; gives = λ w. refl; takes = λ w. refl; still = λ pc w. refl; varargs = λ pc. refl }
+
+  pub simple_load_nil : IsSimple LoadNil
+  simple_load_nil = record { whole = refl; alone = refl; constant = λ w extra. refl; upvalue = λ w. refl; inner = λ w. refl; half = λ w. refl; gives = λ w. refl; takes = λ w. refl; still = λ pc w. refl; varargs = λ pc. refl }
+
+  pub simple_get_table : IsSimple GetTable
+  simple_get_table = record { whole = refl; alone = refl; constant = λ w extra. refl; upvalue = λ w. refl; inner = λ w. refl; half = λ w. refl; gives = λ w. refl; takes = λ w. refl; still = λ pc w. refl; varargs = λ pc. refl }
+
+  pub simple_unm : IsSimple Unm
+  simple_unm = record { whole = refl; alone = refl; constant = λ w extra. refl; upvalue = λ w. refl; inner = λ w. refl; half = λ w. refl; gives = λ w. refl; takes = λ w. refl; still = λ pc w. refl; varargs = λ pc. refl }
+
+  pub simple_b_not : IsSimple BNot
+  simple_b_not = record { whole = refl; alone = refl; constant = λ w extra. refl; upvalue = λ w. refl; inner = λ w. refl; half = λ w. refl; gives = λ w. refl; takes = λ w. refl; still = λ pc w. refl; varargs = λ pc. refl }
+
+  pub simple_not : IsSimple Not
+  simple_not = record { whole = refl; alone = refl; constant = λ w extra. refl; upvalue = λ w. refl; inner = λ w. refl; half = λ w. refl; gives = λ w. refl; takes = λ w. refl; still = λ pc w. refl; varargs = λ pc. refl }
+
+  pub simple_len : IsSimple Len
+  simple_len = record { whole = refl; alone = refl; constant = λ w extra. refl; upvalue = λ w. refl; inner = λ w. refl; half = λ w. refl; gives = λ w. refl; takes = λ w. refl; still = λ pc w. refl; varargs = λ pc. refl }
+
+  pub simple_concat : IsSimple Concat
+  simple_concat = record { whole = refl; alone = refl; constant = λ w extra. refl; upvalue = λ w. refl; inner = λ w. refl; half = λ w. refl; gives = λ w. refl; takes = λ w. refl; still = λ pc w. refl; varargs = λ pc. refl }
+
+  pub simple_close : IsSimple Close
+  simple_close = record { whole = refl; alone = refl; constant = λ w extra. refl; upvalue = λ w. refl; inner = λ w. refl; half = λ w. refl; gives = λ w. refl; takes = λ w. refl; still = λ pc w. refl; varargs = λ pc. refl }
+
+  pub simple_tbc : IsSimple Tbc
+  simple_tbc = record { whole = refl; alone = refl; constant = λ w extra. refl; upvalue = λ w. refl; inner = λ w. refl; half = λ w. refl; gives = λ w. refl; takes = λ w. refl; still = λ pc w. refl; varargs = λ pc. refl }
+
+  pub first_add : IsFirst Add MmBin
+  first_add = record { whole = refl; alone = refl; constant = λ w extra. refl; upvalue = λ w. refl; inner = λ w. refl; half = λ w. refl; gives = λ w. refl; takes = λ w. refl; still = λ pc w. refl; varargs = λ pc. refl }
+
+  pub first_sub : IsFirst Sub MmBin
+  first_sub = record { whole = refl; alone = refl; constant = λ w extra. refl; upvalue = λ w. refl; inner = λ w. refl; half = λ w. refl; gives = λ w. refl; takes = λ w. refl; still = λ pc w. refl; varargs = λ pc. refl }
+
+  pub first_mul : IsFirst Mul MmBin
+  first_mul = record { whole = refl; alone = refl; constant = λ w extra. refl; upvalue = λ w. refl; inner = λ w. refl; half = λ w. refl; gives = λ w. refl; takes = λ w. refl; still = λ pc w. refl; varargs = λ pc. refl }
+
+  pub first_mod : IsFirst Mod MmBin
+  first_mod = record { whole = refl; alone = refl; constant = λ w extra. refl; upvalue = λ w. refl; inner = λ w. refl; half = λ w. refl; gives = λ w. refl; takes = λ w. refl; still = λ pc w. refl; varargs = λ pc. refl }
+
+  pub first_i_div : IsFirst IDiv MmBin
+  first_i_div = record { whole = refl; alone = refl; constant = λ w extra. refl; upvalue = λ w. refl; inner = λ w. refl; half = λ w. refl; gives = λ w. refl; takes = λ w. refl; still = λ pc w. refl; varargs = λ pc. refl }
+
+  pub first_b_and : IsFirst BAnd MmBin
+  first_b_and = record { whole = refl; alone = refl; constant = λ w extra. refl; upvalue = λ w. refl; inner = λ w. refl; half = λ w. refl; gives = λ w. refl; takes = λ w. refl; still = λ pc w. refl; varargs = λ pc. refl }
+
+  pub first_b_or : IsFirst BOr MmBin
+  first_b_or = record { whole = refl; alone = refl; constant = λ w extra. refl; upvalue = λ w. refl; inner = λ w. refl; half = λ w. refl; gives = λ w. refl; takes = λ w. refl; still = λ pc w. refl; varargs = λ pc. refl }
+
+  pub first_b_xor : IsFirst BXor MmBin
+  first_b_xor = record { whole = refl; alone = refl; constant = λ w extra. refl; upvalue = λ w. refl; inner = λ w. refl; half = λ w. refl; gives = λ w. refl; takes = λ w. refl; still = λ pc w. refl; varargs = λ pc. refl }
+
+  pub first_shl : IsFirst Shl MmBin
+  first_shl = record { whole = refl; alone = refl; constant = λ w extra. refl; upvalue = λ w. refl; inner = λ w. refl; half = λ w. refl; gives = λ w. refl; takes = λ w. refl; still = λ pc w. refl; varargs = λ pc. refl }
+
+  pub first_shr : IsFirst Shr MmBin
+  first_shr = record { whole = refl; alone = refl; constant = λ w extra. refl; upvalue = λ w. refl; inner = λ w. refl; half = λ w. refl; gives = λ w. refl; takes = λ w. refl; still = λ pc w. refl; varargs = λ pc. refl }
+
+  pub first_eq : IsFirst Eq Jmp
+  first_eq = record { whole = refl; alone = refl; constant = λ w extra. refl; upvalue = λ w. refl; inner = λ w. refl; half = λ w. refl; gives = λ w. refl; takes = λ w. refl; still = λ pc w. refl; varargs = λ pc. refl }
+
+  pub first_lt : IsFirst Lt Jmp
+  first_lt = record { whole = refl; alone = refl; constant = λ w extra. refl; upvalue = λ w. refl; inner = λ w. refl; half = λ w. refl; gives = λ w. refl; takes = λ w. refl; still = λ pc w. refl; varargs = λ pc. refl }
+
+  pub first_le : IsFirst Le Jmp
+  first_le = record { whole = refl; alone = refl; constant = λ w extra. refl; upvalue = λ w. refl; inner = λ w. refl; half = λ w. refl; gives = λ w. refl; takes = λ w. refl; still = λ pc w. refl; varargs = λ pc. refl }
+
+  pub first_test : IsFirst Test Jmp
+  first_test = record { whole = refl; alone = refl; constant = λ w extra. refl; upvalue = λ w. refl; inner = λ w. refl; half = λ w. refl; gives = λ w. refl; takes = λ w. refl; still = λ pc w. refl; varargs = λ pc. refl }
+
+  pub first_new_table : IsFirst NewTable ExtraArg
+  first_new_table = record { whole = refl; alone = refl; constant = λ w extra. refl; upvalue = λ w. refl; inner = λ w. refl; half = λ w. refl; gives = λ w. refl; takes = λ w. refl; still = λ pc w. refl; varargs = λ pc. refl }
+
+  pub first_iterate : IsFirst TForCall TForLoop
+  first_iterate = record { whole = refl; alone = refl; constant = λ w extra. refl; upvalue = λ w. refl; inner = λ w. refl; half = λ w. refl; gives = λ w. refl; takes = λ w. refl; still = λ pc w. refl; varargs = λ pc. refl }
+
+  pub last_event : IsLast MmBin
+  last_event = record { whole = refl; constant = λ w extra. refl; upvalue = λ w. refl; inner = λ w. refl; half = λ w. refl; gives = λ w. refl; takes = λ w. refl; varargs = λ pc. refl }
+
+  pub last_extra : IsLast ExtraArg
+  last_extra = record { whole = refl; constant = λ w extra. refl; upvalue = λ w. refl; inner = λ w. refl; half = λ w. refl; gives = λ w. refl; takes = λ w. refl; varargs = λ pc. refl }
+
+  pub last_jump : IsLast Jmp
+  last_jump = record { whole = refl; constant = λ w extra. refl; upvalue = λ w. refl; inner = λ w. refl; half = λ w. refl; gives = λ w. refl; takes = λ w. refl; varargs = λ pc. refl }
+
+  pub last_iterate : IsLast TForLoop
+  last_iterate = record { whole = refl; constant = λ w extra. refl; upvalue = λ w. refl; inner = λ w. refl; half = λ w. refl; gives = λ w. refl; takes = λ w. refl; varargs = λ pc. refl }
+
+  pub list_none : {A : Type 0} (test : A → Bool) (xs : List A) → xs ≡ [] → Rattle.std.specs.List.list_all test xs ≡ true
+  list_none test xs e = ap (Rattle.std.specs.List.list_all test) e
+
+  pub plain : (op : Opcode) → IsSimple op → (w : Instruction) → opcode_of w ≡ Some op → word_fits w ≡ true → Plain p closed closed w
+  plain op s w is fits = record {
+    single = record {
+      opcode = op;
+      is = is;
+      whole = s.whole;
+      fits = fits;
+      alone = s.alone;
+      constant = λ extra. list_none _ _ (s.constant w extra);
+      upvalue = list_none _ _ (s.upvalue w);
+      inner = λ pc there. s.inner w;
+      half = s.half w;
+      gives = s.gives w;
+      takes = s.takes w;
+      varargs = λ pc h. s.varargs pc ∙ h;
+    };
+    still = λ pc. s.still pc w;
+  }
+
+  pub simple : {H : Type 0} {pc : ℕ} (op : Opcode) → IsSimple op → (a b c line : ℕ) → a < 2 ^ 8 → b < 2 ^ 8 → c < 2 ^ 8 → Piece p H closed closed pc (with_abc op a b c line ∷ [])
+  simple {H} {pc} op s a b c line af bf cf = one p closed closed (abc op a b c false) line (plain op s (abc op a b c false) (opcode_of-abc op a b c false) (abc_fits op a b c false af bf cf))
+
+  pub simple_wide : {H : Type 0} {pc : ℕ} (op : Opcode) → IsSimple op → (a bx line : ℕ) → a < 2 ^ 8 → bx < 2 ^ 17 → Piece p H closed closed pc (with_abx op a bx line ∷ [])
+  simple_wide {H} {pc} op s a bx line af bf = one p closed closed (abx op a bx) line (plain op s (abx op a bx) (opcode_of-abx op a bx) (abx_fits op a bx af bf))
+
+  abbrev pub pair : (op second : Opcode) → IsFirst op second → IsLast second → (w v : Instruction) → opcode_of w ≡ Some op → word_fits w ≡ true → opcode_of v ≡ Some second → word_fits v ≡ true → agrees w v second ≡ true → Couple p closed w v
+  pair op second s l w v is fits second_is second_fits agree = record {
+    opcode = op;
+    is = is;
+    whole = s.whole;
+    fits = fits;
+    alone = s.alone;
+    constant = list_none _ _ (s.constant w (extra_of p v));
+    upvalue = list_none _ _ (s.upvalue w);
+    inner = s.inner w;
+    still = λ pc. s.still pc w;
+    gives = s.gives w;
+    takes = s.takes w;
+    varargs = λ pc h. s.varargs pc ∙ h;
+    second = second;
+    half = s.half w;
+    agree = agree;
+    second_is = second_is;
+    second_whole = l.whole;
+    second_fits = second_fits;
+    second_constant = λ extra. list_none _ _ (l.constant v extra);
+    second_upvalue = list_none _ _ (l.upvalue v);
+    second_inner = l.inner v;
+    second_half_none = l.half v;
+    second_gives = l.gives v;
+    second_takes = l.takes v;
+    second_varargs = λ pc h. l.varargs pc ∙ h;
+  }

@@ -1,0 +1,4 @@
+mod Joining
+mod Many
+pub mod Sources
+mod Example
