@@ -1,5 +1,5 @@
 -- Code that is taken back.
-use Rattle.std.proofs.Common.{ℕ, ◌+◌, length, ◌≡◌, List, [], ◌++◌, sym, ap, ap₂, ◌∙◌, take}
+use Rattle.std.proofs.Common.{ℕ, ◌+◌, length, ◌≡◌, List, [], sym, ap, ap₂, ◌∙◌, take}
 use Rattle.std.proofs.lemmas.List.{append-nil}
 use Rattle.std.proofs.Math.Seq.{take-append_seam}
 use Rattle.code_core.specs.declared.proto.Const.{Const}

@@ -3,10 +3,13 @@ use Rattle.std.proofs.Common.{arith, ℕ, ◌+◌, ◌≡◌, ◌<◌, ◌≤◌
 use Rattle.std.specs.Prelude.{slice_index_or}
 use Rattle.std.proofs.lemmas.List.{append-nil, drop_all, map-append, length-map}
 use Rattle.tree_core.specs.declared.tree.Body.{Body, out-Body}
-use Rattle.tree_core.specs.Tree.{Block, Falls, Returns, Stats}
+use Rattle.tree_core.specs.declared.name.Name.{Name}
+use Rattle.tree_core.specs.declared.name.UpName.{UpName}
+use Rattle.tree_core.specs.Tree.{Block, Falls, Returns, Stats, BodyOf}
 use Rattle.tree_core.specs.Plain.{plain_block, plain_body}
 use Rattle.tree_core.proofs.Rows.{plain-body}
-use Rattle.code_of.specs.CodeOf.{back_field, opening}
+use Rattle.code_of.specs.CodeOf.{back_field, opening, body_code}
+use Rattle.code_of.specs.Constants.{of_block}
 use Rattle.code_core.specs.declared.opcode.Opcode.TheVariants.{Close, Return}
 use Rattle.code_core.specs.declared.proto.Const.{Const}
 use Rattle.code_of.specs.Coded.{Coded, with_abc}
@@ -134,3 +137,7 @@ body_written k body a b s params back params_is back_is a_is none a_back w e =
     ∙ ap (λ l. listing k (steps (begin params ++ l)) (made_in_block block)) code
     ∙ ap (λ n. listing k (steps (begin n ++ whole_code k (back_field vararg n) block n (length (begin n)))) (made_in_block block)) params_is
     ∙ sym (ap (λ p. listing k (steps (function_of k p)) (made_in_body p)) (plain-body body))
+
+-- with the constants of the body itself, this is its code
+pub function_is : (params : List Name) (vararg : Bool) (inner : Block) (ups : List UpName) (line : ℕ) → function_of (of_block inner []) (BodyOf params vararg inner ups line) ≡ body_code (BodyOf params vararg inner ups line)
+function_is params vararg inner ups line = refl
