@@ -1,6 +1,6 @@
 // The words of whole sources, worked out by hand from the opcodes and fields that lopcodes.h of Lua 5.4 has.
 use code_expr::{Constants, Emitter};
-use code_stat::write_body;
+use code_stat::{Written, write_body};
 use lua_lex::tokens;
 use lua_parse::parse;
 use lua_scope::resolve;
@@ -101,6 +101,38 @@ static WORDS: [(&[u8], &[u32]); 8] = [
     ),
 ];
 
+// Sources without constants, and their local variables: the byte of each one's name, and the places of the
+// code where its scope begins and ends. The hidden ones of a loop have a blank.
+static VARIABLES: [(&[u8], &[u32]); 6] = [
+    // the inner block ends behind its CLOSE
+    (
+        b"local a do local b end local c",
+        &[0x61, 2, 6, 0x62, 3, 4, 0x63, 5, 6],
+    ),
+    // from FORPREP to the end of the loop, and in the block
+    (
+        b"for i = 1, 2 do local x end",
+        &[
+            0x20, 4, 8, 0x20, 4, 8, 0x20, 4, 8, 0x69, 5, 7, 0x78, 6, 7,
+        ],
+    ),
+    (
+        b"for k in nil do end",
+        &[
+            0x20, 3, 8, 0x20, 3, 8, 0x20, 3, 8, 0x20, 3, 8, 0x6b, 4, 5,
+        ],
+    ),
+    // the test and both CLOSEs are in the scope
+    (b"repeat local a until a", &[0x61, 2, 8]),
+    // a function is in its own scope, from CLOSURE on
+    (b"local function f() end", &[0x66, 2, 4]),
+    // the first arm has a jump behind its CLOSE
+    (
+        b"if true then local a else local b end",
+        &[0x61, 5, 6, 0x62, 8, 9],
+    ),
+];
+
 fn words(emitter: &Emitter, alloc: Global) -> Result<Vec<u32>, AllocError> {
     let mut words = Vec::new(alloc);
     for step in emitter.steps().iter() {
@@ -109,7 +141,7 @@ fn words(emitter: &Emitter, alloc: Global) -> Result<Vec<u32>, AllocError> {
     Ok(words)
 }
 
-fn source_words(alloc: Global, source: &[u8]) -> Result<Vec<u32>, Fail> {
+fn source_code(alloc: Global, source: &[u8]) -> Result<Written, Fail> {
     let list = tokens(alloc, source)?;
     let Ok(block) = parse(alloc, &list) else {
         return Err(Fail::from("no tree"));
@@ -117,15 +149,40 @@ fn source_words(alloc: Global, source: &[u8]) -> Result<Vec<u32>, Fail> {
     let Ok(Resolved { main }) = resolve(alloc, block) else {
         return Err(Fail::from("against the rules"));
     };
-    let emitter = write_body(alloc, Constants::new(alloc), &main)?;
-    Ok(words(&emitter, alloc)?)
+    Ok(write_body(alloc, Constants::new(alloc), &main)?)
+}
+
+// each name and what stands behind it is a byte of its own: a hidden variable is a blank
+fn source_variables(alloc: Global, source: &[u8]) -> Result<Vec<u32>, Fail> {
+    let Written { variables, .. } = source_code(alloc, source)?;
+    let mut list = Vec::new(alloc);
+    for variable in variables.into_vec(alloc)? {
+        let name = match &variable.name {
+            Some(name) => name.as_slice().first().copied(),
+            None => None,
+        };
+        list.push(u32::from(name.unwrap_or(b' ')))?;
+        list.push(variable.start)?;
+        list.push(variable.end)?;
+    }
+    Ok(list)
 }
 
 #[test]
 fn sources_have_their_words(rt: HostRuntime) -> Result<(), Fail> {
     for (source, expected) in WORDS.iter().copied() {
-        let words = source_words(rt.alloc(), source)?;
+        let Written { emitter, .. } = source_code(rt.alloc(), source)?;
+        let words = words(&emitter, rt.alloc())?;
         assert_eq!(rt; words.as_slice(), expected);
+    }
+    Ok(())
+}
+
+#[test]
+fn variables_have_their_scopes(rt: HostRuntime) -> Result<(), Fail> {
+    for (source, expected) in VARIABLES.iter().copied() {
+        let variables = source_variables(rt.alloc(), source)?;
+        assert_eq!(rt; variables.as_slice(), expected);
     }
     Ok(())
 }

@@ -105,7 +105,7 @@ module _ (k : List Const) (back : ℕ) where
 
 -- what hangs on the place behind a statement
 
-moved :
+pub moved :
     {X : Type 0} (g : List Const → (back made place : ℕ) → X) (b c : Writer) (code : List Coded) (m size : ℕ)
     → c.emitter ≡ followed b.emitter code m → c.back ≡ b.back → length code ≡ size
     → g c.emitter.constants c.back c.emitter.made (length c.emitter.steps) ≡ g b.emitter.constants b.back (b.emitter.made + m) (length b.emitter.steps + size)

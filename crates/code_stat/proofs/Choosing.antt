@@ -45,7 +45,7 @@ rebased p q m b n f v same e jumps back = record {
 choice_size : List Const → ℕ → (line : ℕ) → Arms → Option Block → (closing : Bool) → (t j : ℕ) → ℕ
 choice_size k back line arms o closing t j = stat_size k back (choice line arms o) closing t j
 
-places : (n b s c : ℕ) (pc : ℕ) → pc + (n + (b + (s + c + 2))) ≡ pc + n + 2 + b + s + c
+pub places : (n b s c : ℕ) (pc : ℕ) → pc + (n + (b + (s + c + 2))) ≡ pc + n + 2 + b + s + c
 places n b s c pc = omega arith
 
 module _ (k : List Const) (back : ℕ) (e : Exp) (block : Block) (arms : Arms) (closing : Bool) (t line j pc : ℕ) (reach : Reach) where
@@ -135,7 +135,7 @@ replaced_at s a x y b m place h =
 abbrev other_form : Arms → Option Block → (closing : Bool) → (t line : ℕ) → Form
 other_form arms o closing t line k back j pc reach = stat_code k back (choice line arms o) closing t j pc reach
 
-first_arm :
+pub first_arm :
     (a p q : Writer) (s1 s2 s4 s5 : Listing) (e : Exp) (block : Block) (closing : Bool) (t line place : ℕ)
     → s1 ≡ followed a.emitter (exp_code a.emitter.constants e t a.emitter.made 2) (made_by e)
     → s2 ≡ listed s1 (with_abc Test t 0 0 line ∷ []) → p.emitter ≡ listed s2 (jump_over 0 line ∷ []) → place ≡ length s2.steps
@@ -156,10 +156,10 @@ first_arm a p q s1 s2 s4 s5 e block closing t line place e1 e2 e3 place_is w e4 
     ∙ ap (λ c. followed a.emitter c (made_by e + m)) (sym (append_assoc test (tests ∷ jump_over (length w.draft + 1) line ∷ []) (w.draft ++ last)) ∙ sym (append_assoc (while_front test (length w.draft + 1) t line) w.draft last))
     ∙ sym (listed_after a.emitter (while_front test (length w.draft + 1) t line ++ w.draft) (made_by e + m) last)
 
-front_long : (test : List Coded) (d t line : ℕ) → length (while_front test d t line) ≡ length test + 2
+pub front_long : (test : List Coded) (d t line : ℕ) → length (while_front test d t line) ≡ length test + 2
 front_long test d t line = length-append test (with_abc Test t 0 0 line ∷ jump_over d line ∷ [])
 
-begun_long :
+pub begun_long :
     (a p : Writer) (s1 s2 : Listing) (e : Exp) (t line : ℕ)
     → s1 ≡ followed a.emitter (exp_code a.emitter.constants e t a.emitter.made 2) (made_by e)
     → s2 ≡ listed s1 (with_abc Test t 0 0 line ∷ []) → p.emitter ≡ listed s2 (jump_over 0 line ∷ [])

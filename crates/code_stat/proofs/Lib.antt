@@ -10,5 +10,8 @@ pub mod Looping
 pub mod Lists
 pub mod Heights
 pub mod Choosing
+pub mod Undeclared
+pub mod Declaring
+pub mod Bodies
 pub mod Plain
 pub mod Filling

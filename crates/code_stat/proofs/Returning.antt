@@ -1,12 +1,17 @@
 -- Which calls take the place of their caller.
-use Rattle.std.proofs.Common.{arith, ℕ, ◌+◌, ◌≡◌, Bool, true, false, List, [], ◌∷◌, refl, sym, ap, ap₂, ◌∙◌, subst, length}
+use Rattle.std.proofs.Common.{arith, ℕ, suc, ◌+◌, ◌≡◌, Bool, true, false, List, [], ◌∷◌, ◌++◌, refl, sym, ap, ap₂, ◌∙◌, subst, length, None}
+use Rattle.std.proofs.lemmas.List.{length-append}
 use Rattle.std.specs.Prelude.{slice_index_or}
 use Rattle.tree_core.specs.declared.tree.Exp.{Exp}
 use Rattle.tree_core.specs.declared.name.Name.{Name}
 use Rattle.tree_core.specs.Tree as tree
 use Rattle.tree_core.specs.Plain.{plain_exp, plain_exps}
 use Rattle.code_core.specs.declared.proto.Const.{Const}
-use Rattle.code_of.specs.Expressions.{made_by, made_in}
+use Rattle.code_core.specs.declared.opcode.Opcode.TheVariants.{OpSelf, TailCall, Return}
+use Rattle.code_core.specs.declared.proto.Const.TheVariants.{Str as StrConst}
+use Rattle.code_of.specs.Coded.{Coded, with_abc}
+use Rattle.code_of.specs.Constants.{loads}
+use Rattle.code_of.specs.Expressions.{made_by, made_in, list_field, exp_code, exps_code}
 use Rattle.code_of.specs.Parts.{call_last, method_last, return_code, values_last}
 use Rattle.code_expr.specs.Listing.{Listing, followed}
 use Rattle.code_stat.specs.Tails.{is_called, tail_code}
@@ -131,3 +136,52 @@ pub method_tail :
     (s r : Listing) (e object : tree.Exp) (name : Name) (es : tree.Exps) (t line back : ℕ) → e ≡ tree.Method line object name es
     → r ≡ followed s (method_last s.constants object name.text es t s.made line back) (made_by (tree.Method line object name es)) → r ≡ followed s (tail_code s.constants e t s.made back) (made_by e)
 method_tail s r e object name es t line back is h = subst (λ d. r ≡ followed s (tail_code s.constants d t s.made back) (made_by d)) (sym is) h
+
+-- a return has code
+
+behind_some : (xs ys : List Coded) (n : ℕ) → length ys ≡ suc n → length (xs ++ ys) ≡ 0 → ⊥
+behind_some xs ys n e h = let a = length-append xs ys in omega (arith, a, e, h)
+
+values_some : (k : List Const) (es : tree.Exps) (t j line back : ℕ) → length (values_last k es t j line back) ≡ 0 → ⊥
+values_some k es t j line back h = behind_some (exps_code k es None t j line) (with_abc Return t (list_field 0 es) back line ∷ []) 0 refl h
+
+tail_some : (k : List Const) (e : tree.Exp) (t j line back : ℕ) → is_called e ≡ true → length (return_code k false (tree.MoreExps e tree.EndExps) t j line back) ≡ 0 → ⊥
+tail_some k (tree.Call l f es) t j line back called h =
+    let last : List Coded = with_abc TailCall t (list_field 0 es) 0 l ∷ with_abc Return t 0 back l ∷ [] in
+    let values = exps_code k es None (t + 1) (j + made_by f) l in
+    let a = length-append (exp_code k f t j 2) (values ++ last) in
+    let b = length-append values last in
+    omega (arith, a, b, h)
+tail_some k (tree.Method l object name es) t j line back called h =
+    let last : List Coded = with_abc TailCall t (list_field 1 es) 0 l ∷ with_abc Return t 0 back l ∷ [] in
+    let values = exps_code k es None (t + 2) (j + made_by object) l in
+    let whole = loads k (StrConst name.text) (t + 1) l in
+    let a = length-append (exp_code k object t j 2) (whole ++ (with_abc OpSelf t t (t + 1) l ∷ (values ++ last))) in
+    let b = length-append whole (with_abc OpSelf t t (t + 1) l ∷ (values ++ last)) in
+    let c = length-append values last in
+    omega (arith, a, b, c, h)
+tail_some k (tree.Nil l) t j line back called h = absurd (cc)
+tail_some k (tree.True l) t j line back called h = absurd (cc)
+tail_some k (tree.False l) t j line back called h = absurd (cc)
+tail_some k (tree.Int l n) t j line back called h = absurd (cc)
+tail_some k (tree.Str l bytes) t j line back called h = absurd (cc)
+tail_some k (tree.Vararg l) t j line back called h = absurd (cc)
+tail_some k (tree.Function l body) t j line back called h = absurd (cc)
+tail_some k (tree.Var l name) t j line back called h = absurd (cc)
+tail_some k (tree.Index l object key) t j line back called h = absurd (cc)
+tail_some k (tree.Unary l op e) t j line back called h = absurd (cc)
+tail_some k (tree.Binary l op e d) t j line back called h = absurd (cc)
+tail_some k (tree.And l e d) t j line back called h = absurd (cc)
+tail_some k (tree.Or l e d) t j line back called h = absurd (cc)
+tail_some k (tree.Paren l e) t j line back called h = absurd (cc)
+tail_some k (tree.Table l fs) t j line back called h = absurd (cc)
+
+pub return_some : (k : List Const) (closing : Bool) (es : tree.Exps) (t j line back : ℕ) → length (return_code k closing es t j line back) ≡ 0 → ⊥
+return_some k true es t j line back h = values_some k es t j line back (ap length (sym (closing_return k true es t j line back refl)) ∙ h)
+return_some k false tree.EndExps t j line back h = values_some k tree.EndExps t j line back h
+return_some k false (tree.MoreExps e tree.EndExps) t j line back h = by (is_called e) refl
+  where
+    by : (b : Bool) → is_called e ≡ b → ⊥
+    by true called = tail_some k e t j line back called h
+    by false other = values_some k (tree.MoreExps e tree.EndExps) t j line back (ap length (sym (other_return k false e t j line back other)) ∙ h)
+return_some k false (tree.MoreExps e (tree.MoreExps d ds)) t j line back h = values_some k (tree.MoreExps e (tree.MoreExps d ds)) t j line back (ap length (sym (longer k false e d ds t j line back)) ∙ h)

@@ -3,11 +3,13 @@ use Rattle.std.specs.Prelude.{ℕ, true, false, List, [], ◌∷◌, ◌++◌, l
 use Rattle.tree_core.specs.Tree.{Block, Falls, Returns, Body, BodyOf}
 use Rattle.code_core.specs.declared.opcode.Opcode.TheVariants.{Return}
 use Rattle.code_core.specs.declared.proto.Const.{Const}
+use Rattle.code_core.specs.declared.proto.LocVar.{LocVar}
 use Rattle.code_of.specs.Coded.{Coded, with_abc}
 use Rattle.code_of.specs.CodeOf.{back_field, opening}
 use Rattle.code_of.specs.Jumps.{Reach}
 use Rattle.code_of.specs.Levels.{made_in_block, levels_after}
 use Rattle.code_of.specs.Statements.{stats_code, block_code, whole_code}
+use Rattle.code_of.specs.Variables.{variables, within_block}
 use Rattle.code_expr.specs.Listing.{Listing}
 use Rattle.code_stat.specs.declared.jumps.Jump.{Jump}
 use Rattle.code_stat.specs.Drafts.{arrives, or_nowhere, put_jump, fill}
@@ -36,3 +38,9 @@ function_of constants (BodyOf params vararg inner ups line) =
 
 abbrev pub made_in_body : Body → ℕ
 made_in_body (BodyOf params vararg inner ups line) = made_in_block inner
+
+-- and its local variables
+abbrev pub variables_in : List Const → Body → List LocVar
+variables_in constants (BodyOf params vararg inner ups line) =
+    variables params 0 (length (function_of constants (BodyOf params vararg inner ups line)))
+    ++ within_block constants (back_field vararg (length params)) inner false 0 (length params) 0 (length (opening vararg (length params) line))

@@ -1,21 +1,21 @@
 // Statements that have no block, and the parts without one of those that have.
 ghost use Rattle.std.specs.Prelude.{◌≡◌, ◌+◌, ◌-◌, Bool, ℕ, length, map, OnOk};
 ghost use Rattle.std.specs.Option.{option_map};
-ghost use Rattle.tree_core.specs.declared.name.Name.{Name};
 ghost use Rattle.tree_core.specs.Tree.{exps, Empty, Label, Local, LocalFunction, Assign, CallStat, Goto};
 ghost use Rattle.tree_core.specs.Plain.{plain_exp, plain_exps, plain_stat, plain_body};
 ghost use Rattle.code_of.specs.Expressions.{exp_code, exps_code, made_by, made_in};
 ghost use Rattle.code_of.specs.Parts.{close_code};
 ghost use Rattle.code_expr.specs.Listing.{followed};
+ghost use Rattle.code_stat.specs.Declares.{DeclaresStat};
 ghost use Rattle.code_stat.specs.Drafts.{WroteStat};
 ghost use Rattle.code_stat.specs.Forms.{until_code, range_code, made_in_range};
 
-use crate::marks::write_close;
+use crate::marks::{write_close, write_marks};
 use crate::ranges::{write_bounds, write_steps};
-use crate::simple::{write_assign, write_call, write_local, write_local_function};
+use crate::simple::{write_assign, write_call, write_local_function};
 use crate::writer::Writer;
 use code_core::Opcode;
-use code_expr::Emitter;
+use code_expr::{Emitter, next};
 use int_core::Bytes;
 use std::alloc::AllocError;
 use tree_core::{Body, Declared, Exp, Name};
@@ -68,16 +68,28 @@ impl Writer {
         level: usize,
         line: u32,
     ) -> Result<(), AllocError>
-        ensures { (closing : Bool) → OnOk result (WroteStat self.old self.new (Local line names.now.items (exps (plain_exps values.now.items))) closing level) }
+        ensures code { (closing : Bool) → OnOk result (WroteStat self.old self.new (Local line names.now.items (exps (plain_exps values.now.items))) closing level) }
+        ensures variables { (closing : Bool) → OnOk result (DeclaresStat self.old self.new (Local line names.now.items (exps (plain_exps values.now.items))) closing level) }
     {
-        write_local(&mut self.emitter, names, values, level, line)?;
+        self.emitter.list(values, Some(names.len()), level, line)?;
+        let place = self.place();
+        self.variables.declare_locals(self.alloc, names, place)?;
+        write_marks(&mut self.emitter, names, level)?;
         Ok(())
     }
 
     /// Writes `local function`.
-    pub(crate) fn local_function(&mut self, body: &Body, level: usize) -> Result<(), AllocError>
-        ensures { (line : ℕ) (name : Name) (closing : Bool) → OnOk result (WroteStat self.old self.new (LocalFunction line name (plain_body body.now)) closing level) }
+    pub(crate) fn local_function(
+        &mut self,
+        name: &Name,
+        body: &Body,
+        level: usize,
+    ) -> Result<(), AllocError>
+        ensures code { (line : ℕ) (closing : Bool) → OnOk result (WroteStat self.old self.new (LocalFunction line name.now (plain_body body.now)) closing level) }
+        ensures variables { (line : ℕ) (closing : Bool) → OnOk result (DeclaresStat self.old self.new (LocalFunction line name.now (plain_body body.now)) closing level) }
     {
+        let start = next(self.place())?;
+        self.variables.declare(self.alloc, name, start)?;
         write_local_function(&mut self.emitter, body, level)?;
         Ok(())
     }
@@ -90,7 +102,8 @@ impl Writer {
         level: usize,
         line: u32,
     ) -> Result<(), AllocError>
-        ensures { (closing : Bool) → OnOk result (WroteStat self.old self.new (Assign line (exps (plain_exps targets.now.items)) (exps (plain_exps values.now.items))) closing level) }
+        ensures variables { OnOk result (self.new.variables ≡ self.old.variables) }
+        ensures code { (closing : Bool) → OnOk result (WroteStat self.old self.new (Assign line (exps (plain_exps targets.now.items)) (exps (plain_exps values.now.items))) closing level) }
     {
         write_assign(&mut self.emitter, targets, values, level, line)?;
         Ok(())
@@ -98,7 +111,8 @@ impl Writer {
 
     /// Writes a call that stands alone.
     pub(crate) fn call(&mut self, call: &Exp, level: usize) -> Result<(), AllocError>
-        ensures { (line : ℕ) (closing : Bool) → OnOk result (WroteStat self.old self.new (CallStat line (plain_exp call.now)) closing level) }
+        ensures variables { OnOk result (self.new.variables ≡ self.old.variables) }
+        ensures code { (line : ℕ) (closing : Bool) → OnOk result (WroteStat self.old self.new (CallStat line (plain_exp call.now)) closing level) }
     {
         write_call(&mut self.emitter, call, level)?;
         Ok(())
@@ -106,7 +120,8 @@ impl Writer {
 
     /// Writes `goto`.
     pub(crate) fn goto(&mut self, name: &Name, line: u32) -> Result<(), AllocError>
-        ensures { (closing : Bool) (level : ℕ) → OnOk result (WroteStat self.old self.new (Goto line name.now) closing level) }
+        ensures variables { OnOk result (self.new.variables ≡ self.old.variables) }
+        ensures code { (closing : Bool) (level : ℕ) → OnOk result (WroteStat self.old self.new (Goto line name.now) closing level) }
     {
         let label = Bytes::of(name.text.as_slice().to_vec(self.alloc)?);
         self.jump(Some(label), line)?;

@@ -19,5 +19,5 @@ mod writer;
 pub use marks::{write_close, write_marks};
 pub use ranges::{write_bounds, write_steps};
 pub use returns::write_return;
-pub use simple::{write_assign, write_call, write_local, write_local_function};
-pub use whole::write_body;
+pub use simple::{write_assign, write_call, write_local_function};
+pub use whole::{Written, write_body};

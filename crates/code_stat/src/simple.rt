@@ -1,36 +1,20 @@
 // Statements that have no block.
-ghost use Rattle.std.specs.Prelude.{◌≡◌, ◌+◌, ◌∷◌, ◌++◌, [], Some, OnOk, length};
+ghost use Rattle.std.specs.Prelude.{◌≡◌, ◌+◌, ◌∷◌, [], OnOk};
 ghost use Rattle.tree_core.specs.Tree.{exps};
 ghost use Rattle.tree_core.specs.Plain.{plain_exp, plain_exps, plain_body};
 ghost use Rattle.tree_activation.specs.Asking.{line_of_body};
 ghost use Rattle.code_core.specs.declared.opcode.Opcode.TheVariants.{LoadNil, Closure};
 ghost use Rattle.code_of.specs.Coded.{with_abc, with_abx};
-ghost use Rattle.code_of.specs.Expressions.{exp_code, exps_code, made_by, made_in};
-ghost use Rattle.code_of.specs.Parts.{assign_code, marks_code};
+ghost use Rattle.code_of.specs.Expressions.{exp_code, made_by, made_in};
+ghost use Rattle.code_of.specs.Parts.{assign_code};
 ghost use Rattle.code_expr.specs.Listing.{followed};
 
-use crate::marks::write_marks;
 use crate::stores::{behind, write_stores};
 use crate::targets::write_targets;
 use code_core::Opcode;
 use code_expr::Emitter;
 use std::alloc::AllocError;
-use tree_core::{Body, Declared, Exp};
-
-/// Writes `local` names and their values; the first name has this register.
-pub fn write_local(
-    emitter: &mut Emitter,
-    names: &Vec<Declared>,
-    values: &Vec<Exp>,
-    register: usize,
-    line: u32,
-) -> Result<(), AllocError>
-    ensures { OnOk result (emitter.new ≡ followed emitter.old (exps_code emitter.old.constants (exps (plain_exps values.now.items)) (Some (length names.now.items)) register emitter.old.made line ++ marks_code names.now.items register) (made_in (exps (plain_exps values.now.items)))) }
-{
-    emitter.list(values, Some(names.len()), register, line)?;
-    write_marks(emitter, names, register)?;
-    Ok(())
-}
+use tree_core::{Body, Exp};
 
 /// Writes `local function`, whose variable has this register.
 pub fn write_local_function(

@@ -1,9 +1,10 @@
 // Statements and blocks (Lua 5.4 manual, 3.3).
-ghost use Rattle.std.specs.Prelude.{◌≡◌, OnOk, IfOk, length, map, drop};
+ghost use Rattle.std.specs.Prelude.{◌≡◌, ◌+◌, true, [], ◌∷◌, OnOk, IfOk, length, map, drop};
 ghost use Rattle.std.specs.Option.{option_map};
 ghost use Rattle.tree_core.specs.Tree.{stats, arms, EndArms, While, Repeat};
 ghost use Rattle.tree_core.specs.Plain.{plain_arm, plain_exp, plain_stat, plain_block};
 ghost use Rattle.code_of.specs.Levels.{levels_after, levels_in, closings_after, made_in_block};
+ghost use Rattle.code_stat.specs.Declares.{DeclaresStat, DeclaresStats, DeclaresBlock, DeclaresOpen, DeclaresRounds};
 ghost use Rattle.code_stat.specs.Drafts.{Wrote, WroteStat, WroteStats, WroteBlock, WroteOpen};
 ghost use Rattle.code_stat.specs.Forms.{choice, counted_code, iterated_code};
 
@@ -18,34 +19,35 @@ use crate::writer::Writer;
 use code_core::Opcode;
 use code_expr::next;
 use std::alloc::AllocError;
-use tree_core::{Arm, Block, Exp, Stat, StatNode};
+use tree_core::{Arm, Block, Exp, Name, Stat, StatNode};
 
 impl Writer {
     /// Writes a statement, where so many locals are in scope, and a variable is to be closed or none is.
     #[cycle(statements)]
     fn statement(&mut self, stat: &Stat, closing: bool, level: usize) -> Result<(), AllocError>
-        ensures { OnOk result (WroteStat self.old self.new (plain_stat stat.now) closing level) }
+        ensures code { OnOk result (WroteStat self.old self.new (plain_stat stat.now) closing level) }
+        ensures variables { OnOk result (DeclaresStat self.old self.new (plain_stat stat.now) closing level) }
     {
         let line = stat.line;
         match &stat.node {
             StatNode::Empty => Ok(()),
             StatNode::Label(_) => Ok(()),
             StatNode::Local(names, values) => self.local(names, values, level, line),
-            StatNode::LocalFunction(_, body) => self.local_function(body, level),
+            StatNode::LocalFunction(name, body) => self.local_function(name, body, level),
             StatNode::Assign(targets, values) => self.assign(targets, values, level, line),
             StatNode::Call(call) => self.call(call, level),
             StatNode::Do(block) => self.block(block, closing, level, level),
             StatNode::While(test, block) => self.while_loop(test, block, closing, level, line),
             StatNode::Repeat(block, test) => self.repeat_loop(block, test, closing, level, line),
             StatNode::If(list, otherwise) => self.arms(list, 0, otherwise, closing, level, line),
-            StatNode::NumFor(_, from, limit, step, block) => {
+            StatNode::NumFor(name, from, limit, step, block) => {
                 write_range(&mut self.emitter, from, limit, step, level, line)?;
-                self.counted(block, closing, level, line)?;
+                self.counted(name, block, closing, level, line)?;
                 Ok(())
             }
             StatNode::GenFor(names, values, block) => {
                 self.emitter.list(values, Some(4), level, line)?;
-                self.iterated(block, names.len(), level, line)?;
+                self.iterated(names, block, level, line)?;
                 Ok(())
             }
             StatNode::Goto(name) => self.goto(name, line),
@@ -64,6 +66,7 @@ impl Writer {
         level: usize,
     ) -> Result<Scope, AllocError>
         ensures code { OnOk result (WroteStats self.old self.new (stats (map plain_stat list.now.items)) falls closing outer level) }
+        ensures variables { OnOk result (DeclaresStats self.old self.new (stats (map plain_stat list.now.items)) closing level) }
         ensures level { IfOk result (λ scope. scope.level ≡ levels_after (stats (map plain_stat list.now.items)) level) }
         ensures closing { IfOk result (λ scope. scope.closing ≡ closings_after (stats (map plain_stat list.now.items)) closing) }
     {
@@ -109,12 +112,16 @@ impl Writer {
         outer: usize,
         level: usize,
     ) -> Result<(), AllocError>
-        ensures { OnOk result (WroteBlock self.old self.new (plain_block block.now) closing outer level) }
+        ensures code { OnOk result (WroteBlock self.old self.new (plain_block block.now) closing outer level) }
+        ensures variables { OnOk result (DeclaresBlock self.old self.new (plain_block block.now) closing outer level) }
     {
+        let first = self.variables.count();
         match &block.result {
             None => {
                 let end = self.statements(&block.stats, true, closing, outer, level)?;
                 write_close(&mut self.emitter, outer, end.level, block.line)?;
+                let closed = self.place();
+                self.variables.end_scopes(first, closed)?;
                 Ok(())
             }
             Some(values) => {
@@ -128,6 +135,8 @@ impl Writer {
                     block.line,
                     back,
                 )?;
+                let returned = self.place();
+                self.variables.end_scopes(first, returned)?;
                 Ok(())
             }
         }
@@ -142,6 +151,7 @@ impl Writer {
         level: usize,
     ) -> Result<usize, AllocError>
         ensures code { OnOk result (WroteOpen self.old self.new (plain_block block.now) closing level) }
+        ensures variables { OnOk result (DeclaresOpen self.old self.new (plain_block block.now) closing level) }
         ensures level { IfOk result (λ n. n ≡ levels_in (plain_block block.now) level) }
     {
         let end = self.statements(&block.stats, false, closing, level, level)?;
@@ -172,7 +182,8 @@ impl Writer {
         level: usize,
         line: u32,
     ) -> Result<(), AllocError>
-        ensures { OnOk result (WroteStat self.old self.new (While line (plain_exp test.now) (plain_block block.now)) closing level) }
+        ensures code { OnOk result (WroteStat self.old self.new (While line (plain_exp test.now) (plain_block block.now)) closing level) }
+        ensures variables { OnOk result (DeclaresStat self.old self.new (While line (plain_exp test.now) (plain_block block.now)) closing level) }
     {
         let start = self.place();
         let first = self.jumps.len();
@@ -196,14 +207,18 @@ impl Writer {
         level: usize,
         line: u32,
     ) -> Result<(), AllocError>
-        ensures { OnOk result (WroteStat self.old self.new (Repeat line (plain_block block.now) (plain_exp test.now)) closing level) }
+        ensures code { OnOk result (WroteStat self.old self.new (Repeat line (plain_block block.now) (plain_exp test.now)) closing level) }
+        ensures variables { OnOk result (DeclaresStat self.old self.new (Repeat line (plain_block block.now) (plain_exp test.now)) closing level) }
     {
         let start = self.place();
         let first = self.jumps.len();
+        let declared = self.variables.count();
         let inner = self.open_block(block, closing, level)?;
         let end_line = block.line;
         write_until(&mut self.emitter, test, start, level, inner, end_line, line)?;
         self.end_loop(first, level);
+        let place = self.place();
+        self.variables.end_scopes(declared, place)?;
         Ok(())
     }
 
@@ -211,54 +226,74 @@ impl Writer {
     #[cycle(statements)]
     fn counted(
         &mut self,
+        name: &Name,
         block: &Block,
         closing: bool,
         level: usize,
         line: u32,
     ) -> Result<(), AllocError>
-        ensures { OnOk result (Wrote self.old self.new (made_in_block (plain_block block.now)) (λ reach. counted_code self.old.emitter.constants self.old.back (plain_block block.now) closing level self.old.emitter.made (length self.old.emitter.steps) line reach)) }
+        ensures code { OnOk result (Wrote self.old self.new (made_in_block (plain_block block.now)) (λ reach. counted_code self.old.emitter.constants self.old.back (plain_block block.now) closing level self.old.emitter.made (length self.old.emitter.steps) line reach)) }
+        ensures variables { OnOk result (DeclaresRounds self.old self.new 3 (name.now ∷ []) (plain_block block.now) closing (level + 3) (level + 4) 2) }
     {
         let first = self.jumps.len();
         let start = self.place();
         let outer = behind(level, 3)?;
         let inner = behind(level, 4)?;
+        let hidden = self.variables.count();
+        self.variables.hide(3, start)?;
         self.emitter.put_abx(Opcode::ForPrep, level, 0, line)?;
+        let named = self.variables.count();
+        self.variables.declare(self.alloc, name, next(start)?)?;
         self.block(block, closing, outer, inner)?;
-        let size = self.place().saturating_sub(start + 1);
+        let end = self.place();
+        self.variables.end_scopes(named, end)?;
+        let size = end.saturating_sub(start + 1);
         self.emitter
             .put_abx(Opcode::ForLoop, level, size + 1, line)?;
         self.emitter
             .set_abx(start, Opcode::ForPrep, level, size, line);
         self.end_loop(first, level);
+        let place = self.place();
+        self.variables.end_scopes(hidden, place)?;
         Ok(())
     }
 
-    /// Writes the rounds of a generic `for` with so many names, behind its values.
+    /// Writes the rounds of a generic `for`, behind its values.
     #[cycle(statements)]
     fn iterated(
         &mut self,
+        names: &Vec<Name>,
         block: &Block,
-        names: usize,
         level: usize,
         line: u32,
     ) -> Result<(), AllocError>
-        ensures { OnOk result (Wrote self.old self.new (made_in_block (plain_block block.now)) (λ reach. iterated_code self.old.emitter.constants self.old.back (plain_block block.now) names level self.old.emitter.made (length self.old.emitter.steps) line reach)) }
+        ensures code { OnOk result (Wrote self.old self.new (made_in_block (plain_block block.now)) (λ reach. iterated_code self.old.emitter.constants self.old.back (plain_block block.now) (length names.now.items) level self.old.emitter.made (length self.old.emitter.steps) line reach)) }
+        ensures variables { OnOk result (DeclaresRounds self.old self.new 4 names.now.items (plain_block block.now) true (level + 4) (level + 4 + length names.now.items) 4) }
     {
         let first = self.jumps.len();
         let start = self.place();
         let outer = behind(level, 4)?;
-        let inner = behind(outer, names)?;
+        let inner = behind(outer, names.len())?;
+        let hidden = self.variables.count();
+        self.variables.hide(4, start)?;
         self.emitter.put_abx(Opcode::TForPrep, level, 0, line)?;
+        let named = self.variables.count();
+        self.variables
+            .declare_names(self.alloc, names, next(start)?)?;
         self.block(block, true, outer, inner)?;
-        let size = self.place().saturating_sub(start + 1);
+        let end = self.place();
+        self.variables.end_scopes(named, end)?;
+        let size = end.saturating_sub(start + 1);
         self.emitter
-            .put_abc(Opcode::TForCall, level, 0, names, line)?;
+            .put_abc(Opcode::TForCall, level, 0, names.len(), line)?;
         self.emitter
             .put_abx(Opcode::TForLoop, level, behind(size, 2)?, line)?;
         self.emitter.put_abc(Opcode::Close, level, 0, 0, line)?;
         self.emitter
             .set_abx(start, Opcode::TForPrep, level, size, line);
         self.end_loop(first, level);
+        let place = self.place();
+        self.variables.end_scopes(hidden, place)?;
         Ok(())
     }
 
@@ -273,7 +308,8 @@ impl Writer {
         level: usize,
         line: u32,
     ) -> Result<(), AllocError>
-        ensures { OnOk result (WroteStat self.old self.new (choice line (arms (map plain_arm (drop at list.now.items))) (option_map (λ b. plain_block b.value) otherwise.now)) closing level) }
+        ensures code { OnOk result (WroteStat self.old self.new (choice line (arms (map plain_arm (drop at list.now.items))) (option_map (λ b. plain_block b.value) otherwise.now)) closing level) }
+        ensures variables { OnOk result (DeclaresStat self.old self.new (choice line (arms (map plain_arm (drop at list.now.items))) (option_map (λ b. plain_block b.value) otherwise.now)) closing level) }
     {
         if at >= list.len() {
             self.otherwise(otherwise, closing, level, line)?;
@@ -309,7 +345,8 @@ impl Writer {
         level: usize,
         line: u32,
     ) -> Result<(), AllocError>
-        ensures { OnOk result (WroteStat self.old self.new (choice line EndArms (option_map (λ b. plain_block b.value) otherwise.now)) closing level) }
+        ensures code { OnOk result (WroteStat self.old self.new (choice line EndArms (option_map (λ b. plain_block b.value) otherwise.now)) closing level) }
+        ensures variables { OnOk result (DeclaresStat self.old self.new (choice line EndArms (option_map (λ b. plain_block b.value) otherwise.now)) closing level) }
     {
         match otherwise {
             None => Ok(()),

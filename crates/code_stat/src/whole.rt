@@ -1,39 +1,28 @@
 // The code of a whole function.
-ghost use Rattle.std.specs.Prelude.{◌≡◌, OnOk, IfOk, length};
+ghost use Rattle.std.specs.Prelude.{◌≡◌, false, OnOk, IfOk, length, map};
 ghost use Rattle.tree_core.specs.Plain.{plain_block, plain_body};
-ghost use Rattle.code_of.specs.CodeOf.{back_field, opening};
 ghost use Rattle.code_of.specs.Levels.{made_in_block};
-ghost use Rattle.code_expr.specs.Listing.{listed, steps};
+ghost use Rattle.code_expr.specs.Listing.{steps};
+ghost use Rattle.code_parts.specs.Scopes.{over};
+ghost use Rattle.code_stat.specs.Declares.{DeclaresBlock};
 ghost use Rattle.code_stat.specs.Drafts.{Wrote, arrives, landing, or_nowhere};
-ghost use Rattle.code_stat.specs.Whole.{filled, function_of, led, made_in_body, nowhere, whole_from};
+ghost use Rattle.code_stat.specs.Whole.{filled, function_of, led, made_in_body, nowhere, variables_in, whole_from};
 
 use crate::jumps::{Destination, Jump};
 use crate::writer::Writer;
 use code_core::Opcode;
 use code_expr::{Constants, Emitter, next};
+use code_parts::{Variables, back_field, put_opening};
 use std::alloc::{AllocError, Global};
 use tree_core::{Block, Body};
 
-/// The field C of a function's returns.
-fn back_field(vararg: bool, params: usize) -> Result<usize, AllocError>
-    ensures { IfOk result (λ n. n ≡ back_field vararg params) }
-{
-    if vararg { next(params) } else { Ok(0) }
-}
-
-/// Writes the beginning of a function with so many parameters.
-fn write_opening(
-    emitter: &mut Emitter,
-    vararg: bool,
-    params: usize,
-    line: u32,
-) -> Result<(), AllocError>
-    ensures { OnOk result (emitter.new ≡ listed emitter.old (opening vararg params line)) }
-{
-    if vararg {
-        return emitter.put_abc(Opcode::VarArgPrep, params, 0, 0, line);
-    }
-    Ok(())
+/// The code of a function, and its local variables.
+#[derive(Drop)]
+pub struct Written {
+    /// The code.
+    pub emitter: Emitter,
+    /// The variables, all of whose scopes have ended.
+    pub variables: Variables,
 }
 
 /// Where a jump leads. No tree that keeps the rules has a jump to nowhere, which leads to the start.
@@ -61,7 +50,8 @@ fn lead(emitter: &mut Emitter, jump: &Jump) -> Result<(), AllocError>
 impl Writer {
     /// Puts all jumps in their places.
     fn lead_all(&mut self) -> Result<(), AllocError>
-        ensures { OnOk result (self.new.emitter ≡ filled self.old.emitter self.old.jumps.items) }
+        ensures code { OnOk result (self.new.emitter ≡ filled self.old.emitter self.old.jumps.items) }
+        ensures variables { OnOk result (self.new.variables ≡ self.old.variables) }
     {
         let mut left = self.jumps.len();
         while left > 0 {
@@ -73,14 +63,18 @@ impl Writer {
 
     /// Writes the block of a function with so many parameters.
     fn whole(&mut self, block: &Block, params: usize) -> Result<(), AllocError>
-        ensures { OnOk result (Wrote self.old self.new (made_in_block (plain_block block.now)) (λ reach. whole_from self.old.emitter.constants self.old.back (plain_block block.now) params self.old.emitter.made (length self.old.emitter.steps) reach)) }
+        ensures variables { OnOk result (DeclaresBlock self.old self.new (plain_block block.now) false 0 params) }
+        ensures code { OnOk result (Wrote self.old self.new (made_in_block (plain_block block.now)) (λ reach. whole_from self.old.emitter.constants self.old.back (plain_block block.now) params self.old.emitter.made (length self.old.emitter.steps) reach)) }
     {
         match &block.result {
             None => {
+                let first = self.variables.count();
                 let end = self.statements(&block.stats, true, false, 0, params)?;
                 let back = self.back;
                 self.emitter
                     .put_abc(Opcode::Return, end.level, 1, back, block.line)?;
+                let place = self.place();
+                self.variables.end_scopes(first, place)?;
                 Ok(())
             }
             Some(_) => {
@@ -91,21 +85,30 @@ impl Writer {
     }
 }
 
-/// Writes the code of a function, whose constants are these.
-pub fn write_body(alloc: Global, constants: Constants, body: &Body) -> Result<Emitter, AllocError>
-    ensures { IfOk result (λ emitter. emitter ≡ record { constants = constants; steps = steps (function_of constants (plain_body body.now)); made = made_in_body (plain_body body.now) }) }
+/// Writes the code of a function, whose constants are these, with its local variables.
+pub fn write_body(alloc: Global, constants: Constants, body: &Body) -> Result<Written, AllocError>
+    ensures code { IfOk result (λ written. written.emitter ≡ record { constants = constants; steps = steps (function_of constants (plain_body body.now)); made = made_in_body (plain_body body.now) }) }
+    ensures variables { IfOk result (λ written. written.variables ≡ map over (variables_in constants (plain_body body.now))) }
 {
     let params = body.params.len();
     let back = back_field(body.vararg, params)?;
     let mut writer = Writer {
         emitter: Emitter::new(alloc, constants),
         jumps: Vec::new(alloc),
+        variables: Variables::new(alloc),
         back,
         alloc,
     };
-    write_opening(&mut writer.emitter, body.vararg, params, body.line)?;
+    writer.variables.declare_names(alloc, &body.params, 0)?;
+    put_opening(&mut writer.emitter, body.vararg, params, body.line)?;
     writer.whole(&body.block, params)?;
+    let end = writer.place();
+    writer.variables.end_scopes(0, end)?;
     writer.lead_all()?;
-    let Writer { emitter, .. } = writer;
-    Ok(emitter)
+    let Writer {
+        emitter,
+        variables,
+        ..
+    } = writer;
+    Ok(Written { emitter, variables })
 }

@@ -8,6 +8,7 @@ ghost use Rattle.code_stat.specs.Drafts.{Wrote, beyond, arrives, fill};
 use crate::jumps::{Destination, Jump, leave_all};
 use code_core::Opcode;
 use code_expr::Emitter;
+use code_parts::Variables;
 use int_core::Bytes;
 use std::alloc::{AllocError, Global};
 
@@ -18,6 +19,8 @@ pub(crate) struct Writer {
     pub(crate) emitter: Emitter,
     /// The `goto`s and `break`s in it, in the order of the text.
     pub(crate) jumps: Vec<Jump>,
+    /// The local variables that were declared, in the order of the text.
+    pub(crate) variables: Variables,
     /// The field C of each RETURN.
     pub(crate) back: usize,
     pub(crate) alloc: Global,
@@ -35,6 +38,7 @@ impl Writer {
     pub(crate) fn end_loop(&mut self, first: usize, level: usize)
         ensures emitter { self.new.emitter ≡ self.old.emitter }
         ensures back { self.new.back ≡ self.old.back }
+        ensures variables { self.new.variables ≡ self.old.variables }
         ensures front { take first self.new.jumps.items ≡ take first self.old.jumps.items }
         ensures leads { (reach : Reach) (xs : List Step) → fill (arrives reach) (drop first self.new.jumps.items) xs ≡ fill (arrives (in_loop reach (length self.old.emitter.steps) level)) (drop first self.old.jumps.items) xs }
     {
@@ -44,7 +48,8 @@ impl Writer {
 
     /// Writes a `goto`, or a `break` where there is no label. Where it leads is not known yet.
     pub(crate) fn jump(&mut self, label: Option<Bytes>, line: u32) -> Result<(), AllocError>
-        ensures { OnOk result (Wrote self.old self.new 0 (λ reach. leads (beyond label reach) (length self.old.emitter.steps) line)) }
+        ensures code { OnOk result (Wrote self.old self.new 0 (λ reach. leads (beyond label reach) (length self.old.emitter.steps) line)) }
+        ensures variables { OnOk result (self.new.variables ≡ self.old.variables) }
     {
         let place = self.emitter.steps().len();
         self.emitter.put_abc(Opcode::Close, 0, 0, 0, line)?;

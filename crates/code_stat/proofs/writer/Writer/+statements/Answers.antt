@@ -1,4 +1,4 @@
-use Rattle.std.proofs.Common.{rules, arith, ◌≡◌, ◌+◌, ◌-◌, ◌<◌, ◌≤◌, [], ◌∷◌, sym, ap, ap₂, ◌∙◌, subst, refl, length, map, take, drop, OnOk}
+use Rattle.std.proofs.Common.{rules, arith, ◌≡◌, ◌+◌, ◌-◌, ◌++◌, ◌<◌, ◌≤◌, [], ◌∷◌, sym, ap, ap₂, ◌∙◌, subst, refl, length, map, take, drop, OnOk, Some, true}
 use Rattle.std.specs.Prelude.{slice_index_or}
 use Rattle.std.specs.Option.{option_map}
 use Rattle.tree_core.specs.Tree as tree
@@ -6,8 +6,10 @@ use Rattle.tree_core.specs.declared.tree.Block.{out-Block}
 use Rattle.tree_core.specs.declared.tree.Arm.{out-Arm}
 use Rattle.tree_core.specs.Plain.{plain_exp, plain_exps, plain_stat, plain_stat_node, plain_block, plain_body, plain_arm, num_for_of}
 use Rattle.tree_core.proofs.Rows.{plain-local, plain-assign, plain-if, plain-num_for, plain-gen_for}
-use Rattle.code_core.specs.declared.opcode.Opcode.TheVariants.{ForPrep, TForPrep, TForLoop}
-use Rattle.code_of.specs.Coded.{with_abx}
+use Rattle.code_core.specs.declared.opcode.Opcode.TheVariants.{ForPrep, TForPrep, TForCall, TForLoop}
+use Rattle.code_of.specs.Coded.{with_abc, with_abx}
+use Rattle.code_of.specs.Sizes.{block_size}
+use Rattle.code_parts.specs.Scopes.{begun, ended_from}
 use Rattle.code_expr.specs.Listing.{listed}
 use Rattle.code_expr.specs.Patches.{replaced}
 use Rattle.code_stat.specs.declared.writer.Writer.{Writer}
@@ -22,64 +24,65 @@ use Rattle.code_stat.specs.Drafts.{WroteStat, WroteBlock, WroteOpen, newest_firs
 use Rattle.code_stat.proofs.Lists.{all_left, none_left, next_left, levels_next, closings_next}
 use Rattle.code_stat.proofs.Looping.{while_wrote, repeat_wrote, counted_wrote, iterated_wrote, num_for_wrote, gen_for_wrote}
 use Rattle.code_stat.proofs.Ends.{falls_wrote, returns_wrote, open_returns, nothing_wrote}
+use Rattle.code_stat.specs.Declares.{DeclaresStat, DeclaresBlock, DeclaresOpen}
+use Rattle.code_stat.proofs.Declaring.{begun_from, nothing_declared, next_declared, all_declared, scopes_end, block_ends, repeat_declares, rounds_declare, counted_long, iterated_long, num_for_declares, gen_for_declares, arm_declares}
 use Rattle.code_stat.proofs.writer.Writer.+statements.Goals as goal
 
 -- statements by their forms
 
-pub statement-returns-in-Empty : goal.statement-returns-in-Empty
-statement-returns-in-Empty t c =
+pub statement-returns-in-Empty-clause-code : goal.statement-returns-in-Empty-clause-code
+statement-returns-in-Empty-clause-code t c =
     subst (λ s. WroteStat c.args.self.now c.args.self.now s c.args.closing c.args.level) (sym (ap (λ n. plain_stat_node n c.args.stat.now.line) c.in-Empty.is)) (nothing_wrote c.args.self.now)
 
-pub statement-returns-in-Label : goal.statement-returns-in-Label
-statement-returns-in-Label t c =
+pub statement-returns-in-Label-clause-code : goal.statement-returns-in-Label-clause-code
+statement-returns-in-Label-clause-code t c =
     subst (λ s. WroteStat c.args.self.now c.args.self.now s c.args.closing c.args.level) (sym (ap (λ n. plain_stat_node n c.args.stat.now.line) c.in-Label.is)) (nothing_wrote c.args.self.now)
 
-pub statement-returns-in-Local : goal.statement-returns-in-Local
-statement-returns-in-Local t c =
+pub statement-returns-in-Local-clause-code : goal.statement-returns-in-Local-clause-code
+statement-returns-in-Local-clause-code t c =
     let is : plain_stat c.args.stat.now ≡ tree.Local c.args.stat.now.line c.in-Local.names.items (tree.exps (plain_exps c.in-Local.values.items)) =
     ap (λ n. plain_stat_node n c.args.stat.now.line) c.in-Local.is ∙ plain-local c.args.stat.now.line c.in-Local.names c.in-Local.values in
-    subst (λ s. OnOk c.local.result (WroteStat c.args.self.now c.local.new.self s c.args.closing c.args.level)) (sym is) (c.local.ensures c.args.closing)
+    subst (λ s. OnOk c.local.result (WroteStat c.args.self.now c.local.new.self s c.args.closing c.args.level)) (sym is) (c.local.ensures.code c.args.closing)
 
-pub statement-returns-in-LocalFunction : goal.statement-returns-in-LocalFunction
-statement-returns-in-LocalFunction t c =
-    let is : plain_stat c.args.stat.now ≡ tree.LocalFunction c.args.stat.now.line c.in-LocalFunction.field-0 (plain_body c.deref.result.now) =
-    ap (λ n. plain_stat_node n c.args.stat.now.line) c.in-LocalFunction.is ∙ ap (λ b. tree.LocalFunction c.args.stat.now.line c.in-LocalFunction.field-0 (plain_body b)) (sym c.deref.ensures) in
-    subst (λ s. OnOk c.local_function.result (WroteStat c.args.self.now c.local_function.new.self s c.args.closing c.args.level)) (sym is) (c.local_function.ensures c.args.stat.now.line c.in-LocalFunction.field-0 c.args.closing)
+pub statement-returns-in-LocalFunction-clause-code : goal.statement-returns-in-LocalFunction-clause-code
+statement-returns-in-LocalFunction-clause-code t c =
+    let is : plain_stat c.args.stat.now ≡ tree.LocalFunction c.args.stat.now.line c.in-LocalFunction.name (plain_body c.deref.result.now) =
+    ap (λ n. plain_stat_node n c.args.stat.now.line) c.in-LocalFunction.is ∙ ap (λ b. tree.LocalFunction c.args.stat.now.line c.in-LocalFunction.name (plain_body b)) (sym c.deref.ensures) in
+    subst (λ s. OnOk c.local_function.result (WroteStat c.args.self.now c.local_function.new.self s c.args.closing c.args.level)) (sym is) (c.local_function.ensures.code c.args.stat.now.line c.args.closing)
 
-pub statement-returns-in-Assign : goal.statement-returns-in-Assign
-statement-returns-in-Assign t c =
+pub statement-returns-in-Assign-clause-code : goal.statement-returns-in-Assign-clause-code
+statement-returns-in-Assign-clause-code t c =
     let is : plain_stat c.args.stat.now ≡ tree.Assign c.args.stat.now.line (tree.exps (plain_exps c.in-Assign.targets.items)) (tree.exps (plain_exps c.in-Assign.values.items)) =
     ap (λ n. plain_stat_node n c.args.stat.now.line) c.in-Assign.is ∙ plain-assign c.args.stat.now.line c.in-Assign.targets c.in-Assign.values in
-    subst (λ s. OnOk c.assign.result (WroteStat c.args.self.now c.assign.new.self s c.args.closing c.args.level)) (sym is) (c.assign.ensures c.args.closing)
+    subst (λ s. OnOk c.assign.result (WroteStat c.args.self.now c.assign.new.self s c.args.closing c.args.level)) (sym is) (c.assign.ensures.code c.args.closing)
 
-pub statement-returns-in-If : goal.statement-returns-in-If
-statement-returns-in-If t c =
+pub statement-returns-in-If-clause-code : goal.statement-returns-in-If-clause-code
+statement-returns-in-If-clause-code t c =
     let is : plain_stat c.args.stat.now ≡ choice c.args.stat.now.line (tree.arms (map plain_arm c.in-If.list.items)) (option_map (λ b. plain_block b.value) c.in-If.otherwise) =
     ap (λ n. plain_stat_node n c.args.stat.now.line) c.in-If.is ∙ plain-if c.args.stat.now.line c.in-If.list c.in-If.otherwise ∙ chosen_of c.args.stat.now.line (map plain_arm c.in-If.list.items) (option_map (λ b. plain_block b.value) c.in-If.otherwise) in
-    subst (λ s. OnOk c.arms.result (WroteStat c.args.self.now c.arms.new.self s c.args.closing c.args.level)) (sym is) c.arms.ensures
+    subst (λ s. OnOk c.arms.result (WroteStat c.args.self.now c.arms.new.self s c.args.closing c.args.level)) (sym is) c.arms.ensures.code
 
-pub statement-returns-in_ok-counted-in-NumFor : goal.statement-returns-in_ok-counted-in-NumFor
-statement-returns-in_ok-counted-in-NumFor t c =
+pub statement-returns-in_ok-counted-in-NumFor-clause-code : goal.statement-returns-in_ok-counted-in-NumFor-clause-code
+statement-returns-in_ok-counted-in-NumFor-clause-code t c =
     let line = c.args.stat.now.line in
     let step = option_map (λ e. plain_exp e.value) c.in-NumFor.step in
-    let is : plain_stat c.args.stat.now ≡ num_for_of line c.in-NumFor.field-0 (plain_exp c.deref-in-NumFor.result.now) (plain_exp c.deref-in-NumFor-2.result.now) step (plain_block c.deref-in-NumFor-3.result.now) =
-    ap (λ n. plain_stat_node n line) c.in-NumFor.is ∙ plain-num_for line c.in-NumFor.field-0 c.in-NumFor.from c.in-NumFor.limit c.in-NumFor.step c.in-NumFor.block
-    ∙ ap₂ (λ e d. num_for_of line c.in-NumFor.field-0 (plain_exp e) (plain_exp d) step (plain_block c.in-NumFor.block.value)) (sym c.deref-in-NumFor.ensures) (sym c.deref-in-NumFor-2.ensures)
-    ∙ ap (λ b. num_for_of line c.in-NumFor.field-0 (plain_exp c.deref-in-NumFor.result.now) (plain_exp c.deref-in-NumFor-2.result.now) step (plain_block b)) (sym c.deref-in-NumFor-3.ensures) in
+    let is : plain_stat c.args.stat.now ≡ num_for_of line c.in-NumFor.name (plain_exp c.deref-in-NumFor.result.now) (plain_exp c.deref-in-NumFor-2.result.now) step (plain_block c.deref-in-NumFor-3.result.now) =
+    ap (λ n. plain_stat_node n line) c.in-NumFor.is ∙ plain-num_for line c.in-NumFor.name c.in-NumFor.from c.in-NumFor.limit c.in-NumFor.step c.in-NumFor.block
+    ∙ ap₂ (λ e d. num_for_of line c.in-NumFor.name (plain_exp e) (plain_exp d) step (plain_block c.in-NumFor.block.value)) (sym c.deref-in-NumFor.ensures) (sym c.deref-in-NumFor-2.ensures)
+    ∙ ap (λ b. num_for_of line c.in-NumFor.name (plain_exp c.deref-in-NumFor.result.now) (plain_exp c.deref-in-NumFor-2.result.now) step (plain_block b)) (sym c.deref-in-NumFor-3.ensures) in
     subst (λ s. WroteStat c.args.self.now c.counted.new.self s c.args.closing c.args.level) (sym is)
-    (num_for_wrote c.args.self.now (record c.args.self.now { emitter = c.write_range.new.emitter }) c.counted.new.self c.write_range.new.emitter c.in-NumFor.field-0 (plain_exp c.deref-in-NumFor.result.now) (plain_exp c.deref-in-NumFor-2.result.now) step
-    (plain_block c.deref-in-NumFor-3.result.now) c.args.closing c.args.level line c.in_ok-write_range-in-NumFor.ensures refl refl refl c.in_ok-counted-in-NumFor.ensures)
+    (num_for_wrote c.args.self.now (record c.args.self.now { emitter = c.write_range.new.emitter }) c.counted.new.self c.write_range.new.emitter c.in-NumFor.name (plain_exp c.deref-in-NumFor.result.now) (plain_exp c.deref-in-NumFor-2.result.now) step
+    (plain_block c.deref-in-NumFor-3.result.now) c.args.closing c.args.level line c.in_ok-write_range-in-NumFor.ensures refl refl refl c.in_ok-counted-in-NumFor.ensures.code)
 
-pub statement-returns-in_ok-iterated-in-GenFor : goal.statement-returns-in_ok-iterated-in-GenFor
-statement-returns-in_ok-iterated-in-GenFor t c =
+pub statement-returns-in_ok-iterated-in-GenFor-clause-code : goal.statement-returns-in_ok-iterated-in-GenFor-clause-code
+statement-returns-in_ok-iterated-in-GenFor-clause-code t c =
     let line = c.args.stat.now.line in
     let es = tree.exps (plain_exps c.in-GenFor.values.items) in
-    let count : c.len.result ≡ length c.in-GenFor.names.items = search rules in
     let is : plain_stat c.args.stat.now ≡ tree.GenFor line c.in-GenFor.names.items es (plain_block c.deref-in-GenFor.result.now) =
     ap (λ n. plain_stat_node n line) c.in-GenFor.is ∙ plain-gen_for line c.in-GenFor.names c.in-GenFor.values c.in-GenFor.block ∙ ap (λ b. tree.GenFor line c.in-GenFor.names.items es (plain_block b)) (sym c.deref-in-GenFor.ensures) in
     subst (λ s. WroteStat c.args.self.now c.iterated.new.self s c.args.closing c.args.level) (sym is)
-    (gen_for_wrote c.args.self.now (record c.args.self.now { emitter = c.list.new.self }) c.iterated.new.self c.list.new.self c.in-GenFor.names.items es (plain_block c.deref-in-GenFor.result.now) c.args.closing c.len.result c.args.level line count
-    c.in_ok-list-in-GenFor.ensures refl refl refl c.in_ok-iterated-in-GenFor.ensures)
+    (gen_for_wrote c.args.self.now (record c.args.self.now { emitter = c.list.new.self }) c.iterated.new.self c.list.new.self c.in-GenFor.names.items es (plain_block c.deref-in-GenFor.result.now) c.args.closing (length c.in-GenFor.names.items) c.args.level line refl
+    c.in_ok-list-in-GenFor.ensures refl refl refl c.in_ok-iterated-in-GenFor.ensures.code)
 
 -- the statements of a block
 
@@ -89,6 +92,7 @@ statements-loop-stat-init t c = (
   ap (λ l. levels_after (tree.stats (map plain_stat l)) c.args.level) c.deref-stat-items.ensures.value,
   ap (λ l. closings_after (tree.stats (map plain_stat l)) c.args.closing) c.deref-stat-items.ensures.value,
   all_left c.args.list.now.items c.deref-stat-items.result.now c.args.self.now c.args.falls c.args.closing c.args.outer c.args.level (newest_first c.new-passed.result.items []) c.deref-stat-items.ensures.value (search rules),
+  ap (λ l. c.args.self.now.variables ++ begun_from c.args.self.now (tree.stats (map plain_stat l)) c.args.closing c.args.level) c.deref-stat-items.ensures.value,
 )
 
 pub statements-loop-stat-preserved : goal.statements-loop-stat-preserved
@@ -102,8 +106,11 @@ statements-loop-stat-preserved t c =
       next_left c.args.list.now.items c.deref-stat-items.result.now c.loop-stat.stat-index (c.in_ok-done.done) c.stat-item.result c.args.self.now c.loop-stat.self c.statement.new.self (record c.statement.new.self { jumps = c.meet_label.new.jumps })
           c.settle_all.new.jumps.items c.args.falls c.loop-stat.scope.closing c.in_ok-scope.scope.closing c.args.closing c.args.outer c.loop-stat.scope.level c.in_ok-scope.scope.level c.args.level c.len-first.result c.len-from.result c.place.result
           (newest_first c.loop-stat.passed.items []) (newest_first c.meet_label.new.passed.items []) c.deref-stat-items.ensures.value inside c.stat-item.is (c.in_ok-done.ensures ∙ ap (λ n. n + 1) c.loop-stat.invariant.0) first from c.place.ensures
-          c.loop-stat.invariant.3 c.in_ok-statement.ensures c.settle_all.ensures.front c.settle_all.ensures.leads c.in_ok-meet_label.ensures.front c.in_ok-meet_label.ensures.leads refl refl c.in_ok-meet_label.ensures.passed
+          c.loop-stat.invariant.3 c.in_ok-statement.ensures.code c.settle_all.ensures.front c.settle_all.ensures.leads c.in_ok-meet_label.ensures.front c.in_ok-meet_label.ensures.leads refl refl c.in_ok-meet_label.ensures.passed
           c.in_ok-scope.ensures.level c.in_ok-scope.ensures.closing,
+      next_declared c.deref-stat-items.result.now c.args.list.now.items c.loop-stat.stat-index c.stat-item.result c.args.self.now c.loop-stat.self c.statement.new.self (record c.statement.new.self { jumps = c.meet_label.new.jumps })
+          c.loop-stat.scope.closing c.in_ok-scope.scope.closing c.args.closing c.loop-stat.scope.level c.in_ok-scope.scope.level c.args.level inside c.stat-item.is c.loop-stat.invariant.4 c.in_ok-statement.ensures.code c.in_ok-statement.ensures.variables
+          refl refl refl c.in_ok-scope.ensures.level c.in_ok-scope.ensures.closing,
     )
 
 pub statements-returns-clause-code : goal.statements-returns-clause-code
@@ -114,58 +121,63 @@ statements-returns-clause-code t c =
 
 -- loops
 
-pub while_loop-returns : goal.while_loop-returns
-while_loop-returns t c =
+pub while_loop-returns-clause-code : goal.while_loop-returns-clause-code
+while_loop-returns-clause-code t c =
     let first : c.len-first.result ≡ length c.args.self.now.jumps.items = search rules in
     while_wrote c.args.self.now (record c.args.self.now { emitter = c.put_open_jump.new.self }) c.block.new.self c.end_loop.new.self
     c.expression.new.self c.put_abc.new.self c.put_jump_back.new.self c.land.new.self (plain_exp c.args.test.now) (plain_block c.args.block.now) c.args.closing c.args.level c.args.line c.in_ok-jump.jump c.place-start.result c.len-first.result
-    c.place-start.ensures first c.in_ok-expression.ensures c.in_ok-put_abc.ensures c.in_ok-jump.ensures.jump c.in_ok-jump.ensures.place refl refl c.in_ok-block.ensures c.in_ok-put_jump_back.ensures c.land.ensures
+    c.place-start.ensures first c.in_ok-expression.ensures c.in_ok-put_abc.ensures c.in_ok-jump.ensures.jump c.in_ok-jump.ensures.place refl refl c.in_ok-block.ensures.code c.in_ok-put_jump_back.ensures c.land.ensures
     (record { emitter_is = c.end_loop.ensures.emitter; back_is = c.end_loop.ensures.back; front = c.end_loop.ensures.front; leads = c.end_loop.ensures.leads })
 
-pub repeat_loop-returns : goal.repeat_loop-returns
-repeat_loop-returns t c =
+pub repeat_loop-returns-clause-code : goal.repeat_loop-returns-clause-code
+repeat_loop-returns-clause-code t c =
     let first : c.len-first.result ≡ length c.args.self.now.jumps.items = search rules in
     let line_is : (out-Block c.args.block.now).line ≡ line_of_end (plain_block c.args.block.now) = ends_at c.args.block.now in
-    repeat_wrote c.args.self.now c.open_block.new.self c.end_loop.new.self c.write_until.new.emitter (plain_exp c.args.test.now) (plain_block c.args.block.now) c.args.closing c.args.level c.args.line (out-Block c.args.block.now).line c.in_ok-inner.inner
+    repeat_wrote c.args.self.now c.open_block.new.self (record c.end_loop.new.self { variables = c.end_scopes.new.self }) c.write_until.new.emitter (plain_exp c.args.test.now) (plain_block c.args.block.now) c.args.closing c.args.level c.args.line (out-Block c.args.block.now).line c.in_ok-inner.inner
     c.place-start.result c.len-first.result c.place-start.ensures first c.in_ok-inner.ensures.code c.in_ok-inner.ensures.level line_is c.in_ok-write_until.ensures
     (record { emitter_is = c.end_loop.ensures.emitter; back_is = c.end_loop.ensures.back; front = c.end_loop.ensures.front; leads = c.end_loop.ensures.leads })
 
-pub counted-returns : goal.counted-returns
-counted-returns t c =
+pub counted-returns-clause-code : goal.counted-returns-clause-code
+counted-returns-clause-code t c =
     let first : c.len-first.result ≡ length c.args.self.now.jumps.items = search rules in
     let size : c.saturating_sub-size.result ≡ length c.block.new.self.emitter.steps - (length c.args.self.now.emitter.steps + 1) = search rules in
     let set : c.set_abx.new.self ≡ replaced c.put_abx-2.new.self (length c.args.self.now.emitter.steps) (with_abx ForPrep c.args.level c.saturating_sub-size.result c.args.line) =
     subst (λ n. c.set_abx.new.self ≡ replaced c.put_abx-2.new.self n (with_abx ForPrep c.args.level c.saturating_sub-size.result c.args.line)) c.place-start.ensures c.set_abx.ensures in
-    counted_wrote c.args.self.now (record c.args.self.now { emitter = c.put_abx.new.self }) c.block.new.self c.end_loop.new.self c.put_abx-2.new.self c.set_abx.new.self (plain_block c.args.block.now) c.args.closing c.args.level c.args.line
-    c.len-first.result c.saturating_sub-size.result c.in_ok-outer.outer c.in_ok-inner.inner first c.in_ok-outer.ensures c.in_ok-inner.ensures c.in_ok-put_abx.ensures refl refl c.in_ok-block.ensures size c.in_ok-put_abx-2.ensures set
+    counted_wrote c.args.self.now (record c.args.self.now { emitter = c.put_abx.new.self; variables = c.declare.new.self }) c.block.new.self (record c.end_loop.new.self { variables = c.end_scopes-2.new.self }) c.put_abx-2.new.self c.set_abx.new.self (plain_block c.args.block.now) c.args.closing c.args.level c.args.line
+    c.len-first.result c.saturating_sub-size.result c.in_ok-outer.outer c.in_ok-inner.inner first c.in_ok-outer.ensures c.in_ok-inner.ensures c.in_ok-put_abx.ensures refl refl c.in_ok-block.ensures.code size c.in_ok-put_abx-2.ensures set
     (record { emitter_is = c.end_loop.ensures.emitter; back_is = c.end_loop.ensures.back; front = c.end_loop.ensures.front; leads = c.end_loop.ensures.leads })
 
-pub iterated-returns : goal.iterated-returns
-iterated-returns t c =
+pub iterated-returns-clause-code : goal.iterated-returns-clause-code
+iterated-returns-clause-code t c =
     let first : c.len-first.result ≡ length c.args.self.now.jumps.items = search rules in
     let size : c.saturating_sub-size.result ≡ length c.block.new.self.emitter.steps - (length c.args.self.now.emitter.steps + 1) = search rules in
     let set : c.set_abx.new.self ≡ replaced c.put_abc-2.new.self (length c.args.self.now.emitter.steps) (with_abx TForPrep c.args.level c.saturating_sub-size.result c.args.line) =
     subst (λ n. c.set_abx.new.self ≡ replaced c.put_abc-2.new.self n (with_abx TForPrep c.args.level c.saturating_sub-size.result c.args.line)) c.place-start.ensures c.set_abx.ensures in
     let loops : c.put_abx-2.new.self ≡ listed c.put_abc.new.self (with_abx TForLoop c.args.level (c.saturating_sub-size.result + 2) c.args.line ∷ []) =
     subst (λ n. c.put_abx-2.new.self ≡ listed c.put_abc.new.self (with_abx TForLoop c.args.level n c.args.line ∷ [])) c.in_ok-behind.ensures c.in_ok-put_abx-2.ensures in
-    iterated_wrote c.args.self.now (record c.args.self.now { emitter = c.put_abx.new.self }) c.block.new.self c.end_loop.new.self c.put_abc.new.self c.put_abx-2.new.self c.put_abc-2.new.self c.set_abx.new.self (plain_block c.args.block.now) c.args.names
-    c.args.level c.args.line c.len-first.result c.saturating_sub-size.result c.in_ok-outer.outer c.in_ok-inner.inner first c.in_ok-outer.ensures c.in_ok-inner.ensures c.in_ok-put_abx.ensures refl refl c.in_ok-block.ensures size c.in_ok-put_abc.ensures loops
+    let count : c.len.result ≡ length c.args.names.now.items = search rules in
+    let again : c.len-2.result ≡ length c.args.names.now.items = search rules in
+    let inner : c.in_ok-inner.inner ≡ c.in_ok-outer.outer + length c.args.names.now.items = c.in_ok-inner.ensures ∙ ap (λ n. c.in_ok-outer.outer + n) count in
+    let called : c.put_abc.new.self ≡ listed c.block.new.self.emitter (with_abc TForCall c.args.level 0 (length c.args.names.now.items) c.args.line ∷ []) =
+    c.in_ok-put_abc.ensures ∙ ap (λ n. listed c.block.new.self.emitter (with_abc TForCall c.args.level 0 n c.args.line ∷ [])) again in
+    iterated_wrote c.args.self.now (record c.args.self.now { emitter = c.put_abx.new.self; variables = c.declare_names.new.self }) c.block.new.self (record c.end_loop.new.self { variables = c.end_scopes-2.new.self }) c.put_abc.new.self c.put_abx-2.new.self c.put_abc-2.new.self c.set_abx.new.self (plain_block c.args.block.now) (length c.args.names.now.items)
+    c.args.level c.args.line c.len-first.result c.saturating_sub-size.result c.in_ok-outer.outer c.in_ok-inner.inner first c.in_ok-outer.ensures inner c.in_ok-put_abx.ensures refl refl c.in_ok-block.ensures.code size called loops
     c.in_ok-put_abc-2.ensures set
     (record { emitter_is = c.end_loop.ensures.emitter; back_is = c.end_loop.ensures.back; front = c.end_loop.ensures.front; leads = c.end_loop.ensures.leads })
 
 -- blocks
 
-pub block-returns-in_ok-write_close-in-None : goal.block-returns-in_ok-write_close-in-None
-block-returns-in_ok-write_close-in-None t c =
+pub block-returns-in_ok-end_scopes-in-None-clause-code : goal.block-returns-in_ok-end_scopes-in-None-clause-code
+block-returns-in_ok-end_scopes-in-None-clause-code t c =
     let b = out-Block c.args.block.now in
-    subst (λ p. WroteBlock c.args.self.now (record c.statements.new.self { emitter = c.write_close.new.emitter }) p c.args.closing c.args.outer c.args.level) (sym (falls_of c.args.block.now c.in-None.is))
-    (falls_wrote c.args.self.now c.statements.new.self (record c.statements.new.self { emitter = c.write_close.new.emitter }) (tree.stats (map plain_stat b.stats.items)) b.tokens b.line c.args.closing c.args.outer c.args.level c.in_ok-end-in-None.end.level
+    subst (λ p. WroteBlock c.args.self.now (record c.statements.new.self { emitter = c.write_close.new.emitter; variables = c.end_scopes.new.self }) p c.args.closing c.args.outer c.args.level) (sym (falls_of c.args.block.now c.in-None.is))
+    (falls_wrote c.args.self.now c.statements.new.self (record c.statements.new.self { emitter = c.write_close.new.emitter; variables = c.end_scopes.new.self }) (tree.stats (map plain_stat b.stats.items)) b.tokens b.line c.args.closing c.args.outer c.args.level c.in_ok-end-in-None.end.level
     c.in_ok-end-in-None.ensures.code c.in_ok-end-in-None.ensures.level c.in_ok-write_close-in-None.ensures refl refl)
 
-pub block-returns-in_ok-write_return-in-Some : goal.block-returns-in_ok-write_return-in-Some
-block-returns-in_ok-write_return-in-Some t c =
+pub block-returns-in_ok-end_scopes-in-Some-clause-code : goal.block-returns-in_ok-end_scopes-in-Some-clause-code
+block-returns-in_ok-end_scopes-in-Some-clause-code t c =
     let b = out-Block c.args.block.now in
-    let after : Writer = record c.statements-in-Some.new.self { emitter = c.write_return.new.emitter } in
+    let after : Writer = record c.statements-in-Some.new.self { emitter = c.write_return.new.emitter; variables = c.end_scopes-in-Some.new.self } in
     subst (λ p. WroteBlock c.args.self.now after p c.args.closing c.args.outer c.args.level) (sym (returns_of c.args.block.now c.in-Some.values c.in-Some.is))
     (returns_wrote c.args.self.now c.statements-in-Some.new.self after (tree.stats (map plain_stat b.stats.items)) (tree.exps (plain_exps c.in-Some.values.items)) b.tokens b.line c.args.closing c.in_ok-end-in-Some.end.closing c.args.outer c.args.level
     c.in_ok-end-in-Some.end.level c.statements-in-Some.new.self.back c.in_ok-end-in-Some.ensures.code c.in_ok-end-in-Some.ensures.level c.in_ok-end-in-Some.ensures.closing refl c.in_ok-write_return-in-Some.ensures refl refl)
@@ -189,12 +201,12 @@ open_block-returns-in_ok-write_return-in-Some-clause-level t c = c.in_ok-end.ens
 
 -- an `if`
 
-pub otherwise-returns-in-None : goal.otherwise-returns-in-None
-otherwise-returns-in-None t c =
+pub otherwise-returns-in-None-clause-code : goal.otherwise-returns-in-None-clause-code
+otherwise-returns-in-None-clause-code t c =
     subst (λ o. WroteStat c.args.self.now c.args.self.now (choice c.args.line tree.EndArms (option_map (λ b. plain_block b.value) o)) c.args.closing c.args.level) (sym c.in-None.is) (nothing_wrote c.args.self.now)
 
-pub arms-returns-then-end-place : goal.arms-returns-then-end-place
-arms-returns-then-end-place t c =
+pub arms-returns-then-end-place-clause-code : goal.arms-returns-then-end-place-clause-code
+arms-returns-then-end-place-clause-code t c =
     let arm = c.index-arm.result.now in
     let others = tree.arms (map plain_arm (drop (c.args.at + 1) c.args.list.now.items)) in
     let o = option_map (λ b. plain_block b.value) c.args.otherwise.now in
@@ -206,11 +218,11 @@ arms-returns-then-end-place t c =
     (full_wrote c.args.self.now (record c.args.self.now { emitter = c.put_open_jump.new.self }) c.block.new.self (record c.block.new.self { emitter = c.land.new.self }) c.arms.new.self after
     c.expression.new.self c.put_abc.new.self c.put_open_jump-2.new.self (plain_exp (out-Arm arm).test) (plain_block (out-Arm arm).block) others o c.args.closing c.args.level c.args.line c.in_ok-jump.jump c.in_ok-past.past
     (length c.arms.new.self.emitter.steps - length c.land.new.self.steps - 1)
-    c.in_ok-expression.ensures c.in_ok-put_abc.ensures c.in_ok-jump.ensures.jump c.in_ok-jump.ensures.place refl refl c.in_ok-block.ensures c.in_ok-past.ensures.jump c.in_ok-past.ensures.place c.land.ensures refl refl c.in_ok-arms.ensures
+    c.in_ok-expression.ensures c.in_ok-put_abc.ensures c.in_ok-jump.ensures.jump c.in_ok-jump.ensures.place refl refl c.in_ok-block.ensures.code c.in_ok-past.ensures.jump c.in_ok-past.ensures.place c.land.ensures refl refl c.in_ok-arms.ensures.code
     (omega (arith, more)) c.land-then-end-place.ensures refl refl)
 
-pub arms-returns : goal.arms-returns
-arms-returns t c =
+pub arms-returns-clause-code : goal.arms-returns-clause-code
+arms-returns-clause-code t c =
     let arm = c.index-arm.result.now in
     let others = tree.arms (map plain_arm (drop (c.args.at + 1) c.args.list.now.items)) in
     let o = option_map (λ b. plain_block b.value) c.args.otherwise.now in
@@ -221,11 +233,11 @@ arms-returns t c =
     let most : length c.arms.new.self.emitter.steps ≤ length c.land.new.self.steps = search rules in
     let first : c.len-first.result ≡ length c.block.new.self.jumps.items = search rules in
     let kept : c.truncate.new.self.items ≡ take c.len-first.result c.arms.new.self.jumps.items = search rules in
-    let grown : length c.arms.new.self.emitter.steps ≡ length c.land.new.self.steps + length c.in_ok-arms.ensures.draft = written_sized c.land.new.self c.arms.new.self.emitter c.in_ok-arms.ensures.draft _ c.in_ok-arms.ensures.emitter_is in
+    let grown : length c.arms.new.self.emitter.steps ≡ length c.land.new.self.steps + length c.in_ok-arms.ensures.code.draft = written_sized c.land.new.self c.arms.new.self.emitter c.in_ok-arms.ensures.code.draft _ c.in_ok-arms.ensures.code.emitter_is in
     subst (λ l. WroteStat c.args.self.now after (choice c.args.line l o) c.args.closing c.args.level) (sym (arms_front c.args.list.now.items c.args.at arm inside is))
     (empty_wrote c.args.self.now (record c.args.self.now { emitter = c.put_open_jump.new.self }) c.block.new.self before c.arms.new.self after
     c.expression.new.self c.put_abc.new.self c.put_open_jump-2.new.self c.cut.new.self (plain_exp (out-Arm arm).test) (plain_block (out-Arm arm).block) others o c.args.closing c.args.level c.args.line c.in_ok-jump.jump c.in_ok-past.past c.len-first.result
-    c.in_ok-expression.ensures c.in_ok-put_abc.ensures c.in_ok-jump.ensures.jump c.in_ok-jump.ensures.place refl refl c.in_ok-block.ensures c.in_ok-past.ensures.jump c.in_ok-past.ensures.place c.land.ensures refl refl first c.in_ok-arms.ensures
+    c.in_ok-expression.ensures c.in_ok-put_abc.ensures c.in_ok-jump.ensures.jump c.in_ok-jump.ensures.place refl refl c.in_ok-block.ensures.code c.in_ok-past.ensures.jump c.in_ok-past.ensures.place c.land.ensures refl refl first c.in_ok-arms.ensures.code
     (omega (arith, most, grown)) c.cut.ensures c.in_ok-set_jump.ensures kept refl)
 
 -- calls go down the tree
@@ -252,3 +264,178 @@ statements-statement-requires t c =
     let h = within_height c.deref-stat-items.result.now c.loop-stat.stat-index c.stat-item.result inside c.stat-item.is in
     let same = ap (λ l. stats_height (tree.stats (map plain_stat l))) c.deref-stat-items.ensures.value in
     (omega (arith, c.decreases, h, same), tt)
+
+-- the variables of statements by their forms
+
+pub statement-returns-in-Empty-clause-variables : goal.statement-returns-in-Empty-clause-variables
+statement-returns-in-Empty-clause-variables t c =
+    subst (λ s. DeclaresStat c.args.self.now c.args.self.now s c.args.closing c.args.level) (sym (ap (λ n. plain_stat_node n c.args.stat.now.line) c.in-Empty.is)) (nothing_declared c.args.self.now c.args.self.now refl)
+
+pub statement-returns-in-Label-clause-variables : goal.statement-returns-in-Label-clause-variables
+statement-returns-in-Label-clause-variables t c =
+    subst (λ s. DeclaresStat c.args.self.now c.args.self.now s c.args.closing c.args.level) (sym (ap (λ n. plain_stat_node n c.args.stat.now.line) c.in-Label.is)) (nothing_declared c.args.self.now c.args.self.now refl)
+
+pub statement-returns-in-Local-clause-variables : goal.statement-returns-in-Local-clause-variables
+statement-returns-in-Local-clause-variables t c =
+    let is : plain_stat c.args.stat.now ≡ tree.Local c.args.stat.now.line c.in-Local.names.items (tree.exps (plain_exps c.in-Local.values.items)) =
+    ap (λ n. plain_stat_node n c.args.stat.now.line) c.in-Local.is ∙ plain-local c.args.stat.now.line c.in-Local.names c.in-Local.values in
+    subst (λ s. OnOk c.local.result (DeclaresStat c.args.self.now c.local.new.self s c.args.closing c.args.level)) (sym is) (c.local.ensures.variables c.args.closing)
+
+pub statement-returns-in-LocalFunction-clause-variables : goal.statement-returns-in-LocalFunction-clause-variables
+statement-returns-in-LocalFunction-clause-variables t c =
+    let is : plain_stat c.args.stat.now ≡ tree.LocalFunction c.args.stat.now.line c.in-LocalFunction.name (plain_body c.deref.result.now) =
+    ap (λ n. plain_stat_node n c.args.stat.now.line) c.in-LocalFunction.is ∙ ap (λ b. tree.LocalFunction c.args.stat.now.line c.in-LocalFunction.name (plain_body b)) (sym c.deref.ensures) in
+    subst (λ s. OnOk c.local_function.result (DeclaresStat c.args.self.now c.local_function.new.self s c.args.closing c.args.level)) (sym is) (c.local_function.ensures.variables c.args.stat.now.line c.args.closing)
+
+pub statement-returns-in-If-clause-variables : goal.statement-returns-in-If-clause-variables
+statement-returns-in-If-clause-variables t c =
+    let is : plain_stat c.args.stat.now ≡ choice c.args.stat.now.line (tree.arms (map plain_arm c.in-If.list.items)) (option_map (λ b. plain_block b.value) c.in-If.otherwise) =
+    ap (λ n. plain_stat_node n c.args.stat.now.line) c.in-If.is ∙ plain-if c.args.stat.now.line c.in-If.list c.in-If.otherwise ∙ chosen_of c.args.stat.now.line (map plain_arm c.in-If.list.items) (option_map (λ b. plain_block b.value) c.in-If.otherwise) in
+    subst (λ s. OnOk c.arms.result (DeclaresStat c.args.self.now c.arms.new.self s c.args.closing c.args.level)) (sym is) c.arms.ensures.variables
+
+pub statement-returns-in_ok-counted-in-NumFor-clause-variables : goal.statement-returns-in_ok-counted-in-NumFor-clause-variables
+statement-returns-in_ok-counted-in-NumFor-clause-variables t c =
+    let line = c.args.stat.now.line in
+    let step = option_map (λ e. plain_exp e.value) c.in-NumFor.step in
+    let is : plain_stat c.args.stat.now ≡ num_for_of line c.in-NumFor.name (plain_exp c.deref-in-NumFor.result.now) (plain_exp c.deref-in-NumFor-2.result.now) step (plain_block c.deref-in-NumFor-3.result.now) =
+    ap (λ n. plain_stat_node n line) c.in-NumFor.is ∙ plain-num_for line c.in-NumFor.name c.in-NumFor.from c.in-NumFor.limit c.in-NumFor.step c.in-NumFor.block
+    ∙ ap₂ (λ e d. num_for_of line c.in-NumFor.name (plain_exp e) (plain_exp d) step (plain_block c.in-NumFor.block.value)) (sym c.deref-in-NumFor.ensures) (sym c.deref-in-NumFor-2.ensures)
+    ∙ ap (λ b. num_for_of line c.in-NumFor.name (plain_exp c.deref-in-NumFor.result.now) (plain_exp c.deref-in-NumFor-2.result.now) step (plain_block b)) (sym c.deref-in-NumFor-3.ensures) in
+    subst (λ s. DeclaresStat c.args.self.now c.counted.new.self s c.args.closing c.args.level) (sym is)
+    (num_for_declares c.args.self.now (record c.args.self.now { emitter = c.write_range.new.emitter }) c.counted.new.self c.write_range.new.emitter c.in-NumFor.name (plain_exp c.deref-in-NumFor.result.now) (plain_exp c.deref-in-NumFor-2.result.now) step
+    (plain_block c.deref-in-NumFor-3.result.now) c.args.closing c.args.level line c.in_ok-write_range-in-NumFor.ensures refl refl refl c.in_ok-counted-in-NumFor.ensures.variables)
+
+pub statement-returns-in_ok-iterated-in-GenFor-clause-variables : goal.statement-returns-in_ok-iterated-in-GenFor-clause-variables
+statement-returns-in_ok-iterated-in-GenFor-clause-variables t c =
+    let line = c.args.stat.now.line in
+    let es = tree.exps (plain_exps c.in-GenFor.values.items) in
+    let is : plain_stat c.args.stat.now ≡ tree.GenFor line c.in-GenFor.names.items es (plain_block c.deref-in-GenFor.result.now) =
+    ap (λ n. plain_stat_node n line) c.in-GenFor.is ∙ plain-gen_for line c.in-GenFor.names c.in-GenFor.values c.in-GenFor.block ∙ ap (λ b. tree.GenFor line c.in-GenFor.names.items es (plain_block b)) (sym c.deref-in-GenFor.ensures) in
+    subst (λ s. DeclaresStat c.args.self.now c.iterated.new.self s c.args.closing c.args.level) (sym is)
+    (gen_for_declares c.args.self.now (record c.args.self.now { emitter = c.list.new.self }) c.iterated.new.self c.list.new.self c.in-GenFor.names.items es (plain_block c.deref-in-GenFor.result.now) c.args.closing c.args.level line
+    c.in_ok-list-in-GenFor.ensures refl refl refl c.in_ok-iterated-in-GenFor.ensures.variables)
+
+-- those of the statements of a block
+
+pub statements-returns-clause-variables : goal.statements-returns-clause-variables
+statements-returns-clause-variables t c =
+    let most : length c.deref-stat-items.result.now ≤ c.loop-stat.stat-index = omega (arith, c.loop-stat-test.false) in
+    all_declared c.deref-stat-items.result.now c.args.list.now.items c.loop-stat.stat-index c.args.self.now c.loop-stat.self c.loop-stat.scope.closing c.args.closing c.loop-stat.scope.level c.args.level most c.loop-stat.invariant.4
+
+-- those of loops
+
+pub repeat_loop-returns-clause-variables : goal.repeat_loop-returns-clause-variables
+repeat_loop-returns-clause-variables t c =
+    let after : Writer = record c.end_loop.new.self { variables = c.end_scopes.new.self } in
+    let first : c.count-declared.result ≡ length c.args.self.now.variables = search rules in
+    let place : c.place-place.result ≡ length c.end_loop.new.self.emitter.steps = c.place-place.ensures in
+    let ended : c.end_scopes.new.self ≡ ended_from c.count-declared.result c.place-place.result c.open_block.new.self.variables = c.in_ok-end_scopes.ensures ∙ ap (ended_from c.count-declared.result c.place-place.result) c.end_loop.ensures.variables in
+    repeat_declares c.args.self.now c.open_block.new.self after (plain_block c.args.block.now) (plain_exp c.args.test.now) c.args.closing c.args.level c.args.line c.count-declared.result c.place-place.result
+    first c.in_ok-inner.ensures.variables ended place (repeat_loop-returns-clause-code t c)
+
+pub counted-returns-clause-variables : goal.counted-returns-clause-variables
+counted-returns-clause-variables t c =
+    let a = c.args.self.now in
+    let after : Writer = record c.end_loop.new.self { variables = c.end_scopes-2.new.self } in
+    let hidden_at : c.count-hidden.result ≡ length a.variables = search rules in
+    let named_at : c.count-named.result ≡ length c.hide.new.self = search rules in
+    let begin : c.in_ok-next.field-0 ≡ c.place-start.result + 1 = c.in_ok-next.ensures in
+    let ended : c.end_scopes-2.new.self ≡ ended_from c.count-hidden.result c.place-place.result c.end_scopes.new.self = c.in_ok-end_scopes-2.ensures ∙ ap (ended_from c.count-hidden.result c.place-place.result) c.end_loop.ensures.variables in
+    let long : length c.end_loop.new.self.emitter.steps ≡ length a.emitter.steps + (block_size a.emitter.constants a.back (plain_block c.args.block.now) c.args.closing (c.args.level + 3) (c.args.level + 4) a.emitter.made + 2) =
+    counted_long a after (plain_block c.args.block.now) c.args.closing c.args.level c.args.line (counted-returns-clause-code t c) in
+    rounds_declare a (record a { emitter = c.put_abx.new.self; variables = c.declare.new.self }) c.block.new.self after (with_abx ForPrep c.args.level 0 c.args.line) 3 (c.args.name.now ∷ []) (plain_block c.args.block.now) c.args.closing
+    c.in_ok-outer.outer c.in_ok-inner.inner (c.args.level + 3) (c.args.level + 4) 2 c.place-start.result c.in_ok-next.field-0 c.count-hidden.result c.count-named.result c.place-end.result c.place-place.result c.hide.new.self c.end_scopes.new.self
+    c.in_ok-outer.ensures c.in_ok-inner.ensures c.place-start.ensures begin hidden_at c.in_ok-hide.ensures named_at c.in_ok-declare.ensures c.in_ok-put_abx.ensures refl c.in_ok-block.ensures.code c.in_ok-block.ensures.variables
+    c.place-end.ensures c.in_ok-end_scopes.ensures ended (c.place-place.ensures ∙ long)
+
+pub iterated-returns-clause-variables : goal.iterated-returns-clause-variables
+iterated-returns-clause-variables t c =
+    let a = c.args.self.now in
+    let names = c.args.names.now.items in
+    let after : Writer = record c.end_loop.new.self { variables = c.end_scopes-2.new.self } in
+    let hidden_at : c.count-hidden.result ≡ length a.variables = search rules in
+    let named_at : c.count-named.result ≡ length c.hide.new.self = search rules in
+    let begin : c.in_ok-next.field-0 ≡ c.place-start.result + 1 = c.in_ok-next.ensures in
+    let count : c.len.result ≡ length names = search rules in
+    let inner : c.in_ok-inner.inner ≡ c.args.level + 4 + length names = c.in_ok-inner.ensures ∙ ap₂ (λ m n. m + n) c.in_ok-outer.ensures count in
+    let declared : c.declare_names.new.self ≡ c.hide.new.self ++ map (λ name. begun (Some name.text) c.in_ok-next.field-0) names =
+    c.in_ok-declare_names.ensures ∙ ap (λ l. c.hide.new.self ++ map (λ name. begun (Some name.text) c.in_ok-next.field-0) l) c.deref.ensures.value in
+    let ended : c.end_scopes-2.new.self ≡ ended_from c.count-hidden.result c.place-place.result c.end_scopes.new.self = c.in_ok-end_scopes-2.ensures ∙ ap (ended_from c.count-hidden.result c.place-place.result) c.end_loop.ensures.variables in
+    let long : length c.end_loop.new.self.emitter.steps ≡ length a.emitter.steps + (block_size a.emitter.constants a.back (plain_block c.args.block.now) true (c.args.level + 4) (c.args.level + 4 + length names) a.emitter.made + 4) =
+    iterated_long a after (plain_block c.args.block.now) (length names) c.args.level c.args.line (iterated-returns-clause-code t c) in
+    rounds_declare a (record a { emitter = c.put_abx.new.self; variables = c.declare_names.new.self }) c.block.new.self after (with_abx TForPrep c.args.level 0 c.args.line) 4 names (plain_block c.args.block.now) true
+    c.in_ok-outer.outer c.in_ok-inner.inner (c.args.level + 4) (c.args.level + 4 + length names) 4 c.place-start.result c.in_ok-next.field-0 c.count-hidden.result c.count-named.result c.place-end.result c.place-place.result c.hide.new.self c.end_scopes.new.self
+    c.in_ok-outer.ensures inner c.place-start.ensures begin hidden_at c.in_ok-hide.ensures named_at declared c.in_ok-put_abx.ensures refl c.in_ok-block.ensures.code c.in_ok-block.ensures.variables
+    c.place-end.ensures c.in_ok-end_scopes.ensures ended (c.place-place.ensures ∙ long)
+
+-- those of blocks
+
+pub block-returns-in_ok-end_scopes-in-None-clause-variables : goal.block-returns-in_ok-end_scopes-in-None-clause-variables
+block-returns-in_ok-end_scopes-in-None-clause-variables t c =
+    let b = out-Block c.args.block.now in
+    let a = c.args.self.now in
+    let ss = tree.stats (map plain_stat b.stats.items) in
+    let is = falls_of c.args.block.now c.in-None.is in
+    let after : Writer = record c.statements.new.self { emitter = c.write_close.new.emitter; variables = c.end_scopes.new.self } in
+    let first : c.count-first.result ≡ length a.variables = search rules in
+    let code : WroteBlock a after (tree.Falls ss b.tokens b.line) c.args.closing c.args.outer c.args.level =
+    subst (λ p. WroteBlock a after p c.args.closing c.args.outer c.args.level) is (block-returns-in_ok-end_scopes-in-None-clause-code t c) in
+    subst (λ p. DeclaresBlock a after p c.args.closing c.args.outer c.args.level) (sym is)
+    (scopes_end a c.statements.new.self after ss c.args.closing c.args.level c.count-first.result c.place-closed.result _ first c.in_ok-end-in-None.ensures.variables c.in_ok-end_scopes-in-None.ensures
+    (c.place-closed.ensures ∙ block_ends a after (tree.Falls ss b.tokens b.line) c.args.closing c.args.outer c.args.level code))
+
+pub block-returns-in_ok-end_scopes-in-Some-clause-variables : goal.block-returns-in_ok-end_scopes-in-Some-clause-variables
+block-returns-in_ok-end_scopes-in-Some-clause-variables t c =
+    let b = out-Block c.args.block.now in
+    let a = c.args.self.now in
+    let ss = tree.stats (map plain_stat b.stats.items) in
+    let es = tree.exps (plain_exps c.in-Some.values.items) in
+    let is = returns_of c.args.block.now c.in-Some.values c.in-Some.is in
+    let after : Writer = record c.statements-in-Some.new.self { emitter = c.write_return.new.emitter; variables = c.end_scopes-in-Some.new.self } in
+    let first : c.count-first.result ≡ length a.variables = search rules in
+    let code : WroteBlock a after (tree.Returns ss es b.tokens b.line) c.args.closing c.args.outer c.args.level =
+    subst (λ p. WroteBlock a after p c.args.closing c.args.outer c.args.level) is (block-returns-in_ok-end_scopes-in-Some-clause-code t c) in
+    subst (λ p. DeclaresBlock a after p c.args.closing c.args.outer c.args.level) (sym is)
+    (scopes_end a c.statements-in-Some.new.self after ss c.args.closing c.args.level c.count-first.result c.place-returned.result _ first c.in_ok-end-in-Some.ensures.variables c.in_ok-end_scopes-in-Some.ensures
+    (c.place-returned.ensures ∙ block_ends a after (tree.Returns ss es b.tokens b.line) c.args.closing c.args.outer c.args.level code))
+
+pub open_block-returns-in-None-clause-variables : goal.open_block-returns-in-None-clause-variables
+open_block-returns-in-None-clause-variables t c = subst (λ p. DeclaresOpen c.args.self.now c.statements.new.self p c.args.closing c.args.level) (sym (falls_of c.args.block.now c.in-None.is)) c.in_ok-end.ensures.variables
+
+pub open_block-returns-in_ok-write_return-in-Some-clause-variables : goal.open_block-returns-in_ok-write_return-in-Some-clause-variables
+open_block-returns-in_ok-write_return-in-Some-clause-variables t c =
+    subst (λ p. DeclaresOpen c.args.self.now (record c.statements.new.self { emitter = c.write_return.new.emitter }) p c.args.closing c.args.level) (sym (returns_of c.args.block.now c.in-Some.values c.in-Some.is)) c.in_ok-end.ensures.variables
+
+-- those of an `if`
+
+pub otherwise-returns-in-None-clause-variables : goal.otherwise-returns-in-None-clause-variables
+otherwise-returns-in-None-clause-variables t c =
+    subst (λ o. DeclaresStat c.args.self.now c.args.self.now (choice c.args.line tree.EndArms (option_map (λ b. plain_block b.value) o)) c.args.closing c.args.level) (sym c.in-None.is) (nothing_declared c.args.self.now c.args.self.now refl)
+
+pub arms-returns-then-end-place-clause-variables : goal.arms-returns-then-end-place-clause-variables
+arms-returns-then-end-place-clause-variables t c =
+    let arm = c.index-arm.result.now in
+    let others = tree.arms (map plain_arm (drop (c.args.at + 1) c.args.list.now.items)) in
+    let o = option_map (λ b. plain_block b.value) c.args.otherwise.now in
+    let after : Writer = record c.arms.new.self { emitter = c.land-then-end-place.new.self } in
+    let inside : c.args.at < length c.args.list.now.items = search rules in
+    let is : arm ≡ slice_index_or c.args.list.now.items c.args.at arm = search rules in
+    subst (λ l. DeclaresStat c.args.self.now after (choice c.args.line l o) c.args.closing c.args.level) (sym (arms_front c.args.list.now.items c.args.at arm inside is))
+    (arm_declares c.args.self.now (record c.args.self.now { emitter = c.put_open_jump.new.self }) c.block.new.self (record c.block.new.self { emitter = c.land.new.self }) c.arms.new.self after
+    c.expression.new.self c.put_abc.new.self c.put_open_jump-2.new.self (plain_exp (out-Arm arm).test) (plain_block (out-Arm arm).block) others o c.args.closing c.args.level c.args.line c.in_ok-jump.jump
+    c.in_ok-expression.ensures c.in_ok-put_abc.ensures c.in_ok-jump.ensures.jump c.in_ok-jump.ensures.place refl refl c.in_ok-block.ensures.code c.in_ok-block.ensures.variables c.in_ok-past.ensures.jump c.land.ensures refl refl
+    c.in_ok-arms.ensures.variables refl)
+
+pub arms-returns-clause-variables : goal.arms-returns-clause-variables
+arms-returns-clause-variables t c =
+    let arm = c.index-arm.result.now in
+    let others = tree.arms (map plain_arm (drop (c.args.at + 1) c.args.list.now.items)) in
+    let o = option_map (λ b. plain_block b.value) c.args.otherwise.now in
+    let after : Writer = record c.arms.new.self { emitter = c.set_jump.new.self; jumps = c.truncate.new.self } in
+    let inside : c.args.at < length c.args.list.now.items = search rules in
+    let is : arm ≡ slice_index_or c.args.list.now.items c.args.at arm = search rules in
+    subst (λ l. DeclaresStat c.args.self.now after (choice c.args.line l o) c.args.closing c.args.level) (sym (arms_front c.args.list.now.items c.args.at arm inside is))
+    (arm_declares c.args.self.now (record c.args.self.now { emitter = c.put_open_jump.new.self }) c.block.new.self (record c.block.new.self { emitter = c.land.new.self }) c.arms.new.self after
+    c.expression.new.self c.put_abc.new.self c.put_open_jump-2.new.self (plain_exp (out-Arm arm).test) (plain_block (out-Arm arm).block) others o c.args.closing c.args.level c.args.line c.in_ok-jump.jump
+    c.in_ok-expression.ensures c.in_ok-put_abc.ensures c.in_ok-jump.ensures.jump c.in_ok-jump.ensures.place refl refl c.in_ok-block.ensures.code c.in_ok-block.ensures.variables c.in_ok-past.ensures.jump c.land.ensures refl refl
+    c.in_ok-arms.ensures.variables refl)

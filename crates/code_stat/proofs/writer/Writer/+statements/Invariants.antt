@@ -5,6 +5,7 @@ use Rattle.tree_core.specs.Plain.{plain_stat, plain_arm, plain_block}
 use Rattle.code_of.specs.Levels.{levels_after, closings_after}
 use Rattle.code_stat.specs.Drafts.{newest_first}
 use Rattle.code_stat.proofs.Lists.{StatsLeft}
+use Rattle.code_stat.proofs.Declaring.{DeclaresLeft}
 use Rattle.code_stat.proofs.Heights.{stat_height, stats_height, block_height, arms_height, other_height}
 use Rattle.code_stat.proofs.writer.Writer.+statements.Given as goal
 
@@ -14,6 +15,7 @@ invariant-statements-loop-stat l =
     × (levels_after (stats (map plain_stat (drop l.stat-index l.stat-items))) l.scope.level ≡ levels_after (stats (map plain_stat l.list.items)) l.level)
     × (closings_after (stats (map plain_stat (drop l.stat-index l.stat-items))) l.scope.closing ≡ closings_after (stats (map plain_stat l.list.items)) l.closing)
     × (StatsLeft l.fn.self l.self (stats (map plain_stat (drop l.stat-index l.stat-items))) (stats (map plain_stat l.list.items)) l.falls l.scope.closing l.outer l.scope.level l.closing l.level (newest_first l.passed.items []))
+    × (DeclaresLeft l.fn.self l.self (stats (map plain_stat (drop l.stat-index l.stat-items))) (stats (map plain_stat l.list.items)) l.scope.closing l.scope.level l.closing l.level)
 
 -- calls go down the tree, and along the arms of an `if`
 

@@ -9,6 +9,7 @@ loop-left-init c =
     let size : c.len-left.result ≡ length c.args.self.now.jumps.items = search rules in (
       omega (arith, size),
       refl,
+      refl,
       none_led_yet c.args.self.now.jumps.items c.len-left.result c.args.self.now.emitter (omega (arith, size)),
     )
 
@@ -19,11 +20,15 @@ loop-left-preserved c =
     let one : c.loop-left.left ≡ c.loop-left.left - 1 + 1 = omega (arith, c.loop-left-test.true) in (
       omega (arith, c.loop-left.invariant.0),
       c.loop-left.invariant.1,
+      c.loop-left.invariant.2,
       next_led c.loop-left.self.jumps.items (c.loop-left.left - 1) c.index.result.now c.args.self.now.emitter c.loop-left.self.emitter c.lead.new.emitter inside is
-          (subst (λ n. c.loop-left.self.emitter ≡ filled c.args.self.now.emitter (drop n c.loop-left.self.jumps.items)) one c.loop-left.invariant.2) c.in_ok-lead.ensures,
+          (subst (λ n. c.loop-left.self.emitter ≡ filled c.args.self.now.emitter (drop n c.loop-left.self.jumps.items)) one c.loop-left.invariant.3) c.in_ok-lead.ensures,
     )
 
-pub returns : goal.returns
-returns c =
+pub returns-clause-code : goal.returns-clause-code
+returns-clause-code c =
     let none : c.loop-left.left ≡ 0 = omega (arith, c.loop-left-test.false) in
-    c.loop-left.invariant.2 ∙ ap (λ n. filled c.args.self.now.emitter (drop n c.loop-left.self.jumps.items)) none ∙ ap (λ js. filled c.args.self.now.emitter js.items) c.loop-left.invariant.1
+    c.loop-left.invariant.3 ∙ ap (λ n. filled c.args.self.now.emitter (drop n c.loop-left.self.jumps.items)) none ∙ ap (λ js. filled c.args.self.now.emitter js.items) c.loop-left.invariant.1
+
+pub returns-clause-variables : goal.returns-clause-variables
+returns-clause-variables c = c.loop-left.invariant.2

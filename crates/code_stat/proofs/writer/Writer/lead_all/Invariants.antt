@@ -7,6 +7,7 @@ abbrev pub invariant-loop-left : goal.invariant-loop-left
 invariant-loop-left l =
     (l.left ≤ length l.self.jumps.items)
     × (l.self.jumps ≡ l.fn.self.jumps)
+    × (l.self.variables ≡ l.fn.self.variables)
     × (l.self.emitter ≡ filled l.fn.self.emitter (drop l.left l.self.jumps.items))
 
 abbrev pub decreases-loop-left : goal.decreases-loop-left

@@ -1,24 +1,35 @@
-use Rattle.std.proofs.Common.{sym, ap, subst, refl, map, length}
+use Rattle.std.proofs.Common.{rules, ◌≡◌, false, sym, ap, subst, refl, map, length}
 use Rattle.tree_core.specs.declared.tree.Block.{out-Block}
 use Rattle.tree_core.specs.Tree as tree
 use Rattle.tree_core.specs.Plain.{plain_stat, plain_block}
 use Rattle.code_of.specs.Levels.{made_in_block}
 use Rattle.code_stat.specs.declared.writer.Writer.{Writer}
+use Rattle.code_stat.specs.Declares.{DeclaresBlock}
 use Rattle.code_stat.specs.Drafts.{Wrote}
+use Rattle.code_stat.proofs.Bodies.{falls_declared}
 use Rattle.code_stat.specs.Whole.{whole_from}
 use Rattle.code_stat.proofs.Plain.{falls_of, returns_of}
 use Rattle.code_stat.proofs.Filling.{whole_falls, whole_returns, ends_by_return}
 use Rattle.code_stat.proofs.writer.Writer.whole.Goals as goal
 
-pub returns-in_ok-put_abc-in-None : goal.returns-in_ok-put_abc-in-None
-returns-in_ok-put_abc-in-None c =
+pub returns-in_ok-end_scopes-in-None-clause-code : goal.returns-in_ok-end_scopes-in-None-clause-code
+returns-in_ok-end_scopes-in-None-clause-code c =
     let b = out-Block c.args.block.now in
-    let after : Writer = record c.statements.new.self { emitter = c.put_abc.new.self } in
+    let after : Writer = record c.statements.new.self { emitter = c.put_abc.new.self; variables = c.end_scopes.new.self } in
     subst (λ p. Wrote c.args.self.now after (made_in_block p) (λ reach. whole_from c.args.self.now.emitter.constants c.args.self.now.back p c.args.params c.args.self.now.emitter.made (length c.args.self.now.emitter.steps) reach))
     (sym (falls_of c.args.block.now c.in-None.is))
     (whole_falls c.args.self.now c.statements.new.self after (tree.stats (map plain_stat b.stats.items)) b.tokens b.line c.args.params c.in_ok-end-in-None.end.level c.statements.new.self.back c.in_ok-end-in-None.ensures.code c.in_ok-end-in-None.ensures.level refl
     c.in_ok-put_abc-in-None.ensures refl refl)
 
-pub returns-in_ok-block-in-Some : goal.returns-in_ok-block-in-Some
-returns-in_ok-block-in-Some c =
-    whole_returns c.args.self.now c.block.new.self (plain_block c.args.block.now) c.args.params c.in_ok-block-in-Some.ensures (ap ends_by_return (returns_of c.args.block.now c.in-Some.field-0 c.in-Some.is))
+pub returns-in_ok-block-in-Some-clause-code : goal.returns-in_ok-block-in-Some-clause-code
+returns-in_ok-block-in-Some-clause-code c =
+    whole_returns c.args.self.now c.block.new.self (plain_block c.args.block.now) c.args.params c.in_ok-block-in-Some.ensures.code (ap ends_by_return (returns_of c.args.block.now c.in-Some.field-0 c.in-Some.is))
+
+pub returns-in_ok-end_scopes-in-None-clause-variables : goal.returns-in_ok-end_scopes-in-None-clause-variables
+returns-in_ok-end_scopes-in-None-clause-variables c =
+    let b = out-Block c.args.block.now in
+    let after : Writer = record c.statements.new.self { emitter = c.put_abc.new.self; variables = c.end_scopes.new.self } in
+    let first : c.count-first.result ≡ length c.args.self.now.variables = search rules in
+    subst (λ p. DeclaresBlock c.args.self.now after p false 0 c.args.params) (sym (falls_of c.args.block.now c.in-None.is))
+    (falls_declared c.args.self.now c.statements.new.self after (tree.stats (map plain_stat b.stats.items)) b.tokens b.line c.args.params c.statements.new.self.back c.in_ok-end-in-None.end.level c.count-first.result c.place-place.result
+    c.in_ok-end-in-None.ensures.code c.in_ok-end-in-None.ensures.variables c.in_ok-put_abc-in-None.ensures first c.place-place.ensures c.in_ok-end_scopes-in-None.ensures)

@@ -1,0 +1,135 @@
+-- Statements without code have no variables, and where no more locals are in scope behind statements than in front of them, they declare none.
+use Rattle.std.proofs.Common.{arith, ℕ, ◌+◌, ◌≡◌, ◌≤◌, Bool, true, false, List, [], ◌∷◌, ◌++◌, refl, sym, ap, ap₂, ◌∙◌, length, cond}
+use Rattle.std.specs.Prelude.{nat_eq}
+use Rattle.std.proofs.lemmas.Bool.Decides.{nat_tests}
+use Rattle.tree_core.specs.Tree.{Block, Falls, Returns, Stats, EndStats, MoreStats, Stat, Empty, Local, LocalFunction, Assign, CallStat, Do, While, Repeat, If, IfElse, NumFor, NumForStep, GenFor, Label, Goto, Break, Arms, EndArms, MoreArms}
+use Rattle.code_core.specs.declared.opcode.Opcode.TheVariants.{Close}
+use Rattle.code_core.specs.declared.proto.Const.{Const}
+use Rattle.code_of.specs.Coded.{with_abc}
+use Rattle.code_of.specs.Levels.{made_by_stat, made_in_arms, made_in_stats, level_after, levels_after, closing_after, closings_after}
+use Rattle.code_of.specs.Parts.{close_code, return_code}
+use Rattle.code_of.specs.Sizes.{stat_size, arms_size, stats_size, block_size}
+use Rattle.code_of.specs.Variables.{declared_by, within_stat, within_arms, within_stats, within_block}
+use Rattle.code_stat.proofs.Returning.{return_some}
+
+-- how many locals are in scope
+
+pub level_grows : (s : Stat) (t : ℕ) → t ≤ level_after s t
+level_grows (Empty line) t = omega arith
+level_grows (Local line names es) t = omega arith
+level_grows (LocalFunction line name body) t = omega arith
+level_grows (Assign line targets es) t = omega arith
+level_grows (CallStat line e) t = omega arith
+level_grows (Do line block) t = omega arith
+level_grows (While line e block) t = omega arith
+level_grows (Repeat line block e) t = omega arith
+level_grows (If line arms) t = omega arith
+level_grows (IfElse line arms block) t = omega arith
+level_grows (NumFor line name from limit block) t = omega arith
+level_grows (NumForStep line name from limit step block) t = omega arith
+level_grows (GenFor line names es block) t = omega arith
+level_grows (Label line name) t = omega arith
+level_grows (Goto line name) t = omega arith
+level_grows (Break line) t = omega arith
+
+pub levels_grow : (ss : Stats) (t : ℕ) → t ≤ levels_after ss t
+levels_grow EndStats t = omega arith
+levels_grow (MoreStats s ss) t = let a = level_grows s t in let b = levels_grow ss (level_after s t) in omega (arith, a, b)
+
+first_same : (s : Stat) (ss : Stats) (t : ℕ) → levels_after (MoreStats s ss) t ≡ t → level_after s t ≡ t
+first_same s ss t h = let a = level_grows s t in let b = levels_grow ss (level_after s t) in omega (arith, a, b, h)
+
+equal : (m n : ℕ) → nat_eq m n ≡ true → m ≡ n
+equal m n h = grind (arith, nat_tests)
+
+pub not_closed : (before after line : ℕ) → length (close_code before after line) ≡ 0 → after ≡ before
+not_closed before after line = by (nat_eq before after) refl
+  where
+    by : (b : Bool) → nat_eq before after ≡ b → length (cond b [] (with_abc Close before 0 0 line ∷ [])) ≡ 0 → after ≡ before
+    by true e h = sym (equal before after e)
+    by false e h = absurd (omega (arith, h))
+
+different : (m n : ℕ) → (n ≡ m → ⊥) → nat_eq m n ≡ false
+different m n h = by (nat_eq m n) refl
+  where
+    by : (b : Bool) → nat_eq m n ≡ b → nat_eq m n ≡ false
+    by true e = absurd (h (sym (equal m n e)))
+    by false e = e
+
+pub is_closed : (before after line : ℕ) → (after ≡ before → ⊥) → length (close_code before after line) ≡ 1
+is_closed before after line h = ap (λ b. length (cond b [] (with_abc Close before 0 0 line ∷ []))) (different before after h)
+
+module _ (k : List Const) (back : ℕ) where
+  declared_none : (s : Stat) (t j pc end : ℕ) → level_after s t ≡ t → declared_by k back s t j pc end ≡ []
+  declared_none (Empty line) t j pc end h = refl
+  declared_none (Local line [] es) t j pc end h = refl
+  declared_none (Local line (d ∷ names) es) t j pc end h = absurd (omega (arith, h))
+  declared_none (LocalFunction line name body) t j pc end h = absurd (omega (arith, h))
+  declared_none (Assign line targets es) t j pc end h = refl
+  declared_none (CallStat line e) t j pc end h = refl
+  declared_none (Do line block) t j pc end h = refl
+  declared_none (While line e block) t j pc end h = refl
+  declared_none (Repeat line block e) t j pc end h = refl
+  declared_none (If line arms) t j pc end h = refl
+  declared_none (IfElse line arms block) t j pc end h = refl
+  declared_none (NumFor line name from limit block) t j pc end h = refl
+  declared_none (NumForStep line name from limit step block) t j pc end h = refl
+  declared_none (GenFor line names es block) t j pc end h = refl
+  declared_none (Label line name) t j pc end h = refl
+  declared_none (Goto line name) t j pc end h = refl
+  declared_none (Break line) t j pc end h = refl
+
+  -- where nothing is declared, it does not matter where the block ends
+  pub ends_anywhere : (ss : Stats) (closing : Bool) (t j pc end other : ℕ) → levels_after ss t ≡ t → within_stats k back ss closing t j pc end ≡ within_stats k back ss closing t j pc other
+  ends_anywhere EndStats closing t j pc end other h = refl
+  ends_anywhere (MoreStats s ss) closing t j pc end other h =
+      let same = first_same s ss t h in
+      ap₂ (λ xs ys. xs ++ (within_stat k back s closing t j pc ++ ys)) (declared_none s t j pc end same ∙ sym (declared_none s t j pc other same))
+      (ends_anywhere ss (closing_after s closing) (level_after s t) (j + made_by_stat s) (pc + stat_size k back s closing t j) end other (h ∙ sym same))
+
+  mutual
+    pub stat_without : (s : Stat) (closing : Bool) (t j pc : ℕ) → stat_size k back s closing t j ≡ 0 → within_stat k back s closing t j pc ≡ []
+    stat_without (Empty line) closing t j pc h = refl
+    stat_without (Local line names es) closing t j pc h = refl
+    stat_without (LocalFunction line name body) closing t j pc h = refl
+    stat_without (Assign line targets es) closing t j pc h = refl
+    stat_without (CallStat line e) closing t j pc h = refl
+    stat_without (Do line block) closing t j pc h = block_without block closing t j pc h
+    stat_without (While line e block) closing t j pc h = absurd (omega (arith, h))
+    stat_without (Repeat line block e) closing t j pc h = absurd (omega (arith, h))
+    stat_without (If line arms) closing t j pc h = arms_without arms 0 closing t j pc h
+    stat_without (IfElse line arms block) closing t j pc h =
+        let m = j + made_in_arms arms in
+        let otherwise = block_size k back block closing t t m in
+        let first : arms_size k back arms otherwise closing t j ≡ 0 = omega (arith, h) in
+        let rest : otherwise ≡ 0 = omega (arith, h) in
+        ap₂ (λ xs ys. xs ++ ys) (arms_without arms otherwise closing t j pc first) (block_without block closing t m (pc + arms_size k back arms otherwise closing t j) rest)
+    stat_without (NumFor line name from limit block) closing t j pc h = absurd (omega (arith, h))
+    stat_without (NumForStep line name from limit step block) closing t j pc h = absurd (omega (arith, h))
+    stat_without (GenFor line names es block) closing t j pc h = absurd (omega (arith, h))
+    stat_without (Label line name) closing t j pc h = refl
+    stat_without (Goto line name) closing t j pc h = refl
+    stat_without (Break line) closing t j pc h = refl
+
+    arms_without : (arms : Arms) (rest : ℕ) (closing : Bool) (t j pc : ℕ) → arms_size k back arms rest closing t j ≡ 0 → within_arms k back arms rest closing t j pc ≡ []
+    arms_without EndArms rest closing t j pc h = refl
+    arms_without (MoreArms e block arms) rest closing t j pc h = absurd (omega (arith, h))
+
+    stats_without : (ss : Stats) (closing : Bool) (t j pc end : ℕ) → stats_size k back ss closing t j ≡ 0 → levels_after ss t ≡ t → within_stats k back ss closing t j pc end ≡ []
+    stats_without EndStats closing t j pc end h same = refl
+    stats_without (MoreStats s ss) closing t j pc end h same =
+        let here : stat_size k back s closing t j ≡ 0 = omega (arith, h) in
+        let rest : stats_size k back ss (closing_after s closing) (level_after s t) (j + made_by_stat s) ≡ 0 = omega (arith, h) in
+        let level : level_after s t ≡ t = first_same s ss t same in
+        ap₂ (λ xs ys. xs ++ ys) (declared_none s t j pc end level)
+        (ap₂ (λ xs ys. xs ++ ys) (stat_without s closing t j pc here)
+        (stats_without ss (closing_after s closing) (level_after s t) (j + made_by_stat s) (pc + stat_size k back s closing t j) end rest (same ∙ sym level)))
+
+    block_without : (block : Block) (closing : Bool) (t j pc : ℕ) → block_size k back block closing t t j ≡ 0 → within_block k back block closing t t j pc ≡ []
+    block_without (Falls ss tokens line) closing t j pc h =
+        let here : stats_size k back ss closing t j ≡ 0 = omega (arith, h) in
+        let none : length (close_code t (levels_after ss t) line) ≡ 0 = omega (arith, h) in
+        stats_without ss closing t j pc (pc + block_size k back (Falls ss tokens line) closing t t j) here (not_closed t (levels_after ss t) line none)
+    block_without (Returns ss es tokens line) closing t j pc h =
+        let none : length (return_code k (closings_after ss closing) es (levels_after ss t) (j + made_in_stats ss) line back) ≡ 0 = omega (arith, h) in
+        absurd (return_some k (closings_after ss closing) es (levels_after ss t) (j + made_in_stats ss) line back none)
