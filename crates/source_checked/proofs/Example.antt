@@ -1,5 +1,5 @@
 -- A source that the law is about, so that its premises are no empty ones: its tokens, its tree, and that the tree keeps the rules.
-use Rattle.std.proofs.Common.{◌≡◌, ℕ, List, [], ◌∷◌, lit<, lit≤, None, Some, refl}
+use Rattle.std.proofs.Common.{◌≡◌, ℕ, List, [], ◌∷◌, lit≤, None, Some, refl}
 use Rattle.std.specs.Prelude.{codes}
 use Rattle.tree_core.specs.Tree.{Block, Falls, Do, EndStats, MoreStats}
 use Rattle.lua_lex.specs.declared.token.Token.TheVariants.{Keyword, End}
@@ -59,4 +59,4 @@ keeps_rules : violations tree ≡ []
 keeps_rules = refl
 
 its_code_is_checked : IsChecked (code_of (Some source) (placed tree))
-its_code_is_checked = source_checked source tokens tree (lit≤ tt) has_tokens has_tree keeps_rules (tt, ((refl, (lit< tt, tt)), (tt, tt))) (Some source) refl (lit< tt)
+its_code_is_checked = source_checked source tokens tree (lit≤ tt) has_tokens has_tree keeps_rules (Some source) refl

@@ -4,7 +4,7 @@ use Rattle.tree_core.specs.declared.name.Declared.{Declared}
 use Rattle.tree_core.specs.Tree.{Block, Falls, Returns, Body, BodyOf, Stats, EndStats, MoreStats, Stat, Empty, Local, LocalFunction, Assign, CallStat, Do, While, Repeat, If, IfElse, NumFor, NumForStep, GenFor, Label, Goto, Break, Arms, EndArms, MoreArms, Exp, Nil, True, False, Int, Str, Vararg, Function, Var, Index, Call, Method, Unary, Binary, And, Or, Paren, Table, Exps, EndExps, MoreExps, Fields, EndFields, MoreFields, Item, Keyed}
 use Rattle.source_sizes.specs.Lines.{DeclaredAreWithin, ExpIsWithin, ExpsAreWithin, FieldsAreWithin, StatIsWithin, ArmsAreWithin, StatsAreWithin, BlockIsWithin, BodyIsWithin}
 use Rattle.code_checked.specs.Written.{LineFits, DeclaredFit, ExpIsWritten, ExpsAreWritten, FieldsAreWritten, StatIsWritten, ArmsAreWritten, StatsAreWritten, BlockIsWritten, BodyIsWritten}
-use Rattle.source_checked.specs.Texts.{DeclaredTextsFit, ExpTextsFit, ExpsTextsFit, FieldsTextsFit, StatTextsFit, ArmsTextsFit, StatsTextsFit, BlockTextsFit, BodyTextsFit}
+use Rattle.source_checked.proofs.Texts.{DeclaredTextsFit, ExpTextsFit, ExpsTextsFit, FieldsTextsFit, StatTextsFit, ArmsTextsFit, StatsTextsFit, BlockTextsFit, BodyTextsFit}
 
 module _ (most : ℕ) (small : most < 2 ^ 31) where
   line_fits : (line : ℕ) → line ≤ most → LineFits line
@@ -41,7 +41,7 @@ module _ (most : ℕ) (small : most < 2 ^ 31) where
     fields_written : (x : Fields) → FieldsAreWithin most x → FieldsTextsFit x → FieldsAreWritten x
     fields_written EndFields h w = tt
     fields_written (MoreFields (Item e) fs) h w = (exp_written e h.0 w.0, fields_written fs h.1 w.1)
-    fields_written (MoreFields (Keyed line e d) fs) h w = (line_fits line h.0.0, (exp_written e h.0.1 w.0, (exp_written d h.0.2 w.1.0, fields_written fs h.1 w.1.1)))
+    fields_written (MoreFields (Keyed line e d) fs) h w = (line_fits line h.0.0, (exp_written e h.0.1 w.0.0, (exp_written d h.0.2 w.0.1, fields_written fs h.1 w.1)))
 
     stat_written : (x : Stat) → StatIsWithin most x → StatTextsFit x → StatIsWritten x
     stat_written (Empty line) h w = line_fits line h

@@ -1,5 +1,5 @@
 -- The tree of each source is near, and so its code is checked.
-use Rattle.std.proofs.Common.{◌≡◌, ℕ, ◌+◌, ◌<◌, ◌≤◌, ◌^◌, List, [], length, Option, IsTrue, arith}
+use Rattle.std.proofs.Common.{◌≡◌, ℕ, ◌+◌, ◌≤◌, ◌^◌, List, [], length, Option, IsTrue, arith}
 use Rattle.tree_core.specs.Tree.{Block}
 use Rattle.token_cursor.specs.Words.{Lexeme}
 use Rattle.lua_lex.specs.Lexical.{TokensOf}
@@ -7,8 +7,8 @@ use Rattle.lua_parse.specs.Reading.{Derives}
 use Rattle.scope_core.specs.Places.{placed}
 use Rattle.scope_core.specs.Rules.{violations}
 use Rattle.code_core.specs.Check.{IsChecked}
-use Rattle.code_core.specs.Writable.{name_fits, depth, greatest_depth}
-use Rattle.code_of.specs.CodeOf.{from_body, code_of}
+use Rattle.code_core.specs.Writable.{name_fits}
+use Rattle.code_of.specs.CodeOf.{code_of}
 use Rattle.code_sizes.specs.Functions.{functions_in_body}
 use Rattle.code_sizes.specs.Weight.{weight_of_body}
 use Rattle.scope_laws.proofs.Main.{names_fit}
@@ -18,13 +18,13 @@ use Rattle.source_sizes.proofs.Whole.{weighs, takes, weighs_alike, fits, lines}
 use Rattle.body_fits.proofs.Whole.{body_fits}
 use Rattle.body_near.proofs.Nearing.{near_body}
 use Rattle.code_checked.proofs.Keeping.{code_is_checked}
-use Rattle.source_checked.specs.Texts.{BodyTextsFit}
 use Rattle.source_checked.proofs.Joining.{body_written}
 use Rattle.source_checked.proofs.Many.{many_body}
+use Rattle.source_checked.proofs.Limits.{texts_fit, shallow}
 
 pub source_checked : (source : List ℕ) (tokens : List Lexeme) (tree : Block) → length source ≤ 1048576 → TokensOf source tokens → Derives tokens tree → violations tree ≡ []
-    → BodyTextsFit (placed tree) → (name : Option (List ℕ)) → IsTrue (name_fits name) → depth (from_body name (placed tree)) < greatest_depth → IsChecked (code_of name (placed tree))
-source_checked source tokens tree small t d keeps texts name named shallow =
+    → (name : Option (List ℕ)) → IsTrue (name_fits name) → IsChecked (code_of name (placed tree))
+source_checked source tokens tree small t d keeps name named =
     let names = names_fit tree keeps in
     let weight = weighs tokens tree d in
     let bytes = takes source tokens tree t d in
@@ -42,7 +42,7 @@ source_checked source tokens tree small t d keeps texts name named shallow =
     code_is_checked name (placed tree) (record {
       name = named;
       near = near_body name (placed tree) names.0 names.1 formed fitting (fits source tokens tree small t d keeps) light;
-      written = body_written (length source + 1) (omega (arith, small)) (placed tree) (lines source tokens tree t d).as_placed texts;
-      depth = shallow;
+      written = body_written (length source + 1) (omega (arith, small)) (placed tree) (lines source tokens tree t d).as_placed (texts_fit source tokens tree small t d);
+      depth = shallow tokens tree d name;
       functions = omega (arith, few, many);
     })

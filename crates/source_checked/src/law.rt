@@ -2,8 +2,7 @@
 ghost use Rattle.source_checked.specs.Law.{CodeOfSourcesIsChecked};
 
 /// The code of each source that keeps the grammar, the static rules and the limit on its bytes is
-/// checked code, and so is that of the functions in it, where the source's strings, names and
-/// integers fit and its functions are not nested too deep.
+/// checked code, and so is that of the functions in it.
 pub fn code_of_sources_is_checked()
     ensures { CodeOfSourcesIsChecked }
 {}

@@ -1,7 +1,7 @@
 -- What a tree writes fits, besides its lines: its integers have 64 bits, and its strings and names have at most 16,777,216 bytes.
 use Rattle.std.specs.Prelude.{List, [], ◌∷◌, IsTrue}
 use Rattle.tree_core.specs.declared.name.Declared.{Declared}
-use Rattle.tree_core.specs.Tree.{Block, Falls, Returns, Body, BodyOf, Stats, EndStats, MoreStats, Stat, Local, LocalFunction, Assign, CallStat, Do, While, Repeat, If, IfElse, NumFor, NumForStep, GenFor, Arms, EndArms, MoreArms, Exp, Int, Str, Function, Var, Index, Call, Method, Unary, Binary, And, Or, Paren, Table, Exps, EndExps, MoreExps, Fields, EndFields, MoreFields, Item, Keyed}
+use Rattle.tree_core.specs.Tree.{Block, Falls, Returns, Body, BodyOf, Stats, EndStats, MoreStats, Stat, Local, LocalFunction, Assign, CallStat, Do, While, Repeat, If, IfElse, NumFor, NumForStep, GenFor, Arms, EndArms, MoreArms, Exp, Int, Str, Function, Var, Index, Call, Method, Unary, Binary, And, Or, Paren, Table, Exps, EndExps, MoreExps, Fields, EndFields, MoreFields, Field, Item, Keyed}
 use Rattle.code_core.specs.Writable.{signed_fits}
 use Rattle.code_checked.specs.Written.{TextFits, NamesFit, UpvaluesFit}
 
@@ -32,8 +32,11 @@ abbrev mutual
 
   pub FieldsTextsFit : Fields → Type 0
   FieldsTextsFit EndFields = Unit {0}
-  FieldsTextsFit (MoreFields (Item e) fs) = ExpTextsFit e × FieldsTextsFit fs
-  FieldsTextsFit (MoreFields (Keyed line e d) fs) = ExpTextsFit e × (ExpTextsFit d × FieldsTextsFit fs)
+  FieldsTextsFit (MoreFields f fs) = FieldTextsFit f × FieldsTextsFit fs
+
+  pub FieldTextsFit : Field → Type 0
+  FieldTextsFit (Item e) = ExpTextsFit e
+  FieldTextsFit (Keyed line e d) = ExpTextsFit e × ExpTextsFit d
 
   pub StatTextsFit : Stat → Type 0
   StatTextsFit (Local line names es) = DeclaredTextsFit names × ExpsTextsFit es
