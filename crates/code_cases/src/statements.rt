@@ -112,15 +112,11 @@ static VARIABLES: [(&[u8], &[u32]); 6] = [
     // from FORPREP to the end of the loop, and in the block
     (
         b"for i = 1, 2 do local x end",
-        &[
-            0x20, 4, 8, 0x20, 4, 8, 0x20, 4, 8, 0x69, 5, 7, 0x78, 6, 7,
-        ],
+        &[0x20, 4, 8, 0x20, 4, 8, 0x20, 4, 8, 0x69, 5, 7, 0x78, 6, 7],
     ),
     (
         b"for k in nil do end",
-        &[
-            0x20, 3, 8, 0x20, 3, 8, 0x20, 3, 8, 0x20, 3, 8, 0x6b, 4, 5,
-        ],
+        &[0x20, 3, 8, 0x20, 3, 8, 0x20, 3, 8, 0x20, 3, 8, 0x6b, 4, 5],
     ),
     // the test and both CLOSEs are in the scope
     (b"repeat local a until a", &[0x61, 2, 8]),
