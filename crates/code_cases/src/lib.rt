@@ -8,3 +8,5 @@ mod expressions;
 mod parts;
 #[cfg(test)]
 mod statements;
+#[cfg(test)]
+mod whole;
