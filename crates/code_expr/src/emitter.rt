@@ -38,6 +38,15 @@ impl Model for Emitter {
     ghost view = { λ emitter. record { constants = emitter.constants; steps = emitter.steps.items; made = emitter.made } };
 }
 
+/// What is written of a function when its code is whole.
+#[derive(Drop)]
+pub struct Emitted {
+    /// The code.
+    pub steps: Vec<Step>,
+    /// The constants.
+    pub constants: Constants,
+}
+
 /// The number behind another. For as many things as `usize` counts there is no memory.
 pub fn next(number: usize) -> Result<usize, AllocError>
     ensures { IfOk result (λ n. n ≡ number + 1) }
@@ -69,6 +78,19 @@ impl Emitter {
         ensures { result.now.items ≡ self.now.steps }
     {
         &self.steps
+    }
+
+    /// The code with the constants that it names.
+    pub fn finish(self) -> Emitted
+        ensures steps { result.steps.items ≡ self.steps }
+        ensures constants { result.constants ≡ self.constants }
+    {
+        let Emitter {
+            constants,
+            steps,
+            ..
+        } = self;
+        Emitted { steps, constants }
     }
 
     /// Puts an instruction last.

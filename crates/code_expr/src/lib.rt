@@ -11,5 +11,5 @@ mod operators;
 mod word;
 
 pub use constants::Constants;
-pub use emitter::{Emitter, Step, next};
+pub use emitter::{Emitted, Emitter, Step, next};
 pub use lists::{is_open, list_field};

@@ -7,6 +7,7 @@ ghost use Rattle.code_parts.specs.Assembled.{low_prototype, low_prototypes};
 ghost use Rattle.code_parts.specs.Scopes.{finished};
 
 use code_core::{LocVar, Proto};
+use code_expr::Emitted;
 use code_parts::{Variables, block_constants, inner_bodies, prototype};
 use code_stat::{Written, write_body};
 use int_core::Bytes;
@@ -36,23 +37,13 @@ pub(crate) fn function(
 ) -> Result<Proto, AllocError>
     ensures { IfOk result (λ p. p ≡ low_prototype (code_of source.now (plain_body body.now))) }
 {
-    let Written { emitter, variables } = write_body(
-        alloc,
-        block_constants(alloc, &body.block)?,
-        body,
-    )?;
-    let constants = block_constants(alloc, &body.block)?.into_vec();
+    let constants = block_constants(alloc, &body.block)?;
+    let Written { emitter, variables } = write_body(alloc, constants, body)?;
     let inner = inner_functions(alloc, source, &body.block)?;
     let locals = known_locals(alloc, source, variables)?;
-    prototype(
-        alloc,
-        source,
-        body,
-        emitter.steps(),
-        constants,
-        locals,
-        inner,
-    )
+    let Emitted { steps, constants } = emitter.finish();
+    let constants = constants.into_vec();
+    prototype(alloc, source, body, &steps, constants, locals, inner)
 }
 
 /// The prototypes of the functions that a block makes, in the order of the text.

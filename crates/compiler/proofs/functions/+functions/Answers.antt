@@ -28,13 +28,9 @@ inner_functions-returns t c =
 pub function-returns : goal.function-returns
 function-returns t c =
     let body = plain_body c.args.body.now in
-    let found : c.in_ok-block_constants.field-0 ≡ of_block (block_of body) [] =
-    c.in_ok-block_constants.ensures ∙ ap (λ b. of_block b []) (block_is c.args.body.now) in
-    let code : c.deref.result.now ≡ steps (body_code body) =
-    c.deref.ensures.value ∙ c.steps.ensures ∙ ap (λ l. l.steps) c.in_ok-emitter.ensures.code
-    ∙ ap (λ cs. steps (function_of cs body)) found ∙ ap steps (written_code body) in
-    let constants : c.into_vec-constants.result.items ≡ of_block (block_of body) [] =
-    c.into_vec-constants.ensures ∙ c.in_ok-block_constants-2.ensures ∙ ap (λ b. of_block b []) (block_is c.args.body.now) in
+    let found : c.in_ok-constants.constants ≡ of_block (block_of body) [] = c.in_ok-constants.ensures ∙ ap (λ b. of_block b []) (block_is c.args.body.now) in
+    let code = c.deref.ensures.value ∙ c.finish-steps.ensures.steps ∙ ap (λ l. l.steps) c.in_ok-emitter.ensures.code ∙ ap (λ cs. steps (function_of cs body)) found ∙ ap steps (written_code body) in
+    let constants = c.into_vec-constants.ensures ∙ c.finish-steps.ensures.constants ∙ ap (λ l. l.constants) c.in_ok-emitter.ensures.code ∙ found in
     let within = c.in_ok-inner.ensures ∙ ap low_prototypes (ap (λ b. from_block c.args.source.now b none) (block_is c.args.body.now) ∙ within_body c.args.source.now body) in
     let variables = finished_are body _ (c.in_ok-emitter.ensures.variables ∙ ap (λ cs. map over (variables_in cs body)) (found ∙ block_constants_are body)) in
     let locals = c.in_ok-locals.ensures ∙ ap (where_known c.args.source.now) variables in
