@@ -11,8 +11,8 @@ use Rattle.tree_activation.specs.Activation.{start}
 use Rattle.lua_meaning.specs.World.{System, Now, gives_back, unwinds, spent, broken, ends, calls_primitive, World, now_in, on_frames, has_room, runs_main, stack_overflow, raises_text, shared_out, given_to, answered}
 use Rattle.lua_meaning.specs.Calls.{text, truth, error_in_handler, error_or_nil, put_coroutine, all_pending, all_closed, enters, enters_function, pays_with, pays_for, calls_value, calls_over, closes_on, handed, raised_to, unwound, goes_along, goes_into, greatest_resumes, resumes, closes_in, closes_coroutine}
 use Rattle.lua_meaning.specs.TreeMeaning.{trees}
-use Rattle.cell_laws.specs.Alike.{Answered, as_stored}
-use Rattle.cell_laws.proofs.Steps.{starts_alike}
+use Rattle.meaning_cells.specs.Alike.{Answered, as_stored}
+use Rattle.meaning_cells.proofs.Steps.{starts_alike}
 use Rattle.cells_alike.proofs.Joint.{Made, Waiting, Layer, is_talking, is_waiting, is_raising, is_protected, is_handled, is_handling, is_closing, Thread, is_fresh, is_suspended, is_running, is_normal, is_dead, has_failed, Store, Joint, function_one, function_two, asker_one, asker_two, frame_one, frame_two, coroutine_one, coroutine_two, one, two, cells_for, WaitsAt, LayerAt, LayersAt, layers_in, head, Base, Quiet, talking_in, busy, Both}
 use Rattle.cells_alike.proofs.Moving.{set_map, get_set, room_same, pending_same, either_by, now_both, breaks_both, framed, raises_both, base_switched, returns_both, fails_both}
 

@@ -6,9 +6,9 @@ use Rattle.std.specs.Prelude.{slice_get, slice_set, unwrap_or}
 use Rattle.int_core.specs.Value.{Value, nth}
 use Rattle.tree_activation.specs.Work.{State}
 use Rattle.lua_meaning.specs.World.{shared_in}
-use Rattle.cell_laws.specs.Alike.{Has, Member, Pairs, IsUnpaired, Cells, AreCells, AreEven, CarriesOwn, opened}
-use Rattle.cell_laws.proofs.Relation.{Rel, same, early}
-use Rattle.cell_laws.proofs.Lists.{nth_set_same, nth_set_other, set_size, nth_more, in_size, in_other}
+use Rattle.meaning_cells.specs.Alike.{Has, Member, Pairs, IsUnpaired, Cells, AreCells, AreEven, CarriesOwn, opened}
+use Rattle.meaning_cells.proofs.Relation.{Rel, same, early}
+use Rattle.meaning_cells.proofs.Lists.{nth_set_same, nth_set_other, set_size, nth_more, in_size, in_other}
 use Rattle.cells_alike.proofs.Joint.{Made, Waiting, Layer, is_talking, is_waiting, is_raising, is_protected, is_handled, is_handling, is_closing, Thread, Place, Store, cells_for, OwnedAt, IsStore, WaitsAt, LayerAt, LayersAt, layers_in, ArePaired, head, Base}
 
 some_same : {A : Type 0} → (x y : A) → Some x ≡ Some y → x ≡ y

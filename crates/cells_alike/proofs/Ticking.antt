@@ -16,10 +16,10 @@ use Rattle.lua_meaning.specs.Primitives.{Primitive, lua_error, lua_pcall, lua_xp
 use Rattle.lua_meaning.specs.Primitives.{refused as no_result}
 use Rattle.lua_meaning.specs.Step.{placed, error_by, level_in, creates, with_coroutine, status_of, running_one as running_value, after_row, does_primitive, has_ended, tick_by, tick}
 use Rattle.lua_meaning.specs.Opening.{primitives}
-use Rattle.cell_laws.specs.Alike.{Member, Pairs, Cells, AreEven, Onward, Answered, after_asks, CarriesOwn, SameAsk, new_cell, Moves, FirstAlone, SecondOpens, BothOpen, Together}
-use Rattle.cell_laws.proofs.Relation.{Rel, same, early, steps_behind}
-use Rattle.cell_laws.proofs.Lists.{in_size}
-use Rattle.cell_laws.proofs.Steps.{Behind, early_like, same_like}
+use Rattle.meaning_cells.specs.Alike.{Member, Pairs, Cells, AreEven, Onward, Answered, after_asks, CarriesOwn, SameAsk, new_cell, Moves, FirstAlone, SecondOpens, BothOpen, Together}
+use Rattle.meaning_cells.proofs.Relation.{Rel, same, early, steps_behind}
+use Rattle.meaning_cells.proofs.Lists.{in_size}
+use Rattle.meaning_cells.proofs.Steps.{Behind, early_like, same_like}
 use Rattle.cells_alike.proofs.Joint.{Made, Waiting, Layer, is_talking, is_waiting, is_raising, is_protected, is_handled, is_handling, is_closing, Thread, is_fresh, is_suspended, is_running, is_normal, is_dead, has_failed, Joint, function_one, function_two, frame_one, frame_two, coroutine_one, coroutine_two, one, two, cells_for, OwnedAt, LayersAt, layers_in, head, Quiet, TalksIn, talking_in, Stands, quiet, stopped, busy, Both}
 use Rattle.cells_alike.proofs.Moving.{more_map, get_more, where_same, either_by, stay_both, now_both, breaks_both, raises_both, yields_both}
 use Rattle.cells_alike.proofs.Answering.{first_form, second_form, calls_over_both, handed_both, raised_both, unwound_both, resumes_both, closes_both}

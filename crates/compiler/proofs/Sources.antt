@@ -12,8 +12,8 @@ use Rattle.code_means.specs.Means.{Means}
 use Rattle.code_of.specs.CodeOf.{code_of}
 use Rattle.code_parts.specs.Assembled.{low_prototype}
 use Rattle.stat_laws.specs.Fits.{is_known}
-use Rattle.source_checked.proofs.Sources.{source_checked}
-use Rattle.source_means.proofs.Sources.{source_means}
+use Rattle.source_laws.proofs.Checked.{source_checked}
+use Rattle.source_laws.proofs.Meaning.{source_means}
 use Rattle.compiler.specs.Source.{IsOfSource, name_where}
 use Rattle.compiler.proofs.Fitting.{low_checked}
 

@@ -17,7 +17,7 @@ use Rattle.machine_core.specs.Text.{read, blanked}
 use Rattle.machine_core.specs.InstructionRows.{write_values, told_values}
 use Rattle.machine_core.specs.Talk as code
 use Rattle.machine_core.specs.Talk.{before, amid, talk, talk_step, says_so, heard}
-use Rattle.machine_join.proofs.Lists.{nth_write_same, nth_write_other, lt_true}
+use Rattle.machine_readings.proofs.Lists.{nth_write_same, nth_write_other, lt_true}
 use Rattle.code_of.specs.Coded.{with_abc}
 use Rattle.exp_laws.proofs.Registers.{Rel, After, after_none, after_then, lower, after_above, after_put}
 use Rattle.exp_laws.specs.Setting.{Setting}

@@ -20,7 +20,7 @@ use Rattle.code_of.specs.Constants.{is_small, small_field, number_in}
 use Rattle.exp_laws.proofs.Steps.{found_below, row_step, own_step, go_step, put_on, put_step, to_register_step}
 use Rattle.exp_laws.specs.Placed.{Found}
 use Rattle.code_core.specs.Opcode.{number_of}
-use Rattle.machine_join.proofs.Lists.{eq_refl}
+use Rattle.machine_readings.proofs.Lists.{eq_refl}
 
 -- a small integer is the field of its LOADI
 

@@ -25,7 +25,7 @@ use Rattle.code_of.specs.Coded.{Coded, with_abc, with_abx}
 use Rattle.code_of.specs.Operators.{name_code}
 use Rattle.code_of.specs.Constants.{is_small, small_field, number_in, loads}
 use Rattle.exp_laws.proofs.Registers.{Rel, after_then, after_put}
-use Rattle.machine_join.proofs.Lists.{nth_write_same, nth_write_other}
+use Rattle.machine_readings.proofs.Lists.{nth_write_same, nth_write_other}
 use Rattle.exp_laws.specs.Setting.{Setting}
 use Rattle.exp_laws.proofs.Talking.{Agree, go_left, go_right, of_tree, of_code}
 use Rattle.exp_laws.proofs.Placing.{HasAt, has_front, has_back, here_abc}

@@ -24,7 +24,7 @@ use Rattle.code_of.specs.Levels.{made_in_arms, made_in_block, levels_after}
 use Rattle.code_of.specs.Parts.{close_code, past_size, past}
 use Rattle.code_of.specs.Sizes.{arms_size, stats_size, block_size}
 use Rattle.code_of.specs.Statements.{in_loop, arms_code, stats_code, block_code}
-use Rattle.machine_join.proofs.Lists.{append_nil}
+use Rattle.machine_readings.proofs.Lists.{append_nil}
 use Rattle.exp_laws.proofs.Registers.{AllUnder, Rel, Ascends}
 use Rattle.exp_laws.specs.Setting.{Setting}
 use Rattle.exp_laws.proofs.Talking.{Agree, go_left, go_right, of_tree, of_code}

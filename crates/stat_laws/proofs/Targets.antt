@@ -17,7 +17,7 @@ use Rattle.code_core.specs.declared.proto.Const.TheVariants.{Str as StrConst}
 use Rattle.machine_core.specs.Text.{read}
 use Rattle.machine_core.specs.InstructionRows.{to_register}
 use Rattle.machine_core.specs.Talk.{before}
-use Rattle.machine_join.proofs.Lists.{append_nil, nth_write_same, nth_write_other}
+use Rattle.machine_readings.proofs.Lists.{append_nil, nth_write_same, nth_write_other}
 use Rattle.code_of.specs.Coded.{Coded, with_abc}
 use Rattle.code_of.specs.Constants.{loads}
 use Rattle.code_of.specs.Expressions.{made_by, count, exp_code}

@@ -6,7 +6,7 @@ use Rattle.runs_alike.specs.Alike.{IsMeantBy}
 use Rattle.runs_alike.proofs.Openings.{openings_alike}
 use Rattle.cells_alike.proofs.Begun.{opening_ready}
 use Rattle.cells_alike.proofs.Letter.{code_after, letter_after}
-use Rattle.source_means.proofs.Sources.{source_means}
+use Rattle.source_laws.proofs.Meaning.{source_means}
 use Rattle.source_runs.proofs.law.compiled_sources_run_alike.Goals as goal
 
 pub returns : goal.returns

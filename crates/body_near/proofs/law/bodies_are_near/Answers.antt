@@ -1,5 +1,0 @@
-use Rattle.body_near.proofs.Nearing.{near_body}
-use Rattle.body_near.proofs.law.bodies_are_near.Goals as goal
-
-pub returns : goal.returns
-returns c = λ source body k n f i s w. near_body source body k n f i s w

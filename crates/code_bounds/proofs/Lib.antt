@@ -1,0 +1,19 @@
+pub mod Counts
+mod ShortExpressions
+pub mod ShortStatements
+pub mod ShortBodies
+pub mod Constants
+pub mod Functions
+mod Tops
+mod Pieces
+mod Expressions
+mod Holding
+mod Room
+mod Simple
+mod Assigning
+mod Jumping
+mod Statements
+pub mod Body
+mod Counted
+pub mod Widths
+mod Example

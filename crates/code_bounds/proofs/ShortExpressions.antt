@@ -1,0 +1,194 @@
+-- The code of an expression is short.
+use Rattle.std.proofs.Common.{◌≡◌, ℕ, zero, suc, ◌+◌, ◌*◌, ◌≤◌, ◌/◌, ◌%◌, ℤ, Bool, true, false, cond, List, [], ◌∷◌, ◌++◌, length, Some, None, arith, length-append}
+use Rattle.std.specs.Prelude.{nat_lt}
+use Rattle.tree_core.specs.declared.name.Place.{Place}
+use Rattle.tree_core.specs.declared.name.Place.TheVariants.{Unset, Upvalue, GlobalIn, GlobalOf}
+use Rattle.tree_core.specs.declared.name.Place.TheVariants.{Local as LocalPlace}
+use Rattle.tree_core.specs.declared.operator.BinOp.{BinOp}
+use Rattle.tree_core.specs.declared.operator.BinOp.TheVariants.{Add as Plus, Sub as Minus, Mul as Times, Mod as Modulo, Idiv, Band, Bor, Bxor, Shl as ShiftLeft, Shr as ShiftRight, Concat as Join, Eq as Equal, Ne, Lt as Less, Le as AtMost, Gt, Ge}
+use Rattle.tree_core.specs.Tree.{Exp, Nil, True, False, Int, Str, Vararg, Var, Function, Index, Call, Method, Unary, Binary, And, Or, Paren, Table, BodyOf, Exps, EndExps, MoreExps, Fields, EndFields, MoreFields, Item, Keyed}
+use Rattle.code_core.specs.declared.opcode.Opcode.TheVariants.{GetTabUp, GetUpval, GetTable, SetTable, OpSelf, Test, LoadI, LoadK, LoadKx, ExtraArg, SetList}
+use Rattle.code_core.specs.declared.opcode.Opcode.TheVariants.{Call as CallCode}
+use Rattle.code_core.specs.declared.proto.Const.{Const}
+use Rattle.code_core.specs.declared.proto.Const.TheVariants.{Int as IntConst, Str as StrConst}
+use Rattle.code_core.specs.Instruction.{abc, op_ax}
+use Rattle.code_of.specs.Coded.{Coded, with_abc, with_abx, jump_over}
+use Rattle.code_of.specs.Constants.{is_small, small_field, number_in, loads, loads_numbered, loads_integer}
+use Rattle.code_of.specs.Operators.{name_code, global_code, prefix_code, operator_code}
+use Rattle.code_of.specs.Expressions.{made_by, list_field, is_last_open, is_last_item, Wanted, one_less, field_of, wanted_after, nils_code, either_code, set_list, exp_code, exps_code, fields_code}
+use Rattle.code_bounds.specs.Weight.{weight, weight_of_arguments, weight_of_exps, weight_of_fields}
+
+-- pieces of code that have a few instructions at most
+
+numbered_short : (number t line : ℕ) → length (loads_numbered number t line) ≤ 2
+numbered_short number t line = by (nat_lt number 131072)
+  where
+    by : (b : Bool) → length (cond b (with_abx LoadK t number line ∷ []) (with_abx LoadKx t 0 line ∷ (op_ax ExtraArg number, line) ∷ [])) ≤ 2
+    by true = omega arith
+    by false = omega arith
+
+pub loads_short : (cs : List Const) (x : Const) (t line : ℕ) → length (loads cs x t line) ≤ 2
+loads_short cs x t line = numbered_short (number_in cs x) t line
+
+integer_short : (cs : List Const) (n : ℤ) (t line : ℕ) → length (loads_integer cs n t line) ≤ 2
+integer_short cs n t line = by (is_small n)
+  where
+    by : (b : Bool) → length (cond b (with_abx LoadI t (small_field n) line ∷ []) (loads cs (IntConst n) t line)) ≤ 2
+    by true = omega arith
+    by false = loads_short cs (IntConst n) t line
+
+global_short : (number u : ℕ) (key : List Coded) (t line : ℕ) → length key ≤ 2 → length (global_code number u key t line) ≤ 4
+global_short number u key t line few = by (nat_lt number 256)
+  where
+    by : (b : Bool) → length (cond b (with_abc GetTabUp t u number line ∷ []) (with_abc GetUpval t u 0 line ∷ (key ++ with_abc GetTable t t (t + 1) line ∷ []))) ≤ 4
+    by true = omega arith
+    by false = omega (arith, few, length-append key (with_abc GetTable t t (t + 1) line ∷ []))
+
+name_short : (cs : List Const) (place : Place) (text : List ℕ) (t line : ℕ) → length (name_code cs place text t line) ≤ 4
+name_short cs Unset text t line = omega arith
+name_short cs (LocalPlace n) text t line = omega arith
+name_short cs (Upvalue u) text t line = omega arith
+name_short cs (GlobalIn n) text t line =
+    omega (arith, loads_short cs (StrConst text) t line, length-append (loads cs (StrConst text) t line) (with_abc GetTable t n t line ∷ []))
+name_short cs (GlobalOf u) text t line = global_short (number_in cs (StrConst text)) u (loads cs (StrConst text) (t + 1) line) t line (loads_short cs (StrConst text) (t + 1) line)
+
+operator_short : (op : BinOp) (t line : ℕ) → length (operator_code op t line) ≤ 4
+operator_short Plus t line = omega arith
+operator_short Minus t line = omega arith
+operator_short Times t line = omega arith
+operator_short Modulo t line = omega arith
+operator_short Idiv t line = omega arith
+operator_short Band t line = omega arith
+operator_short Bor t line = omega arith
+operator_short Bxor t line = omega arith
+operator_short ShiftLeft t line = omega arith
+operator_short ShiftRight t line = omega arith
+operator_short Join t line = omega arith
+operator_short Equal t line = omega arith
+operator_short Ne t line = omega arith
+operator_short Less t line = omega arith
+operator_short AtMost t line = omega arith
+operator_short Gt t line = omega arith
+operator_short Ge t line = omega arith
+
+set_list_short : (t b items line : ℕ) → length (set_list t b items line) ≤ 2
+set_list_short t b items line = by (nat_lt items 256)
+  where
+    by : (few : Bool) → length (cond few (with_abc SetList t b items line ∷ []) ((abc SetList t b (items % 256) true, line) ∷ (op_ax ExtraArg (items / 256), line) ∷ [])) ≤ 2
+    by true = omega arith
+    by false = omega arith
+
+-- nil is loaded at most once, and never where all values are wanted
+
+abbrev pub nils : Wanted → ℕ
+nils None = 0
+nils (Some n) = 1
+
+nils_short : (wanted : Wanted) (t line : ℕ) → length (nils_code wanted t line) ≤ nils wanted
+nils_short None t line = omega arith
+nils_short (Some zero) t line = omega arith
+nils_short (Some (suc n)) t line = omega arith
+
+less_wanted : (wanted : Wanted) → nils (one_less wanted) ≤ nils wanted
+less_wanted None = omega arith
+less_wanted (Some n) = omega arith
+
+nils_after : (e : Exp) (es : Exps) (wanted : Wanted) → nils (wanted_after e es wanted) ≤ nils wanted
+nils_after e es wanted = by (is_last_open e es)
+  where
+    by : (b : Bool) → nils (cond b None (one_less wanted)) ≤ nils wanted
+    by true = omega arith
+    by false = less_wanted wanted
+
+either_short : (decides : Bool) (first second : List Coded) (t line : ℕ) → length (either_code decides first second t line) ≡ length first + length second + 2
+either_short decides first second t line =
+    omega (arith, length-append first ((abc Test t 0 0 decides, line) ∷ jump_over (length second) line ∷ second))
+
+-- Two instructions are left over by each expression, which pay for SETLIST where it is an item, and for CALL where it is an argument.
+module _ (cs : List Const) where
+  mutual
+    pub exp_short : (e : Exp) (t j c : ℕ) → length (exp_code cs e t j c) + 2 ≤ 6 * weight e
+    exp_short (Nil line) t j c = omega arith
+    exp_short (True line) t j c = omega arith
+    exp_short (False line) t j c = omega arith
+    exp_short (Int line n) t j c = omega (arith, integer_short cs n t line)
+    exp_short (Str line bytes) t j c = omega (arith, loads_short cs (StrConst bytes) t line)
+    exp_short (Vararg line) t j c = omega arith
+    exp_short (Function line (BodyOf params vararg inner ups own)) t j c = omega arith
+    exp_short (Var line name) t j c = omega (arith, name_short cs name.place name.text t line)
+    exp_short (Index line object key) t j c =
+        let second = exp_code cs key (t + 1) (j + made_by object) 2 in
+        let get = with_abc GetTable t t (t + 1) line ∷ [] in
+        omega (arith, exp_short object t j 2, exp_short key (t + 1) (j + made_by object) 2, length-append (exp_code cs object t j 2) (second ++ get), length-append second get)
+    exp_short (Call line f es) t j c =
+        let arguments = exps_code cs es None (t + 1) (j + made_by f) line in
+        let call = with_abc CallCode t (list_field 0 es) c line ∷ [] in
+        omega (arith, exp_short f t j 2, arguments_short es (t + 1) (j + made_by f) line, length-append (exp_code cs f t j 2) (arguments ++ call), length-append arguments call)
+    exp_short (Method line object name es) t j c =
+        let key = loads cs (StrConst name.text) (t + 1) line in
+        let arguments = exps_code cs es None (t + 2) (j + made_by object) line in
+        let call = with_abc CallCode t (list_field 1 es) c line ∷ [] in
+        let after = with_abc OpSelf t t (t + 1) line ∷ (arguments ++ call) in
+        omega (
+          arith,
+          exp_short object t j 2,
+          loads_short cs (StrConst name.text) (t + 1) line,
+          arguments_short es (t + 2) (j + made_by object) line,
+          length-append (exp_code cs object t j 2) (key ++ after),
+          length-append key after,
+          length-append arguments call,
+        )
+    exp_short (Unary line op e) t j c = omega (arith, exp_short e t j 2, length-append (exp_code cs e t j 2) (prefix_code op t line))
+    exp_short (Binary line op e d) t j c =
+        let second = exp_code cs d (t + 1) (j + made_by e) 2 in
+        let last = operator_code op t line in
+        omega (arith, exp_short e t j 2, exp_short d (t + 1) (j + made_by e) 2, operator_short op t line, length-append (exp_code cs e t j 2) (second ++ last), length-append second last)
+    exp_short (And line e d) t j c =
+        omega (arith, exp_short e t j 2, exp_short d t (j + made_by e) 2, either_short false (exp_code cs e t j 2) (exp_code cs d t (j + made_by e) 2) t line)
+    exp_short (Or line e d) t j c =
+        omega (arith, exp_short e t j 2, exp_short d t (j + made_by e) 2, either_short true (exp_code cs e t j 2) (exp_code cs d t (j + made_by e) 2) t line)
+    exp_short (Paren line e) t j c = omega (arith, exp_short e t j 2)
+    exp_short (Table line fs) t j c = omega (arith, fields_short fs 0 t j line)
+
+    pub arguments_short : (es : Exps) (t j line : ℕ) → length (exps_code cs es None t j line) + 2 ≤ 6 * weight_of_arguments es
+    arguments_short EndExps t j line = omega arith
+    arguments_short (MoreExps e es) t j line =
+        let field = field_of e es None in
+        let wanted = wanted_after e es None in
+        let rest = exps_code cs es wanted (t + 1) (j + made_by e) line in
+        omega (arith, exp_short e t j field, exps_short es wanted (t + 1) (j + made_by e) line, nils_after e es None, length-append (exp_code cs e t j field) rest)
+
+    pub exps_short : (es : Exps) (wanted : Wanted) (t j line : ℕ) → length (exps_code cs es wanted t j line) ≤ 6 * weight_of_exps es + nils wanted
+    exps_short EndExps wanted t j line = omega (arith, nils_short wanted t line)
+    exps_short (MoreExps e es) wanted t j line =
+        let field = field_of e es wanted in
+        let after = wanted_after e es wanted in
+        let rest = exps_code cs es after (t + 1) (j + made_by e) line in
+        omega (arith, exp_short e t j field, exps_short es after (t + 1) (j + made_by e) line, nils_after e es wanted, length-append (exp_code cs e t j field) rest)
+
+    fields_short : (fs : Fields) (items t j line : ℕ) → length (fields_code cs fs items t j line) ≤ 6 * weight_of_fields fs
+    fields_short EndFields items t j line = omega arith
+    fields_short (MoreFields (Item e) fs) items t j line =
+        let value = exp_code cs e (t + 1) j (cond (is_last_item e fs) 0 2) in
+        let store = set_list t (cond (is_last_item e fs) 0 1) items line in
+        let rest = fields_code cs fs (items + 1) t (j + made_by e) line in
+        omega (
+          arith,
+          exp_short e (t + 1) j (cond (is_last_item e fs) 0 2),
+          set_list_short t (cond (is_last_item e fs) 0 1) items line,
+          fields_short fs (items + 1) t (j + made_by e) line,
+          length-append value (store ++ rest),
+          length-append store rest,
+        )
+    fields_short (MoreFields (Keyed own e d) fs) items t j line =
+        let key = exp_code cs e (t + 1) j 2 in
+        let value = exp_code cs d (t + 2) (j + made_by e) 2 in
+        let rest = with_abc SetTable t (t + 1) (t + 2) own ∷ fields_code cs fs items t (j + made_by e + made_by d) line in
+        omega (
+          arith,
+          exp_short e (t + 1) j 2,
+          exp_short d (t + 2) (j + made_by e) 2,
+          fields_short fs items t (j + made_by e + made_by d) line,
+          length-append key (value ++ rest),
+          length-append value rest,
+        )

@@ -1,0 +1,8 @@
+pub mod Weight
+pub mod FunctionCount
+pub mod Sizes
+pub mod Constants
+pub mod Functions
+pub mod InScope
+pub mod Limits
+pub mod Registers

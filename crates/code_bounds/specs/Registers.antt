@@ -1,0 +1,80 @@
+-- That a function has the registers that its code names: `stack` of them, where t locals are in scope before a statement.
+use Rattle.std.specs.Prelude.{◌≡◌, ℕ, ◌+◌, ◌*◌, ◌≤◌, List, length, Option, Some, None, true, nat_lt}
+use Rattle.std.specs.List.{list_all}
+use Rattle.tree_core.specs.Tree.{Block, Falls, Returns, Body, BodyOf, Stats, EndStats, MoreStats, Stat, Empty, Local, LocalFunction, Assign, CallStat, Do, While, Repeat, If, IfElse, NumFor, NumForStep, GenFor, Label, Goto, Break, Arms, EndArms, MoreArms, Exp, Var, Index, Exps, EndExps, MoreExps}
+use Rattle.code_core.specs.declared.instruction.Instruction.{Instruction}
+use Rattle.code_core.specs.declared.proto.Const.{Const}
+use Rattle.code_core.specs.Check.{at}
+use Rattle.code_core.specs.Prototype.{Prototype}
+use Rattle.code_of.specs.Expressions.{count}
+use Rattle.code_of.specs.Levels.{level_after, levels_after, levels_in}
+use Rattle.code_of.specs.CodeOf.{named_by, code_of}
+use Rattle.exp_laws.specs.Placed.{room_of, room_of_list}
+use Rattle.code_bounds.specs.InScope.{BodyInScope}
+use Rattle.code_bounds.specs.Limits.{BodyKeepsLimits}
+
+module _ (constants : List Const) (stack : ℕ) where
+  -- targets whose tables and keys go to the registers from r on
+  abbrev pub TargetHasRoom : Exp → (r : ℕ) → Type 0
+  TargetHasRoom (Var line name) r = r + room_of constants (Var line name) 2 ≤ stack
+  TargetHasRoom (Index line object key) r = r + room_of constants (Index line object key) 2 ≤ stack
+  TargetHasRoom _ r = Unit {0}
+
+  abbrev pub TargetsHaveRoom : Exps → (r : ℕ) → Type 0
+  TargetsHaveRoom EndExps r = Unit {0}
+  TargetsHaveRoom (MoreExps e targets) r = TargetHasRoom e r × TargetsHaveRoom targets (r + 2)
+
+  abbrev mutual
+    pub StatHasRoom : Stat → (t : ℕ) → Type 0
+    StatHasRoom (Empty line) t = Unit {0}
+    StatHasRoom (Local line names es) t = (t + room_of_list constants 0 es (Some (length names)) ≤ stack) × (t + length names ≤ stack)
+    StatHasRoom (LocalFunction line name body) t = t + 1 ≤ stack
+    StatHasRoom (Assign line targets es) t =
+        TargetsHaveRoom targets t
+        × ((t + 2 * count targets + room_of_list constants 0 es (Some (count targets)) ≤ stack) × (t + 2 * count targets + count targets ≤ stack))
+    StatHasRoom (CallStat line e) t = t + room_of constants e 1 ≤ stack
+    StatHasRoom (Do line block) t = BlockHasRoom block t
+    StatHasRoom (While line e block) t = (t + room_of constants e 2 ≤ stack) × BlockHasRoom block t
+    StatHasRoom (Repeat line block e) t = BlockHasRoom block t × (levels_in block t + room_of constants e 2 ≤ stack)
+    StatHasRoom (If line arms) t = ArmsHaveRoom arms t
+    StatHasRoom (IfElse line arms block) t = ArmsHaveRoom arms t × BlockHasRoom block t
+    StatHasRoom (NumFor line name from limit block) t =
+        (t + room_of constants from 2 ≤ stack) × ((t + 1 + room_of constants limit 2 ≤ stack) × ((t + 4 ≤ stack) × BlockHasRoom block (t + 4)))
+    StatHasRoom (NumForStep line name from limit step block) t =
+        (t + room_of constants from 2 ≤ stack)
+        × ((t + 1 + room_of constants limit 2 ≤ stack)
+        × ((t + 2 + room_of constants step 2 ≤ stack) × ((t + 4 ≤ stack) × BlockHasRoom block (t + 4))))
+    StatHasRoom (GenFor line names es block) t =
+        (t + room_of_list constants 0 es (Some 4) ≤ stack)
+        × ((t + 7 ≤ stack) × ((t + 4 + length names ≤ stack) × BlockHasRoom block (t + 4 + length names)))
+    StatHasRoom (Label line name) t = Unit {0}
+    StatHasRoom (Goto line name) t = Unit {0}
+    StatHasRoom (Break line) t = Unit {0}
+
+    pub ArmsHaveRoom : Arms → (t : ℕ) → Type 0
+    ArmsHaveRoom EndArms t = Unit {0}
+    ArmsHaveRoom (MoreArms e block arms) t = (t + room_of constants e 2 ≤ stack) × (BlockHasRoom block t × ArmsHaveRoom arms t)
+
+    -- and the locals before each statement, and behind all of them
+    pub StatsHaveRoom : Stats → (t : ℕ) → Type 0
+    StatsHaveRoom EndStats t = t ≤ stack
+    StatsHaveRoom (MoreStats s ss) t = (t ≤ stack) × (StatHasRoom s t × StatsHaveRoom ss (level_after s t))
+
+    pub BlockHasRoom : Block → (t : ℕ) → Type 0
+    BlockHasRoom (Falls ss tokens line) t = StatsHaveRoom ss t
+    BlockHasRoom (Returns ss es tokens line) t = StatsHaveRoom ss t × (levels_after ss t + room_of_list constants 0 es None ≤ stack)
+
+abbrev pub BodyHasRoom : Prototype → Body → Type 0
+BodyHasRoom p (BodyOf params vararg inner ups line) = BlockHasRoom p.own.constants p.own.stack inner (length params)
+
+-- a body that keeps the limits has code with registers enough, and their numbers have 8 bits
+abbrev pub RegistersAreEnough : Type 0
+RegistersAreEnough =
+    (source : Option (List ℕ)) (body : Body) → BodyInScope body → BodyKeepsLimits body →
+    ((code_of source body).own.stack ≤ 250) × BodyHasRoom (code_of source body) body
+
+-- every register that an instruction names is there
+abbrev pub RegistersAreCounted : Type 0
+RegistersAreCounted =
+    (source : Option (List ℕ)) (body : Body) (pc : ℕ) (w : Instruction) → at (code_of source body) pc ≡ Some w →
+    list_all (λ r. nat_lt r (code_of source body).own.stack) (named_by w) ≡ true

@@ -1,5 +1,0 @@
-pub mod Constants
-pub mod Functions
-pub mod InScope
-pub mod Limits
-pub mod Registers

@@ -1,4 +1,0 @@
-pub mod Counts
-mod Expressions
-pub mod Statements
-pub mod Bodies

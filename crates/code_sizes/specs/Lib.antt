@@ -1,3 +1,0 @@
-pub mod Weight
-pub mod Functions
-pub mod Law

@@ -1,4 +1,0 @@
-mod Keeping
-mod Parts
-pub mod Readings
-pub mod Placed

@@ -1,5 +1,0 @@
-use Rattle.grammar_forms.proofs.Readings.{tree_formed}
-use Rattle.grammar_forms.proofs.law.trees_are_formed.Goals as goal
-
-pub returns : goal.returns
-returns c = λ tokens tree d. tree_formed tokens tree d

@@ -1,0 +1,189 @@
+-- What is claimed of each part of a source: its piece weighs at most the tokens that were read, and has at most as many functions as tokens `function`
+-- were read, where what stands before it is counted with it.
+use Rattle.std.proofs.Common.{ℕ, ◌+◌, ◌≤◌, cond, List, [], ◌∷◌, length, Option, Some, None}
+use Rattle.tree_core.specs.Tree as tree
+use Rattle.lua_lex.specs.declared.token.Token.{Token}
+use Rattle.lua_lex.specs.declared.token.Token.TheVariants as token
+use Rattle.token_cursor.specs.declared.word.Word.{Word}
+use Rattle.token_cursor.specs.declared.word.Word.TheVariants.{Keyword, Mark}
+use Rattle.token_cursor.specs.declared.word.TheConstants.{FUNCTION}
+use Rattle.token_cursor.specs.Words.{Lexeme, is_word}
+use Rattle.lua_parse.specs.Moves.{Piece, a_line, a_name, some_names, some_params, a_declared, some_declared, an_exp, maybe_exp, some_exps, a_field, some_fields, a_target, an_arm, some_arms, some_items, a_stat, a_block, maybe_block, a_body, Part, chunk, word, behind, more_fields, suffixes, suffix, dotted, indexed, method, call, method_arguments, arguments, listed, string_argument, more_exps, items, do_block, more_arms, numeric, generic, more_names, path, local_function, local_names, more_declared, assignment, more_targets}
+use Rattle.code_bounds.specs.Weight.{weight, weight_of_arguments, weight_of_exps, weight_of_fields, weight_of_field, weight_of_stat, weight_of_arms, weight_of_stats, weight_of_block, weight_of_body}
+use Rattle.code_bounds.specs.FunctionCount.{functions, functions_in_exps, functions_in_fields, functions_in_field, functions_in_stat, functions_in_arms, functions_in_stats, functions_in_block, functions_in_body}
+use Rattle.grammar_laws.specs.Counted.{ExpIsCounted, ExpsAreCounted, FieldsAreCounted, FieldIsCounted, StatIsCounted, ArmsAreCounted, StatsAreCounted, BlockIsCounted, BodyIsCounted}
+
+-- tokens `function`
+
+abbrev pub opens_function : Token → ℕ
+opens_function t = cond (is_word FUNCTION t) 1 0
+
+abbrev pub opening : List Lexeme → ℕ
+opening [] = 0
+opening (t ∷ ts) = opens_function t.0 + opening ts
+
+-- the token that spells a word
+
+abbrev pub spelling : Word → Token
+spelling (Keyword n) = token.Keyword n
+spelling (Mark n) = token.Mark n
+
+abbrev pub opens_function_as : Word → ℕ
+opens_function_as w = opens_function (spelling w)
+
+-- what a piece of tree weighs and has
+
+abbrev pub ExpHolds : tree.Exp → (n m : ℕ) → Type 0
+ExpHolds e n m = (weight e ≤ n) × (functions e ≤ m) × ExpIsCounted e
+
+abbrev pub ExpsHold : tree.Exps → (n m : ℕ) → Type 0
+ExpsHold es n m = (weight_of_exps es ≤ n) × (functions_in_exps es ≤ m) × ExpsAreCounted es
+
+abbrev pub ArgumentsHold : tree.Exps → (n m : ℕ) → Type 0
+ArgumentsHold es n m = (weight_of_arguments es ≤ n) × (functions_in_exps es ≤ m) × ExpsAreCounted es
+
+abbrev pub FieldHolds : tree.Field → (n m : ℕ) → Type 0
+FieldHolds f n m = (weight_of_field f ≤ n) × (functions_in_field f ≤ m) × FieldIsCounted f
+
+abbrev pub FieldsHold : tree.Fields → (n m : ℕ) → Type 0
+FieldsHold fs n m = (weight_of_fields fs ≤ n) × (functions_in_fields fs ≤ m) × FieldsAreCounted fs
+
+abbrev pub StatHolds : tree.Stat → (n m : ℕ) → Type 0
+StatHolds s n m = (weight_of_stat s ≤ n) × (functions_in_stat s ≤ m) × StatIsCounted s
+
+abbrev pub BlockHolds : tree.Block → (n m : ℕ) → Type 0
+BlockHolds b n m = (weight_of_block b ≤ n) × (functions_in_block b ≤ m) × BlockIsCounted b
+
+abbrev pub BodyHolds : tree.Body → (n m : ℕ) → Type 0
+BodyHolds b n m = (weight_of_body b ≤ n) × (functions_in_body b ≤ m) × BodyIsCounted b
+
+abbrev pub ArmsHold : tree.Arms → (n m : ℕ) → Type 0
+ArmsHold as' n m = (weight_of_arms as' ≤ n) × (functions_in_arms as' ≤ m) × ArmsAreCounted as'
+
+abbrev pub ItemsHold : List tree.Stat → Option (List tree.Exp) → (n m : ℕ) → Type 0
+ItemsHold ss None n m = (weight_of_stats (tree.stats ss) ≤ n) × (functions_in_stats (tree.stats ss) ≤ m) × StatsAreCounted (tree.stats ss)
+ItemsHold ss (Some es) n m =
+    (weight_of_stats (tree.stats ss) + weight_of_exps (tree.exps es) + 1 ≤ n) × (functions_in_stats (tree.stats ss) + functions_in_exps (tree.exps es) ≤ m)
+    × (StatsAreCounted (tree.stats ss) × ExpsAreCounted (tree.exps es))
+
+abbrev pub StepHolds : Option tree.Exp → (n m : ℕ) → Type 0
+StepHolds None n m = Unit {0}
+StepHolds (Some e) n m = (weight e + 1 ≤ n) × (functions e ≤ m) × ExpIsCounted e
+
+abbrev pub ElseHolds : Option tree.Block → (n m : ℕ) → Type 0
+ElseHolds None n m = Unit {0}
+ElseHolds (Some b) n m = (weight_of_block b + 1 ≤ n) × (functions_in_block b ≤ m) × BlockIsCounted b
+
+abbrev pub Holds : Piece → (n m : ℕ) → Type 0
+Holds (a_line line) n m = 1 ≤ n
+Holds (a_name x) n m = 1 ≤ n
+Holds (some_names xs) n m = length xs ≤ n
+Holds (some_params xs vararg) n m = Unit {0}
+Holds (a_declared d) n m = 1 ≤ n
+Holds (some_declared ds) n m = length ds ≤ n
+Holds (an_exp e) n m = ExpHolds e n m
+Holds (maybe_exp e) n m = StepHolds e n m
+Holds (some_exps es) n m = ExpsHold (tree.exps es) n m
+Holds (a_field f) n m = FieldHolds f n m
+Holds (some_fields fs) n m = FieldsHold (tree.fields fs) n m
+Holds (a_target e own) n m = ExpHolds e n m
+Holds (an_arm e b) n m = (weight e + weight_of_block b + 1 ≤ n) × (functions e + functions_in_block b ≤ m) × (ExpIsCounted e × BlockIsCounted b)
+Holds (some_arms as') n m = ArmsHold (tree.arms as') n m
+Holds (some_items ss es line) n m = ItemsHold ss es n m
+Holds (a_stat s) n m = StatHolds s n m
+Holds (a_block b) n m = BlockHolds b n m
+Holds (maybe_block b) n m = ElseHolds b n m
+Holds (a_body b) n m = BodyHolds b n m
+
+abbrev pub HoldsAsArguments : Piece → (n m : ℕ) → Type 0
+HoldsAsArguments (some_exps es) n m = ArgumentsHold (tree.exps es) n m
+HoldsAsArguments _ n m = ⊥
+
+-- with the bracket behind them
+abbrev pub HoldsAsFields : Piece → (n m : ℕ) → Type 0
+HoldsAsFields (some_fields fs) n m = (weight_of_fields (tree.fields fs) + 1 ≤ n) × (functions_in_fields (tree.fields fs) ≤ m) × FieldsAreCounted (tree.fields fs)
+HoldsAsFields _ n m = ⊥
+
+-- with `do` and `end`
+abbrev pub HoldsAsDone : Piece → (n m : ℕ) → Type 0
+HoldsAsDone (a_block b) n m = (weight_of_block b + 2 ≤ n) × (functions_in_block b ≤ m) × BlockIsCounted b
+HoldsAsDone _ n m = ⊥
+
+abbrev pub HoldsAsWord : Word → Piece → (n m : ℕ) → Type 0
+HoldsAsWord w (a_line line) n m = (1 ≤ n) × (opens_function_as w ≤ m)
+HoldsAsWord w _ n m = ⊥
+
+-- with the end of the source
+abbrev pub HoldsAsChunk : Piece → (n m : ℕ) → Type 0
+HoldsAsChunk (a_block b) n m = (weight_of_block b + 1 ≤ n) × (functions_in_block b ≤ m) × BlockIsCounted b
+HoldsAsChunk _ n m = ⊥
+
+abbrev pub Claim : Part → Piece → (n m : ℕ) → Type 0
+Claim chunk p n m = HoldsAsChunk p n m
+Claim (word w) p n m = HoldsAsWord w p n m
+Claim (more_fields fs height) p n m = HoldsAsFields p n m
+Claim do_block p n m = HoldsAsDone p n m
+Claim method_arguments p n m = HoldsAsArguments p n m
+Claim arguments p n m = HoldsAsArguments p n m
+Claim listed p n m = HoldsAsArguments p (n + 1) m
+Claim string_argument p n m = HoldsAsArguments p n m
+Claim _ p n m = Holds p n m
+
+-- what stands before a part: its weight, its functions, and that it is counted
+
+abbrev pub carried : Part → ℕ
+carried (behind level left height) = weight left
+carried (more_fields fs height) = weight_of_fields (tree.fields fs)
+carried (suffixes left height) = weight left
+carried (suffix left height) = weight left
+carried (dotted w left height) = weight left
+carried (indexed left height) = weight left
+carried (method left height) = weight left
+carried (call left height) = weight left
+carried (more_exps es height) = weight_of_exps (tree.exps es)
+carried (items ss height) = weight_of_stats (tree.stats ss)
+carried (more_arms as' height) = weight_of_arms (tree.arms as')
+carried (numeric line x) = 2
+carried (generic line x) = 2
+carried (more_names xs) = length xs
+carried (path left height) = weight left
+carried (local_function line) = 1
+carried (local_names line) = 1
+carried (more_declared ds) = length ds
+carried (assignment line first height) = weight first
+carried (more_targets ts height) = weight_of_exps (tree.exps ts)
+carried _ = 0
+
+abbrev pub written : Part → ℕ
+written (behind level left height) = functions left
+written (more_fields fs height) = functions_in_fields (tree.fields fs)
+written (suffixes left height) = functions left
+written (suffix left height) = functions left
+written (dotted w left height) = functions left
+written (indexed left height) = functions left
+written (method left height) = functions left
+written (call left height) = functions left
+written (more_exps es height) = functions_in_exps (tree.exps es)
+written (items ss height) = functions_in_stats (tree.stats ss)
+written (more_arms as' height) = functions_in_arms (tree.arms as')
+written (path left height) = functions left
+written (assignment line first height) = functions first
+written (more_targets ts height) = functions_in_exps (tree.exps ts)
+written _ = 0
+
+abbrev pub IsReady : Part → Type 0
+IsReady (behind level left height) = ExpIsCounted left
+IsReady (more_fields fs height) = FieldsAreCounted (tree.fields fs)
+IsReady (suffixes left height) = ExpIsCounted left
+IsReady (suffix left height) = ExpIsCounted left
+IsReady (dotted w left height) = ExpIsCounted left
+IsReady (indexed left height) = ExpIsCounted left
+IsReady (method left height) = ExpIsCounted left
+IsReady (call left height) = ExpIsCounted left
+IsReady (more_exps es height) = ExpsAreCounted (tree.exps es)
+IsReady (items ss height) = StatsAreCounted (tree.stats ss)
+IsReady (more_arms as' height) = ArmsAreCounted (tree.arms as')
+IsReady (path left height) = ExpIsCounted left
+IsReady (assignment line first height) = ExpIsCounted first
+IsReady (more_targets ts height) = ExpsAreCounted (tree.exps ts)
+IsReady _ = Unit {0}

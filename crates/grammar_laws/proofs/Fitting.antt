@@ -1,0 +1,102 @@
+-- The code of a small tree fits its fields, everywhere in it.
+use Rattle.std.proofs.Common.{ℕ, ◌≤◌, Bool, List, [], arith}
+use Rattle.tree_core.specs.declared.name.Name.{Name}
+use Rattle.tree_core.specs.declared.name.UpName.{UpName}
+use Rattle.tree_core.specs.Tree.{Block, Falls, Returns, Body, BodyOf, Stats, EndStats, MoreStats, Stat, Empty, Local, LocalFunction, Assign, CallStat, Do, While, Repeat, If, IfElse, NumFor, NumForStep, GenFor, Label, Goto, Break, Arms, EndArms, MoreArms, Exp, Nil, True, False, Int, Str, Vararg, Var, Function, Index, Call, Method, Unary, Binary, And, Or, Paren, Table, Exps, EndExps, MoreExps, Fields, EndFields, MoreFields, Field, Item, Keyed}
+use Rattle.scope_core.specs.Rules.{tokens_of}
+use Rattle.code_bounds.specs.Weight.{weight, weight_of_exps, weight_of_fields, weight_of_field, weight_of_stat, weight_of_arms, weight_of_stats, weight_of_block, weight_of_body}
+use Rattle.code_bounds.specs.FunctionCount.{functions, functions_in_exps, functions_in_fields, functions_in_field, functions_in_stat, functions_in_arms, functions_in_stats, functions_in_block, functions_in_body}
+use Rattle.code_bounds.proofs.Counts.{arguments_weigh, made_block, few_block}
+use Rattle.code_bounds.proofs.ShortStatements.{block_short}
+use Rattle.code_bounds.proofs.ShortBodies.{body_short}
+use Rattle.grammar_laws.specs.Counted.{ExpIsCounted, ExpsAreCounted, FieldsAreCounted, FieldIsCounted, StatIsCounted, ArmsAreCounted, StatsAreCounted, BlockIsCounted, BodyIsCounted}
+use Rattle.grammar_laws.specs.Each.{InExp, InExps, InFields, InField, InStat, InArms, InStats, InBlock, InBody}
+use Rattle.grammar_laws.proofs.Rules.{Nothing, IsShort}
+use Rattle.grammar_laws.specs.Sizes.{FunctionFits, LoopFits}
+
+light : (block : Block) → BlockIsCounted block → weight_of_block block ≤ tokens_of block
+light (Falls ss tokens line) c = c.0
+light (Returns ss es tokens line) c = c.0
+
+near : (block : Block) → BlockIsCounted block → IsShort block → LoopFits block
+near block c few constants back closing outer t j = omega (arith, light block c, few, block_short constants back block closing outer t j)
+
+small : (params : List Name) (vararg : Bool) (inner : Block) (ups : List UpName) (line : ℕ)
+    → weight_of_body (BodyOf params vararg inner ups line) ≤ 1048579 → functions_in_body (BodyOf params vararg inner ups line) ≤ 131072 → FunctionFits (BodyOf params vararg inner ups line)
+small params vararg inner ups line w f = record {
+  code = omega (arith, w, body_short (BodyOf params vararg inner ups line));
+  constants = omega (arith, w, few_block inner []);
+  functions = omega (arith, f, made_block inner);
+}
+
+mutual
+  exp_fits : (e : Exp) → weight e ≤ 1048579 → functions e ≤ 131072 → ExpIsCounted e → InExp Nothing IsShort e → InExp FunctionFits LoopFits e
+  exp_fits (Nil line) w m c r = tt
+  exp_fits (True line) w m c r = tt
+  exp_fits (False line) w m c r = tt
+  exp_fits (Int line n) w m c r = tt
+  exp_fits (Str line bytes) w m c r = tt
+  exp_fits (Vararg line) w m c r = tt
+  exp_fits (Function line body) w m c r = body_fits body (omega (arith, w)) (omega (arith, m)) c r
+  exp_fits (Var line name) w m c r = tt
+  exp_fits (Index line object key) w m c r = (exp_fits object (omega (arith, w)) (omega (arith, m)) c.0 r.0, exp_fits key (omega (arith, w)) (omega (arith, m)) c.1 r.1)
+  exp_fits (Call line f es) w m c r = (exp_fits f (omega (arith, w, arguments_weigh es)) (omega (arith, m)) c.0 r.0, exps_fits es (omega (arith, w, arguments_weigh es)) (omega (arith, m)) c.1 r.1)
+  exp_fits (Method line object name es) w m c r = (exp_fits object (omega (arith, w, arguments_weigh es)) (omega (arith, m)) c.0 r.0, exps_fits es (omega (arith, w, arguments_weigh es)) (omega (arith, m)) c.1 r.1)
+  exp_fits (Unary line op e) w m c r = exp_fits e (omega (arith, w)) (omega (arith, m)) c r
+  exp_fits (Binary line op e d) w m c r = (exp_fits e (omega (arith, w)) (omega (arith, m)) c.0 r.0, exp_fits d (omega (arith, w)) (omega (arith, m)) c.1 r.1)
+  exp_fits (And line e d) w m c r = (exp_fits e (omega (arith, w)) (omega (arith, m)) c.0 r.0, exp_fits d (omega (arith, w)) (omega (arith, m)) c.1 r.1)
+  exp_fits (Or line e d) w m c r = (exp_fits e (omega (arith, w)) (omega (arith, m)) c.0 r.0, exp_fits d (omega (arith, w)) (omega (arith, m)) c.1 r.1)
+  exp_fits (Paren line e) w m c r = exp_fits e (omega (arith, w)) (omega (arith, m)) c r
+  exp_fits (Table line fs) w m c r = fields_fits fs (omega (arith, w)) (omega (arith, m)) c r
+
+  exps_fits : (es : Exps) → weight_of_exps es ≤ 1048579 → functions_in_exps es ≤ 131072 → ExpsAreCounted es → InExps Nothing IsShort es → InExps FunctionFits LoopFits es
+  exps_fits EndExps w m c r = tt
+  exps_fits (MoreExps e es) w m c r = (exp_fits e (omega (arith, w)) (omega (arith, m)) c.0 r.0, exps_fits es (omega (arith, w)) (omega (arith, m)) c.1 r.1)
+
+  fields_fits : (fs : Fields) → weight_of_fields fs ≤ 1048579 → functions_in_fields fs ≤ 131072 → FieldsAreCounted fs → InFields Nothing IsShort fs → InFields FunctionFits LoopFits fs
+  fields_fits EndFields w m c r = tt
+  fields_fits (MoreFields g fs) w m c r = (field_fits g (omega (arith, w)) (omega (arith, m)) c.0 r.0, fields_fits fs (omega (arith, w)) (omega (arith, m)) c.1 r.1)
+
+  field_fits : (f : Field) → weight_of_field f ≤ 1048579 → functions_in_field f ≤ 131072 → FieldIsCounted f → InField Nothing IsShort f → InField FunctionFits LoopFits f
+  field_fits (Item e) w m c r = exp_fits e w m c r
+  field_fits (Keyed line e d) w m c r = (exp_fits e (omega (arith, w)) (omega (arith, m)) c.0 r.0, exp_fits d (omega (arith, w)) (omega (arith, m)) c.1 r.1)
+
+  stat_fits : (s : Stat) → weight_of_stat s ≤ 1048579 → functions_in_stat s ≤ 131072 → StatIsCounted s → InStat Nothing IsShort s → InStat FunctionFits LoopFits s
+  stat_fits (Empty line) w m c r = tt
+  stat_fits (Local line names es) w m c r = exps_fits es (omega (arith, w)) (omega (arith, m)) c r
+  stat_fits (LocalFunction line name body) w m c r = body_fits body (omega (arith, w)) (omega (arith, m)) c r
+  stat_fits (Assign line targets es) w m c r = (exps_fits targets (omega (arith, w)) (omega (arith, m)) c.0 r.0, exps_fits es (omega (arith, w)) (omega (arith, m)) c.1 r.1)
+  stat_fits (CallStat line e) w m c r = exp_fits e (omega (arith, w)) (omega (arith, m)) c r
+  stat_fits (Do line block) w m c r = block_fits block (omega (arith, w)) (omega (arith, m)) c r
+  stat_fits (While line e block) w m c r = (exp_fits e (omega (arith, w)) (omega (arith, m)) c.0 r.0, block_fits block (omega (arith, w)) (omega (arith, m)) c.1 r.1)
+  stat_fits (Repeat line block e) w m c r = (block_fits block (omega (arith, w)) (omega (arith, m)) c.0 r.0, exp_fits e (omega (arith, w)) (omega (arith, m)) c.1 r.1)
+  stat_fits (If line arms) w m c r = arms_fits arms (omega (arith, w)) (omega (arith, m)) c r
+  stat_fits (IfElse line arms block) w m c r = (arms_fits arms (omega (arith, w)) (omega (arith, m)) c.0 r.0, block_fits block (omega (arith, w)) (omega (arith, m)) c.1 r.1)
+  stat_fits (NumFor line name from limit block) w m c r =
+      (exp_fits from (omega (arith, w)) (omega (arith, m)) c.0 r.0, exp_fits limit (omega (arith, w)) (omega (arith, m)) c.1 r.1, near block c.2 r.2, block_fits block (omega (arith, w)) (omega (arith, m)) c.2 r.3)
+  stat_fits (NumForStep line name from limit step block) w m c r = (
+    exp_fits from (omega (arith, w)) (omega (arith, m)) c.0 r.0,
+    exp_fits limit (omega (arith, w)) (omega (arith, m)) c.1 r.1,
+    exp_fits step (omega (arith, w)) (omega (arith, m)) c.2 r.2,
+    near block c.3 r.3,
+    block_fits block (omega (arith, w)) (omega (arith, m)) c.3 r.4,
+  )
+  stat_fits (GenFor line names es block) w m c r = (exps_fits es (omega (arith, w)) (omega (arith, m)) c.0 r.0, near block c.1 r.1, block_fits block (omega (arith, w)) (omega (arith, m)) c.1 r.2)
+  stat_fits (Label line name) w m c r = tt
+  stat_fits (Goto line name) w m c r = tt
+  stat_fits (Break line) w m c r = tt
+
+  arms_fits : (arms : Arms) → weight_of_arms arms ≤ 1048579 → functions_in_arms arms ≤ 131072 → ArmsAreCounted arms → InArms Nothing IsShort arms → InArms FunctionFits LoopFits arms
+  arms_fits EndArms w m c r = tt
+  arms_fits (MoreArms e block arms) w m c r = (exp_fits e (omega (arith, w)) (omega (arith, m)) c.0 r.0, block_fits block (omega (arith, w)) (omega (arith, m)) c.1 r.1, arms_fits arms (omega (arith, w)) (omega (arith, m)) c.2 r.2)
+
+  stats_fits : (ss : Stats) → weight_of_stats ss ≤ 1048579 → functions_in_stats ss ≤ 131072 → StatsAreCounted ss → InStats Nothing IsShort ss → InStats FunctionFits LoopFits ss
+  stats_fits EndStats w m c r = tt
+  stats_fits (MoreStats s ss) w m c r = (stat_fits s (omega (arith, w)) (omega (arith, m)) c.0 r.0, stats_fits ss (omega (arith, w)) (omega (arith, m)) c.1 r.1)
+
+  block_fits : (block : Block) → weight_of_block block ≤ 1048579 → functions_in_block block ≤ 131072 → BlockIsCounted block → InBlock Nothing IsShort block → InBlock FunctionFits LoopFits block
+  block_fits (Falls ss tokens line) w m c r = stats_fits ss w m c.1 r
+  block_fits (Returns ss es tokens line) w m c r = (stats_fits ss (omega (arith, w)) (omega (arith, m)) c.1 r.0, exps_fits es (omega (arith, w)) (omega (arith, m)) c.2 r.1)
+
+  pub body_fits : (body : Body) → weight_of_body body ≤ 1048579 → functions_in_body body ≤ 131072 → BodyIsCounted body → InBody Nothing IsShort body → InBody FunctionFits LoopFits body
+  body_fits (BodyOf params vararg inner ups line) w m c r = (small params vararg inner ups line w m, block_fits inner (omega (arith, w)) m c r.1)

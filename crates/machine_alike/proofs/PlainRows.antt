@@ -1,0 +1,121 @@
+-- Which rows make no function: those of texts that make none, and those of frames, errors and results.
+use Rattle.std.proofs.Common.{ℕ, suc, Bool, true, false, cond, List, [], ◌∷◌}
+use Rattle.machine_core.specs.Text.{read, Own, read_upvalue, write_upvalue, make_table, make_function, fill_table, pay, Text, go_by, own, open_cell, quick, operate, call, tail_call, close, closable, raise, leave, trap, Given, results, thrown}
+use Rattle.machine_core.specs.InstructionRows.{fails, is_true}
+use Rattle.machine_core.specs.Moves.{CallShape, is_entered, is_primitive, not_paid, not_entered, SettledShape, is_found, is_asked, is_fault, TopShape, lua_top, pcall_top, xpcall_top, handler_top, closing_top, no_top, ClosingShape, one_left, all_closed, closed_with_error, Row, only}
+use Rattle.machine_core.specs.FrameRows.{handed, hand_over, raises, after_call, call_row, prepares, after_leaving, expand, after_handler, raised_to, raised_row, after_entry, closing_by, closing_row, unwound, handed_to}
+use Rattle.machine_core.specs.RowFits.{MakesNone}
+use Rattle.machine_alike.specs.Laws.{NoneMade}
+
+handed_none : (top : TopShape) → NoneMade (handed top)
+handed_none lua_top = tt
+handed_none pcall_top = tt
+handed_none xpcall_top = tt
+handed_none handler_top = tt
+handed_none closing_top = tt
+handed_none (no_top in_main) = tt
+
+hand_over_none : NoneMade hand_over
+hand_over_none n top = handed_none top
+
+after_call_none : (s : CallShape) → NoneMade (after_call s)
+after_call_none is_entered = tt
+after_call_none (is_primitive n) = tt
+after_call_none not_paid = tt
+after_call_none (not_entered text) = λ _ _. tt
+
+after_leaving_none : (given : Given) (top : TopShape) → NoneMade (after_leaving given top)
+after_leaving_none (results slot) top = handed_none top
+after_leaving_none (thrown x) top = tt
+
+prepares_none : (ms : List Own) (r : Row) → NoneMade r → NoneMade (prepares ms r)
+prepares_none [] r h = h
+prepares_none (m ∷ ms) r h = λ _ _. prepares_none ms r h
+
+cond_none : (b : Bool) (r s : Row) → NoneMade r → NoneMade s → NoneMade (cond b r s)
+cond_none true r s h k = h
+cond_none false r s h k = k
+
+pub expand_none : (t : Text) → MakesNone t → NoneMade (expand t)
+expand_none (go_by z) h = λ _ _. tt
+expand_none (own m k) h = λ n s. expand_none (k n s) (h n s)
+expand_none (open_cell r t) h = λ _ _. expand_none t h
+expand_none (quick (read_upvalue u) k) h = λ n _. expand_none (k n) (h n)
+expand_none (quick (write_upvalue u x) k) h = λ n _. expand_none (k n) (h n)
+expand_none (quick make_table k) h = λ n _. expand_none (k n) (h n)
+expand_none (quick (make_function n) k) h = absurd h
+expand_none (quick (fill_table t last slot) k) h = λ n _. expand_none (k n) (h n)
+expand_none (quick pay k) h = λ n paid. cond_none paid _ _ (expand_none (k n) (h n)) tt
+expand_none (operate op xs wait prepared t) h = λ n s. by n s (expand_none t h)
+  where
+    by : (n : ℕ) (s : SettledShape) → NoneMade (expand t) → NoneMade (elim s [
+      | is_found ↦ prepares prepared (only n (expand t))
+      | is_asked ↦ call_row (read n) (suc n) wait prepared
+      | is_fault text ↦ prepares prepared (raises text)
+    ])
+    by n is_found k = prepares_none prepared _ k
+    by n is_asked k = λ _ s. after_call_none s
+    by n (is_fault text) k = prepares_none prepared _ (λ _ _. tt)
+expand_none (call f slot wait prepared) h = λ _ s. after_call_none s
+expand_none (tail_call f slot) h = λ _ s. after_call_none s
+expand_none (close v e wait prepared) h = λ _ _ _ s. after_call_none s
+expand_none (closable v name t) h = λ _ yes. cond_none yes _ _ (expand_none t h) (λ _ _. tt)
+expand_none (raise text) h = λ _ _. tt
+expand_none (leave given) h = λ _ top. after_leaving_none given top
+expand_none trap h = tt
+
+plain_cond : (b : Bool) (t u : Text) → MakesNone t → MakesNone u → MakesNone (cond b t u)
+plain_cond true t u h k = h
+plain_cond false t u h k = k
+
+fails_none : MakesNone fails
+fails_none n s = plain_cond (is_true s) _ _ tt tt
+
+after_handler_none : (s : CallShape) → NoneMade (after_handler s)
+after_handler_none is_entered = tt
+after_handler_none (is_primitive n) = tt
+after_handler_none not_paid = tt
+after_handler_none (not_entered text) = λ _ _. tt
+
+raised_to_none : (top : TopShape) (h : ℕ) → NoneMade (raised_to top h)
+raised_to_none lua_top h = tt
+raised_to_none pcall_top h = tt
+raised_to_none xpcall_top h = λ _ _ _ s. after_handler_none s
+raised_to_none handler_top h = tt
+raised_to_none closing_top h = tt
+raised_to_none (no_top true) h = tt
+raised_to_none (no_top false) h = λ _ _ _ _ _ _. hand_over_none
+
+pub raised_none : NoneMade raised_row
+raised_none h top = raised_to_none top h
+
+after_entry_none : (s : CallShape) → NoneMade (after_entry s)
+after_entry_none is_entered = tt
+after_entry_none (is_primitive n) = tt
+after_entry_none not_paid = tt
+after_entry_none (not_entered text) = λ _ _. tt
+
+closing_by_none : (s : ClosingShape) (v : ℕ) → NoneMade (closing_by s v)
+closing_by_none one_left v = λ _ _ _ s. after_entry_none s
+closing_by_none all_closed v = λ _ _ _ _. hand_over_none
+closing_by_none closed_with_error v = λ _ _ _ _. hand_over_none
+
+closing_none : NoneMade closing_row
+closing_none v s = closing_by_none s v
+
+pub unwound_none : (top : TopShape) → NoneMade (unwound top)
+unwound_none lua_top = λ _ _. expand_none fails fails_none
+unwound_none pcall_top = λ _ _ _ _ _ _. hand_over_none
+unwound_none xpcall_top = λ _ _ _ _ _ _. hand_over_none
+unwound_none handler_top = λ _ _ _ _. tt
+unwound_none closing_top = λ _ _ _ _. closing_none
+unwound_none (no_top in_main) = tt
+
+pub handed_to_none : (top : TopShape) → NoneMade (handed_to top)
+handed_to_none lua_top = tt
+handed_to_none pcall_top = λ _ _ _ _ _ _. hand_over_none
+handed_to_none xpcall_top = λ _ _ _ _ _ _. hand_over_none
+handed_to_none handler_top = λ _ _ _ _ _ _. tt
+handed_to_none closing_top = closing_none
+handed_to_none (no_top true) = λ _ _. tt
+handed_to_none (no_top false) = λ _ _ _ _ _ _. hand_over_none

@@ -1,0 +1,48 @@
+-- The tree of each source is near, and so its code is checked.
+use Rattle.std.proofs.Common.{◌≡◌, ℕ, ◌+◌, ◌≤◌, ◌^◌, List, [], length, Option, IsTrue, arith}
+use Rattle.tree_core.specs.Tree.{Block}
+use Rattle.token_cursor.specs.Words.{Lexeme}
+use Rattle.lua_lex.specs.Lexical.{TokensOf}
+use Rattle.lua_parse.specs.Reading.{Derives}
+use Rattle.scope_core.specs.Places.{placed}
+use Rattle.scope_core.specs.Rules.{violations}
+use Rattle.code_core.specs.Check.{IsChecked}
+use Rattle.code_core.specs.Writable.{name_fits}
+use Rattle.code_of.specs.CodeOf.{code_of}
+use Rattle.code_bounds.specs.FunctionCount.{functions_in_body}
+use Rattle.code_bounds.specs.Weight.{weight_of_body}
+use Rattle.scope_laws.proofs.Main.{names_fit}
+use Rattle.grammar_laws.proofs.FormReadings.{tree_formed}
+use Rattle.grammar_laws.proofs.PlacedForms.{placed_formed}
+use Rattle.grammar_laws.proofs.WholeSizes.{weighs, takes, weighs_alike, fits, lines}
+use Rattle.source_laws.proofs.Fitting.{body_fits}
+use Rattle.source_laws.proofs.Nearing.{near_body}
+use Rattle.code_checked.proofs.Keeping.{code_is_checked}
+use Rattle.source_laws.proofs.Joining.{body_written}
+use Rattle.source_laws.proofs.Many.{many_body}
+use Rattle.source_laws.proofs.Limits.{texts_fit, shallow}
+
+pub source_checked : (source : List ℕ) (tokens : List Lexeme) (tree : Block) → length source ≤ 1048576 → TokensOf source tokens → Derives tokens tree → violations tree ≡ []
+    → (name : Option (List ℕ)) → IsTrue (name_fits name) → IsChecked (code_of name (placed tree))
+source_checked source tokens tree small t d keeps name named =
+    let names = names_fit tree keeps in
+    let weight = weighs tokens tree d in
+    let bytes = takes source tokens tree t d in
+    let alike = weighs_alike tree in
+    let whole = weight.whole in
+    let same_weight = alike.weight in
+    let same_functions = alike.functions in
+    let few_tokens = bytes.tokens_count in
+    let few_functions = bytes.functions_count in
+    let light : weight_of_body (placed tree) ≤ 2 ^ 21 = omega (arith, small, whole, same_weight, few_tokens) in
+    let few : functions_in_body (placed tree) ≤ 2 ^ 17 = omega (arith, small, same_functions, few_functions) in
+    let formed = placed_formed tree (tree_formed tokens tree d) in
+    let fitting = body_fits name (placed tree) names.0 names.1 formed (alike.blocks weight.blocks) light few in
+    let many = many_body name (placed tree) in
+    code_is_checked name (placed tree) (record {
+      name = named;
+      near = near_body name (placed tree) names.0 names.1 formed fitting (fits source tokens tree small t d keeps) light;
+      written = body_written (length source + 1) (omega (arith, small)) (placed tree) (lines source tokens tree t d).as_placed (texts_fit source tokens tree small t d);
+      depth = shallow tokens tree d name;
+      functions = omega (arith, few, many);
+    })

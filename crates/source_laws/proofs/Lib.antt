@@ -1,0 +1,22 @@
+mod Around
+mod Limited
+mod Expressions
+mod Statements
+mod Alone
+pub mod Fitting
+mod FittingExample
+pub mod Meaning
+mod MeaningExample
+mod Counting
+pub mod Nearing
+mod Deep
+mod Texts
+mod TextParts
+mod PartTexts
+mod PlacedTexts
+mod TokenTexts
+mod Limits
+mod Joining
+mod Many
+pub mod Checked
+mod CheckedExample

@@ -1,2 +1,0 @@
-pub mod Sources
-mod Example

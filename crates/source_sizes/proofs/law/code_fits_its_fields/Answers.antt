@@ -1,5 +1,0 @@
-use Rattle.source_sizes.proofs.Whole.{fits}
-use Rattle.source_sizes.proofs.law.code_fits_its_fields.Goals as goal
-
-pub returns : goal.returns
-returns c = λ source tokens tree small t d r. fits source tokens tree small t d r

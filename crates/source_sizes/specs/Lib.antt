@@ -1,4 +1,0 @@
-pub mod Counted
-pub mod Each
-pub mod Lines
-pub mod Law

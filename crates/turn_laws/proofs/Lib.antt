@@ -1,4 +1,0 @@
-pub mod Measure
-mod Falling
-pub mod Steps
-mod Asks

@@ -1,3 +1,0 @@
-mod Sizes
-mod Moves
-mod Ends

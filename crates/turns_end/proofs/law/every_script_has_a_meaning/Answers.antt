@@ -1,5 +1,0 @@
-use Rattle.turns_end.proofs.Ends.{has_meaning}
-use Rattle.turns_end.proofs.law.every_script_has_a_meaning.Goals as goal
-
-pub returns : goal.returns
-returns c = has_meaning
