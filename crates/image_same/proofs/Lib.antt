@@ -1,0 +1,3 @@
+pub mod Alike
+mod Order
+mod InOrder
