@@ -8,7 +8,8 @@ use Rattle.tree_activation.specs.Work.{State}
 use Rattle.lua_meaning.specs.World.{shared_in}
 use Rattle.meaning_cells.specs.Alike.{Has, Member, Pairs, IsUnpaired, Cells, AreCells, AreEven, CarriesOwn, opened}
 use Rattle.meaning_cells.proofs.Relation.{Rel, same, early}
-use Rattle.meaning_cells.proofs.Lists.{nth_set_same, nth_set_other, set_size, nth_more, in_size, in_other}
+use Rattle.list_laws.proofs.Values.{nth_set_same, nth_set_other}
+use Rattle.meaning_cells.proofs.Lists.{set_size, nth_more, in_size, in_other}
 use Rattle.cells_alike.proofs.Joint.{Made, Waiting, Layer, is_talking, is_waiting, is_raising, is_protected, is_handled, is_handling, is_closing, Thread, Place, Store, cells_for, OwnedAt, IsStore, WaitsAt, LayerAt, LayersAt, layers_in, ArePaired, head, Base}
 
 some_same : {A : Type 0} → (x y : A) → Some x ≡ Some y → x ≡ y

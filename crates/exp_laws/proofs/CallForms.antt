@@ -8,8 +8,7 @@ use Rattle.tree_activation.specs.Work.{Purpose, Control, give, collect, Work, Pe
 use Rattle.tree_activation.specs.Work as tree
 use Rattle.tree_activation.specs.Activation.{step}
 use Rattle.tree_activation.specs.Asking.{first, asks}
-use Rattle.code_core.specs.declared.opcode.Opcode.TheVariants.{OpSelf, VarArg}
-use Rattle.code_core.specs.declared.opcode.Opcode.TheVariants.{Call as CallCode}
+use Rattle.code_core.specs.declared.opcode.Opcode.TheVariants.{OpSelf, VarArg, Call as CallCode}
 use Rattle.code_core.specs.Instruction.{abc}
 use Rattle.code_core.specs.Check.{at, mark, open_from}
 use Rattle.machine_core.specs.World.{for_call, for_value}
@@ -17,7 +16,8 @@ use Rattle.machine_core.specs.Text.{read, blanked}
 use Rattle.machine_core.specs.InstructionRows.{write_values, told_values}
 use Rattle.machine_core.specs.Talk as code
 use Rattle.machine_core.specs.Talk.{before, amid, talk, talk_step, says_so, heard}
-use Rattle.machine_readings.proofs.Lists.{nth_write_same, nth_write_other, lt_true}
+use Rattle.list_laws.proofs.Values.{nth_write_same, nth_write_other}
+use Rattle.list_laws.proofs.Tests.{lt_true}
 use Rattle.code_of.specs.Coded.{with_abc}
 use Rattle.exp_laws.proofs.Registers.{Rel, After, after_none, after_then, lower, after_above, after_put}
 use Rattle.exp_laws.specs.Setting.{Setting}

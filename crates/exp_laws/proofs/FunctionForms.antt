@@ -33,7 +33,7 @@ use Rattle.exp_laws.specs.Placed.{IsNoneOf, Captures, Inner}
 use Rattle.exp_laws.proofs.Going.{next_there, at_place, Goes, answer_goes}
 use Rattle.exp_laws.proofs.Steps.{row_step, to_register_step}
 use Rattle.exp_laws.proofs.Loads.{nil_step}
-use Rattle.machine_readings.proofs.Lists.{length_write}
+use Rattle.list_laws.proofs.Values.{length_write}
 
 -- both sides name the same cells
 names_same : (us : List UpName) (held : List (ℕ × ℕ)) → names_of (map upvalue us) held ≡ cell_names us held

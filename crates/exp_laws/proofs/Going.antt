@@ -16,7 +16,7 @@ use Rattle.machine_core.specs.Text.{read}
 use Rattle.machine_core.specs.InstructionRows.{rest_at, to_register, told_values}
 use Rattle.machine_core.specs.Talk as code
 use Rattle.machine_core.specs.Talk.{before, amid, talk_step, says_so, heard}
-use Rattle.machine_readings.proofs.Lists.{nth_write_same}
+use Rattle.list_laws.proofs.Values.{nth_write_same}
 use Rattle.code_of.specs.Coded.{Coded}
 use Rattle.exp_laws.proofs.Registers.{Rel, After, after_then, after_put}
 use Rattle.exp_laws.specs.Setting.{Setting}

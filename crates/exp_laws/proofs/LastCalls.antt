@@ -12,7 +12,7 @@ use Rattle.code_core.specs.declared.opcode.Opcode.TheVariants.{OpSelf, TailCall}
 use Rattle.code_core.specs.declared.proto.Const.TheVariants.{Str as StrConst}
 use Rattle.machine_core.specs.Text.{trap}
 use Rattle.machine_core.specs.Talk.{before, amid, marked}
-use Rattle.machine_readings.proofs.Lists.{nth_write_same, nth_write_other}
+use Rattle.list_laws.proofs.Values.{nth_write_same, nth_write_other}
 use Rattle.code_of.specs.Coded.{with_abc}
 use Rattle.code_of.specs.Constants.{loads}
 use Rattle.code_of.specs.Expressions.{made_by, count, ends_open, list_field, exp_code, exps_code}

@@ -17,7 +17,9 @@ use Rattle.machine_core.specs.Text.{Text, blanked, is_pending, last_pending, val
 use Rattle.machine_core.specs.InstructionRows.{fails, rest_at, rest_by, left_so, after, told_values}
 use Rattle.machine_core.specs.Talk as code
 use Rattle.machine_core.specs.Talk.{talk, talk_step, says_so, heard, before, amid, captured_done}
-use Rattle.machine_readings.proofs.Lists.{last_is, without_last_is, get_new, length_more, eq_refl, eq_true, lt_not}
+use Rattle.list_laws.proofs.Ends.{last_is, without_last_is}
+use Rattle.list_laws.proofs.Items.{get_new, length_more}
+use Rattle.list_laws.proofs.Tests.{eq_refl, eq_true, lt_not}
 use Rattle.exp_laws.proofs.Registers.{Rel, marked_in, Ascends, held_same}
 use Rattle.exp_laws.specs.Setting.{Setting}
 use Rattle.exp_laws.proofs.Talking.{Here, Agree, go_left, both_ask, of_tree, of_code}

@@ -7,7 +7,7 @@ use Rattle.tree_activation.specs.Work.{Purpose, collect, Work, Pending}
 use Rattle.tree_activation.specs.Work as tree
 use Rattle.machine_core.specs.Text.{list_end, nils}
 use Rattle.machine_core.specs.Talk.{before}
-use Rattle.machine_readings.proofs.Lists.{nth_old}
+use Rattle.list_laws.proofs.Values.{nth_old}
 use Rattle.code_of.specs.Expressions.{Wanted, one_less, nils_code}
 use Rattle.exp_laws.proofs.Registers.{split, Rel, After, after_none, after_then, after_above}
 use Rattle.exp_laws.specs.Setting.{Setting}

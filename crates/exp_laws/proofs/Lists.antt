@@ -3,7 +3,8 @@ use Rattle.std.proofs.Common.{◌≡◌, ℕ, zero, suc, ◌+◌, ◌<◌, ◌�
 use Rattle.std.specs.Prelude.{filter, nat_lt}
 use Rattle.int_core.specs.Value.{Value, nth, range, write, write_all}
 use Rattle.tree_activation.specs.Work.{Pending}
-use Rattle.machine_readings.proofs.Lists.{nth_write_same, nth_write_other, write_more, lt_true}
+use Rattle.list_laws.proofs.Values.{nth_write_same, nth_write_other, write_more}
+use Rattle.list_laws.proofs.Tests.{lt_true}
 use Rattle.exp_laws.proofs.Registers.{marked_in, Ascends}
 
 -- the registers from t on have the first values of a list

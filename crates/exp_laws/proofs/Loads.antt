@@ -8,8 +8,7 @@ use Rattle.code_core.specs.declared.instruction.Instruction.{Instruction}
 use Rattle.code_core.specs.declared.proto.Const.{Const}
 use Rattle.code_core.specs.Instruction.{abc, abx, op_ax, opcode_of, a_of, ax_of}
 use Rattle.code_core.specs.Prototype.{Prototype}
-use Rattle.code_core.specs.Check.{at, extra_at, is_same}
-use Rattle.code_core.specs.Check.{there as there_is}
+use Rattle.code_core.specs.Check.{at, extra_at, is_same, there as there_is}
 use Rattle.std.specs.Prelude.{option_and_then}
 use Rattle.code_core.proofs.FieldLemmas.{opcode_of-abc, a_of-abc, b_of-abc, opcode_of-abx, a_of-abx, bx_of-abx, opcode_of-ax, ax_of-ax}
 use Rattle.machine_core.specs.World.{Activation}
@@ -20,7 +19,7 @@ use Rattle.code_of.specs.Constants.{is_small, small_field, number_in}
 use Rattle.exp_laws.proofs.Steps.{found_below, row_step, own_step, go_step, put_on, put_step, to_register_step}
 use Rattle.exp_laws.specs.Placed.{Found}
 use Rattle.code_core.specs.Opcode.{number_of}
-use Rattle.machine_readings.proofs.Lists.{eq_refl}
+use Rattle.list_laws.proofs.Tests.{eq_refl}
 
 -- a small integer is the field of its LOADI
 

@@ -6,8 +6,7 @@ use Rattle.int_core.specs.Value.{Value, known, integer, string, nth, write}
 use Rattle.int_core.specs.Operations.{index}
 use Rattle.int_core.specs.Ask.{reads_upvalue, operates, Captured, goes_on}
 use Rattle.tree_core.specs.declared.name.Place.{Place}
-use Rattle.tree_core.specs.declared.name.Place.TheVariants.{Unset, Upvalue, GlobalIn, GlobalOf}
-use Rattle.tree_core.specs.declared.name.Place.TheVariants.{Local as LocalPlace}
+use Rattle.tree_core.specs.declared.name.Place.TheVariants.{Unset, Upvalue, GlobalIn, GlobalOf, Local as LocalPlace}
 use Rattle.tree_activation.specs.Work.{give, field_of, Work, Pending}
 use Rattle.tree_activation.specs.Work as tree
 use Rattle.tree_activation.specs.Activation.{step}
@@ -25,7 +24,7 @@ use Rattle.code_of.specs.Coded.{Coded, with_abc, with_abx}
 use Rattle.code_of.specs.Operators.{name_code}
 use Rattle.code_of.specs.Constants.{is_small, small_field, number_in, loads}
 use Rattle.exp_laws.proofs.Registers.{Rel, after_then, after_put}
-use Rattle.machine_readings.proofs.Lists.{nth_write_same, nth_write_other}
+use Rattle.list_laws.proofs.Values.{nth_write_same, nth_write_other}
 use Rattle.exp_laws.specs.Setting.{Setting}
 use Rattle.exp_laws.proofs.Talking.{Agree, go_left, go_right, of_tree, of_code}
 use Rattle.exp_laws.proofs.Placing.{HasAt, has_front, has_back, here_abc}

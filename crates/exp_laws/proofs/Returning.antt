@@ -18,7 +18,9 @@ use Rattle.machine_core.specs.InstructionRows.{rest_at, rest_by, returned_so, af
 use Rattle.machine_core.specs.InstructionRows as rows
 use Rattle.machine_core.specs.Talk as code
 use Rattle.machine_core.specs.Talk.{talk, talk_step, says_so, heard, amid}
-use Rattle.machine_readings.proofs.Lists.{append_nil, without_last_is, length_more, lt_true}
+use Rattle.list_laws.proofs.Items.{append_nil, length_more}
+use Rattle.list_laws.proofs.Ends.{without_last_is}
+use Rattle.list_laws.proofs.Tests.{lt_true}
 use Rattle.exp_laws.proofs.Registers.{Rel, marked_in, last_nth}
 use Rattle.exp_laws.specs.Setting.{Setting}
 use Rattle.exp_laws.proofs.Talking.{Here, Agree, go_left, both_ask, of_tree, of_code}

@@ -15,7 +15,7 @@ use Rattle.machine_core.specs.World.{Activation}
 use Rattle.machine_core.specs.InstructionRows.{read_values, counted}
 use Rattle.machine_core.specs.InstructionRows as rows
 use Rattle.machine_core.specs.Talk.{before, talk, talk_step}
-use Rattle.machine_readings.proofs.Lists.{eq_not}
+use Rattle.list_laws.proofs.Tests.{eq_not}
 use Rattle.code_of.specs.Coded.{with_abc}
 use Rattle.code_of.specs.Expressions.{count, ends_open, list_field, exps_code}
 use Rattle.exp_laws.proofs.Registers.{Rel}

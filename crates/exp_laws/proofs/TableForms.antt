@@ -16,7 +16,7 @@ use Rattle.machine_core.specs.World.{for_value, dropped}
 use Rattle.machine_core.specs.Text.{read, write_register}
 use Rattle.machine_core.specs.InstructionRows.{skip, then, told_values}
 use Rattle.machine_core.specs.Talk.{before, amid, talk, says_so, heard}
-use Rattle.machine_readings.proofs.Lists.{nth_write_same}
+use Rattle.list_laws.proofs.Values.{nth_write_same}
 use Rattle.code_of.specs.Coded.{Coded, with_abc}
 use Rattle.code_of.specs.Expressions.{set_list}
 use Rattle.exp_laws.specs.Setting.{Setting}

@@ -9,9 +9,8 @@ use Rattle.machine_core.specs.Talk.{State}
 use Rattle.code_core.specs.Writable.{string_fits}
 use Rattle.machine_core.specs.World.{Function, Cell, LuaFrame, Frame, lua, pcall, xpcall, handler, World}
 use Rattle.machine_core.specs.Moves.{frame_place, blamed, without_mark, line_of}
-use Rattle.machine_core.specs.TalkRun.{TalkFrame, waiting, protected, handled_by, handling, Now, Talks, place_text}
-use Rattle.machine_core.specs.TalkRun.{blamed as talk_blamed}
-use Rattle.machine_readings.proofs.Lists.{upward}
+use Rattle.machine_core.specs.TalkRun.{TalkFrame, waiting, protected, handled_by, handling, Now, Talks, place_text, blamed as talk_blamed}
+use Rattle.list_laws.proofs.Ends.{upward}
 use Rattle.machine_readings.proofs.Cells.{Held}
 use Rattle.machine_readings.proofs.Sim.{Pair, under, Below}
 use Rattle.machine_readings.proofs.Worlds.{mk}

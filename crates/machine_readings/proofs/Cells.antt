@@ -5,7 +5,9 @@ use Rattle.std.proofs.lemmas.Bool.{cases_eq}
 use Rattle.int_core.specs.Value.{Value, nth, write}
 use Rattle.int_core.specs.Ask.{shared_by, gone_from, held_below, brought, cell_held}
 use Rattle.machine_core.specs.TalkRun.{shared_in, shared_out}
-use Rattle.machine_readings.proofs.Lists.{nth_write_same, nth_write_other, write_more, nth_set_same, nth_set_other, length_set, lt_true, lt_is, eq_true, eq_refl}
+use Rattle.list_laws.proofs.Values.{nth_write_same, nth_write_other, write_more, nth_set_same, nth_set_other}
+use Rattle.list_laws.proofs.Items.{length_set}
+use Rattle.list_laws.proofs.Tests.{lt_true, lt_is, eq_true, eq_refl}
 
 abbrev pub Held : Type 0
 Held = List (ℕ × ℕ)

@@ -5,7 +5,7 @@ use Rattle.int_core.specs.Value.{Value, nth}
 use Rattle.int_core.specs.Ask.{shared_by, gone_from, held_below}
 use Rattle.machine_core.specs.World.{Function, Cell, closed, open_at, Frame, close_from}
 use Rattle.machine_core.specs.TalkRun.{TalkFrame, shared_in}
-use Rattle.machine_readings.proofs.Lists.{lt_not, lt_is, lt_off, eq_true, eq_refl}
+use Rattle.list_laws.proofs.Tests.{lt_not, lt_is, lt_off, eq_true, eq_refl}
 use Rattle.machine_readings.proofs.Cells.{Held, gone_on, gone_off, below_has, below_was, shared_length}
 use Rattle.machine_readings.proofs.Sim.{Holds, holds_less, CellsOk, below_length, Working, below_values, once, in_range, not_top, not_shut}
 

@@ -12,7 +12,7 @@ use Rattle.machine_core.specs.Text.{arg, Own, read_register, read_registers, rea
 use Rattle.machine_core.specs.Moves.{cells_after, cells_done}
 use Rattle.machine_core.specs.Talk.{captured_after, captured_done}
 use Rattle.machine_core.specs.TalkRun.{TalkFrame, shared_in}
-use Rattle.machine_readings.proofs.Lists.{nth_write_same, nth_write_other}
+use Rattle.list_laws.proofs.Values.{nth_write_same, nth_write_other}
 use Rattle.machine_readings.proofs.Cells.{shared_append}
 use Rattle.machine_readings.proofs.Sim.{Fixed, Alike, Working}
 use Rattle.machine_readings.proofs.Closing.{close_work}

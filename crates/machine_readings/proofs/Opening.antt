@@ -9,7 +9,9 @@ use Rattle.machine_core.specs.World.{Function, Cell, closed, open_at, Frame, fin
 use Rattle.machine_core.specs.Moves.{captured}
 use Rattle.machine_core.specs.Talk.{names_of}
 use Rattle.machine_core.specs.TalkRun.{TalkFrame, Talks, own_cell, cells_named}
-use Rattle.machine_readings.proofs.Lists.{eq_true, eq_refl, get_old, get_new, get_either, nth_old, length_more}
+use Rattle.list_laws.proofs.Tests.{eq_true, eq_refl}
+use Rattle.list_laws.proofs.Items.{get_old, get_new, get_either, length_more}
+use Rattle.list_laws.proofs.Values.{nth_old}
 use Rattle.machine_readings.proofs.Cells.{Held, Has, find_has, has_find}
 use Rattle.machine_readings.proofs.Sim.{Holds, holds_less, CellsOk, RegsOk, Working, Rested, below_values}
 

@@ -11,7 +11,7 @@ use Rattle.machine_core.specs.Moves.{outside, made, captured, stop, spent, run}
 use Rattle.machine_core.specs.FrameRows.{expand}
 use Rattle.machine_core.specs.Talk.{amid, talk, says_so, names_of}
 use Rattle.machine_core.specs.TalkRun.{TalkFrame, talks, Talks, shared_in, turn, own_cell, cells_named}
-use Rattle.machine_readings.proofs.Lists.{get_old}
+use Rattle.list_laws.proofs.Items.{get_old}
 use Rattle.machine_readings.proofs.Sim.{Alike, Rested, Working, below_more, below_length}
 use Rattle.machine_readings.proofs.Opening.{both_names}
 use Rattle.machine_readings.proofs.Writing.{cell_read, cell_write}

@@ -15,11 +15,11 @@ use Rattle.machine_core.specs.Moves.{Made, made, on_own, move_pc, open_register,
 use Rattle.machine_core.specs.FrameRows.{expand, call_row, prepares, raises, after_call, after_leaving, handed}
 use Rattle.machine_core.specs.RowFits.{IsWaiting}
 use Rattle.machine_core.specs.Talk.{State, before, amid, talk, says_so, captured_after, captured_done, marked}
-use Rattle.machine_core.specs.TalkRun.{TalkFrame, talking, waiting, talks, Talks, shared_in, shared_out, turn, answered, calls_value}
-use Rattle.machine_core.specs.TalkRun.{settled as talk_settled, returning as talk_returning, called as talk_called}
-use Rattle.machine_readings.proofs.Lists.{append_nil, lt_is}
+use Rattle.machine_core.specs.TalkRun.{TalkFrame, talking, waiting, talks, Talks, shared_in, shared_out, turn, answered, calls_value, settled as talk_settled, returning as talk_returning, called as talk_called}
+use Rattle.list_laws.proofs.Items.{append_nil}
+use Rattle.list_laws.proofs.Tests.{le_off}
 use Rattle.machine_readings.proofs.Cells.{shared_append}
-use Rattle.machine_readings.proofs.Sim.{Alike, Working, Rested, Stacks, below_length}
+use Rattle.machine_readings.proofs.Sim.{Alike, Working, Rested, Stacks, below_length, below_lax}
 use Rattle.machine_readings.proofs.Closing.{close_all, no_top}
 use Rattle.machine_readings.proofs.Opening.{both_none, both_some, open_work, open_regs}
 use Rattle.machine_readings.proofs.Worlds.{mk, frame, place, shape_of}
@@ -30,7 +30,6 @@ use Rattle.machine_readings.proofs.Local.{fits_alike, reads_alike, tells_alike, 
 use Rattle.machine_readings.proofs.Calls.{call_out, enter_leads}
 use Rattle.machine_readings.proofs.Answered.{share, flushed, RowLeads, again, reply_leads, hears, raise_leads, refused_leads, waits_leads}
 use Rattle.machine_readings.proofs.Quicks.{quick_leads, good_more}
-use Rattle.machine_readings.proofs.Sim.{below_lax}
 
 -- results or an error go to the frames below
 pub handed_is : (ms : List Frame) (env : List Value) (W : World) → run (handed (shape_of ms)) env W ≡ ends (handing ms) W
@@ -205,7 +204,7 @@ module _ (b d : World) (n : ℕ) (g : Function) (pc : ℕ) (w : Wait Value) wher
       refused U text = answered U n (share c a) (λ x. amid (marked trap g.code a.pc x.reply) [] (record a { registers = brought c.held x.shared a.registers }) (record { held = c.held; gone = [] })) 0 (faulted text) ts
 
       full : nat_le (length ms + 1) greatest_depth ≡ false → ⊥
-      full z = let l = k.depth in Rattle.machine_readings.proofs.Lists.le_off (length ms + 1) greatest_depth z (omega (arith, l))
+      full z = let l = k.depth in le_off (length ms + 1) greatest_depth z (omega (arith, l))
 
       by : (fuel : ℕ) (o : Callee) → Leads b d (talk_called (mk_talks d H fs (shared_in (share c a) vs) ts0 talks fuel) ts o refused) (call_out after_call env (called_tail (mk b H fs ws (lua (frame n w a') ∷ ms) [] fuel) (place ms n w a' g) o))
       by fuel (not_callable text) = reply_leads b d n g pc w (raise text) (raise_leads b d n g pc w text) [] a a' c H fs (shared_in (share c a) vs) fuel ms ts ws al.fixed e f tt q

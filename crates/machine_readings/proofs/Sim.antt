@@ -10,7 +10,7 @@ use Rattle.machine_core.specs.Moves.{line_of, greatest_depth}
 use Rattle.machine_core.specs.RowFits.{IsWaiting}
 use Rattle.machine_core.specs.Talk.{State, amid}
 use Rattle.machine_core.specs.TalkRun.{TalkFrame, waiting, protected, handled_by, handling, shared_in}
-use Rattle.machine_readings.proofs.Lists.{get_old}
+use Rattle.list_laws.proofs.Items.{get_old}
 use Rattle.machine_readings.proofs.Cells.{Held, Has, Once, InRange, flush_on, flush_off, shared_length}
 
 -- the frame with the number f holds its register r as the cell c

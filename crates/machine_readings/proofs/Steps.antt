@@ -13,10 +13,9 @@ use Rattle.machine_core.specs.FrameRows.{then, expand, hand_over, after_handler,
 use Rattle.machine_core.specs.MachineStep.{yield_row, pcall_row, xpcall_row, lua_step, woken, top_step, from_world, step_by, step}
 use Rattle.machine_core.specs.RowFits.{IsWaiting}
 use Rattle.machine_core.specs.Talk.{before, talk, talk_step}
-use Rattle.machine_core.specs.TalkRun.{TalkFrame, talking, waiting, protected, handled_by, handling, Now, talks, raising, has_returned, has_yielded, has_failed, is_spent, Talks, ticks, tick_by, calls_over, turn, error_in_handler}
-use Rattle.machine_core.specs.TalkRun.{returning as talk_returning, unwinding as talk_unwinding, calls_primitive as talk_primitive, raised_to as talk_raised_to, blames as talk_blames}
+use Rattle.machine_core.specs.TalkRun.{TalkFrame, talking, waiting, protected, handled_by, handling, Now, talks, raising, has_returned, has_yielded, has_failed, is_spent, Talks, ticks, tick_by, calls_over, turn, error_in_handler, returning as talk_returning, unwinding as talk_unwinding, calls_primitive as talk_primitive, raised_to as talk_raised_to, blames as talk_blames}
 use Rattle.machine_readings.specs.Join.{primitives}
-use Rattle.machine_readings.proofs.Lists.{append_nil}
+use Rattle.list_laws.proofs.Items.{append_nil}
 use Rattle.machine_readings.proofs.Cells.{Held}
 use Rattle.machine_readings.proofs.Sim.{CellsOk, Pair, Below, Stacks}
 use Rattle.machine_readings.proofs.Worlds.{mk, frame, stack_at, shape_of, top_is, lua_step_is, woken_is}

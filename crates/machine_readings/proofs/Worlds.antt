@@ -7,7 +7,7 @@ use Rattle.machine_core.specs.World.{Function, Cell, Wait, Activation, LuaFrame,
 use Rattle.machine_core.specs.Text.{Own, done}
 use Rattle.machine_core.specs.Moves.{TopShape, lua_top, pcall_top, xpcall_top, handler_top, closing_top, no_top, cells_done, top_now, top_shape, has_room, greatest_depth, push_all}
 use Rattle.machine_core.specs.MachineStep.{top_step, lua_step, woken}
-use Rattle.machine_readings.proofs.Lists.{upward, last_is, without_last_is, length_upward}
+use Rattle.list_laws.proofs.Ends.{upward, last_is, without_last_is, length_upward}
 
 -- a world of one coroutine, whose frames are given from the top
 abbrev pub mk : World → Heap → List Function → List Cell → List Frame → List Value → ℕ → World

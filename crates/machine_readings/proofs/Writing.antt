@@ -7,7 +7,10 @@ use Rattle.int_core.specs.Value.{Value, nth, write, bind}
 use Rattle.int_core.specs.Heap.{Heap}
 use Rattle.machine_core.specs.World.{Function, Cell, closed, open_at, Wait, Activation, LuaFrame, Frame, lua, pcall, xpcall, handler, closing, World, lua_frame, read_cell, write_cell, write_in_frame, in_progress}
 use Rattle.machine_core.specs.TalkRun.{TalkFrame, waiting, protected, handled_by, handling}
-use Rattle.machine_readings.proofs.Lists.{nth_get, nth_set_same, nth_set_other, nth_write_same, nth_write_other, length_write, eq_true, eq_refl, get_new, get_set_same, get_set_other, length_set, upward, length_upward}
+use Rattle.list_laws.proofs.Values.{nth_get, nth_set_same, nth_set_other, nth_write_same, nth_write_other, length_write}
+use Rattle.list_laws.proofs.Tests.{eq_true, eq_refl}
+use Rattle.list_laws.proofs.Items.{get_new, get_set_same, get_set_other, length_set}
+use Rattle.list_laws.proofs.Ends.{upward, length_upward}
 use Rattle.machine_readings.proofs.Cells.{Held, Has}
 use Rattle.machine_readings.proofs.Sim.{Holds, holds_less, CellsOk, RegsOk, Pair, under, Below, below_length, Rested, below_values}
 use Rattle.machine_readings.proofs.Worlds.{mk, frame}

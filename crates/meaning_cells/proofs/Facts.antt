@@ -10,7 +10,7 @@ use Rattle.tree_activation.specs.Asking.{fitted, numbers}
 use Rattle.tree_activation.specs.Expressions.{integer_in}
 use Rattle.tree_activation.specs.Jumps.{Landing, passed_by, is_at_end, ahead, behind}
 use Rattle.tree_activation.specs.Statements.{point_of, repeat_point, is_closed, marks_closed, hidden}
-use Rattle.meaning_cells.proofs.Lists.{length_write}
+use Rattle.list_laws.proofs.Values.{length_write}
 use Rattle.meaning_cells.specs.Alike.{Member}
 use Rattle.meaning_cells.proofs.Relation.{Under, Low, Labels, IsPoint, Req}
 

@@ -1,73 +1,14 @@
 -- Lists of values, and the cells that an activation holds.
-use Rattle.std.proofs.Common.{ℕ, zero, suc, ◌<◌, ◌≤◌, ◌≡◌, ◌≢◌, ◌⊎◌, inl, inr, ⊎_elim, List, [], ◌∷◌, ◌++◌, length, Some, None, refl, sym, ap, subst, ◌∙◌, arith, Bool, true, false, cond}
+use Rattle.std.proofs.Common.{ℕ, zero, suc, ◌<◌, ◌≡◌, ◌⊎◌, inl, inr, ⊎_elim, List, [], ◌∷◌, ◌++◌, length, Some, None, refl, sym, ap, subst, ◌∙◌, arith, Bool, true, false, cond}
 use Rattle.std.specs.Prelude.{map, nat_eq, nat_lt, slice_set}
 use Rattle.std.proofs.lemmas.Bool.{cases_eq}
-use Rattle.std.proofs.lemmas.Bool.Decides.{nat_tests}
 use Rattle.int_core.specs.Value.{Value, nth, write}
 use Rattle.int_core.specs.Ask.{shared_by, held_below, gone_from, brought, cell_held}
+use Rattle.list_laws.proofs.Values.{nth_write_same, nth_write_other, length_write, nth_set_same, nth_set_other, write_own}
+use Rattle.list_laws.proofs.Tests.{eq_refl, eq_true, lt_is, lt_off}
 use Rattle.lua_meaning.specs.World.{shared_in, shared_out}
 use Rattle.meaning_cells.specs.Opening.{carried}
 use Rattle.meaning_cells.specs.Alike.{Has}
-
-pub nth_write_same : (s : ℕ) (v : Value) (xs : List Value) → nth (write s v xs) s ≡ v
-nth_write_same zero v [] = refl
-nth_write_same zero v (x ∷ xs) = refl
-nth_write_same (suc s) v [] = nth_write_same s v []
-nth_write_same (suc s) v (x ∷ xs) = nth_write_same s v xs
-
-pub nth_write_other : (s : ℕ) (v : Value) (xs : List Value) (r : ℕ) → r ≢ s → nth (write s v xs) r ≡ nth xs r
-nth_write_other zero v [] zero n = absurd (n refl)
-nth_write_other zero v [] (suc r) n = refl
-nth_write_other zero v (x ∷ xs) zero n = absurd (n refl)
-nth_write_other zero v (x ∷ xs) (suc r) n = refl
-nth_write_other (suc s) v [] zero n = refl
-nth_write_other (suc s) v [] (suc r) n = nth_write_other s v [] r (λ e. n (ap suc e))
-nth_write_other (suc s) v (x ∷ xs) zero n = refl
-nth_write_other (suc s) v (x ∷ xs) (suc r) n = nth_write_other s v xs r (λ e. n (ap suc e))
-
-pub length_write : (s : ℕ) (v : Value) (xs : List Value) → s < length xs → length (write s v xs) ≡ length xs
-length_write zero v [] h = absurd (omega arith)
-length_write zero v (x ∷ xs) h = refl
-length_write (suc s) v [] h = absurd (omega arith)
-length_write (suc s) v (x ∷ xs) h = ap suc (length_write s v xs (omega arith))
-
-pub write_more : (s : ℕ) (v : Value) (xs : List Value) → length xs ≤ length (write s v xs)
-write_more zero v [] = omega arith
-write_more zero v (x ∷ xs) = omega arith
-write_more (suc s) v [] = omega arith
-write_more (suc s) v (x ∷ xs) = let i = write_more s v xs in omega (arith, i)
-
-pub write_own : (s : ℕ) (xs : List Value) → s < length xs → write s (nth xs s) xs ≡ xs
-write_own zero [] h = absurd (omega arith)
-write_own zero (x ∷ xs) h = refl
-write_own (suc s) [] h = absurd (omega arith)
-write_own (suc s) (x ∷ xs) h = ap (λ z. x ∷ z) (write_own s xs (omega arith))
-
-pub same_list : (xs ys : List Value) → length xs ≡ length ys → ((r : ℕ) → nth xs r ≡ nth ys r) → xs ≡ ys
-same_list [] [] e h = refl
-same_list [] (y ∷ ys) e h = absurd (omega (arith, e))
-same_list (x ∷ xs) [] e h = absurd (omega (arith, e))
-same_list (x ∷ xs) (y ∷ ys) e h =
-    let a : x ≡ y = h 0 in
-    let b : xs ≡ ys = same_list xs ys (omega (arith, e)) (λ r. h (suc r)) in
-    cc
-
--- tests
-
-pub eq_refl : (n : ℕ) → nat_eq n n ≡ true
-eq_refl n = grind (arith, nat_tests)
-
-pub eq_true : (m n : ℕ) → nat_eq m n ≡ true → m ≡ n
-eq_true m n h = grind (arith, nat_tests)
-
-pub lt_is : (m n : ℕ) → nat_lt m n ≡ true → m < n
-lt_is m n h = grind (arith, nat_tests)
-
-pub lt_true : (m n : ℕ) → m < n → nat_lt m n ≡ true
-lt_true m n h = grind (arith, nat_tests)
-
-pub lt_off : (m n : ℕ) → nat_lt m n ≡ false → m < n → ⊥
-lt_off m n h l = grind (arith, nat_tests)
 
 -- what an answer brings back
 
@@ -172,18 +113,6 @@ place_of c (s ∷ h) = ⊎_elim
     (cases_eq s.1 c)
 
 -- values that are carried into cells
-
-pub nth_set_same : (c : ℕ) (v : Value) (xs : List Value) → c < length xs → nth (slice_set xs c v) c ≡ v
-nth_set_same c v [] h = absurd (omega arith)
-nth_set_same zero v (x ∷ xs) h = refl
-nth_set_same (suc c) v (x ∷ xs) h = nth_set_same c v xs (omega arith)
-
-pub nth_set_other : (c : ℕ) (v : Value) (xs : List Value) (r : ℕ) → r ≢ c → nth (slice_set xs c v) r ≡ nth xs r
-nth_set_other c v [] r n = refl
-nth_set_other zero v (x ∷ xs) zero n = absurd (n refl)
-nth_set_other zero v (x ∷ xs) (suc r) n = refl
-nth_set_other (suc c) v (x ∷ xs) zero n = refl
-nth_set_other (suc c) v (x ∷ xs) (suc r) n = nth_set_other c v xs r (λ e. n (ap suc e))
 
 pub set_size : (c : ℕ) (v : Value) (xs : List Value) → length (slice_set xs c v) ≡ length xs
 set_size c v [] = refl

@@ -6,7 +6,8 @@ use Rattle.int_core.specs.Ask.{stuck, Captured, shared_by, brought, cell_held}
 use Rattle.tree_activation.specs.Work.{Control, capture, Work, Activation, at}
 use Rattle.tree_activation.specs.Asking.{captures_one}
 use Rattle.meaning_cells.specs.Opening.{carried, opening, by_step, AreInScope, HoldsInScope, AreHeld, KeepsCells}
-use Rattle.meaning_cells.proofs.Lists.{write_own, eq_refl, eq_true, lt_true}
+use Rattle.list_laws.proofs.Values.{write_own}
+use Rattle.list_laws.proofs.Tests.{eq_refl, eq_true, lt_true}
 
 -- values that come back as they were carried change nothing
 bring_own : (held : List (ℕ × ℕ)) (gone : List (ℕ × Value)) (xs : List Value) → HoldsInScope (length xs) held

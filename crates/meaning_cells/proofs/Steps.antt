@@ -4,13 +4,13 @@ use Rattle.std.proofs.lemmas.List.{length-take}
 use Rattle.std.specs.Prelude.{ℤ, pos, negsuc, not, nat_lt, take, drop, reverse, codes}
 use Rattle.int_core.specs.Arithmetic.{add, sub}
 use Rattle.int_core.specs.Value.{Value, known, nil, boolean, integer, string, same_integer, is_nil, nth, shape, holds, bind, write, without_last}
-use Rattle.int_core.specs.Operations.{Event, of_add, of_sub, of_mul, of_mod, of_idiv, of_band, of_bor, of_bxor, of_shl, of_shr, of_unm, of_bnot, computed, by_zero, Operation, index, arithmetic, concat, length', equal, less, less_equal}
+use Rattle.int_core.specs.Operations.{Event, of_add, of_sub, of_mul, of_mod, of_idiv, of_band, of_bor, of_bxor, of_shl, of_shr, of_unm, of_bnot, computed, by_zero, Operation, index, arithmetic, concat, length', equal, less, less_equal, store as store_op}
 use Rattle.int_core.specs.Ask.{CellName, of_local, of_upvalue, returns, throws, Ask, reads_upvalue, writes_upvalue, makes_table, makes_function, fills_table, pays, operates, calls, calls_last, marks, closes, raises, leaves, Reply, values, faulted, left, values_in, Next, stuck, goes_on, says, opens, shared_by, held_below, gone_from, brought, cell_held}
 use Rattle.tree_core.specs.declared.name.UpName.{UpName}
 use Rattle.tree_core.specs.declared.name.Name.{Name}
 use Rattle.tree_core.specs.declared.name.Declared.{Declared}
 use Rattle.tree_core.specs.declared.name.Place.{Place}
-use Rattle.tree_core.specs.declared.name.Place.TheVariants.{Unset, Upvalue, GlobalIn, GlobalOf}
+use Rattle.tree_core.specs.declared.name.Place.TheVariants.{Unset, Upvalue, GlobalIn, GlobalOf, Local as LocalPlace}
 use Rattle.tree_core.specs.declared.operator.UnOp.{UnOp}
 use Rattle.tree_core.specs.declared.operator.UnOp.TheVariants.{Neg, BitNot, Not, Len}
 use Rattle.tree_core.specs.declared.operator.BinOp.{BinOp}
@@ -23,11 +23,11 @@ use Rattle.tree_activation.specs.Jumps.{Landing, passed_by, ahead, behind, lands
 use Rattle.tree_activation.specs.Statements.{point_of, repeat_point, begins, marks_closed, declares, declares_function, aims_at_name, aims, paired, stores_at, stores, goes_on_from, rounds_to_come, hidden, begins_round, begins_counting, starts_counting, step_of, counts_on, counts_round, hidden_integer, iterates, tests_round, enters_round, has_none, begins_return, executes, ends, runs_on, chooses}
 use Rattle.tree_activation.specs.Activation.{step, uses_list, takes_all, collects, given, completes, decides, counts_in, tests_in, enters_in, on_top, line_of_end, start}
 use Rattle.meaning_cells.specs.Alike.{Has, Member, IsUnpaired, Cells, AreCells, AreEven, opened, SameAsk, SameCells, Moves, FirstAlone, SecondOpens, BothOpen, Together, Steps, Alike}
-use Rattle.meaning_cells.proofs.Lists.{lt_is, lt_true, write_more, bring_size, bring_own, below_was, find_has, has_find}
+use Rattle.list_laws.proofs.Tests.{lt_is, lt_true}
+use Rattle.list_laws.proofs.Values.{write_more}
+use Rattle.meaning_cells.proofs.Lists.{bring_size, bring_own, below_was, find_has, has_find}
 use Rattle.meaning_cells.proofs.Relation.{View, one, two, Held, held_more, held_even, held_owns, held_cut, held_told, held_first, held_second, held_both, bound, floor, Under, Low, IsEnd, IsPoint, Serves, Sound, Ready, Landed, Req, Rel, same, early, steps_behind, brought_same, in_scope_too}
 use Rattle.meaning_cells.proofs.Facts.{under_none, low_none, point_ok, repeat_ok, numbers_in, fitted_size, marks_req, round_size, enter_size, integer_in_scope, IsLanding, ahead_ok, behind_ok}
-use Rattle.tree_core.specs.declared.name.Place.TheVariants.{Local as LocalPlace}
-use Rattle.int_core.specs.Operations.{store as store_op}
 
 under_low : (b : Option ℕ) (level : ℕ) (hd : List (ℕ × ℕ)) → Under b level → Low b (held_below level hd)
 under_low None level hd u = tt

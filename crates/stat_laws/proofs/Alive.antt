@@ -8,7 +8,7 @@ use Rattle.tree_activation.specs.Statements.{is_closed}
 use Rattle.code_core.specs.declared.proto.LocVar.{LocVar}
 use Rattle.code_core.specs.Prototype.{Prototype}
 use Rattle.machine_core.specs.InstructionRows.{is_alive, variable_name}
-use Rattle.machine_readings.proofs.Lists.{lt_not}
+use Rattle.list_laws.proofs.Tests.{lt_not}
 use Rattle.code_core.specs.declared.opcode.Opcode.TheVariants.{Tbc}
 use Rattle.code_of.specs.Coded.{with_abc}
 use Rattle.code_of.specs.Parts.{marks_code}

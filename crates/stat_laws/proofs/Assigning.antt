@@ -17,7 +17,8 @@ use Rattle.machine_core.specs.Text as text
 use Rattle.machine_core.specs.Text.{Text, read_register, write_upvalue, own, quick}
 use Rattle.machine_core.specs.InstructionRows.{next}
 use Rattle.machine_core.specs.Talk.{talk_step, says_so, before, amid}
-use Rattle.machine_readings.proofs.Lists.{append_nil, nth_write_same, nth_write_other, length_write, write_more}
+use Rattle.list_laws.proofs.Items.{append_nil}
+use Rattle.list_laws.proofs.Values.{nth_write_same, nth_write_other, length_write, write_more}
 use Rattle.code_of.specs.Coded.{Coded}
 use Rattle.code_of.specs.Expressions.{made_in, count, exps_code}
 use Rattle.code_of.specs.Parts.{targets_code, store_code, stores_code}

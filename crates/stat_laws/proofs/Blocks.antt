@@ -24,7 +24,7 @@ use Rattle.code_of.proofs.Sizes.{stat_sized}
 use Rattle.stat_laws.proofs.Naming.{StatIsNamed, StatsAreNamed}
 use Rattle.stat_laws.specs.Scoped.{Named, names_ahead, StatIsPlaced, StatsArePlaced}
 use Rattle.stat_laws.proofs.Labels.{closed_numbers, closed_after, IsNoLabel, level_rises, level_still, runs_stat, passed_other, named_other, Jumps, jumps_within, point, RunGoes, AllAhead, all_other, AllPassed, passed_within, rest_jumps}
-use Rattle.machine_readings.proofs.Lists.{append_nil}
+use Rattle.list_laws.proofs.Items.{append_nil}
 
 -- variables to be closed, behind some statements
 

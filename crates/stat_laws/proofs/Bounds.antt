@@ -8,7 +8,7 @@ use Rattle.tree_activation.specs.Work.{collect, evaluate, for_counting, listed, 
 use Rattle.tree_activation.specs.Work as tree
 use Rattle.tree_activation.specs.Asking.{first, go}
 use Rattle.tree_activation.specs.Expressions.{added}
-use Rattle.machine_readings.proofs.Lists.{nth_write_same, nth_write_other}
+use Rattle.list_laws.proofs.Values.{nth_write_same, nth_write_other}
 use Rattle.machine_core.specs.Talk.{before}
 use Rattle.code_core.specs.declared.opcode.Opcode.TheVariants.{ForPrep, ForLoop}
 use Rattle.code_of.specs.Coded.{Coded, with_abx}

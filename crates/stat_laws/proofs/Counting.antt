@@ -15,7 +15,7 @@ use Rattle.machine_core.specs.World.{Activation}
 use Rattle.machine_core.specs.Text.{Text, written, read_register, write_register, own}
 use Rattle.machine_core.specs.InstructionRows.{next, back, integer_of_shape, with_loop, prepares, goes_round, writes_integer, runs}
 use Rattle.machine_core.specs.Talk.{before, talk, talk_step}
-use Rattle.machine_readings.proofs.Lists.{write_more}
+use Rattle.list_laws.proofs.Values.{write_more}
 use Rattle.exp_laws.proofs.Steps.{row_step, own_step, go_step}
 
 pub integer_is : (v : Value) (z : ℤ) → integer_in (shape v) ≡ Some z → v ≡ known (integer z)

@@ -11,8 +11,7 @@ use Rattle.tree_activation.specs.Jumps.{goes_to, breaks}
 use Rattle.code_core.specs.declared.opcode.Opcode.TheVariants.{Test, Jmp}
 use Rattle.std.specs.Prelude.{nat_lt}
 use Rattle.tree_core.specs.declared.name.Place.{Place}
-use Rattle.tree_core.specs.declared.name.Place.TheVariants.{Unset, Upvalue, GlobalIn, GlobalOf}
-use Rattle.tree_core.specs.declared.name.Place.TheVariants.{Local as LocalPlace}
+use Rattle.tree_core.specs.declared.name.Place.TheVariants.{Unset, Upvalue, GlobalIn, GlobalOf, Local as LocalPlace}
 use Rattle.code_core.specs.declared.proto.Const.TheVariants.{Str as StrConst}
 use Rattle.code_of.specs.Constants.{number_in}
 use Rattle.code_core.specs.Instruction.{abc, op_ax}
@@ -24,7 +23,7 @@ use Rattle.code_of.specs.Levels.{made_in_arms, made_in_block, levels_after}
 use Rattle.code_of.specs.Parts.{close_code, past_size, past}
 use Rattle.code_of.specs.Sizes.{arms_size, stats_size, block_size}
 use Rattle.code_of.specs.Statements.{in_loop, arms_code, stats_code, block_code}
-use Rattle.machine_readings.proofs.Lists.{append_nil}
+use Rattle.list_laws.proofs.Items.{append_nil}
 use Rattle.exp_laws.proofs.Registers.{AllUnder, Rel, Ascends}
 use Rattle.exp_laws.specs.Setting.{Setting}
 use Rattle.exp_laws.proofs.Talking.{Agree, go_left, go_right, of_tree, of_code}

@@ -21,7 +21,9 @@ use Rattle.machine_core.specs.Text as text
 use Rattle.machine_core.specs.InstructionRows.{then, back, variable_name}
 use Rattle.machine_core.specs.Talk as code
 use Rattle.machine_core.specs.Talk.{before, amid, talk, talk_step, says_so, heard, marked}
-use Rattle.machine_readings.proofs.Lists.{append_nil, length_write, nth_write_other, lt_true}
+use Rattle.list_laws.proofs.Items.{append_nil}
+use Rattle.list_laws.proofs.Values.{length_write, nth_write_other}
+use Rattle.list_laws.proofs.Tests.{lt_true}
 use Rattle.code_of.specs.Coded.{Coded, with_abc, with_abx}
 use Rattle.code_of.specs.Expressions.{made_in, exps_code}
 use Rattle.code_of.specs.Jumps.{Reach}

@@ -25,7 +25,7 @@ use Rattle.exp_laws.proofs.Placing.{HasAt}
 use Rattle.stat_laws.proofs.Closing.{AllBelow}
 use Rattle.stat_laws.specs.Scoped.{Named, legal, names_ahead, names_passed}
 use Rattle.stat_laws.proofs.Standing.{numbers, AllFrom, from_lower, from_more, GoesOn, lands_ahead, lands_back}
-use Rattle.machine_readings.proofs.Lists.{append_nil}
+use Rattle.list_laws.proofs.Items.{append_nil}
 
 -- the numbers of those variables of a declaration that are to be closed
 

@@ -6,7 +6,8 @@ use Rattle.std.proofs.lemmas.Option.{slice_get-map}
 use Rattle.code_core.specs.declared.proto.AbsLine.{AbsLine}
 use Rattle.code_core.specs.Check.{is_absolute, line_at, lines_from}
 use Rattle.machine_core.specs.Moves.{line_of}
-use Rattle.machine_readings.proofs.Lists.{eq_not, eq_refl, length_more}
+use Rattle.list_laws.proofs.Tests.{eq_not, eq_refl}
+use Rattle.list_laws.proofs.Items.{length_more}
 use Rattle.code_of.specs.Coded.{Coded, words}
 use Rattle.code_of.specs.CodeOf.{is_near, changes, far_lines}
 use Rattle.exp_laws.specs.Setting.{Setting}

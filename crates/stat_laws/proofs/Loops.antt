@@ -10,7 +10,7 @@ use Rattle.tree_activation.specs.Statements.{repeat_point}
 use Rattle.code_core.specs.declared.opcode.Opcode.TheVariants.{Test}
 use Rattle.code_core.specs.Instruction.{abc}
 use Rattle.machine_core.specs.Talk.{before}
-use Rattle.machine_readings.proofs.Lists.{append_nil}
+use Rattle.list_laws.proofs.Items.{append_nil}
 use Rattle.code_of.specs.Coded.{Coded, jump_over, jump_back}
 use Rattle.code_of.specs.Expressions.{exp_code}
 use Rattle.code_of.specs.Jumps.{Reach}

@@ -19,7 +19,9 @@ use Rattle.machine_core.specs.Text.{Text, pay as pay', quick}
 use Rattle.machine_core.specs.InstructionRows.{next, back, integer_of_shape, prepares, goes_round, starts, runs, rounds, writes_integer}
 use Rattle.machine_core.specs.Talk as code
 use Rattle.machine_core.specs.Talk.{before, amid, talk, talk_step, says_so}
-use Rattle.machine_readings.proofs.Lists.{append_nil, nth_write_same, nth_write_other, write_more, eq_true}
+use Rattle.list_laws.proofs.Items.{append_nil}
+use Rattle.list_laws.proofs.Values.{nth_write_same, nth_write_other, write_more}
+use Rattle.list_laws.proofs.Tests.{eq_true}
 use Rattle.code_of.specs.Coded.{Coded, with_abx}
 use Rattle.code_of.specs.Jumps.{Reach}
 use Rattle.code_of.specs.Sizes.{block_size}

@@ -27,7 +27,7 @@ use Rattle.exp_laws.proofs.Going.{next_there}
 use Rattle.exp_laws.proofs.Steps.{row_step}
 use Rattle.exp_laws.proofs.Tests.{jump_step}
 use Rattle.stat_laws.proofs.Closing.{Grown, as_before, one_more, grown_then, AllBelow, close_goes}
-use Rattle.machine_readings.proofs.Lists.{append_nil}
+use Rattle.list_laws.proofs.Items.{append_nil}
 
 -- a law at a number of asks that may rest on the law at fewer
 pub strong : (P : ℕ → Type 0) → ((n : ℕ) → ((m : ℕ) → m < n → P m) → P n) → (n : ℕ) → P n

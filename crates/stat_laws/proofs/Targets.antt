@@ -4,8 +4,7 @@ use Rattle.int_core.specs.Value.{Value, known, string, nth, write}
 use Rattle.int_core.specs.Ask.{reads_upvalue, Captured, goes_on}
 use Rattle.tree_core.specs.declared.name.Name.{Name}
 use Rattle.tree_core.specs.declared.name.Place.{Place}
-use Rattle.tree_core.specs.declared.name.Place.TheVariants.{Unset, Upvalue, GlobalIn, GlobalOf}
-use Rattle.tree_core.specs.declared.name.Place.TheVariants.{Local as LocalPlace}
+use Rattle.tree_core.specs.declared.name.Place.TheVariants.{Unset, Upvalue, GlobalIn, GlobalOf, Local as LocalPlace}
 use Rattle.tree_core.specs.Tree.{Exp, Nil, True, False, Int, Str, Vararg, Function, Var, Index, Call, Method, Unary, Binary, And, Or, Paren, Table, Exps, EndExps, MoreExps}
 use Rattle.tree_activation.specs.Work.{evaluate, collect, aim, Target, to_local, to_upvalue, to_field, for_assignment, aimed_key, aimed_field, Work, Pending}
 use Rattle.tree_activation.specs.Work as tree
@@ -17,7 +16,8 @@ use Rattle.code_core.specs.declared.proto.Const.TheVariants.{Str as StrConst}
 use Rattle.machine_core.specs.Text.{read}
 use Rattle.machine_core.specs.InstructionRows.{to_register}
 use Rattle.machine_core.specs.Talk.{before}
-use Rattle.machine_readings.proofs.Lists.{append_nil, nth_write_same, nth_write_other}
+use Rattle.list_laws.proofs.Items.{append_nil}
+use Rattle.list_laws.proofs.Values.{nth_write_same, nth_write_other}
 use Rattle.code_of.specs.Coded.{Coded, with_abc}
 use Rattle.code_of.specs.Constants.{loads}
 use Rattle.code_of.specs.Expressions.{made_by, count, exp_code}

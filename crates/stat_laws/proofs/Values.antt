@@ -11,7 +11,8 @@ use Rattle.tree_activation.specs.Asking.{fitted}
 use Rattle.tree_activation.specs.Statements.{is_closed, marks_closed}
 use Rattle.code_core.specs.declared.opcode.Opcode.TheVariants.{Tbc}
 use Rattle.machine_core.specs.Talk.{before}
-use Rattle.machine_readings.proofs.Lists.{append_nil, nth_old}
+use Rattle.list_laws.proofs.Items.{append_nil}
+use Rattle.list_laws.proofs.Values.{nth_old}
 use Rattle.code_of.specs.Coded.{Coded, with_abc}
 use Rattle.code_of.specs.Expressions.{exps_code}
 use Rattle.code_of.specs.Parts.{marks_code}

@@ -1,0 +1,4 @@
+pub mod Values
+pub mod Items
+pub mod Ends
+pub mod Tests
