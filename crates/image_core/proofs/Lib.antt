@@ -1,4 +1,5 @@
 pub mod Lists
 pub mod Visits
 pub mod Parts
+pub mod Making
 mod Examples

@@ -9,126 +9,18 @@ use Rattle.machine_alike.specs.Agree.{Pairs, SameNumber, SameCellNumber, Each, B
 use Rattle.machine_alike.proofs.Pairwise.{both_from, both_on, both_old, both_right, both_split, get_push_old, bind_some}
 use Rattle.machine_alike.proofs.Same.{value_on, table_on, function_on, coroutine_on}
 use Rattle.image_core.specs.Visit.{place, IsMet, greatest_count}
-use Rattle.image_core.specs.Image.{Item, Record, table_record, function_record, closed_record, open_record, fresh_record, suspended_record, dead_record, failed_record, no_record}
+use Rattle.image_core.specs.Image.{Item, Record, closed_record, open_record, no_record}
 use Rattle.image_core.specs.Records.{Part, an_object, a_cell, same_part, Field, of_value, of_cell, of_coroutine, row_fields, metatable_value, table_fields, wait_fields, error_fields, frame_fields, coroutine_fields, present, cell_fields, if_there, fields, value_parts, unless_named, field_parts, parts, visited, is_reached, parts_in_order, Naming, unnamed_item, or_item, item, wait_item, lua_frame_item, frame_item, row_item, record_of_table, record_of_function, record_of_coroutine, record_of_cell, or_none, record_of, naming, image_by}
 use Rattle.image_core.specs.Loading.{kind_in, is_kind, is_of, is_cell, rank, Target, count_in, new_number, new_cell, numbered_value, value_made, table_number, function_number, row_made, table_made, function_made, wait_made, lua_frame_made, frame_made, coroutine_made, cell_made, chosen, loaded, or_number, loading}
 use Rattle.image_load.specs.Loads.{CanLoad, LoadedAlike, LoadedAgrees}
 use Rattle.image_core.proofs.Visits.{order_closed, order_roots}
+use Rattle.image_core.proofs.Making.{after_old, table_yes, table_no, function_yes, function_no, coroutine_yes, coroutine_no, cell_yes, cell_no, open_made}
 use Rattle.image_core.proofs.Parts.{part_tells, kind_self, part_self}
-use Rattle.image_core.proofs.Lists.{Every, every_at, every_get, every_front, every_flat, every_in_flat, every_map, zip_made, get_right, get_split, map_some, none_some, chosen_get, chosen_from, rank_one, place_met, place_get, placed_met, get_met, order_within, order_once}
-
--- what is chosen stands after what was there
-pub after_old : {A B : Type 0} (f : A → Option B) (is : A → Bool) (records : List A) (ys : List B) (c n m : ℕ) (y : B) → c ≡ length ys → n ≡ m → slice_get (chosen f records) (rank is records m) ≡ Some y → slice_get (ys ++ chosen f records) (c + rank is records n) ≡ Some y
-after_old f is records ys c n m y d e h = rw (d, e) (get_right ys (chosen f records) (rank is records m) ∙ h)
+use Rattle.image_core.proofs.Lists.{Every, every_at, every_get, every_front, every_flat, every_in_flat, every_map, zip_made, get_split, map_some, none_some, chosen_get, chosen_from, rank_one, place_met, place_get, placed_met, get_met, order_within, order_once}
 
 or_cases : (o n : Option ℕ) (j : ℕ) → or_number o n ≡ Some j → (o ≡ Some j) ⊎ ((o ≡ None) × (n ≡ Some j))
 or_cases None n j h = inr (refl, h)
 or_cases (Some m) n j h = inl h
-
--- a record of a sort is made into an object of that sort
-pub table_yes : (T : Target) (records : List Record) (r : Record) (t : Table) → table_made T records r ≡ Some t → is_of a_table r ≡ true
-table_yes T records (table_record rows m) t h = refl
-table_yes T records (function_record c cs) t h = absurd (cc)
-table_yes T records (closed_record i) t h = absurd (cc)
-table_yes T records (open_record a b c) t h = absurd (cc)
-table_yes T records (fresh_record i) t h = absurd (cc)
-table_yes T records (suspended_record fs) t h = absurd (cc)
-table_yes T records dead_record t h = absurd (cc)
-table_yes T records (failed_record e vs) t h = absurd (cc)
-table_yes T records no_record t h = absurd (cc)
-
-pub table_no : (T : Target) (records : List Record) (r : Record) → table_made T records r ≡ None → is_of a_table r ≡ false
-table_no T records (table_record rows m) h = absurd (cc)
-table_no T records (function_record c cs) h = refl
-table_no T records (closed_record i) h = refl
-table_no T records (open_record a b c) h = refl
-table_no T records (fresh_record i) h = refl
-table_no T records (suspended_record fs) h = refl
-table_no T records dead_record h = refl
-table_no T records (failed_record e vs) h = refl
-table_no T records no_record h = refl
-
-pub function_yes : (T : Target) (records : List Record) (r : Record) (t : Function) → function_made T records r ≡ Some t → is_of a_function r ≡ true
-function_yes T records (table_record rows m) t h = absurd (cc)
-function_yes T records (function_record c cs) t h = refl
-function_yes T records (closed_record i) t h = absurd (cc)
-function_yes T records (open_record a b c) t h = absurd (cc)
-function_yes T records (fresh_record i) t h = absurd (cc)
-function_yes T records (suspended_record fs) t h = absurd (cc)
-function_yes T records dead_record t h = absurd (cc)
-function_yes T records (failed_record e vs) t h = absurd (cc)
-function_yes T records no_record t h = absurd (cc)
-
-pub function_no : (T : Target) (records : List Record) (r : Record) → function_made T records r ≡ None → is_of a_function r ≡ false
-function_no T records (table_record rows m) h = refl
-function_no T records (function_record c cs) h = absurd (cc)
-function_no T records (closed_record i) h = refl
-function_no T records (open_record a b c) h = refl
-function_no T records (fresh_record i) h = refl
-function_no T records (suspended_record fs) h = refl
-function_no T records dead_record h = refl
-function_no T records (failed_record e vs) h = refl
-function_no T records no_record h = refl
-
-pub coroutine_yes : (T : Target) (records : List Record) (r : Record) (t : Coroutine) → coroutine_made T records r ≡ Some t → is_of a_coroutine r ≡ true
-coroutine_yes T records (table_record rows m) t h = absurd (cc)
-coroutine_yes T records (function_record c cs) t h = absurd (cc)
-coroutine_yes T records (closed_record i) t h = absurd (cc)
-coroutine_yes T records (open_record a b c) t h = absurd (cc)
-coroutine_yes T records (fresh_record i) t h = refl
-coroutine_yes T records (suspended_record fs) t h = refl
-coroutine_yes T records dead_record t h = refl
-coroutine_yes T records (failed_record e vs) t h = refl
-coroutine_yes T records no_record t h = absurd (cc)
-
-pub coroutine_no : (T : Target) (records : List Record) (r : Record) → coroutine_made T records r ≡ None → is_of a_coroutine r ≡ false
-coroutine_no T records (table_record rows m) h = refl
-coroutine_no T records (function_record c cs) h = refl
-coroutine_no T records (closed_record i) h = refl
-coroutine_no T records (open_record a b c) h = refl
-coroutine_no T records (fresh_record i) h = absurd (cc)
-coroutine_no T records (suspended_record fs) h = absurd (cc)
-coroutine_no T records dead_record h = absurd (cc)
-coroutine_no T records (failed_record e vs) h = absurd (cc)
-coroutine_no T records no_record h = refl
-
-pub cell_yes : (T : Target) (records : List Record) (r : Record) (t : Cell) → cell_made T records r ≡ Some t → is_cell r ≡ true
-cell_yes T records (table_record rows m) t h = absurd (cc)
-cell_yes T records (function_record c cs) t h = absurd (cc)
-cell_yes T records (closed_record i) t h = refl
-cell_yes T records (open_record a b c) t h = refl
-cell_yes T records (fresh_record i) t h = absurd (cc)
-cell_yes T records (suspended_record fs) t h = absurd (cc)
-cell_yes T records dead_record t h = absurd (cc)
-cell_yes T records (failed_record e vs) t h = absurd (cc)
-cell_yes T records no_record t h = absurd (cc)
-
-pub cell_no : (T : Target) (records : List Record) (r : Record) → cell_made T records r ≡ None → is_cell r ≡ false
-cell_no T records (table_record rows m) h = refl
-cell_no T records (function_record c cs) h = refl
-cell_no T records (closed_record i) h = absurd (cc)
-cell_no T records (open_record a b c) h = absurd (cc)
-cell_no T records (fresh_record i) h = refl
-cell_no T records (suspended_record fs) h = refl
-cell_no T records dead_record h = refl
-cell_no T records (failed_record e vs) h = refl
-cell_no T records no_record h = refl
-
--- what a made cell that is open was made of
-pub open_made : (T : Target) (records : List Record) (r : Record) (co f n : ℕ) → cell_made T records r ≡ Some (open_at co f n) → (c : ℕ) × (r ≡ open_record c f n) × (co ≡ new_number T records a_coroutine c)
-open_made T records (table_record rows m) co f n h = absurd (cc)
-open_made T records (function_record c cs) co f n h = absurd (cc)
-open_made T records (closed_record i) co f n h = absurd (cc)
-open_made T records (open_record a b c) co f n h =
-    let u : new_number T records a_coroutine a ≡ co = cc in
-    let v : b ≡ f = cc in
-    let w : c ≡ n = cc in
-    (a, rw (v, w) refl, sym u)
-open_made T records (fresh_record i) co f n h = absurd (cc)
-open_made T records (suspended_record fs) co f n h = absurd (cc)
-open_made T records dead_record co f n h = absurd (cc)
-open_made T records (failed_record e vs) co f n h = absurd (cc)
-open_made T records no_record co f n h = absurd (cc)
 
 module _ (base : Pairs) (W V : World) (T : Target) (name : Value → Option Item) (roots : List Value) (can : CanLoad base W V T name roots) where
   abbrev os : List Part

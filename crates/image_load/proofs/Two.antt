@@ -12,7 +12,7 @@ use Rattle.image_core.specs.Image.{Item, plain, numbered, permanent, environment
 use Rattle.image_core.specs.Loading.{kind_in, is_of, is_cell, rank, Target, count_in, new_number, new_cell, numbered_value, value_made, table_number, function_number, row_made, table_made, function_made, wait_made, frame_made, coroutine_made, cell_made, chosen, loaded}
 use Rattle.image_load.specs.Both.{shifted, count_made, both_loading, CanBothLoad, BothAlike, BothLoadedAgree}
 use Rattle.image_core.proofs.Lists.{get_right, chosen_get, none_some}
-use Rattle.image_load.proofs.Copies.{table_yes, table_no, function_yes, function_no, coroutine_yes, coroutine_no, cell_yes, cell_no}
+use Rattle.image_core.proofs.Making.{table_yes, table_no, function_yes, function_no, coroutine_yes, coroutine_no, cell_yes, cell_no}
 
 lower : (m c : ℕ) → m < c → nat_lt m c ≡ true
 lower m c h = search (arith, h)
