@@ -2,6 +2,7 @@
 #![tactic(auto)]
 
 mod pool;
+mod segments;
 #[cfg(test)]
 mod tests;
 

@@ -1,7 +1,9 @@
 // A list of objects that are named by their places, with room that can be reserved before it is used.
+// They stand in segments of one size, so that an object is never moved where the pool grows.
 ghost use Rattle.std.specs.Prelude.{◌≡◌, ℕ, ◌+◌, ◌<◌, ◌≤◌, [], Some, length, IsOk, OnOk, OnErr, slice_get};
 ghost use Rattle.std.specs.Borrow.{sem};
 
+use crate::segments::{SEGMENT, cut_to, grow_to, push_object};
 use std::alloc::{AllocError, Global};
 use std::marker::Model;
 
@@ -10,19 +12,25 @@ use std::marker::Model;
 /// Contracts see the objects, and in `spare` for how many more there is room.
 #[derive(Drop)]
 pub struct Pool<T> {
-    items: Vec<T>,
+    segments: Vec<Vec<T>>,
+    /// How many objects there are.
+    len: usize,
+    /// How many there may be before more room is made.
+    places: usize,
 }
 
 impl<T> Model for Pool<T> {
-    ghost use Rattle.std.specs.Prelude.{◌-◌, vec_len};
-    ghost use Rattle.std.specs.Vec.{vec_capacity};
+    ghost use Rattle.std.specs.Prelude.{◌-◌};
     ghost use Rattle.object_pool.specs.Pool.{Pool as Shown, pool_code};
+    ghost use Rattle.object_pool.specs.Segments.{AreSegments, objects_in};
 
     ghost Value = { Shown T };
 
     ghost coded = { pool_code T.code };
 
-    ghost view = { λ p. record { objects = p.items.items; spare = vec_capacity p.items - vec_len p.items } };
+    ghost view = { λ p. record { objects = objects_in p.segments.items; spare = p.places - p.len } };
+
+    ghost invariant = { λ p. AreSegments p.segments.items p.len p.places };
 }
 
 impl<T> Pool<T> {
@@ -34,7 +42,9 @@ impl<T> Pool<T> {
         ensures { result.objects ≡ [] }
     {
         Pool {
-            items: Vec::new(alloc),
+            segments: Vec::new(alloc),
+            len: 0,
+            places: 0,
         }
     }
 
@@ -42,7 +52,7 @@ impl<T> Pool<T> {
     pub fn len(&self) -> usize
         ensures { result ≡ length self.now.objects }
     {
-        self.items.len()
+        self.len
     }
 
     /// The object at a place.
@@ -50,7 +60,7 @@ impl<T> Pool<T> {
         requires { at < length self.now.objects }
         ensures { slice_get self.now.objects at ≡ Some result.now }
     {
-        &self.items[at]
+        &self.segments[at / SEGMENT][at % SEGMENT]
     }
 
     /// The object at a place, for writing.
@@ -59,7 +69,8 @@ impl<T> Pool<T> {
         ensures* writes_back { sem 𝓛 (lends_object T.row self.entry at result) }
         ensures value { slice_get self.old.objects at ≡ Some result.now }
     {
-        &mut self.items[at]
+        let segment = &mut self.segments[at / SEGMENT];
+        &mut segment[at % SEGMENT]
     }
 
     /// Makes room for at least `n` more objects. Only want of memory can refuse it.
@@ -70,7 +81,11 @@ impl<T> Pool<T> {
         ensures at_hand { n ≤ self.old.spare → IsOk result }
         ensures refused { OnErr result (self.new ≡ self.old) }
     {
-        self.items.reserve(n)
+        let places = self.len.checked_add(n).ok_or(AllocError)?;
+        let needed = places.div_ceil(SEGMENT);
+        grow_to(&mut self.segments, needed)?;
+        self.places = self.places.max(needed.saturating_mul(SEGMENT));
+        Ok(())
     }
 
     /// Places an object at the end, where there is room, and gives its place.
@@ -79,8 +94,9 @@ impl<T> Pool<T> {
         ensures place { result ≡ length self.old.objects }
         ensures appended { Appends self.old self.new value }
     {
-        let at = self.items.len();
-        self.items.push_reserved(value);
+        let at = self.len;
+        push_object(&mut self.segments, at, value);
+        self.len = at + 1;
         at
     }
 
@@ -88,7 +104,7 @@ impl<T> Pool<T> {
     pub fn mark(&self) -> usize
         ensures { result ≡ length self.now.objects }
     {
-        self.items.len()
+        self.len
     }
 
     /// Keeps the first `mark` objects and drops the others, whose places are room again.
@@ -98,6 +114,7 @@ impl<T> Pool<T> {
         requires { mark ≤ length self.old.objects }
         ensures { KeepsFirst self.old self.new mark }
     {
-        self.items.truncate(mark);
+        cut_to(&mut self.segments, self.len, mark);
+        self.len = mark;
     }
 }
