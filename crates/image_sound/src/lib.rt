@@ -1,6 +1,7 @@
 //! The laws that a world that is loaded from an image is sound, whatever bytes the image was read from, and that what a sound world reaches can be written.
 #![tactic(auto)]
 
+ghost use Rattle.image_sound.specs.Fitting.{AcceptedIsSound};
 ghost use Rattle.image_sound.specs.Reads.{NumbersNameRecords, ReadImagesRight};
 ghost use Rattle.image_sound.specs.Savable.{OpenCellsThere, SavableIsWritten};
 ghost use Rattle.image_sound.specs.SoundImage.{LoadedSound};
@@ -20,4 +21,9 @@ pub fn sound_worlds_can_be_written()
 pub fn read_images_are_right()
     ensures right { ReadImagesRight }
     ensures numbers { NumbersNameRecords }
+{}
+
+/// What a reader accepts, whatever bytes came, is an image that leaves a sound world sound.
+pub fn accepted_images_are_sound()
+    ensures { AcceptedIsSound }
 {}
