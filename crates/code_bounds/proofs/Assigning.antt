@@ -1,8 +1,7 @@
 -- The code of an assignment takes the registers that are counted for it.
 use Rattle.std.proofs.Common.{◌≡◌, ℕ, ◌+◌, ◌*◌, ◌≤◌, max, false, List, [], ◌∷◌, ◌++◌, Some, refl, ap, lit≤, arith}
 use Rattle.tree_core.specs.declared.name.Place.{Place}
-use Rattle.tree_core.specs.declared.name.Place.TheVariants.{Unset, Upvalue, GlobalIn, GlobalOf}
-use Rattle.tree_core.specs.declared.name.Place.TheVariants.{Local as LocalPlace}
+use Rattle.tree_core.specs.declared.name.Place.TheVariants.{Unset, Upvalue, GlobalIn, GlobalOf, Local as LocalPlace}
 use Rattle.tree_core.specs.Tree.{Exp, Var, Index, Exps, EndExps, MoreExps}
 use Rattle.code_core.specs.declared.opcode.Opcode.TheVariants.{Move, GetUpval, SetUpval}
 use Rattle.code_core.specs.declared.proto.Const.{Const}
@@ -12,7 +11,7 @@ use Rattle.code_of.specs.Constants.{loads}
 use Rattle.code_of.specs.Expressions.{made_by, made_in, count, exp_code, exps_code}
 use Rattle.code_of.specs.Parts.{name_target, target_code, targets_code, name_store, store_code, stores_code, assign_code}
 use Rattle.scope_core.specs.Held.{held, held_behind, held_targets}
-use Rattle.exp_laws.specs.Placed.{room_of_name, room_of_list}
+use Rattle.code_of.specs.Rooms.{room_of_name, room_of_list}
 use Rattle.code_bounds.specs.InScope.{NameInScope, ExpInScope, ExpsInScope}
 use Rattle.code_bounds.specs.Registers.{TargetHasRoom, TargetsHaveRoom}
 use Rattle.code_bounds.proofs.Tops.{top, one, top_more, top_append, one_a, one_ab, one_store}

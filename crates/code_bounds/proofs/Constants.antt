@@ -5,13 +5,11 @@ use Rattle.std.proofs.lemmas.Bool.{eq-eqb, eqb-true}
 use Rattle.std.proofs.lemmas.Option.{slice_get_within}
 use Rattle.int_core.specs.Value.{same_integer}
 use Rattle.tree_core.specs.declared.name.Place.{Place}
-use Rattle.tree_core.specs.declared.name.Place.TheVariants.{Unset, Upvalue, GlobalIn, GlobalOf}
-use Rattle.tree_core.specs.declared.name.Place.TheVariants.{Local as LocalPlace}
+use Rattle.tree_core.specs.declared.name.Place.TheVariants.{Unset, Upvalue, GlobalIn, GlobalOf, Local as LocalPlace}
 use Rattle.tree_core.specs.Tree.{Block, Falls, Returns, Stats, EndStats, MoreStats, Stat, Empty, Local, LocalFunction, Assign, CallStat, Do, While, Repeat, If, IfElse, NumFor, NumForStep, GenFor, Label, Goto, Break, Arms, EndArms, MoreArms, Exp, Nil, True, False, Int, Str, Vararg, Function, Var, Index, Call, Method, Unary, Binary, And, Or, Paren, Table, Exps, EndExps, MoreExps, Fields, EndFields, MoreFields, Field, Item, Keyed}
 use Rattle.code_core.specs.declared.proto.Const.{Const}
 use Rattle.code_core.specs.declared.proto.Const.TheVariants.{Int as IntConst, Str as StrConst}
-use Rattle.code_of.specs.Constants.{same_constant, number_in, with_constant, is_small, of_name, of_exp, of_exps, of_fields, of_field, of_stat, of_arms, of_stats, of_block}
-use Rattle.exp_laws.specs.Placed.{Found}
+use Rattle.code_of.specs.Constants.{same_constant, number_in, with_constant, is_small, of_name, of_exp, of_exps, of_fields, of_field, of_stat, of_arms, of_stats, of_block, Found}
 use Rattle.code_bounds.specs.Constants.{Has, NameHas, ExpHas, ExpsHave, FieldsHave, FieldHas, StatHas, ArmsHave, StatsHave, BlockHas, ConstantsAreNumbered}
 
 -- the test of constants is equality

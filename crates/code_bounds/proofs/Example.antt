@@ -5,7 +5,7 @@ use Rattle.tree_core.specs.declared.name.Place.TheVariants.{Local as LocalPlace}
 use Rattle.tree_core.specs.declared.operator.BinOp.TheVariants.{Add as Plus}
 use Rattle.tree_core.specs.Tree.{Body, BodyOf, Exp}
 use Rattle.code_core.specs.Opcode.{opcodes, number_of}
-use Rattle.code_means.proofs.Forms.{name, loc, int, call, bin, returning, loc_is, assign, when, fun}
+use Rattle.tree_terms.proofs.Forms.{name, loc, int, call, bin, returning, loc_is, assign, when, fun}
 use Rattle.code_of.specs.CodeOf.{code_of}
 use Rattle.code_bounds.specs.InScope.{ExpInScope, BodyInScope}
 use Rattle.code_bounds.specs.Limits.{BodyKeepsLimits}

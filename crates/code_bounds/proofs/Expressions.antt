@@ -1,9 +1,8 @@
 -- The code of an expression takes the registers that are counted for it.
 use Rattle.std.proofs.Common.{◌≡◌, ℕ, zero, suc, ◌+◌, ◌-◌, ◌<◌, ◌≤◌, ◌^◌, ◌⊎◌, inl, inr, max, Bool, true, false, cond, List, [], ◌∷◌, ◌++◌, Some, None, refl, ap, lit<, arith}
 use Rattle.tree_core.specs.Tree.{Exp, Nil, True, False, Int, Str, Vararg, Function, Var, Index, Call, Method, Unary, Binary, And, Or, Paren, Table, Exps, EndExps, MoreExps, Fields, EndFields, MoreFields, Item, Keyed}
-use Rattle.tree_activation.specs.Asking.{line_of_body}
-use Rattle.code_core.specs.declared.opcode.Opcode.TheVariants.{LoadFalse, LoadTrue, GetTable, NewTable, SetTable, Closure, OpSelf, ExtraArg}
-use Rattle.code_core.specs.declared.opcode.Opcode.TheVariants.{Call as CallCode}
+use Rattle.tree_terms.specs.Bodies.{line_of_body}
+use Rattle.code_core.specs.declared.opcode.Opcode.TheVariants.{LoadFalse, LoadTrue, GetTable, NewTable, SetTable, Closure, OpSelf, ExtraArg, Call as CallCode}
 use Rattle.code_core.specs.declared.proto.Const.{Const}
 use Rattle.code_core.specs.declared.proto.Const.TheVariants.{Int as IntConst, Str as StrConst}
 use Rattle.code_core.specs.Instruction.{op_ax}
@@ -11,8 +10,8 @@ use Rattle.code_of.specs.Coded.{Coded, with_abc}
 use Rattle.code_of.specs.Constants.{is_small, small_field, loads}
 use Rattle.code_of.specs.Operators.{prefix_code, operator_code}
 use Rattle.code_of.specs.Expressions.{made_by, count, is_open, is_last_open, ends_open, list_field, Wanted, results_field, one_less, field_of, wanted_after, is_last_item, set_list, exp_code, exps_code, fields_code}
-use Rattle.exp_laws.specs.Placed.{room_of_values, room_of_nils, room_of, room_of_list, room_of_fields}
-use Rattle.exp_laws.proofs.Rooms.{name_room}
+use Rattle.code_of.specs.Rooms.{room_of_values, room_of_nils, room_of, room_of_list, room_of_fields}
+use Rattle.code_of.proofs.Rooms.{name_room}
 use Rattle.code_bounds.specs.InScope.{ExpInScope, ExpsInScope, FieldsInScope}
 use Rattle.code_bounds.proofs.Tops.{top, top_more, top_append, ax_is, one_a, one_abc, one_ax, one_nil, one_store, one_self, one_call, rest_below, rest_above}
 use Rattle.code_bounds.proofs.Pieces.{Takes, ListTakes, takes_one, loads_top, integer_top, name_takes, prefix_top, operator_top, two_take, one_takes, either_takes, nils_take, more_take, call_takes, method_takes, set_top}

@@ -1,8 +1,7 @@
 -- An expression has no more registers than values that it holds, and those that are wanted of it.
 use Rattle.std.proofs.Common.{◌≡◌, ℕ, zero, suc, ◌+◌, ◌-◌, ◌≤◌, max, Bool, true, false, cond, List, Some, None, nat_lt, refl, ap, arith}
 use Rattle.tree_core.specs.declared.name.Place.{Place}
-use Rattle.tree_core.specs.declared.name.Place.TheVariants.{Unset, Upvalue, GlobalIn, GlobalOf}
-use Rattle.tree_core.specs.declared.name.Place.TheVariants.{Local as LocalPlace}
+use Rattle.tree_core.specs.declared.name.Place.TheVariants.{Unset, Upvalue, GlobalIn, GlobalOf, Local as LocalPlace}
 use Rattle.tree_core.specs.Tree.{Exp, Nil, True, False, Int, Str, Vararg, Function, Var, Index, Call, Method, Unary, Binary, And, Or, Paren, Table, Exps, EndExps, MoreExps, Fields, EndFields, MoreFields, Item, Keyed}
 use Rattle.code_core.specs.declared.proto.Const.{Const}
 use Rattle.code_core.specs.declared.proto.Const.TheVariants.{Str as StrConst}
@@ -10,7 +9,7 @@ use Rattle.code_of.specs.Constants.{number_in}
 use Rattle.code_of.specs.Expressions.{count, is_open, is_last_item, Wanted, results_field, one_less}
 use Rattle.scope_core.specs.Held.{positional, held_name, held, held_behind, held_fields, held_field}
 use Rattle.scope_core.specs.Held as held_specs
-use Rattle.exp_laws.specs.Placed.{room_of_values, room_of_nils, room_of_name, room_of, room_of_list, room_of_fields}
+use Rattle.code_of.specs.Rooms.{room_of_values, room_of_nils, room_of_name, room_of, room_of_list, room_of_fields}
 
 -- both counts of a list are one
 pub same_count : (es : Exps) → held_specs.count es ≡ count es

@@ -1,12 +1,13 @@
 -- Jumps close the locals behind the level that they lead to; all levels are those of a block around.
 use Rattle.std.proofs.Common.{◌≡◌, ℕ, ◌+◌, ◌-◌, ◌≤◌, Bool, true, false, cond, ◌&&◌, List, [], ◌∷◌, ◌++◌, Option, Some, None, nat_le, bytes_eq, refl, arith}
 use Rattle.tree_core.specs.Tree.{Stats, EndStats, MoreStats, Stat, Label}
-use Rattle.tree_activation.specs.Jumps.{are_void}
+use Rattle.tree_terms.specs.Labels.{are_void}
 use Rattle.code_core.specs.declared.opcode.Opcode.TheVariants.{Close, Jmp}
 use Rattle.code_core.specs.declared.proto.Const.{Const}
 use Rattle.code_of.specs.Coded.{with_abc, jump_over, jump_back}
 use Rattle.code_of.specs.Jumps.{Landing, Visible, Reach, label_in, jump_code, leads}
-use Rattle.code_of.specs.Levels.{made_by_stat, level_after, closing_after}
+use Rattle.code_of.specs.Levels.{made_by_stat, closing_after}
+use Rattle.tree_terms.specs.Levels.{level_after}
 use Rattle.code_of.specs.Sizes.{stat_size}
 use Rattle.code_of.specs.Statements.{passed_after, labels_ahead}
 use Rattle.code_bounds.specs.Limits.{StatsKeepLimits}

@@ -1,8 +1,7 @@
 -- The registers that pieces of code take together. A piece takes n registers from t on if it names none behind them, and the last of them where there are some.
 use Rattle.std.proofs.Common.{◌≡◌, ℕ, zero, suc, ◌+◌, ◌-◌, ◌%◌, ◌/◌, ◌<◌, ◌≤◌, ◌^◌, ◌⊎◌, inl, inr, max, Bool, true, false, cond, List, [], ◌∷◌, ◌++◌, length, Some, None, refl, arith, nat_lt}
 use Rattle.tree_core.specs.declared.name.Place.{Place}
-use Rattle.tree_core.specs.declared.name.Place.TheVariants.{Unset, Upvalue, GlobalIn, GlobalOf}
-use Rattle.tree_core.specs.declared.name.Place.TheVariants.{Local as LocalPlace}
+use Rattle.tree_core.specs.declared.name.Place.TheVariants.{Unset, Upvalue, GlobalIn, GlobalOf, Local as LocalPlace}
 use Rattle.tree_core.specs.declared.operator.UnOp.{UnOp}
 use Rattle.tree_core.specs.declared.operator.UnOp.TheVariants.{Neg, BitNot, Not as Negation, Len as Length}
 use Rattle.tree_core.specs.declared.operator.BinOp.{BinOp}
@@ -18,7 +17,7 @@ use Rattle.code_of.specs.Coded.{Coded, with_abc, with_abx, jump_over}
 use Rattle.code_of.specs.Constants.{number_in, loads}
 use Rattle.code_of.specs.Operators.{name_code, prefix_code, arithmetic_code, truth_code, operator_code}
 use Rattle.code_of.specs.Expressions.{Wanted, nils_code, either_code, set_list}
-use Rattle.exp_laws.specs.Placed.{room_of_name, room_of_nils}
+use Rattle.code_of.specs.Rooms.{room_of_name, room_of_nils}
 use Rattle.code_bounds.specs.InScope.{NameInScope}
 use Rattle.code_bounds.proofs.Tops.{top, one, top_more, top_append, ax_is, one_a, one_ab, one_abc, one_ax, one_sum, one_nil, one_join}
 

@@ -7,9 +7,9 @@ use Rattle.code_of.specs.CodeOf.{back_field, opening, body_code}
 use Rattle.code_of.specs.Coded.{with_abc}
 use Rattle.code_of.specs.Constants.{of_block}
 use Rattle.code_of.specs.Jumps.{Reach}
-use Rattle.code_of.specs.Levels.{levels_after}
+use Rattle.tree_terms.specs.Levels.{levels_after}
 use Rattle.code_of.specs.Statements.{stats_code, whole_code}
-use Rattle.code_bounds.specs.Weight.{weight_of_block, weight_of_body}
+use Rattle.tree_terms.specs.Weight.{weight_of_block, weight_of_body}
 use Rattle.code_of.proofs.Sizes.{stats_sized, block_sized}
 use Rattle.code_bounds.proofs.ShortStatements.{stats_short, block_short}
 

@@ -13,7 +13,7 @@ use Rattle.code_of.specs.Constants.{loads}
 use Rattle.code_of.specs.Expressions.{made_by, is_open, list_field, Wanted, results_field, exp_code, exps_code}
 use Rattle.code_of.specs.Parts.{marks_code, close_code, call_last, method_last, values_last, return_code}
 use Rattle.scope_core.specs.Held.{held, held_behind}
-use Rattle.exp_laws.specs.Placed.{room_of_values, room_of_nils, room_of, room_of_list}
+use Rattle.code_of.specs.Rooms.{room_of_values, room_of_nils, room_of, room_of_list}
 use Rattle.code_bounds.specs.InScope.{ExpInScope, ExpsInScope}
 use Rattle.code_bounds.proofs.Tops.{top, one, top_more, top_append, one_a, one_self, one_tail, one_return}
 use Rattle.code_bounds.proofs.Pieces.{Takes, ListTakes, loads_top, call_takes, method_takes}

@@ -3,19 +3,20 @@ use Rattle.std.proofs.Common.{ℕ, ◌+◌, ◌-◌, ◌*◌, ◌≤◌, max, Bo
 use Rattle.tree_core.specs.declared.name.Declared.{Declared}
 use Rattle.tree_core.specs.Tree.{Block, Falls, Returns, Body, Stats, EndStats, MoreStats, Stat, Empty, Local, LocalFunction, Assign, CallStat, Do, While, Repeat, If, IfElse, NumFor, NumForStep, GenFor, Label, Goto, Break, Arms, EndArms, MoreArms, Exp, Exps}
 use Rattle.tree_activation.specs.Activation.{line_of_end}
-use Rattle.tree_activation.specs.Asking.{line_of_body}
+use Rattle.tree_terms.specs.Bodies.{line_of_body}
 use Rattle.code_core.specs.declared.opcode.Opcode.TheVariants.{LoadI, LoadNil, Close, Test, Jmp, ForLoop, ForPrep, TForPrep, TForCall, TForLoop, Return, Closure}
 use Rattle.code_core.specs.declared.proto.Const.{Const}
 use Rattle.code_core.specs.Instruction.{abc}
 use Rattle.code_of.specs.Coded.{Coded, with_abc, with_abx, jump_over, jump_back}
 use Rattle.code_of.specs.Expressions.{made_by, made_in, exp_code, exps_code}
 use Rattle.code_of.specs.Jumps.{Reach, Visible, label_in, leads}
-use Rattle.code_of.specs.Levels.{made_by_stat, made_in_arms, made_in_stats, made_in_block, level_after, levels_after, levels_in, closing_after, closings_after}
+use Rattle.code_of.specs.Levels.{made_by_stat, made_in_arms, made_in_stats, made_in_block, closing_after, closings_after}
+use Rattle.tree_terms.specs.Levels.{level_after, levels_after, levels_in}
 use Rattle.code_of.specs.Parts.{marks_code, close_code, function_code, while_code, repeat_code, past_size, past, arm_code, default_step, counting_code, iterating_code, assign_code, return_code, pair_code, bounds_code, steps_code}
 use Rattle.code_of.specs.Sizes.{stat_size, arms_size, block_size}
 use Rattle.code_of.specs.Statements.{in_loop, passed_after, labels_ahead, stat_code, arms_code, stats_code, block_code, open_code, whole_code}
 use Rattle.scope_core.specs.Held.{held, held_behind, held_stat, held_tests}
-use Rattle.exp_laws.specs.Placed.{room_of, room_of_list}
+use Rattle.code_of.specs.Rooms.{room_of, room_of_list}
 use Rattle.code_bounds.specs.InScope.{ExpInScope, ExpsInScope, StatInScope, ArmsInScope, StatsInScope, BlockInScope}
 use Rattle.code_bounds.specs.Limits.{StatKeepsLimits, ArmsKeepLimits, StatsKeepLimits, BlockKeepsLimits}
 use Rattle.code_bounds.specs.Registers.{StatHasRoom, ArmsHaveRoom, StatsHaveRoom, BlockHasRoom}

@@ -10,7 +10,7 @@ use Rattle.code_core.proofs.FieldLemmas.{opcode_of-abc, opcode_of-abx, opcode_of
 use Rattle.std.proofs.lemmas.Bool.{eqb-true, eqb-false}
 use Rattle.code_of.specs.Coded.{Coded, words}
 use Rattle.code_of.specs.CodeOf.{named_by, room_for, room}
-use Rattle.exp_laws.specs.Placed.{room_of_values}
+use Rattle.code_of.specs.Rooms.{room_of_values}
 
 abbrev pub top : List Coded → ℕ
 top code = room (words code) 0

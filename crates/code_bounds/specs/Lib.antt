@@ -1,5 +1,3 @@
-pub mod Weight
-pub mod FunctionCount
 pub mod Sizes
 pub mod Constants
 pub mod Functions

@@ -3,7 +3,7 @@
 use Rattle.std.specs.Prelude.{ℕ, ◌+◌, ◌≤◌, length}
 use Rattle.tree_core.specs.Tree.{Block, Falls, Returns, Body, BodyOf, Stats, EndStats, MoreStats, Stat, Empty, Local, LocalFunction, Assign, CallStat, Do, While, Repeat, If, IfElse, NumFor, NumForStep, GenFor, Label, Goto, Break, Arms, EndArms, MoreArms}
 use Rattle.scope_core.specs.Held.{held, held_behind, held_stat}
-use Rattle.code_of.specs.Levels.{level_after, levels_after, levels_in}
+use Rattle.tree_terms.specs.Levels.{level_after, levels_after, levels_in}
 
 -- what stands in a statement before which t locals are in scope, and what it declares in it
 abbrev mutual

@@ -7,9 +7,9 @@ use Rattle.code_core.specs.declared.proto.Const.{Const}
 use Rattle.code_core.specs.Check.{at}
 use Rattle.code_core.specs.Prototype.{Prototype}
 use Rattle.code_of.specs.Expressions.{count}
-use Rattle.code_of.specs.Levels.{level_after, levels_after, levels_in}
+use Rattle.tree_terms.specs.Levels.{level_after, levels_after, levels_in}
 use Rattle.code_of.specs.CodeOf.{named_by, code_of}
-use Rattle.exp_laws.specs.Placed.{room_of, room_of_list}
+use Rattle.code_of.specs.Rooms.{room_of, room_of_list}
 use Rattle.code_bounds.specs.InScope.{BodyInScope}
 use Rattle.code_bounds.specs.Limits.{BodyKeepsLimits}
 

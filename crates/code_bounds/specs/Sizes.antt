@@ -7,8 +7,8 @@ use Rattle.code_of.specs.Expressions.{exp_code}
 use Rattle.code_of.specs.Levels.{made_in_block}
 use Rattle.code_of.specs.Sizes.{stat_size, block_size}
 use Rattle.code_of.specs.CodeOf.{body_code}
-use Rattle.code_bounds.specs.FunctionCount.{functions_in_block}
-use Rattle.code_bounds.specs.Weight.{weight, weight_of_stat, weight_of_block, weight_of_body}
+use Rattle.tree_terms.specs.FunctionCount.{functions_in_block}
+use Rattle.tree_terms.specs.Weight.{weight, weight_of_stat, weight_of_block, weight_of_body}
 
 -- a block may end by a CLOSE that no token stands for
 pub record CodeIsShort : Type 0 where

@@ -15,7 +15,7 @@ use Rattle.code_core.specs.Check.{opcode_rules, rules_by, rules, AllHold}
 use Rattle.code_of.specs.Coded.{Coded, words}
 use Rattle.code_of.specs.Constants.{of_exps, of_stats, of_block}
 use Rattle.code_of.specs.Jumps.{Reach}
-use Rattle.code_of.specs.Levels.{levels_after}
+use Rattle.tree_terms.specs.Levels.{levels_after}
 use Rattle.code_of.specs.Statements.{whole_code}
 use Rattle.code_of.specs.CodeOf.{back_field, opening, body_code, named_by, room_for, room, from_block, from_exps, code_of}
 use Rattle.code_checked.specs.Near.{IsRegister, BlockIsNear, FunctionIsNear}

@@ -4,27 +4,26 @@ use Rattle.std.specs.Prelude.{ℤ, nat_lt, nat_le, nat_eq, ◌-◌}
 use Rattle.std.specs.List.{list_all}
 use Rattle.tree_core.specs.declared.name.Declared.{Declared}
 use Rattle.tree_core.specs.declared.name.Place.{Place}
-use Rattle.tree_core.specs.declared.name.Place.TheVariants.{Unset, Upvalue, GlobalIn, GlobalOf}
-use Rattle.tree_core.specs.declared.name.Place.TheVariants.{Local as LocalPlace}
+use Rattle.tree_core.specs.declared.name.Place.TheVariants.{Unset, Upvalue, GlobalIn, GlobalOf, Local as LocalPlace}
 use Rattle.tree_core.specs.declared.operator.BinOp.{BinOp}
 use Rattle.tree_core.specs.declared.operator.BinOp.TheVariants.{Add as Plus, Sub as Minus, Mul as Times, Mod as Modulo, Idiv, Band, Bor, Bxor, Shl as ShiftLeft, Shr as ShiftRight, Concat as Join, Eq as Equal, Ne, Lt as Less, Le as AtMost, Gt, Ge}
 use Rattle.tree_core.specs.Tree.{Block, Falls, Returns, Body, BodyOf, Stats, EndStats, MoreStats, Stat, Empty, Local, LocalFunction, Assign, CallStat, Do, While, Repeat, If, IfElse, NumFor, NumForStep, GenFor, Label, Goto, Break, Arms, EndArms, MoreArms, Exp, Nil, True, False, Int, Str, Vararg, Function, Var, Index, Call, Method, Unary, Binary, And, Or, Paren, Table, Exps, EndExps, MoreExps, Fields, EndFields, MoreFields, Item, Keyed}
 use Rattle.tree_activation.specs.Activation.{line_of_end}
-use Rattle.tree_activation.specs.Asking.{line_of_body}
+use Rattle.tree_terms.specs.Bodies.{line_of_body}
 use Rattle.tree_activation.specs.Statements.{is_closed}
 use Rattle.code_core.specs.declared.proto.Const.{Const}
 use Rattle.code_core.specs.declared.proto.Const.TheVariants.{Int as IntConst, Str as StrConst}
 use Rattle.code_core.specs.Writable.{number_fits}
 use Rattle.code_of.specs.Coded.{Coded, lines, jump_over, jump_back}
-use Rattle.code_of.specs.Constants.{is_small, number_in, loads, loads_integer}
+use Rattle.code_of.specs.Constants.{is_small, number_in, loads, loads_integer, of_block}
 use Rattle.code_of.specs.Operators.{name_code, operator_code}
 use Rattle.code_of.specs.Expressions.{made_by, made_in, count, Wanted, is_last_item, field_of, wanted_after, nils_code, set_list, exp_code, exps_code, fields_code}
 use Rattle.code_of.specs.Jumps.{Landing, Visible, Reach, label_in, leads}
-use Rattle.code_of.specs.Levels.{made_by_stat, made_in_arms, made_in_stats, made_in_block, level_after, levels_after, levels_in, closing_after, closings_after}
+use Rattle.code_of.specs.Levels.{made_by_stat, made_in_arms, made_in_stats, made_in_block, closing_after, closings_after}
+use Rattle.tree_terms.specs.Levels.{level_after, levels_after, levels_in}
 use Rattle.code_of.specs.Parts.{marks_code, close_code, past, past_size, name_target, target_code, targets_code, name_store, store_code, stores_code, assign_code, values_last, return_code, bounds_code, steps_code}
 use Rattle.code_of.specs.Sizes.{stat_size, arms_size, block_size}
 use Rattle.code_of.specs.Statements.{in_loop, passed_after, labels_ahead, stat_code, arms_code, stats_code, block_code, open_code, whole_code}
-use Rattle.code_of.specs.Constants.{of_block}
 use Rattle.code_of.specs.CodeOf.{back_field, body_code}
 use Rattle.code_checked.specs.Written.{LineFits, DeclaredFit, ExpIsWritten, ExpsAreWritten, FieldsAreWritten, StatIsWritten, ArmsAreWritten, StatsAreWritten, BlockIsWritten, BodyIsWritten}
 

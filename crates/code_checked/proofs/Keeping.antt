@@ -5,7 +5,8 @@ use Rattle.code_core.specs.Prototype.{Prototype, Prototypes, none, more}
 use Rattle.code_core.specs.Writable.{name_fits}
 use Rattle.code_core.specs.Check.{IsChecked}
 use Rattle.code_of.specs.Expressions.{made_by, made_in, count}
-use Rattle.code_of.specs.Levels.{made_by_stat, made_in_arms, made_in_block, level_after, levels_after, levels_in, closing_after}
+use Rattle.code_of.specs.Levels.{made_by_stat, made_in_arms, made_in_block, closing_after}
+use Rattle.tree_terms.specs.Levels.{level_after, levels_after, levels_in}
 use Rattle.code_of.specs.CodeOf.{parts_of, from_exp, from_exps, from_fields, from_stat, from_arms, from_stats, from_block, from_body, code_of}
 use Rattle.code_checked.specs.Near.{ExpIsNear, ExpsAreNear, FieldsAreNear, TargetIsNear, TargetsAreNear, StatIsNear, ArmsAreNear, StatsAreNear, BlockIsNear, AreNear, BodyIsNear}
 use Rattle.code_checked.specs.Written.{ExpIsWritten, ExpsAreWritten, FieldsAreWritten, StatIsWritten, ArmsAreWritten, StatsAreWritten, BlockIsWritten, BodyIsWritten}

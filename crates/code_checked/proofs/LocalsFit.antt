@@ -13,7 +13,8 @@ use Rattle.code_of.specs.Coded.{with_abc}
 use Rattle.code_of.specs.Constants.{of_block}
 use Rattle.code_of.specs.Expressions.{made_by, made_in, exp_code, exps_code}
 use Rattle.code_of.specs.Jumps.{Reach}
-use Rattle.code_of.specs.Levels.{made_by_stat, made_in_arms, made_in_block, level_after, levels_after, closing_after}
+use Rattle.code_of.specs.Levels.{made_by_stat, made_in_arms, made_in_block, closing_after}
+use Rattle.tree_terms.specs.Levels.{level_after, levels_after}
 use Rattle.code_of.specs.Parts.{close_code, past_size, bounds_code, steps_code}
 use Rattle.code_of.specs.Sizes.{stat_size, arms_size, stats_size, block_size, open_size}
 use Rattle.code_of.specs.Statements.{stats_code, whole_code}

@@ -2,12 +2,13 @@
 use Rattle.std.proofs.Common.{◌≡◌, ℕ, ◌+◌, ◌<◌, ◌≤◌, ◌^◌, Bool, true, false, cond, ◌&&◌, List, ◌++◌, length, Option, sym, ap, subst, arith, length-append}
 use Rattle.tree_core.specs.declared.name.Name.{Name}
 use Rattle.tree_core.specs.Tree.{Block, Falls, Returns, Stats, EndStats, MoreStats, Stat, Empty, Local, LocalFunction, Assign, CallStat, Do, While, Repeat, If, IfElse, NumFor, NumForStep, GenFor, Label, Goto, Break, Arms, EndArms, MoreArms}
-use Rattle.tree_activation.specs.Jumps.{are_void}
+use Rattle.tree_terms.specs.Labels.{are_void}
 use Rattle.code_core.specs.Prototype.{Prototype}
 use Rattle.code_core.specs.Check.{in_front}
 use Rattle.code_of.specs.Constants.{of_stat, of_stats}
 use Rattle.code_of.specs.Jumps.{Visible, Reach}
-use Rattle.code_of.specs.Levels.{made_by_stat, level_after, levels_after, closing_after}
+use Rattle.code_of.specs.Levels.{made_by_stat, closing_after}
+use Rattle.tree_terms.specs.Levels.{level_after, levels_after}
 use Rattle.code_of.specs.Sizes.{stat_size}
 use Rattle.code_of.specs.Statements.{passed_after, labels_ahead, stat_code, stats_code}
 use Rattle.code_of.specs.CodeOf.{from_stats}

@@ -4,10 +4,9 @@ use Rattle.std.specs.Prelude.{nat_eq}
 use Rattle.tree_core.specs.declared.name.Name.{Name}
 use Rattle.tree_core.specs.declared.name.Declared.{Declared}
 use Rattle.tree_core.specs.declared.name.Place.{Place}
-use Rattle.tree_core.specs.declared.name.Place.TheVariants.{Unset, Upvalue, GlobalIn, GlobalOf}
-use Rattle.tree_core.specs.declared.name.Place.TheVariants.{Local as LocalPlace}
+use Rattle.tree_core.specs.declared.name.Place.TheVariants.{Unset, Upvalue, GlobalIn, GlobalOf, Local as LocalPlace}
 use Rattle.tree_core.specs.Tree.{Body, BodyOf, Exp, Var, Index, Call, Method, Exps, EndExps, MoreExps}
-use Rattle.tree_activation.specs.Asking.{upvalues_of}
+use Rattle.tree_terms.specs.Bodies.{upvalues_of}
 use Rattle.tree_activation.specs.Statements.{is_closed}
 use Rattle.code_core.specs.declared.opcode.Opcode.TheVariants.{Move, LoadNil, Close, Tbc}
 use Rattle.code_core.specs.declared.proto.Const.{Const}

@@ -12,7 +12,8 @@ use Rattle.code_of.specs.Coded.{Coded}
 use Rattle.code_of.specs.Constants.{small_field, of_exp, of_exps, of_stat, of_arms, of_stats, of_block}
 use Rattle.code_of.specs.Expressions.{made_by, made_in, exp_code, exps_code}
 use Rattle.code_of.specs.Jumps.{Visible, Reach, label_in}
-use Rattle.code_of.specs.Levels.{made_in_arms, made_in_stats, made_in_block, levels_after, levels_in, closings_after}
+use Rattle.code_of.specs.Levels.{made_in_arms, made_in_stats, made_in_block, closings_after}
+use Rattle.tree_terms.specs.Levels.{levels_after, levels_in}
 use Rattle.code_of.specs.Parts.{close_code, past_size, past, return_code, bounds_code, steps_code, pair_code}
 use Rattle.code_of.specs.Sizes.{stat_size, arms_size, block_size}
 use Rattle.code_of.specs.Statements.{in_loop, labels_ahead, stat_code, arms_code, stats_code, block_code, open_code}

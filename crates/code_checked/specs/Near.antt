@@ -3,18 +3,17 @@
 -- Here `size` locals are in scope and an expression's value goes to register t, where j functions of the function are made before it.
 use Rattle.std.specs.Prelude.{◌≡◌, ℕ, ◌+◌, ◌*◌, ◌<◌, ◌≤◌, ◌^◌, Bool, true, false, cond, List, [], ◌∷◌, length, Option, IsTrue}
 use Rattle.tree_core.specs.declared.name.Place.{Place}
-use Rattle.tree_core.specs.declared.name.Place.TheVariants.{Unset, Upvalue, GlobalIn, GlobalOf}
-use Rattle.tree_core.specs.declared.name.Place.TheVariants.{Local as LocalPlace}
+use Rattle.tree_core.specs.declared.name.Place.TheVariants.{Unset, Upvalue, GlobalIn, GlobalOf, Local as LocalPlace}
 use Rattle.tree_core.specs.declared.name.UpName.{UpName}
 use Rattle.tree_core.specs.Tree.{Block, Falls, Returns, Body, BodyOf, Stats, EndStats, MoreStats, Stat, Local, LocalFunction, Assign, CallStat, Do, While, Repeat, If, IfElse, NumFor, NumForStep, GenFor, Arms, EndArms, MoreArms, Exp, Vararg, Function, Var, Index, Call, Method, Unary, Binary, And, Or, Paren, Table, Exps, EndExps, MoreExps, Fields, EndFields, MoreFields, Item, Keyed}
-use Rattle.tree_activation.specs.Asking.{upvalues_of}
-use Rattle.code_core.specs.Prototype.{Prototype, list_of}
-use Rattle.code_core.specs.Prototype.{count as count_of}
+use Rattle.tree_terms.specs.Bodies.{upvalues_of}
+use Rattle.code_core.specs.Prototype.{Prototype, list_of, count as count_of}
 use Rattle.code_core.specs.Writable.{name_fits, depth, greatest_depth}
 use Rattle.code_checked.specs.Written.{BodyIsWritten}
 use Rattle.code_of.specs.CodeOf.{back_field, from_body, code_of}
 use Rattle.code_of.specs.Expressions.{made_by, made_in, count}
-use Rattle.code_of.specs.Levels.{made_by_stat, made_in_arms, made_in_block, level_after, levels_after, levels_in, closing_after}
+use Rattle.code_of.specs.Levels.{made_by_stat, made_in_arms, made_in_block, closing_after}
+use Rattle.tree_terms.specs.Levels.{level_after, levels_after, levels_in}
 use Rattle.code_of.specs.Sizes.{block_size}
 
 -- a register and the two above it have 8 bits

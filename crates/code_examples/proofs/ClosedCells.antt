@@ -7,7 +7,8 @@ use Rattle.code_core.specs.Opcode.{opcodes, number_of}
 use Rattle.int_core.specs.Ask.{values}
 use Rattle.tree_core.specs.Tree.{Body, Nil}
 use Rattle.code_means.proofs.Traces.{number}
-use Rattle.code_means.proofs.Forms.{closed, of_local, loc, outer, call, block, returning, locals, does, fun, function, tree_asks, code_asks}
+use Rattle.tree_terms.proofs.Forms.{closed, of_local, loc, outer, call, block, returning, locals, does, fun, function}
+use Rattle.code_means.proofs.Forms.{tree_asks, code_asks}
 use Rattle.code_of.specs.CodeOf.{code_of}
 
 -- function(f) local x <close> = nil f(function() return x end) end

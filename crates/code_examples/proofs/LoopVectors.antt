@@ -13,7 +13,8 @@ use Rattle.tree_core.specs.declared.operator.BinOp.TheVariants.{Add as Plus, Eq 
 use Rattle.tree_core.specs.declared.operator.UnOp.TheVariants.{Not as Negation}
 use Rattle.tree_core.specs.Tree.{Body, True, Unary, And, Paren, Do, Repeat, NumFor, NumForStep, GenFor, Label, Goto, Break, exps}
 use Rattle.code_means.proofs.Traces.{number}
-use Rattle.code_means.proofs.Forms.{name, no_variable, closed, of_local, loc, outer, int, call, bin, block, returning, locals, loc_is, assign, does, when, fun, function, variable, hidden, load_int, jump, jump_back, AskAlike, tree_asks, code_asks}
+use Rattle.tree_terms.proofs.Forms.{name, no_variable, closed, of_local, loc, outer, int, call, bin, block, returning, locals, loc_is, assign, does, when, fun, function}
+use Rattle.code_means.proofs.Forms.{variable, hidden, load_int, jump, jump_back, AskAlike, tree_asks, code_asks}
 use Rattle.code_examples.proofs.Hand.{hand, Compiles}
 
 abbrev one : Value → Reply

@@ -13,7 +13,8 @@ use Rattle.tree_core.specs.declared.operator.BinOp.TheVariants.{Sub as Minus, Co
 use Rattle.tree_core.specs.declared.operator.UnOp.TheVariants.{Not as Negation, Neg, Len as Length}
 use Rattle.tree_core.specs.Tree.{Body, Int, Vararg, Table, Unary, And, Or, Method, Item, Keyed, IfElse, arms, exps, fields}
 use Rattle.code_means.proofs.Traces.{number}
-use Rattle.code_means.proofs.Forms.{no_variable, of_local, loc, global, int, str, call, bin, field, block, returning, assigns, assign, fun, vararg_fun, text, variable, load_int, jump, AskAlike, tree_asks, code_asks}
+use Rattle.tree_terms.proofs.Forms.{no_variable, of_local, loc, global, int, str, call, bin, field, block, returning, assigns, assign, fun, vararg_fun}
+use Rattle.code_means.proofs.Forms.{text, variable, load_int, jump, AskAlike, tree_asks, code_asks}
 use Rattle.code_examples.proofs.Hand.{hand, Compiles}
 
 abbrev one : Value → Reply

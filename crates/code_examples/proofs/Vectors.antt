@@ -12,7 +12,8 @@ use Rattle.tree_core.specs.declared.name.Place.TheVariants.{Local as LocalPlace}
 use Rattle.tree_core.specs.declared.operator.BinOp.TheVariants.{Add as Plus, Idiv}
 use Rattle.tree_core.specs.Tree.{Body, True, False, Vararg, Do, While}
 use Rattle.code_means.proofs.Traces.{number}
-use Rattle.code_means.proofs.Forms.{name, declared, closed, of_local, loc, outer, global, int, str, call, bin, block, returning, locals, loc_is, assign, does, fun, vararg_fun, function, text, variable, load_int, jump, jump_back, AskAlike, tree_asks, code_asks}
+use Rattle.tree_terms.proofs.Forms.{name, declared, closed, of_local, loc, outer, global, int, str, call, bin, block, returning, locals, loc_is, assign, does, fun, vararg_fun, function}
+use Rattle.code_means.proofs.Forms.{text, variable, load_int, jump, jump_back, AskAlike, tree_asks, code_asks}
 use Rattle.code_examples.proofs.Hand.{hand, Compiles, word}
 
 abbrev one : Value → Reply

@@ -7,7 +7,7 @@ use Rattle.tree_core.specs.declared.tree.Body.{Body, out-Body}
 use Rattle.tree_core.specs.Tree as tree
 use Rattle.tree_core.specs.Plain.{plain_exps, plain_exp_row, plain_field, plain_field_row, plain_body}
 use Rattle.tree_core.proofs.Rows.{plain-assign, plain-table, plain-body}
-use Rattle.tree_activation.specs.Asking.{line_of_body}
+use Rattle.tree_terms.specs.Bodies.{line_of_body}
 
 abbrev targets_in : tree.Stat → tree.Exps
 targets_in (tree.Assign line targets values) = targets

@@ -13,7 +13,8 @@ use Rattle.tree_core.specs.declared.operator.BinOp.TheVariants.{Add as Plus, Idi
 use Rattle.tree_core.specs.declared.operator.UnOp.TheVariants.{Not as Negation}
 use Rattle.tree_core.specs.Tree.{Body, Nil, True, False, Vararg, Table, Unary, And, Paren, Method, Item, Keyed, Do, While, Repeat, NumFor, GenFor, Label, Goto, Break, exps, fields}
 use Rattle.code_means.proofs.Traces.{number}
-use Rattle.code_means.proofs.Forms.{name, no_variable, declared, closed, of_local, loc, outer, global, int, str, call, bin, field, block, returning, locals, loc_is, assigns, assign, does, when, fun, vararg_fun, function, text, in_register, variable, code, load_int, jump, jump_back, AskAlike, tree_asks, code_asks}
+use Rattle.tree_terms.proofs.Forms.{name, no_variable, declared, closed, of_local, loc, outer, global, int, str, call, bin, field, block, returning, locals, loc_is, assigns, assign, does, when, fun, vararg_fun, function}
+use Rattle.code_means.proofs.Forms.{text, in_register, variable, code, load_int, jump, jump_back, AskAlike, tree_asks, code_asks}
 
 abbrev pub one : Value → Reply
 one v = values (v ∷ [])

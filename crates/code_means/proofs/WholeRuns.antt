@@ -14,7 +14,8 @@ use Rattle.code_means.specs.Runs.{code_meaning}
 use Rattle.code_core.specs.declared.opcode.Opcode.TheVariants.{LoadK, GetTabUp, GetField, IDiv, MmBin, Call, TailCall, Return, VarArgPrep}
 use Rattle.code_core.specs.Instruction.{abc, abx}
 use Rattle.tree_core.specs.declared.operator.BinOp.TheVariants.{Idiv}
-use Rattle.code_means.proofs.Forms.{of_local, global, int, str, call, bin, field, returning, vararg_fun, text, in_register, code, load_int}
+use Rattle.tree_terms.proofs.Forms.{of_local, global, int, str, call, bin, field, returning, vararg_fun}
+use Rattle.code_means.proofs.Forms.{text, in_register, code, load_int}
 use Rattle.code_means.proofs.Pairs.{changes_operand, changes_operand_code, last_value, last_value_code}
 
 abbrev status : {F S : Type 0} → Outcome F S → ℕ

@@ -1,5 +1,5 @@
 -- The constants of a function: its strings and its greater integers, each once, in the order in which its code first names them.
-use Rattle.std.specs.Prelude.{ℕ, suc, ◌+◌, ◌-◌, ℤ, pos, negsuc, Bool, false, cond, List, [], ◌∷◌, nat_le, nat_lt, bytes_eq}
+use Rattle.std.specs.Prelude.{◌≡◌, ℕ, suc, ◌+◌, ◌-◌, ◌<◌, ◌^◌, Some, slice_get, ℤ, pos, negsuc, Bool, false, cond, List, [], ◌∷◌, nat_le, nat_lt, bytes_eq}
 use Rattle.int_core.specs.Value.{same_integer}
 use Rattle.tree_core.specs.declared.name.Place.{Place}
 use Rattle.tree_core.specs.declared.name.Place.TheVariants.{GlobalIn, GlobalOf}
@@ -113,3 +113,12 @@ abbrev mutual
   pub of_block : Block → List Const → List Const
   of_block (Falls ss tokens line) cs = of_stats ss cs
   of_block (Returns ss es tokens line) cs = of_exps es (of_stats ss cs)
+
+-- a constant has its number in the table
+pub record Found (cs : List Const) (x : Const) : Type 0 where
+  pub near : number_in cs x < 2 ^ 25
+  pub there : slice_get cs (number_in cs x) ≡ Some x
+
+-- a great integer is among the constants
+abbrev pub IsLoaded : List Const → ℤ → Type 0
+IsLoaded cs z = is_small z ≡ false → Found cs (IntConst z)

@@ -2,9 +2,8 @@
 -- Functions that a function makes are numbered in the order of the text, from j on.
 use Rattle.std.specs.Prelude.{ℕ, zero, suc, ◌+◌, ◌-◌, ◌/◌, ◌%◌, Bool, true, false, cond, List, [], ◌∷◌, ◌++◌, length, nat_lt, Option, Some, None}
 use Rattle.tree_core.specs.Tree.{Exp, Nil, True, False, Int, Str, Vararg, Function, Var, Index, Call, Method, Unary, Binary, And, Or, Paren, Table, Exps, EndExps, MoreExps, Fields, EndFields, MoreFields, Field, Item, Keyed}
-use Rattle.tree_activation.specs.Asking.{line_of_body}
-use Rattle.code_core.specs.declared.opcode.Opcode.TheVariants.{LoadFalse, LoadTrue, LoadNil, GetTable, SetTable, NewTable, OpSelf, Test, SetList, Closure, VarArg, ExtraArg}
-use Rattle.code_core.specs.declared.opcode.Opcode.TheVariants.{Call as CallCode}
+use Rattle.tree_terms.specs.Bodies.{line_of_body}
+use Rattle.code_core.specs.declared.opcode.Opcode.TheVariants.{LoadFalse, LoadTrue, LoadNil, GetTable, SetTable, NewTable, OpSelf, Test, SetList, Closure, VarArg, ExtraArg, Call as CallCode}
 use Rattle.code_core.specs.declared.proto.Const.{Const}
 use Rattle.code_core.specs.declared.proto.Const.TheVariants.{Str as StrConst}
 use Rattle.code_core.specs.Instruction.{abc, op_ax}

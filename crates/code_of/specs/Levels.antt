@@ -1,5 +1,5 @@
 -- What a statement makes and what it declares: functions, locals in scope behind it, and variables to be closed among them.
-use Rattle.std.specs.Prelude.{ℕ, ◌+◌, Bool, false, ◌||◌, List, [], ◌∷◌, length}
+use Rattle.std.specs.Prelude.{ℕ, ◌+◌, Bool, false, ◌||◌, List, [], ◌∷◌}
 use Rattle.tree_core.specs.declared.name.Declared.{Declared}
 use Rattle.tree_core.specs.Tree.{Block, Falls, Returns, Stats, EndStats, MoreStats, Stat, Empty, Local, LocalFunction, Assign, CallStat, Do, While, Repeat, If, IfElse, NumFor, NumForStep, GenFor, Label, Goto, Break, Arms, EndArms, MoreArms}
 use Rattle.tree_activation.specs.Statements.{is_closed}
@@ -36,21 +36,6 @@ abbrev mutual
   pub made_in_block : Block → ℕ
   made_in_block (Falls ss tokens line) = made_in_stats ss
   made_in_block (Returns ss es tokens line) = made_in_stats ss + made_in es
-
--- how many locals are in scope behind a statement
-
-abbrev pub level_after : Stat → ℕ → ℕ
-level_after (Local line names es) t = t + length names
-level_after (LocalFunction line name body) t = t + 1
-level_after _ t = t
-
-abbrev pub levels_after : Stats → ℕ → ℕ
-levels_after EndStats t = t
-levels_after (MoreStats s ss) t = levels_after ss (level_after s t)
-
-abbrev pub levels_in : Block → ℕ → ℕ
-levels_in (Falls ss tokens line) t = levels_after ss t
-levels_in (Returns ss es tokens line) t = levels_after ss t
 
 -- whether one of them is to be closed
 

@@ -9,3 +9,4 @@ pub mod Sizes
 pub mod Statements
 pub mod Variables
 pub mod CodeOf
+pub mod Rooms

@@ -3,10 +3,9 @@
 use Rattle.std.specs.Prelude.{ℕ, zero, suc, ◌+◌, ◌*◌, pos, Bool, true, false, cond, List, [], ◌∷◌, ◌++◌, length, nat_eq, Some, None}
 use Rattle.tree_core.specs.declared.name.Declared.{Declared}
 use Rattle.tree_core.specs.declared.name.Place.{Place}
-use Rattle.tree_core.specs.declared.name.Place.TheVariants.{Unset, Upvalue, GlobalIn, GlobalOf}
-use Rattle.tree_core.specs.declared.name.Place.TheVariants.{Local as LocalPlace}
+use Rattle.tree_core.specs.declared.name.Place.TheVariants.{Unset, Upvalue, GlobalIn, GlobalOf, Local as LocalPlace}
 use Rattle.tree_core.specs.Tree.{Body, Exp, Var, Index, Call, Method, Exps, EndExps, MoreExps}
-use Rattle.tree_activation.specs.Asking.{line_of_body}
+use Rattle.tree_terms.specs.Bodies.{line_of_body}
 use Rattle.tree_activation.specs.Statements.{is_closed}
 use Rattle.code_core.specs.declared.opcode.Opcode.TheVariants.{Move, LoadI, LoadNil, GetUpval, SetUpval, SetTable, OpSelf, Close, Tbc, Test, TailCall, Return, ForLoop, ForPrep, TForPrep, TForCall, TForLoop, Closure}
 use Rattle.code_core.specs.declared.proto.Const.{Const}

@@ -6,7 +6,8 @@ use Rattle.tree_core.specs.Tree.{Block, Falls, Returns, Stats, EndStats, MoreSta
 use Rattle.code_core.specs.declared.proto.Const.{Const}
 use Rattle.code_core.specs.declared.proto.LocVar.{LocVar}
 use Rattle.code_of.specs.Expressions.{made_by, made_in, exp_code, exps_code}
-use Rattle.code_of.specs.Levels.{made_by_stat, made_in_arms, made_in_block, level_after, closing_after}
+use Rattle.code_of.specs.Levels.{made_by_stat, made_in_arms, made_in_block, closing_after}
+use Rattle.tree_terms.specs.Levels.{level_after}
 use Rattle.code_of.specs.Parts.{past_size, bounds_code, steps_code}
 use Rattle.code_of.specs.Sizes.{stat_size, arms_size, block_size}
 

@@ -7,7 +7,8 @@ use Rattle.tree_core.specs.Tree.{Stats, EndStats, MoreStats, Stat, Empty, Local,
 use Rattle.code_core.specs.declared.proto.Const.{Const}
 use Rattle.code_core.specs.declared.proto.LocVar.{LocVar}
 use Rattle.code_of.specs.Expressions.{exps_code}
-use Rattle.code_of.specs.Levels.{made_by_stat, level_after, closing_after}
+use Rattle.code_of.specs.Levels.{made_by_stat, closing_after}
+use Rattle.tree_terms.specs.Levels.{level_after}
 use Rattle.code_of.specs.Sizes.{stat_size}
 use Rattle.code_of.specs.Variables.{variables, hidden, names_of, declared_by, within_stat, within_stats}
 use Rattle.code_parts.specs.declared.variables.Variable.{Variable}

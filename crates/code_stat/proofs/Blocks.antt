@@ -5,7 +5,8 @@ use Rattle.tree_core.specs.Tree.{Stats, MoreStats, Stat, Empty, Local, LocalFunc
 use Rattle.code_core.specs.declared.proto.Const.{Const}
 use Rattle.code_of.specs.Coded.{Coded}
 use Rattle.code_of.specs.Jumps.{Landing, Visible, Reach}
-use Rattle.code_of.specs.Levels.{made_by_stat, made_in_stats, level_after, closing_after}
+use Rattle.code_of.specs.Levels.{made_by_stat, made_in_stats, closing_after}
+use Rattle.tree_terms.specs.Levels.{level_after}
 use Rattle.code_of.specs.Sizes.{stat_size}
 use Rattle.code_of.specs.Statements.{visible, passed_after, labels_ahead, stat_code, stats_code}
 use Rattle.code_expr.specs.declared.emitter.Step.{Step}

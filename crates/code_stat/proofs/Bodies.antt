@@ -13,7 +13,8 @@ use Rattle.code_core.specs.declared.proto.Const.{Const}
 use Rattle.code_of.specs.Coded.{Coded, with_abc}
 use Rattle.code_of.specs.CodeOf.{back_field, opening, body_code, variables_of}
 use Rattle.code_of.specs.Constants.{of_block}
-use Rattle.code_of.specs.Levels.{levels_after, made_in_block}
+use Rattle.tree_terms.specs.Levels.{levels_after}
+use Rattle.code_of.specs.Levels.{made_in_block}
 use Rattle.code_of.specs.Parts.{close_code}
 use Rattle.code_of.specs.Sizes.{stats_size, block_size}
 use Rattle.code_of.specs.Statements.{stats_code, whole_code}

@@ -5,7 +5,8 @@ use Rattle.tree_core.specs.Tree.{Falls, Returns, Stat, Stats, Exps}
 use Rattle.code_of.specs.Coded.{Coded}
 use Rattle.code_of.specs.Expressions.{made_in}
 use Rattle.code_of.specs.Jumps.{Reach}
-use Rattle.code_of.specs.Levels.{made_by_stat, made_in_stats, levels_after, closings_after}
+use Rattle.code_of.specs.Levels.{made_by_stat, made_in_stats, closings_after}
+use Rattle.tree_terms.specs.Levels.{levels_after}
 use Rattle.code_of.specs.Parts.{close_code, return_code}
 use Rattle.code_of.specs.Statements.{stat_code, stats_code}
 use Rattle.code_expr.specs.Listing.{followed, listed}

@@ -14,7 +14,8 @@ use Rattle.code_core.specs.declared.opcode.Opcode.TheVariants.{Close, Return}
 use Rattle.code_core.specs.declared.proto.Const.{Const}
 use Rattle.code_of.specs.Coded.{Coded, with_abc}
 use Rattle.code_of.specs.Jumps.{Landing, Reach}
-use Rattle.code_of.specs.Levels.{made_in_stats, made_in_block, levels_after}
+use Rattle.code_of.specs.Levels.{made_in_stats, made_in_block}
+use Rattle.tree_terms.specs.Levels.{levels_after}
 use Rattle.code_of.specs.Statements.{stats_code, whole_code}
 use Rattle.code_expr.specs.Listing.{Listing, followed, listed, step, steps}
 use Rattle.code_expr.specs.Patches.{replaced, jump_to}

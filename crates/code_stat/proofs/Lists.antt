@@ -6,7 +6,8 @@ use Rattle.tree_core.specs.declared.tree.Stat as Rust
 use Rattle.tree_core.specs.Tree.{Stats, stats}
 use Rattle.tree_core.specs.Plain.{plain_stat}
 use Rattle.code_of.specs.Jumps.{Visible, Reach}
-use Rattle.code_of.specs.Levels.{made_in_stats, level_after, levels_after, closing_after, closings_after}
+use Rattle.code_of.specs.Levels.{made_in_stats, closing_after, closings_after}
+use Rattle.tree_terms.specs.Levels.{level_after, levels_after}
 use Rattle.code_of.specs.Statements.{passed_after, labels_ahead, stats_code}
 use Rattle.code_expr.specs.declared.emitter.Step.{Step}
 use Rattle.code_stat.specs.declared.jumps.Jump.{Jump}

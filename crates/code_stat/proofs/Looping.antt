@@ -12,7 +12,8 @@ use Rattle.code_core.specs.Instruction.{abc}
 use Rattle.code_of.specs.Coded.{Coded, with_abc, with_abx, jump_over, jump_back}
 use Rattle.code_of.specs.Expressions.{made_by, made_in, exp_code, exps_code}
 use Rattle.code_of.specs.Jumps.{Reach}
-use Rattle.code_of.specs.Levels.{made_in_block, levels_in}
+use Rattle.code_of.specs.Levels.{made_in_block}
+use Rattle.tree_terms.specs.Levels.{levels_in}
 use Rattle.code_of.specs.Parts.{close_code, while_code, counting_code, iterating_code, bounds_code, steps_code}
 use Rattle.code_of.specs.Sizes.{stat_size, block_size, open_size}
 use Rattle.code_of.specs.Statements.{in_loop, stat_code, block_code, open_code}

@@ -6,7 +6,7 @@ use Rattle.tree_core.specs.declared.name.Declared.{Declared}
 use Rattle.tree_core.specs.declared.tree.Stat as Rust
 use Rattle.tree_core.specs.Tree.{Stats, MoreStats, Stat, Empty, Local, LocalFunction, Assign, CallStat, Do, While, Repeat, If, IfElse, NumFor, NumForStep, GenFor, Label, Goto, Break, stats}
 use Rattle.tree_core.specs.Plain.{plain_stat}
-use Rattle.tree_activation.specs.Jumps.{are_void}
+use Rattle.tree_terms.specs.Labels.{are_void}
 use Rattle.tree_activation.specs.Statements.{is_closed}
 use Rattle.code_of.specs.Levels.{has_closed}
 use Rattle.code_stat.specs.Forms.{is_void}

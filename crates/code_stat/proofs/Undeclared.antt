@@ -6,7 +6,8 @@ use Rattle.tree_core.specs.Tree.{Block, Falls, Returns, Stats, EndStats, MoreSta
 use Rattle.code_core.specs.declared.opcode.Opcode.TheVariants.{Close}
 use Rattle.code_core.specs.declared.proto.Const.{Const}
 use Rattle.code_of.specs.Coded.{with_abc}
-use Rattle.code_of.specs.Levels.{made_by_stat, made_in_arms, made_in_stats, level_after, levels_after, closing_after, closings_after}
+use Rattle.code_of.specs.Levels.{made_by_stat, made_in_arms, made_in_stats, closing_after, closings_after}
+use Rattle.tree_terms.specs.Levels.{level_after, levels_after}
 use Rattle.code_of.specs.Parts.{close_code, return_code}
 use Rattle.code_of.specs.Sizes.{stat_size, arms_size, stats_size, block_size}
 use Rattle.code_of.specs.Variables.{declared_by, within_stat, within_arms, within_stats, within_block}

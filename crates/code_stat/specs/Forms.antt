@@ -1,7 +1,7 @@
 -- Parts of statements with blocks, as they are written.
 use Rattle.std.specs.Prelude.{ℕ, ◌+◌, Bool, true, false, cond, ◌&&◌, List, [], ◌∷◌, ◌++◌, length, Option, Some, None}
 use Rattle.tree_core.specs.Tree.{Block, Stats, Stat, Empty, Label, If, IfElse, Arms, Exp}
-use Rattle.tree_activation.specs.Jumps.{are_void}
+use Rattle.tree_terms.specs.Labels.{are_void}
 use Rattle.code_core.specs.declared.opcode.Opcode.TheVariants.{Test, Close, ForLoop, ForPrep, TForPrep, TForCall, TForLoop}
 use Rattle.code_core.specs.declared.proto.Const.{Const}
 use Rattle.code_core.specs.Instruction.{abc}

@@ -7,7 +7,8 @@ use Rattle.code_core.specs.declared.proto.LocVar.{LocVar}
 use Rattle.code_of.specs.Coded.{Coded, with_abc}
 use Rattle.code_of.specs.CodeOf.{back_field, opening}
 use Rattle.code_of.specs.Jumps.{Reach}
-use Rattle.code_of.specs.Levels.{made_in_block, levels_after}
+use Rattle.code_of.specs.Levels.{made_in_block}
+use Rattle.tree_terms.specs.Levels.{levels_after}
 use Rattle.code_of.specs.Statements.{stats_code, block_code, whole_code}
 use Rattle.code_of.specs.Variables.{variables, within_block}
 use Rattle.code_expr.specs.Listing.{Listing}

@@ -2,8 +2,9 @@
 ghost use Rattle.std.specs.Prelude.{◌≡◌, IfOk, map, drop};
 ghost use Rattle.tree_core.specs.Tree.{stats};
 ghost use Rattle.tree_core.specs.Plain.{plain_stat};
-ghost use Rattle.tree_activation.specs.Jumps.{are_void};
-ghost use Rattle.code_of.specs.Levels.{closing_after, has_closed, level_after};
+ghost use Rattle.tree_terms.specs.Labels.{are_void};
+ghost use Rattle.code_of.specs.Levels.{closing_after, has_closed};
+ghost use Rattle.tree_terms.specs.Levels.{level_after};
 ghost use Rattle.code_stat.specs.Forms.{is_void, level_at};
 
 use crate::marks::is_closed;

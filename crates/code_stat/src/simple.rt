@@ -2,7 +2,7 @@
 ghost use Rattle.std.specs.Prelude.{◌≡◌, ◌+◌, ◌∷◌, [], OnOk};
 ghost use Rattle.tree_core.specs.Tree.{exps};
 ghost use Rattle.tree_core.specs.Plain.{plain_exp, plain_exps, plain_body};
-ghost use Rattle.tree_activation.specs.Asking.{line_of_body};
+ghost use Rattle.tree_terms.specs.Bodies.{line_of_body};
 ghost use Rattle.code_core.specs.declared.opcode.Opcode.TheVariants.{LoadNil, Closure};
 ghost use Rattle.code_of.specs.Coded.{with_abc, with_abx};
 ghost use Rattle.code_of.specs.Expressions.{exp_code, made_by, made_in};

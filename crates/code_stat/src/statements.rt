@@ -3,7 +3,8 @@ ghost use Rattle.std.specs.Prelude.{◌≡◌, ◌+◌, true, [], ◌∷◌, OnO
 ghost use Rattle.std.specs.Option.{option_map};
 ghost use Rattle.tree_core.specs.Tree.{stats, arms, EndArms, While, Repeat};
 ghost use Rattle.tree_core.specs.Plain.{plain_arm, plain_exp, plain_stat, plain_block};
-ghost use Rattle.code_of.specs.Levels.{levels_after, levels_in, closings_after, made_in_block};
+ghost use Rattle.tree_terms.specs.Levels.{levels_after, levels_in};
+ghost use Rattle.code_of.specs.Levels.{closings_after, made_in_block};
 ghost use Rattle.code_stat.specs.Declares.{DeclaresStat, DeclaresStats, DeclaresBlock, DeclaresOpen, DeclaresRounds};
 ghost use Rattle.code_stat.specs.Drafts.{Wrote, WroteStat, WroteStats, WroteBlock, WroteOpen};
 ghost use Rattle.code_stat.specs.Forms.{choice, counted_code, iterated_code};

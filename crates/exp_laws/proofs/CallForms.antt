@@ -26,7 +26,7 @@ use Rattle.exp_laws.proofs.Placing.{HasAt, here_abc}
 use Rattle.exp_laws.proofs.Lists.{write_all_wide, write_all_more, write_all_below, write_all_holds, write_range_holds, drops_none}
 use Rattle.exp_laws.proofs.Leaving.{length_blanked, blanked_keeps}
 use Rattle.exp_laws.proofs.Asking.{asks_alike}
-use Rattle.exp_laws.specs.Placed.{room_of_values}
+use Rattle.code_of.specs.Rooms.{room_of_values}
 use Rattle.exp_laws.proofs.Going.{Filled, GoesFilled, next_there}
 use Rattle.exp_laws.proofs.Steps.{to_register_step, value_rest}
 use Rattle.exp_laws.proofs.Calls.{filled, left_open, Passed, values_step, open_mark, call_step, call_rest, varargs_step, self_step}

@@ -6,14 +6,12 @@ use Rattle.int_core.specs.Value.{Value, Shape, is_known, nil, integer, nth, rang
 use Rattle.int_core.specs.Operations.{index}
 use Rattle.int_core.specs.Ask.{operates, calls, calls_last, Captured, goes_on}
 use Rattle.code_core.specs.declared.opcode.Opcode.{Opcode}
-use Rattle.code_core.specs.declared.opcode.Opcode.TheVariants.{OpSelf, VarArg, LoadNil, TailCall}
-use Rattle.code_core.specs.declared.opcode.Opcode.TheVariants.{Call as CallCode}
+use Rattle.code_core.specs.declared.opcode.Opcode.TheVariants.{OpSelf, VarArg, LoadNil, TailCall, Call as CallCode}
 use Rattle.code_core.specs.declared.instruction.Instruction.{Instruction}
 use Rattle.code_core.specs.Instruction.{abc, opcode_of, a_of, c_of}
 use Rattle.code_core.specs.Fields.{opens}
 use Rattle.code_core.specs.Prototype.{Prototype}
-use Rattle.code_core.specs.Check.{at, mark, left_by, open_from}
-use Rattle.code_core.specs.Check.{opened as opened_mark}
+use Rattle.code_core.specs.Check.{at, mark, left_by, open_from, opened as opened_mark}
 use Rattle.code_core.proofs.FieldLemmas.{opcode_of-abc, a_of-abc, b_of-abc, c_of-abc}
 use Rattle.machine_core.specs.World.{Activation, for_call, for_value}
 use Rattle.machine_core.specs.Text.{read, read_register, read_constant, read_registers, read_list, read_varargs, write_register, write_registers, write_list, write_nils, drop_pending, cut_from, Text, own, call, tail_call, trap, list_end, list_values, nils, blanked, behind, is_there}
@@ -23,7 +21,7 @@ use Rattle.exp_laws.proofs.Lists.{Holds, range_held}
 use Rattle.exp_laws.proofs.Steps.{row_step, own_step, go_step}
 use Rattle.exp_laws.proofs.Arithmetic.{front_of}
 use Rattle.exp_laws.proofs.Tests.{k_of-abc}
-use Rattle.exp_laws.specs.Placed.{room_of_values}
+use Rattle.code_of.specs.Rooms.{room_of_values}
 
 -- values that an instruction with this field B or C leaves in registers, and how long the open list then is
 

@@ -31,8 +31,9 @@ use Rattle.exp_laws.proofs.FunctionForms.{function_goes}
 use Rattle.exp_laws.proofs.Tables.{items_count}
 use Rattle.exp_laws.proofs.TableForms.{new_goes, fill_goes, store_goes}
 use Rattle.exp_laws.proofs.Loads.{nil_step}
-use Rattle.exp_laws.specs.Placed.{IsPlaced, ArePlaced, FieldsArePlaced, room_of, room_of_fields, room_of_list, room_of_values}
-use Rattle.exp_laws.proofs.Rooms.{name_room}
+use Rattle.exp_laws.specs.Placed.{IsPlaced, ArePlaced, FieldsArePlaced}
+use Rattle.code_of.specs.Rooms.{room_of, room_of_fields, room_of_list, room_of_values}
+use Rattle.code_of.proofs.Rooms.{name_room}
 use Rattle.exp_laws.proofs.Going.{Given, Filled, Goes, GoesFilled, at_place, goes_at, goes_after, one_goes}
 use Rattle.exp_laws.proofs.NameForms.{load_right, constant_goes, integer_goes, index_goes, name_goes}
 use Rattle.exp_laws.proofs.OperatorForms.{unary_goes, binary_goes, decides_goes}

@@ -8,7 +8,8 @@ use Rattle.tree_core.specs.Tree.{Body}
 use Rattle.tree_activation.specs.Work.{Control, complete, capture, make, give, function_to, Work, Pending}
 use Rattle.tree_activation.specs.Work as tree
 use Rattle.tree_activation.specs.Activation.{step}
-use Rattle.tree_activation.specs.Asking.{captures_one, captures, captured_locals, cell_names, line_of_body, upvalues_of}
+use Rattle.tree_activation.specs.Asking.{captures_one, captures, captured_locals, cell_names}
+use Rattle.tree_terms.specs.Bodies.{line_of_body, upvalues_of}
 use Rattle.tree_activation.specs.Expressions.{give_first, makes_with}
 use Rattle.tree_activation.specs.Statements.{declares_function}
 use Rattle.code_core.specs.declared.opcode.Opcode.TheVariants.{LoadNil, Closure}
@@ -29,7 +30,8 @@ use Rattle.exp_laws.specs.Setting.{Setting, InnerAlike}
 use Rattle.exp_laws.proofs.Talking.{Here, Agree, go_left, go_right, both_stuck, of_tree, of_code}
 use Rattle.exp_laws.proofs.Placing.{HasAt, here_abx}
 use Rattle.exp_laws.proofs.Asking.{one_alike, opens_alike}
-use Rattle.exp_laws.specs.Placed.{IsNoneOf, Captures, Inner}
+use Rattle.tree_terms.specs.Hidden.{IsNoneOf}
+use Rattle.exp_laws.specs.Placed.{Captures, Inner}
 use Rattle.exp_laws.proofs.Going.{next_there, at_place, Goes, answer_goes}
 use Rattle.exp_laws.proofs.Steps.{row_step, to_register_step}
 use Rattle.exp_laws.proofs.Loads.{nil_step}

@@ -14,14 +14,15 @@ use Rattle.machine_core.specs.Text.{trap}
 use Rattle.machine_core.specs.Talk.{before, amid, marked}
 use Rattle.list_laws.proofs.Values.{nth_write_same, nth_write_other}
 use Rattle.code_of.specs.Coded.{with_abc}
-use Rattle.code_of.specs.Constants.{loads}
+use Rattle.code_of.specs.Constants.{loads, Found}
 use Rattle.code_of.specs.Expressions.{made_by, count, ends_open, list_field, exp_code, exps_code}
 use Rattle.exp_laws.proofs.Registers.{Rel, told, share_same, after_share, after_put}
 use Rattle.exp_laws.specs.Setting.{Setting}
 use Rattle.exp_laws.proofs.Talking.{Agree, go_left, both_ask, of_tree, of_code}
 use Rattle.exp_laws.proofs.Placing.{HasAt, has_front, has_back, here_abc}
 use Rattle.exp_laws.proofs.Leaving.{faults_alike}
-use Rattle.exp_laws.specs.Placed.{Found, IsPlaced, ArePlaced, room_of, room_of_list}
+use Rattle.exp_laws.specs.Placed.{IsPlaced, ArePlaced}
+use Rattle.code_of.specs.Rooms.{room_of, room_of_list}
 use Rattle.exp_laws.proofs.Calls.{Passed, tail_step}
 use Rattle.exp_laws.proofs.NameForms.{load_right}
 use Rattle.exp_laws.proofs.CallForms.{method_goes}

@@ -5,7 +5,6 @@ pub mod Lists
 pub mod Leaving
 pub mod Asking
 pub mod Going
-pub mod Rooms
 pub mod NameForms
 pub mod OperatorForms
 pub mod CallForms

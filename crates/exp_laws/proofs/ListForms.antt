@@ -14,7 +14,7 @@ use Rattle.exp_laws.specs.Setting.{Setting}
 use Rattle.exp_laws.proofs.Talking.{Agree, go_right, of_tree, of_code}
 use Rattle.exp_laws.proofs.Placing.{HasAt}
 use Rattle.exp_laws.proofs.Lists.{Holds, held_rest, write_all_more, write_all_below, write_all_holds}
-use Rattle.exp_laws.specs.Placed.{room_of_nils}
+use Rattle.code_of.specs.Rooms.{room_of_nils}
 use Rattle.exp_laws.proofs.Going.{next_there, at_place}
 use Rattle.exp_laws.proofs.Calls.{Passed, nils_step}
 

@@ -15,9 +15,8 @@ use Rattle.machine_core.specs.World.{Activation}
 use Rattle.machine_core.specs.Text.{read, written, read_constant, write_register, write_nils, constant, own, Text, trap}
 use Rattle.machine_core.specs.InstructionRows.{next, skip, then, to_register}
 use Rattle.machine_core.specs.Talk.{before, talk, talk_step}
-use Rattle.code_of.specs.Constants.{is_small, small_field, number_in}
+use Rattle.code_of.specs.Constants.{is_small, small_field, number_in, Found}
 use Rattle.exp_laws.proofs.Steps.{found_below, row_step, own_step, go_step, put_on, put_step, to_register_step}
-use Rattle.exp_laws.specs.Placed.{Found}
 use Rattle.code_core.specs.Opcode.{number_of}
 use Rattle.list_laws.proofs.Tests.{eq_refl}
 

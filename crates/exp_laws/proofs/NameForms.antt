@@ -22,7 +22,7 @@ use Rattle.machine_core.specs.InstructionRows.{to_register}
 use Rattle.machine_core.specs.Talk.{before, says_so, heard}
 use Rattle.code_of.specs.Coded.{Coded, with_abc, with_abx}
 use Rattle.code_of.specs.Operators.{name_code}
-use Rattle.code_of.specs.Constants.{is_small, small_field, number_in, loads}
+use Rattle.code_of.specs.Constants.{is_small, small_field, number_in, loads, Found, IsLoaded}
 use Rattle.exp_laws.proofs.Registers.{Rel, after_then, after_put}
 use Rattle.list_laws.proofs.Values.{nth_write_same, nth_write_other}
 use Rattle.exp_laws.specs.Setting.{Setting}
@@ -31,7 +31,8 @@ use Rattle.exp_laws.proofs.Placing.{HasAt, has_front, has_back, here_abc}
 use Rattle.exp_laws.proofs.Asking.{one_alike}
 use Rattle.exp_laws.proofs.Steps.{move_step, get_step, upvalue_step, value_rest, key_text, table_step, key_step}
 use Rattle.exp_laws.proofs.Loads.{integer_step, constant_step, far_step}
-use Rattle.exp_laws.specs.Placed.{Found, IsLoaded, NameIsPlaced, room_of_name}
+use Rattle.exp_laws.specs.Placed.{NameIsPlaced}
+use Rattle.code_of.specs.Rooms.{room_of_name}
 use Rattle.exp_laws.proofs.Going.{next_there, Goes, put_goes, goes_at, goes_after, one_goes, answer_goes, operation_goes}
 
 module _ (S : Setting) (pending : List Pending) where

@@ -4,7 +4,7 @@ use Rattle.int_core.specs.Value.{Value, known, integer, nth, write}
 use Rattle.int_core.specs.Ask.{Captured, shared_by, brought}
 use Rattle.tree_activation.specs.Work.{Pending}
 use Rattle.list_laws.proofs.Values.{nth_old, nth_write_same, nth_write_other, length_write, write_more}
-use Rattle.exp_laws.specs.Placed.{IsNoneOf}
+use Rattle.tree_terms.specs.Hidden.{IsNoneOf}
 
 write_alike : (s : ℕ) (v : Value) (xs ys : List Value) (r : ℕ) → nth xs r ≡ nth ys r → nth (write s v xs) r ≡ nth (write s v ys) r
 write_alike zero v [] [] zero e = refl

@@ -24,7 +24,8 @@ use Rattle.exp_laws.proofs.Talking.{Agree, go_left, of_tree, of_code}
 use Rattle.exp_laws.proofs.Placing.{HasAt, has_front, has_back}
 use Rattle.exp_laws.proofs.Steps.{row_step}
 use Rattle.exp_laws.proofs.Calls.{Passed, behind_fits, told_of, read_values_step}
-use Rattle.exp_laws.specs.Placed.{ArePlaced, room_of_list}
+use Rattle.exp_laws.specs.Placed.{ArePlaced}
+use Rattle.code_of.specs.Rooms.{room_of_list}
 use Rattle.exp_laws.proofs.ListForms.{GoesListed, passed_all}
 use Rattle.exp_laws.proofs.Exps.{room_count, exps_same}
 use Rattle.exp_laws.proofs.Returning.{returns_alike}

@@ -12,7 +12,7 @@ use Rattle.code_core.specs.Prototype.{Prototype}
 use Rattle.machine_core.specs.Talk.{talk_start, talk_step}
 use Rattle.code_means.specs.Asks.{shown}
 use Rattle.code_means.proofs.Traces.{number}
-use Rattle.code_means.proofs.Forms.{int, returning, fun}
+use Rattle.tree_terms.proofs.Forms.{int, returning, fun}
 use Rattle.code_of.specs.CodeOf.{code_of}
 
 -- return {1}

@@ -1,32 +1,18 @@
 -- What is assumed of an expression where `size` locals are in scope and j functions of its function are made before it: names are in scope, fields
--- are wide enough, constants and inner functions have their numbers. And how many registers from its own on its code names.
-use Rattle.std.specs.Prelude.{◌≡◌, ℕ, zero, suc, ◌+◌, ◌<◌, ◌^◌, max, true, false, cond, ℤ, List, [], ◌∷◌, map, Some, None, nat_lt, slice_get}
+-- are wide enough, constants and inner functions have their numbers.
+use Rattle.std.specs.Prelude.{◌≡◌, ℕ, ◌+◌, ◌<◌, ◌^◌, true, List, [], ◌∷◌, map, Some, slice_get}
 use Rattle.tree_core.specs.declared.name.Place.{Place}
-use Rattle.tree_core.specs.declared.name.Place.TheVariants.{Unset, Upvalue, GlobalIn, GlobalOf}
-use Rattle.tree_core.specs.declared.name.Place.TheVariants.{Local as LocalPlace}
+use Rattle.tree_core.specs.declared.name.Place.TheVariants.{Unset, Upvalue, GlobalIn, GlobalOf, Local as LocalPlace}
 use Rattle.tree_core.specs.declared.name.UpName.{UpName}
 use Rattle.tree_core.specs.Tree.{Body, Exp, Nil, True, False, Int, Str, Vararg, Function, Var, Index, Call, Method, Unary, Binary, And, Or, Paren, Table, Exps, EndExps, MoreExps, Fields, EndFields, MoreFields, Item, Keyed}
-use Rattle.tree_activation.specs.Asking.{upvalues_of}
-use Rattle.code_core.specs.declared.proto.Const.{Const}
-use Rattle.code_core.specs.declared.proto.Const.TheVariants.{Int as IntConst, Str as StrConst}
+use Rattle.tree_terms.specs.Bodies.{upvalues_of}
+use Rattle.code_core.specs.declared.proto.Const.TheVariants.{Str as StrConst}
 use Rattle.code_core.specs.Prototype.{Prototype, list_of}
-use Rattle.code_of.specs.Constants.{is_small, number_in}
-use Rattle.code_of.specs.Expressions.{made_by, Wanted, field_of, wanted_after, is_last_item}
+use Rattle.tree_terms.specs.Hidden.{IsNoneOf}
+use Rattle.code_of.specs.Constants.{Found, IsLoaded}
+use Rattle.code_of.specs.Expressions.{made_by}
 use Rattle.code_of.specs.CodeOf.{upvalue}
 use Rattle.exp_laws.specs.Setting.{Setting, InnerAlike}
-
--- a constant has its number in the table
-pub record Found (cs : List Const) (x : Const) : Type 0 where
-  pub near : number_in cs x < 2 ^ 25
-  pub there : slice_get cs (number_in cs x) ≡ Some x
-
--- a great integer is among the constants
-abbrev pub IsLoaded : List Const → ℤ → Type 0
-IsLoaded cs z = is_small z ≡ false → Found cs (IntConst z)
-
-abbrev pub IsNoneOf : ℕ → List ℕ → Type 0
-IsNoneOf n [] = Unit {0}
-IsNoneOf n (m ∷ ms) = (n ≡ m → ⊥) × IsNoneOf n ms
 
 -- locals that a function captures are in scope, and not hidden
 abbrev pub Captures : (hidden : List ℕ) → List UpName → (size : ℕ) → Type 0
@@ -79,45 +65,3 @@ module _ (S : Setting) where
     FieldsArePlaced (MoreFields (Item e) fs) items size j = IsPlaced e size j × ((items < 2 ^ 33) × FieldsArePlaced fs (items + 1) size (j + made_by e))
     FieldsArePlaced (MoreFields (Keyed line e d) fs) items size j =
         IsPlaced e size j × (IsPlaced d size (j + made_by e) × FieldsArePlaced fs items size (j + made_by e + made_by d))
-
--- registers that the code names
-
-abbrev pub room_of_values : (field : ℕ) → ℕ
-room_of_values zero = 1
-room_of_values (suc count) = count
-
-abbrev pub room_of_nils : (above : ℕ) → Wanted → ℕ
-room_of_nils above None = 0
-room_of_nils above (Some zero) = 0
-room_of_nils above (Some (suc n)) = above + suc n
-
-module _ (cs : List Const) where
-  abbrev pub room_of_name : Place → List ℕ → ℕ
-  room_of_name (GlobalOf u) text = cond (nat_lt (number_in cs (StrConst text)) 256) 1 2
-  room_of_name _ text = 1
-
-  abbrev mutual
-    pub room_of : Exp → (field : ℕ) → ℕ
-    room_of (Vararg line) field = room_of_values field
-    room_of (Var line name) field = room_of_name name.place name.text
-    room_of (Index line object key) field = max (room_of object 2) (1 + room_of key 2)
-    room_of (Call line f es) field = max (room_of f 2) (max (room_of_list 1 es None) (room_of_values field))
-    room_of (Method line object name es) field = max (room_of object 2) (max (max 2 (room_of_list 2 es None)) (room_of_values field))
-    room_of (Unary line op e) field = room_of e 2
-    room_of (Binary line op e d) field = max (room_of e 2) (1 + room_of d 2)
-    room_of (And line e d) field = max (room_of e 2) (room_of d 2)
-    room_of (Or line e d) field = max (room_of e 2) (room_of d 2)
-    room_of (Paren line e) field = room_of e 2
-    room_of (Table line fs) field = max 1 (1 + room_of_fields fs)
-    room_of _ field = 1
-
-    -- a list that stands `above` registers higher
-    pub room_of_list : (above : ℕ) → Exps → Wanted → ℕ
-    room_of_list above EndExps wanted = room_of_nils above wanted
-    room_of_list above (MoreExps e es) wanted = max (above + room_of e (field_of e es wanted)) (room_of_list (above + 1) es (wanted_after e es wanted))
-
-    -- above the table's own register
-    pub room_of_fields : Fields → ℕ
-    room_of_fields EndFields = 0
-    room_of_fields (MoreFields (Item e) fs) = max (room_of e (cond (is_last_item e fs) 0 2)) (room_of_fields fs)
-    room_of_fields (MoreFields (Keyed line e d) fs) = max (max (room_of e 2) (1 + room_of d 2)) (room_of_fields fs)

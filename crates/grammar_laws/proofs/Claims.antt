@@ -9,8 +9,8 @@ use Rattle.token_cursor.specs.declared.word.Word.TheVariants.{Keyword, Mark}
 use Rattle.token_cursor.specs.declared.word.TheConstants.{FUNCTION}
 use Rattle.token_cursor.specs.Words.{Lexeme, is_word}
 use Rattle.lua_parse.specs.Moves.{Piece, a_line, a_name, some_names, some_params, a_declared, some_declared, an_exp, maybe_exp, some_exps, a_field, some_fields, a_target, an_arm, some_arms, some_items, a_stat, a_block, maybe_block, a_body, Part, chunk, word, behind, more_fields, suffixes, suffix, dotted, indexed, method, call, method_arguments, arguments, listed, string_argument, more_exps, items, do_block, more_arms, numeric, generic, more_names, path, local_function, local_names, more_declared, assignment, more_targets}
-use Rattle.code_bounds.specs.Weight.{weight, weight_of_arguments, weight_of_exps, weight_of_fields, weight_of_field, weight_of_stat, weight_of_arms, weight_of_stats, weight_of_block, weight_of_body}
-use Rattle.code_bounds.specs.FunctionCount.{functions, functions_in_exps, functions_in_fields, functions_in_field, functions_in_stat, functions_in_arms, functions_in_stats, functions_in_block, functions_in_body}
+use Rattle.tree_terms.specs.Weight.{weight, weight_of_arguments, weight_of_exps, weight_of_fields, weight_of_field, weight_of_stat, weight_of_arms, weight_of_stats, weight_of_block, weight_of_body}
+use Rattle.tree_terms.specs.FunctionCount.{functions, functions_in_exps, functions_in_fields, functions_in_field, functions_in_stat, functions_in_arms, functions_in_stats, functions_in_block, functions_in_body}
 use Rattle.grammar_laws.specs.Counted.{ExpIsCounted, ExpsAreCounted, FieldsAreCounted, FieldIsCounted, StatIsCounted, ArmsAreCounted, StatsAreCounted, BlockIsCounted, BodyIsCounted}
 
 -- tokens `function`

@@ -15,8 +15,8 @@ use Rattle.token_cursor.specs.Words.{Lexeme, is_word, is_string, string_of, begi
 use Rattle.lua_parse.specs.Words.{constant_of}
 use Rattle.lua_parse.specs.Moves.{an_exp, Part, chain, behind, unary, simple, table, more_fields, separated_field, field, keyed, item, prefix, primary, paren, suffixes, suffix, dotted, indexed, method, call, method_arguments, arguments, listed, string_argument, explist, more_exps}
 use Rattle.lua_parse.specs.Grammar.{operand, right_operand, operator_move, unary_move, string_move, item_move}
-use Rattle.code_bounds.specs.Weight.{weight}
-use Rattle.code_bounds.specs.FunctionCount.{functions}
+use Rattle.tree_terms.specs.Weight.{weight}
+use Rattle.tree_terms.specs.FunctionCount.{functions}
 use Rattle.grammar_laws.specs.Counted.{ExpIsCounted}
 use Rattle.grammar_laws.proofs.Claims.{ExpHolds, Claim, carried, written, IsReady}
 use Rattle.grammar_laws.proofs.SizeKeeping.{opened, Keeps, picks, passes, refuses, reads, ends, either, either_by, passes_if, on_a_line, on_a_name, on_an_exp, on_some_exps, on_a_field, on_some_fields, on_a_body, only_reads, more, more_arguments, more_fields_hold}

@@ -14,12 +14,11 @@ mod Bytes
 mod LineKeeping
 mod LineParts
 mod LineReadings
-mod PlacedWeight
-mod PlacedFunctions
-mod PlacedBlocks
+pub mod PlacedWeight
+pub mod PlacedFunctions
+pub mod PlacedBlocks
 mod PlacedLines
-mod Rules
-mod Fitting
+pub mod Rules
 pub mod WholeSizes
 pub mod Walk
 pub mod Nesting

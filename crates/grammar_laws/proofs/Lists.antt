@@ -1,8 +1,8 @@
 -- What lists weigh and have that grew by one item.
 use Rattle.std.proofs.Common.{◌≡◌, ◌+◌, ◌≤◌, List, [], ◌∷◌, ◌++◌, length, arith}
 use Rattle.tree_core.specs.Tree as tree
-use Rattle.code_bounds.specs.Weight.{weight, weight_of_arguments, weight_of_exps, weight_of_fields, weight_of_field, weight_of_stat, weight_of_arms, weight_of_stats, weight_of_block}
-use Rattle.code_bounds.specs.FunctionCount.{functions, functions_in_exps, functions_in_fields, functions_in_field, functions_in_stat, functions_in_arms, functions_in_stats, functions_in_block}
+use Rattle.tree_terms.specs.Weight.{weight, weight_of_arguments, weight_of_exps, weight_of_fields, weight_of_field, weight_of_stat, weight_of_arms, weight_of_stats, weight_of_block}
+use Rattle.tree_terms.specs.FunctionCount.{functions, functions_in_exps, functions_in_fields, functions_in_field, functions_in_stat, functions_in_arms, functions_in_stats, functions_in_block}
 use Rattle.grammar_laws.specs.Counted.{ExpIsCounted, ExpsAreCounted, FieldsAreCounted, FieldIsCounted, StatIsCounted, ArmsAreCounted, StatsAreCounted, BlockIsCounted}
 
 -- expressions

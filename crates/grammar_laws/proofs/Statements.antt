@@ -8,8 +8,8 @@ use Rattle.tree_making.specs.Form.{is_target, is_call}
 use Rattle.token_cursor.specs.declared.word.TheConstants.{FUNCTION, LESS, ASSIGN, COLON, COMMA, DOT}
 use Rattle.token_cursor.specs.Words.{is_word}
 use Rattle.lua_parse.specs.Moves.{label_stat, goto_stat, do_stat, while_stat, repeat_stat, if_stat, for_stat, numeric, step, generic, more_names, function_stat, function_name, path, local_stat, local_function, local_names, more_declared, declared, values, explist, prefix_stat, assignment, more_targets}
-use Rattle.code_bounds.specs.Weight.{weight_of_block}
-use Rattle.code_bounds.specs.FunctionCount.{functions_in_block}
+use Rattle.tree_terms.specs.Weight.{weight_of_block}
+use Rattle.tree_terms.specs.FunctionCount.{functions_in_block}
 use Rattle.grammar_laws.specs.Counted.{BlockIsCounted}
 use Rattle.grammar_laws.proofs.Claims.{ArmsHold, ElseHolds, StepHolds, ExpHolds, StatHolds}
 use Rattle.grammar_laws.proofs.SizeKeeping.{picks, passes, refuses, ends, either, on_a_line, on_a_name, on_some_names, on_a_declared, on_some_declared, on_an_exp, on_maybe_exp, on_some_exps, on_a_target, on_some_arms, on_a_block, on_maybe_block, on_a_body, only_reads, more}

@@ -6,16 +6,12 @@ use Rattle.lua_lex.specs.Lexical.{TokensOf}
 use Rattle.lua_parse.specs.Moves.{a_block, chunk}
 use Rattle.lua_parse.specs.Reading.{Derives}
 use Rattle.scope_core.specs.Places.{placed}
-use Rattle.scope_core.specs.Rules.{violations}
-use Rattle.grammar_laws.specs.Each.{InBody}
-use Rattle.grammar_laws.specs.Sizes.{Weighs, TakesBytes, WeighsAlike, HasFewLines, FunctionFits, LoopFits}
+use Rattle.grammar_laws.specs.Sizes.{Weighs, TakesBytes, WeighsAlike, HasFewLines}
 use Rattle.grammar_laws.proofs.SizeReadings.{Gone, part_kept, goes}
 use Rattle.grammar_laws.proofs.Bytes.{tokens_count, openings_fit}
 use Rattle.grammar_laws.proofs.PlacedWeight.{placed_weighs}
 use Rattle.grammar_laws.proofs.PlacedFunctions.{placed_has}
 use Rattle.grammar_laws.proofs.PlacedBlocks.{placed_counted}
-use Rattle.grammar_laws.proofs.Rules.{short_loops}
-use Rattle.grammar_laws.proofs.Fitting.{body_fits}
 use Rattle.grammar_laws.proofs.LineReadings.{tree_within}
 use Rattle.grammar_laws.proofs.PlacedLines.{placed_within}
 
@@ -34,12 +30,6 @@ takes source tokens tree t d =
 
 pub weighs_alike : (tree : Block) → WeighsAlike tree
 weighs_alike tree = record { weight = placed_weighs tree; functions = placed_has tree; blocks = placed_counted tree }
-
-pub fits : (source : List ℕ) (tokens : List Lexeme) (tree : Block) → length source ≤ 1048576 → TokensOf source tokens → Derives tokens tree → violations tree ≡ [] → InBody FunctionFits LoopFits (placed tree)
-fits source tokens tree small t d r =
-    let w = weighs tokens tree d in
-    let b = takes source tokens tree t d in
-    body_fits (placed tree) (omega (arith, small, w.whole, b.tokens_count, placed_weighs tree)) (omega (arith, small, b.functions_count, placed_has tree)) (placed_counted tree w.blocks) (short_loops tree r)
 
 pub lines : (source : List ℕ) (tokens : List Lexeme) (tree : Block) → TokensOf source tokens → Derives tokens tree → HasFewLines source tree
 lines source tokens tree t d =

@@ -1,7 +1,7 @@
 -- Trees in which each block weighs at most its tokens, as they were counted when it was read.
 use Rattle.std.specs.Prelude.{◌+◌, ◌≤◌}
 use Rattle.tree_core.specs.Tree.{Block, Falls, Returns, Body, BodyOf, Stats, EndStats, MoreStats, Stat, Local, LocalFunction, Assign, CallStat, Do, While, Repeat, If, IfElse, NumFor, NumForStep, GenFor, Arms, EndArms, MoreArms, Exp, Function, Index, Call, Method, Unary, Binary, And, Or, Paren, Table, Exps, EndExps, MoreExps, Fields, EndFields, MoreFields, Field, Item, Keyed}
-use Rattle.code_bounds.specs.Weight.{weight_of_exps, weight_of_stats}
+use Rattle.tree_terms.specs.Weight.{weight_of_exps, weight_of_stats}
 
 abbrev mutual
   pub ExpIsCounted : Exp → Type 0

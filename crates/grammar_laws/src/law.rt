@@ -1,6 +1,6 @@
 // The laws of the trees that the grammar gives.
 ghost use Rattle.grammar_laws.specs.Forms.{TreesAreFormed, PlacesKeepForms};
-ghost use Rattle.grammar_laws.specs.Sizes.{TreesWeighTheirTokens, TreesTakeBytes, PlacesWeighNothing, TreesHaveFewLines, CodeFitsItsFields};
+ghost use Rattle.grammar_laws.specs.Sizes.{TreesWeighTheirTokens, TreesTakeBytes, PlacesWeighNothing, TreesHaveFewLines};
 
 /// In the tree of a list of tokens each statement that is an expression is a call, what is assigned
 /// is a name or an index, and each generic `for` declares a name, also in the functions in it.
@@ -34,11 +34,4 @@ pub fn places_weigh_nothing()
 /// than the bytes of the source.
 pub fn trees_have_few_lines()
     ensures { TreesHaveFewLines }
-{}
-
-/// The code of a source of at most 1,048,576 bytes that keeps the static rules fits the fields of
-/// instructions: each function in its placed tree has at most 2^24 instructions, fewer than 2^25
-/// constants and at most 2^17 functions of its own, and the jumps of each `for` are short enough.
-pub fn code_fits_its_fields()
-    ensures { CodeFitsItsFields }
 {}

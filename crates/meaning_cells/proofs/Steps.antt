@@ -17,7 +17,8 @@ use Rattle.tree_core.specs.declared.operator.BinOp.{BinOp}
 use Rattle.tree_core.specs.declared.operator.BinOp.TheVariants.{Add, Sub, Mul, Mod, Idiv, Band, Bor, Bxor, Shl, Shr, Concat, Eq, Ne, Lt, Le, Gt, Ge}
 use Rattle.tree_core.specs.Tree.{Block, Body, BodyOf, Stats, EndStats, MoreStats, Stat, Empty, Local, LocalFunction, Assign, CallStat, Do, While, Repeat, If, IfElse, NumFor, NumForStep, GenFor, Label, Goto, Break, Arms, EndArms, MoreArms, Exp, Nil, True, False, Int, Str, Vararg, Function, Var, Index, Call, Method, Unary, Binary, And, Or, Paren, Table, Exps, EndExps, MoreExps, Fields, EndFields, MoreFields, Item, Keyed}
 use Rattle.tree_activation.specs.Work.{End, falls_off, returns_list, until, Point, Target, to_local, to_upvalue, to_field, Purpose, for_call, for_return, for_declaration, for_assignment, for_counting, for_iterating, Control, evaluate, give, collect, construct, aim, store, choose, run, complete, decide, count_round, test_round, enter_round, capture, make, mark, pay, leave_scope, raise, finish, over, Work, key_of, object_of, field_of, operand_of, right_of, left_of, and_right, or_right, first_only, callee_of, method_of, listed, item_of, keyed_value, keyed_store, aimed_key, aimed_field, function_to, dropped, if_test, while_test, until_test, in_block, looping, repeating, counting, iterating, end_of_body, when_declared, when_captured, Pending, Activation, State, at}
-use Rattle.tree_activation.specs.Asking.{first, go, fitted, says_so, asks_quickly, heard, asks, last_pending, leave_by, leaves_scope, marked, marks_local, captures_one, captures, numbers, captured_locals, cell_names, line_of_body, upvalues_of}
+use Rattle.tree_activation.specs.Asking.{first, go, fitted, says_so, asks_quickly, heard, asks, last_pending, leave_by, leaves_scope, marked, marks_local, captures_one, captures, numbers, captured_locals, cell_names}
+use Rattle.tree_terms.specs.Bodies.{line_of_body, upvalues_of}
 use Rattle.tree_activation.specs.Expressions.{give_first, reads_variable, evaluates, makes_with, makes, integer_in, gives_integer, by_integers, operation_of, truth_of, binary, unary, added, constructs, stores_item}
 use Rattle.tree_activation.specs.Jumps.{Landing, passed_by, ahead, behind, lands, goes_to, breaks}
 use Rattle.tree_activation.specs.Statements.{point_of, repeat_point, begins, marks_closed, declares, declares_function, aims_at_name, aims, paired, stores_at, stores, goes_on_from, rounds_to_come, hidden, begins_round, begins_counting, starts_counting, step_of, counts_on, counts_round, hidden_integer, iterates, tests_round, enters_round, has_none, begins_return, executes, ends, runs_on, chooses}

@@ -8,11 +8,11 @@ use Rattle.int_core.specs.Ask.{Reply, values, faulted, left, values_in, IsLeft, 
 use Rattle.tree_core.specs.declared.name.Name.{Name}
 use Rattle.tree_core.specs.declared.name.Declared.{Declared}
 use Rattle.tree_core.specs.declared.name.Place.{Place}
-use Rattle.tree_core.specs.declared.name.Place.TheVariants.{Unset, Upvalue, GlobalIn, GlobalOf}
-use Rattle.tree_core.specs.declared.name.Place.TheVariants.{Local as LocalPlace}
+use Rattle.tree_core.specs.declared.name.Place.TheVariants.{Unset, Upvalue, GlobalIn, GlobalOf, Local as LocalPlace}
 use Rattle.tree_core.specs.Tree.{Block, Falls, Returns, Body, BodyOf, Stats, EndStats, MoreStats, Stat, Empty, Local, LocalFunction, Assign, CallStat, Do, While, Repeat, If, IfElse, NumFor, NumForStep, GenFor, Label, Goto, Break, Arms, EndArms, MoreArms, Exp, Var, Index, Call, Method, Exps, EndExps, MoreExps}
 use Rattle.tree_activation.specs.Work.{End, falls_off, returns_list, until, Passed, Point, Target, to_local, to_upvalue, to_field, Purpose, for_call, for_return, for_declaration, for_assignment, for_counting, for_iterating, Control, evaluate, give, collect, construct, aim, store, choose, run, complete, decide, count_round, test_round, enter_round, capture, make, mark, pay, leave_scope, raise, finish, over, Work, key_of, object_of, field_of, operand_of, right_of, left_of, and_right, or_right, first_only, callee_of, method_of, listed, item_of, keyed_value, keyed_store, aimed_key, aimed_field, function_to, dropped, if_test, while_test, until_test, in_block, looping, repeating, counting, iterating, end_of_body, Activation, State, at}
-use Rattle.tree_activation.specs.Asking.{first, told, heard, cut, raises_fault, captured_locals, upvalues_of, cell_names, numbers}
+use Rattle.tree_activation.specs.Asking.{first, told, heard, cut, raises_fault, captured_locals, cell_names, numbers}
+use Rattle.tree_terms.specs.Bodies.{upvalues_of}
 use Rattle.tree_activation.specs.Expressions.{integer_in}
 use Rattle.tree_activation.specs.Jumps.{Landing, passed_by, ahead, behind, lands, goes_to, breaks}
 use Rattle.tree_activation.specs.Statements.{point_of, repeat_point, begins, is_closed, marks_closed, declares, declares_function, aims_at_name, aims, paired, stores_at, stores, goes_on_from, rounds_to_come, begins_round, begins_counting, starts_counting, step_of, counts_on, counts_round, enters_round, has_none, begins_return, executes, ends, runs_on, chooses}

@@ -1,7 +1,7 @@
 -- A source that keeps the static rules, so that the law's premise is no empty one, and what its definitions refuse.
 use Rattle.std.proofs.Common.{rules, ◌≡◌, true, false, [], ◌∷◌, refl}
 use Rattle.tree_core.specs.Tree.{Block, While, Repeat, NumFor, Label, Goto, Break, Var, Vararg}
-use Rattle.code_means.proofs.Forms.{no_variable, int, call, block, returning, loc_is, assign, when, vararg_fun, function}
+use Rattle.tree_terms.proofs.Forms.{no_variable, int, call, block, returning, loc_is, assign, when, vararg_fun, function}
 use Rattle.scope_core.specs.Places.{placed}
 use Rattle.scope_core.specs.Rules.{violations}
 use Rattle.scope_laws.specs.Finding.{LocalIsThere, three_hidden}

@@ -7,12 +7,11 @@ use Rattle.std.proofs.lemmas.Slice.Eq.{bytes_eq-Decides}
 use Rattle.std.proofs.lemmas.Bool.{le-leb}
 use Rattle.tree_core.specs.declared.name.Name.{Name}
 use Rattle.tree_core.specs.Tree.{Stats, EndStats, MoreStats, Stat, Empty, Local, LocalFunction, Label}
-use Rattle.tree_activation.specs.Jumps.{are_void}
+use Rattle.tree_terms.specs.Labels.{are_void, Named, legal, names_ahead, names_passed}
 use Rattle.scope_core.specs.Scopes.{Scope, Around, declared_by}
 use Rattle.scope_core.specs.Parts.{Located, with_variables, with_block, stat_parts, stats_parts}
 use Rattle.scope_core.specs.Rules.{Found, Missing, Fine, Entering, is_label, declares_variable, only_labels, find_behind, or_further, find_label, goto_violations, stands_before, stat_violations, held_violations, breach}
-use Rattle.code_of.specs.Levels.{level_after}
-use Rattle.stat_laws.specs.Scoped.{Named, legal, names_ahead, names_passed}
+use Rattle.tree_terms.specs.Levels.{level_after}
 use Rattle.scope_laws.proofs.Parts.{Kept, none_of, back, unbroken}
 
 -- labels in sight of blocks

@@ -3,7 +3,7 @@ use Rattle.std.proofs.Common.{rules, arith, ℕ, suc, ◌≡◌, ◌≤◌, Bool
 use Rattle.tree_core.specs.declared.name.Name.{Name}
 use Rattle.tree_core.specs.declared.name.UpName.{UpName}
 use Rattle.tree_core.specs.Tree.{Block, Falls, Returns, Body, BodyOf, Stats, EndStats, MoreStats, Stat, Empty, Local, LocalFunction, Assign, CallStat, Do, While, Repeat, If, IfElse, NumFor, NumForStep, GenFor, Label, Goto, Break, Arms, EndArms, MoreArms, Exps, EndExps, MoreExps, Exp, Nil, True, False, Int, Str, Vararg, Function, Var, Index, Call, Method, Unary, Binary, And, Or, Paren, Table, Fields, EndFields, MoreFields, Field, Item, Keyed}
-use Rattle.tree_activation.specs.Asking.{upvalues_of}
+use Rattle.tree_terms.specs.Bodies.{upvalues_of}
 use Rattle.scope_core.specs.declared.variable.Variable.{Variable}
 use Rattle.scope_core.specs.Scopes.{Scope, Frame, bare, declare_all, declared_by, plain_variable, numeric_hidden, generic_hidden}
 use Rattle.scope_core.specs.Parts.{Located, Until, Result, at, inside, with_variables, with_block, in_loop_of, loop_scope, scope_behind, name_declarations, declarations, for_declarations, exp_parts, exps_parts, fields_parts, field_parts, body_parts, block_parts, stats_parts, stat_parts, arms_parts}
@@ -14,7 +14,7 @@ use Rattle.scope_core.proofs.Levels.{add_all, text_of_up}
 use Rattle.scope_core.proofs.Effects.{Effect, bare_declare_all, closed_declare, closed_entered, level_declare, grown_declare, grown_length, outside_append, names_outside}
 use Rattle.scope_core.proofs.WalkEffects.{body_effect, open_effect}
 use Rattle.scope_core.proofs.Settling.{firsts_added}
-use Rattle.stat_laws.specs.Scoped.{Named}
+use Rattle.tree_terms.specs.Labels.{Named}
 use Rattle.scope_laws.specs.Keeping.{ExpKeeps, ExpsKeep, FieldsKeep, FieldKeeps, BodyKeeps, BlockKeeps, StatsKeep, StatKeeps, ArmsKeep}
 use Rattle.scope_laws.specs.Finding.{CapturesAreThere, ExpFinds, ExpsFind, FieldsFind, FieldFinds, BodyFinds, BlockFinds, StatsFind, StatFinds, ArmsFind}
 use Rattle.scope_laws.proofs.Named.{has, HasAll, KnowsAll, first_has, last_has, adds_nothing, has_added, known_added, all_known}

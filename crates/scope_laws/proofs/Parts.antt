@@ -10,7 +10,7 @@ use Rattle.scope_core.specs.declared.variable.Variable.{Variable}
 use Rattle.scope_core.specs.Scopes.{Scope, Frame, declare, declare_all, declared_by, declared_variable, plain_variable, behind, behind_stats}
 use Rattle.scope_core.specs.Parts.{Located, with_variables, declarations, name_declarations}
 use Rattle.scope_core.specs.Rules.{breach, locals, held_violations, part_violations}
-use Rattle.code_of.specs.Levels.{level_after, levels_after, levels_in}
+use Rattle.tree_terms.specs.Levels.{level_after, levels_after, levels_in}
 
 -- each part keeps the rules
 abbrev pub Kept : List Located → Type 0

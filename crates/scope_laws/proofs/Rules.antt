@@ -7,8 +7,8 @@ use Rattle.scope_core.specs.Scopes.{Scope, declared_by, plain_variable, numeric_
 use Rattle.scope_core.specs.Parts.{Located, Until, Result, at, inside, with_variables, with_block, in_loop_of, loop_scope, scope_behind, name_declarations, declarations, for_declarations, exp_parts, exps_parts, fields_parts, field_parts, body_parts, block_parts, stats_parts, stat_parts, arms_parts}
 use Rattle.scope_core.specs.Held.{held, held_behind, held_stat}
 use Rattle.scope_core.specs.Rules.{find_label, tokens_of, stat_line, stat_violations, held_violations}
-use Rattle.code_of.specs.Levels.{level_after, levels_after, levels_in}
-use Rattle.stat_laws.specs.Scoped.{Named, names_ahead}
+use Rattle.tree_terms.specs.Levels.{level_after, levels_after, levels_in}
+use Rattle.tree_terms.specs.Labels.{Named, names_ahead}
 use Rattle.scope_laws.specs.Keeping.{ExpKeeps, ExpsKeep, FieldsKeep, FieldKeeps, BodyKeeps, BlockKeeps, StatsKeep, StatKeeps, ArmsKeep}
 use Rattle.scope_laws.proofs.Parts.{Kept, none_of, front, back, allowed, at_most, HasLevel, same_level, level_declared, level_step, level_behind_stats, level_behind, declares_few, holds_few, names_few, declared_few}
 use Rattle.scope_laws.proofs.Labels.{Legal, passed_all, legal_within, none_around, found_fine}

@@ -19,10 +19,10 @@ use Rattle.scope_core.specs.Walked.{own_variables, own_upvalues}
 use Rattle.scope_core.proofs.Growing.{knows}
 use Rattle.scope_core.proofs.Levels.{Closed, add_all}
 use Rattle.scope_core.proofs.Effects.{bare_declare_all, bare_length}
-use Rattle.code_of.specs.Levels.{level_after, levels_after, levels_in}
-use Rattle.stat_laws.specs.Scoped.{Named}
+use Rattle.tree_terms.specs.Levels.{level_after, levels_after, levels_in}
+use Rattle.tree_terms.specs.Labels.{Named}
 use Rattle.scope_laws.specs.Keeping.{BlockKeeps, StatsKeep, StatKeeps}
-use Rattle.exp_laws.specs.Placed.{IsNoneOf}
+use Rattle.tree_terms.specs.Hidden.{IsNoneOf}
 use Rattle.scope_laws.specs.Finding.{LocalIsThere, PlaceIsThere, CaptureIsThere, CapturesAreThere, three_hidden, four_hidden}
 use Rattle.scope_laws.proofs.Named.{has, HasAll, KnowsAll, register_below, upvalue_below, known_by}
 

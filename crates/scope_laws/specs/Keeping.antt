@@ -5,8 +5,8 @@ use Rattle.std.specs.Prelude.{◌≡◌, ℕ, ◌+◌, ◌≤◌, Bool, true, fa
 use Rattle.tree_core.specs.Tree.{Block, Falls, Returns, Body, BodyOf, Stats, EndStats, MoreStats, Stat, Local, LocalFunction, Assign, CallStat, Do, While, Repeat, If, IfElse, NumFor, NumForStep, GenFor, Goto, Break, Arms, EndArms, MoreArms, Exps, EndExps, MoreExps, Exp, Vararg, Function, Index, Call, Method, Unary, Binary, And, Or, Paren, Table, Fields, EndFields, MoreFields, Field, Item, Keyed}
 use Rattle.scope_core.specs.Held.{held, held_behind, held_stat}
 use Rattle.scope_core.specs.Rules.{tokens_of}
-use Rattle.code_of.specs.Levels.{level_after, levels_after, levels_in}
-use Rattle.stat_laws.specs.Scoped.{Named, legal, names_ahead, names_passed}
+use Rattle.tree_terms.specs.Levels.{level_after, levels_after, levels_in}
+use Rattle.tree_terms.specs.Labels.{Named, legal, names_ahead, names_passed}
 
 abbrev mutual
   pub ExpKeeps : Exp → (vararg : Bool) → Type 0

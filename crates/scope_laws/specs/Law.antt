@@ -1,7 +1,7 @@
 -- The law of resolved trees.
 use Rattle.std.specs.Prelude.{◌≡◌, []}
 use Rattle.tree_core.specs.Tree.{Block, Body}
-use Rattle.tree_activation.specs.Asking.{upvalues_of}
+use Rattle.tree_terms.specs.Bodies.{upvalues_of}
 use Rattle.scope_core.specs.Places.{placed, main_upvalues}
 use Rattle.scope_core.specs.Rules.{violations}
 use Rattle.scope_laws.specs.Keeping.{BodyKeeps}

@@ -5,7 +5,8 @@ use Rattle.tree_core.specs.declared.name.Name.{Name}
 use Rattle.tree_core.specs.declared.name.UpName.{UpName}
 use Rattle.tree_core.specs.Tree.{Block, Falls, Returns, BodyOf, Stats, EndStats, MoreStats}
 use Rattle.code_core.specs.declared.proto.Const.{Const}
-use Rattle.code_of.specs.Levels.{level_after, levels_after, made_in_block, made_in_stats, closings_after}
+use Rattle.tree_terms.specs.Levels.{level_after, levels_after}
+use Rattle.code_of.specs.Levels.{made_in_block, made_in_stats, closings_after}
 use Rattle.code_of.specs.CodeOf.{body_code, code_of}
 use Rattle.stat_laws.specs.Fits.{BlockFits, setting, Alone}
 use Rattle.scope_laws.specs.Keeping.{BodyKeeps, BlockKeeps}
@@ -16,8 +17,8 @@ use Rattle.code_bounds.specs.Registers.{StatsHaveRoom, BlockHasRoom}
 use Rattle.code_bounds.proofs.Constants.{numbered}
 use Rattle.code_bounds.proofs.Functions.{body_made}
 use Rattle.code_bounds.proofs.Body.{enough}
-use Rattle.code_bounds.specs.FunctionCount.{functions_in_block}
-use Rattle.code_bounds.specs.Weight.{weight_of_block}
+use Rattle.tree_terms.specs.FunctionCount.{functions_in_block}
+use Rattle.tree_terms.specs.Weight.{weight_of_block}
 use Rattle.code_bounds.proofs.Counts.{made_block, few_block}
 use Rattle.code_bounds.proofs.ShortBodies.{body_short}
 use Rattle.grammar_laws.specs.Formed.{BlockIsFormed}

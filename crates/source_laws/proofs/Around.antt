@@ -3,7 +3,7 @@ use Rattle.std.proofs.Common.{◌≡◌, ℕ, ◌<◌, ◌≤◌, ◌^◌, Bool,
 use Rattle.code_core.specs.declared.proto.Const.{Const}
 use Rattle.code_core.specs.Prototype.{Prototype, list_of}
 use Rattle.exp_laws.specs.Setting.{Setting, hiding}
-use Rattle.exp_laws.specs.Placed.{IsNoneOf}
+use Rattle.tree_terms.specs.Hidden.{IsNoneOf}
 use Rattle.scope_laws.specs.Finding.{three_hidden, four_hidden}
 
 -- a function that has `ups` upvalues, where some locals are hidden; nothing is asked of its inner functions, of which it makes at most `most`

@@ -9,12 +9,13 @@ use Rattle.scope_core.specs.Rules.{violations}
 use Rattle.code_core.specs.Check.{IsChecked}
 use Rattle.code_core.specs.Writable.{name_fits}
 use Rattle.code_of.specs.CodeOf.{code_of}
-use Rattle.code_bounds.specs.FunctionCount.{functions_in_body}
-use Rattle.code_bounds.specs.Weight.{weight_of_body}
+use Rattle.tree_terms.specs.FunctionCount.{functions_in_body}
+use Rattle.tree_terms.specs.Weight.{weight_of_body}
 use Rattle.scope_laws.proofs.Main.{names_fit}
 use Rattle.grammar_laws.proofs.FormReadings.{tree_formed}
 use Rattle.grammar_laws.proofs.PlacedForms.{placed_formed}
-use Rattle.grammar_laws.proofs.WholeSizes.{weighs, takes, weighs_alike, fits, lines}
+use Rattle.grammar_laws.proofs.WholeSizes.{weighs, takes, weighs_alike, lines}
+use Rattle.source_laws.proofs.Fields.{fits}
 use Rattle.source_laws.proofs.Fitting.{body_fits}
 use Rattle.source_laws.proofs.Nearing.{near_body}
 use Rattle.code_checked.proofs.Keeping.{code_is_checked}

@@ -4,22 +4,21 @@ use Rattle.tree_core.specs.declared.name.Name.{Name}
 use Rattle.tree_core.specs.declared.name.Declared.{Declared}
 use Rattle.tree_core.specs.declared.name.UpName.{UpName}
 use Rattle.tree_core.specs.declared.name.Place.{Place}
-use Rattle.tree_core.specs.declared.name.Place.TheVariants.{Unset, Upvalue, GlobalIn, GlobalOf}
-use Rattle.tree_core.specs.declared.name.Place.TheVariants.{Local as LocalPlace}
+use Rattle.tree_core.specs.declared.name.Place.TheVariants.{Unset, Upvalue, GlobalIn, GlobalOf, Local as LocalPlace}
 use Rattle.tree_core.specs.Tree.{Block, Falls, Returns, BodyOf, Stats, EndStats, MoreStats, Stat, Empty, Local, LocalFunction, Assign, CallStat, Do, While, Repeat, If, IfElse, NumFor, NumForStep, GenFor, Label, Goto, Break, Arms, EndArms, MoreArms, Exp, Nil, True, False, Int, Str, Vararg, Function, Var, Index, Call, Method, Unary, Binary, And, Or, Paren, Table, Exps, EndExps, MoreExps}
 use Rattle.code_core.specs.declared.proto.Const.{Const}
 use Rattle.code_of.specs.Constants.{of_block}
 use Rattle.code_of.specs.CodeOf.{back_field, body_code, where_known, variables_of, code_of}
 use Rattle.code_of.specs.Expressions.{count, made_by, made_in, exp_code, exps_code}
-use Rattle.code_of.specs.Levels.{level_after, levels_after, made_by_stat, made_in_arms, made_in_block, closing_after}
+use Rattle.tree_terms.specs.Levels.{level_after, levels_after}
+use Rattle.code_of.specs.Levels.{made_by_stat, made_in_arms, made_in_block, closing_after}
 use Rattle.code_of.specs.Parts.{past_size, bounds_code, steps_code}
 use Rattle.code_of.specs.Sizes.{stat_size, arms_size, block_size}
 use Rattle.code_of.specs.Variables.{variables, names_of, hidden, declared_by, looped, within_stat, within_arms, within_stats, within_block, within_open}
-use Rattle.scope_core.specs.Held.{held_name, held, held_behind}
-use Rattle.scope_core.specs.Held.{count as held_count}
-use Rattle.stat_laws.specs.Scoped.{Named, names_ahead, names_passed}
+use Rattle.scope_core.specs.Held.{held_name, held, held_behind, count as held_count}
+use Rattle.tree_terms.specs.Labels.{Named, names_ahead, names_passed}
 use Rattle.scope_laws.specs.Keeping.{StatKeeps, StatsKeep}
-use Rattle.code_bounds.specs.Weight.{weight_of_arguments, weight_of_exps, weight_of_stat, weight_of_arms, weight_of_stats, weight_of_block, weight_of_body}
+use Rattle.tree_terms.specs.Weight.{weight_of_arguments, weight_of_exps, weight_of_stat, weight_of_arms, weight_of_stats, weight_of_block, weight_of_body}
 
 -- an expression holds a value at least
 

@@ -1,21 +1,22 @@
 -- An expression is placed where its names are found, its constants and functions have their numbers, and it is not too great.
 use Rattle.std.proofs.Common.{◌≡◌, ℕ, ◌+◌, ◌<◌, ◌≤◌, Bool, true, false, List, [], ◌∷◌, map, Option, refl, subst, rules, arith}
 use Rattle.tree_core.specs.declared.name.Place.{Place}
-use Rattle.tree_core.specs.declared.name.Place.TheVariants.{Unset, Upvalue, GlobalIn, GlobalOf}
-use Rattle.tree_core.specs.declared.name.Place.TheVariants.{Local as LocalPlace}
+use Rattle.tree_core.specs.declared.name.Place.TheVariants.{Unset, Upvalue, GlobalIn, GlobalOf, Local as LocalPlace}
 use Rattle.tree_core.specs.declared.name.UpName.{UpName}
 use Rattle.tree_core.specs.Tree.{Body, BodyOf, Exp, Nil, True, False, Int, Str, Vararg, Function, Var, Index, Call, Method, Unary, Binary, And, Or, Paren, Table, Exps, EndExps, MoreExps, Fields, EndFields, MoreFields, Item, Keyed}
-use Rattle.tree_activation.specs.Asking.{upvalues_of}
+use Rattle.tree_terms.specs.Bodies.{upvalues_of}
 use Rattle.code_core.specs.declared.proto.Const.{Const}
 use Rattle.code_core.specs.declared.proto.Const.TheVariants.{Int as IntConst, Str as StrConst}
 use Rattle.code_of.specs.Expressions.{made_by, made_in, made_in_fields}
 use Rattle.code_of.specs.CodeOf.{upvalue, code_of}
-use Rattle.exp_laws.specs.Placed.{Found, Inner, IsNoneOf, Captures, NameIsPlaced, IsPlaced, ArePlaced, FieldsArePlaced}
+use Rattle.code_of.specs.Constants.{Found}
+use Rattle.exp_laws.specs.Placed.{Inner, Captures, NameIsPlaced, IsPlaced, ArePlaced, FieldsArePlaced}
+use Rattle.tree_terms.specs.Hidden.{IsNoneOf}
 use Rattle.scope_laws.specs.Finding.{PlaceIsThere, CaptureIsThere, CapturesAreThere, ExpFinds, ExpsFind, FieldsFind}
 use Rattle.code_bounds.specs.Constants.{Has, NameHas, ExpHas, ExpsHave, FieldsHave}
 use Rattle.code_bounds.specs.Functions.{IsMade, ExpMakes, ExpsMake, FieldsMake}
 use Rattle.code_bounds.proofs.Constants.{found}
-use Rattle.code_bounds.specs.Weight.{weight, weight_of_exps, weight_of_fields}
+use Rattle.tree_terms.specs.Weight.{weight, weight_of_exps, weight_of_fields}
 use Rattle.code_bounds.proofs.Counts.{arguments_weigh}
 use Rattle.source_laws.proofs.Around.{Around, constants_of, functions_of}
 

@@ -3,16 +3,17 @@ use Rattle.std.proofs.Common.{ℕ, ◌+◌, ◌≤◌, ◌^◌, Bool, true, fals
 use Rattle.tree_core.specs.Tree.{Block, Falls, Returns, Body, BodyOf, Stats, EndStats, MoreStats, Stat, Empty, Local, LocalFunction, Assign, CallStat, Do, While, Repeat, If, IfElse, NumFor, NumForStep, GenFor, Label, Goto, Break, Arms, EndArms, MoreArms, Exp, Nil, True, False, Int, Str, Vararg, Function, Var, Index, Call, Method, Unary, Binary, And, Or, Paren, Table, Exps, EndExps, MoreExps, Fields, EndFields, MoreFields, Field, Item, Keyed}
 use Rattle.code_core.specs.Prototype.{Prototype, list_of}
 use Rattle.code_of.specs.Expressions.{made_by, made_in, made_by_field}
-use Rattle.code_of.specs.Levels.{made_by_stat, made_in_arms, made_in_stats, made_in_block, level_after, levels_after, levels_in}
+use Rattle.code_of.specs.Levels.{made_by_stat, made_in_arms, made_in_stats, made_in_block}
+use Rattle.tree_terms.specs.Levels.{level_after, levels_after, levels_in}
 use Rattle.code_of.specs.CodeOf.{code_of}
 use Rattle.stat_laws.specs.Fits.{BodyFits, InExp, InExps, InFields, InField, InStat, InArms, InStats, InBlock}
-use Rattle.stat_laws.specs.Scoped.{Named, names_ahead, names_passed}
+use Rattle.tree_terms.specs.Labels.{Named, names_ahead, names_passed}
 use Rattle.scope_laws.specs.Keeping.{ExpKeeps, ExpsKeep, FieldsKeep, FieldKeeps, BodyKeeps, BlockKeeps, StatsKeep, StatKeeps, ArmsKeep}
 use Rattle.scope_laws.specs.Finding.{three_hidden, four_hidden, ExpFinds, ExpsFind, FieldsFind, FieldFinds, BodyFinds, BlockFinds, StatsFind, StatFinds, ArmsFind}
 use Rattle.code_bounds.specs.Functions.{ExpMakes, ExpsMake, FieldsMake, FieldMakes, StatMakes, ArmsMake, StatsMake, BlockMakes}
 use Rattle.code_bounds.proofs.Functions.{body_made}
-use Rattle.code_bounds.specs.FunctionCount.{functions, functions_in_exps, functions_in_fields, functions_in_field, functions_in_stat, functions_in_arms, functions_in_stats, functions_in_block, functions_in_body}
-use Rattle.code_bounds.specs.Weight.{weight, weight_of_exps, weight_of_fields, weight_of_field, weight_of_stat, weight_of_arms, weight_of_stats, weight_of_block, weight_of_body}
+use Rattle.tree_terms.specs.FunctionCount.{functions, functions_in_exps, functions_in_fields, functions_in_field, functions_in_stat, functions_in_arms, functions_in_stats, functions_in_block, functions_in_body}
+use Rattle.tree_terms.specs.Weight.{weight, weight_of_exps, weight_of_fields, weight_of_field, weight_of_stat, weight_of_arms, weight_of_stats, weight_of_block, weight_of_body}
 use Rattle.code_bounds.proofs.Counts.{arguments_weigh}
 use Rattle.grammar_laws.specs.Formed.{ExpIsFormed, ExpsAreFormed, FieldsAreFormed, FieldIsFormed, StatIsFormed, ArmsAreFormed, StatsAreFormed, BlockIsFormed, BodyIsFormed}
 use Rattle.grammar_laws.specs.Counted.{ExpIsCounted, ExpsAreCounted, FieldsAreCounted, FieldIsCounted, StatIsCounted, ArmsAreCounted, StatsAreCounted, BlockIsCounted, BodyIsCounted}

@@ -1,7 +1,7 @@
 -- A source whose body fits, so that the law's premises are no empty ones, and a body that the grammar has not, which does not fit.
 use Rattle.std.proofs.Common.{rules, ◌≡◌, true, false, lit≤, [], ◌∷◌, List, None, refl}
 use Rattle.tree_core.specs.Tree.{Block, Falls, Returns, BodyOf, Stat, CallStat, NumFor, GenFor, Exp, Var, Vararg, stats, exps}
-use Rattle.code_means.proofs.Forms.{no_variable, int, call, loc_is, assign, vararg_fun, function}
+use Rattle.tree_terms.proofs.Forms.{no_variable, int, call, loc_is, assign, vararg_fun, function}
 use Rattle.scope_core.specs.Places.{placed}
 use Rattle.scope_core.specs.Rules.{violations}
 use Rattle.scope_laws.specs.Law.{BodyNamesFit}

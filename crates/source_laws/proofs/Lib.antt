@@ -20,3 +20,4 @@ mod Joining
 mod Many
 pub mod Checked
 mod CheckedExample
+mod Fields

@@ -1,11 +1,10 @@
 -- What the static rules give has what is supposed of registers: names in scope, and the limits on locals and held values.
 use Rattle.std.proofs.Common.{ℕ, ◌+◌, ◌≤◌, Bool, true, false, List, [], ◌++◌, length}
 use Rattle.tree_core.specs.declared.name.Place.{Place}
-use Rattle.tree_core.specs.declared.name.Place.TheVariants.{Unset, Upvalue, GlobalIn, GlobalOf}
-use Rattle.tree_core.specs.declared.name.Place.TheVariants.{Local as LocalPlace}
+use Rattle.tree_core.specs.declared.name.Place.TheVariants.{Unset, Upvalue, GlobalIn, GlobalOf, Local as LocalPlace}
 use Rattle.tree_core.specs.Tree.{Block, Falls, Returns, Body, BodyOf, Stats, EndStats, MoreStats, Stat, Empty, Local, LocalFunction, Assign, CallStat, Do, While, Repeat, If, IfElse, NumFor, NumForStep, GenFor, Label, Goto, Break, Arms, EndArms, MoreArms, Exp, Nil, True, False, Int, Str, Vararg, Function, Var, Index, Call, Method, Unary, Binary, And, Or, Paren, Table, Exps, EndExps, MoreExps, Fields, EndFields, MoreFields, Field, Item, Keyed}
-use Rattle.code_of.specs.Levels.{level_after, levels_after, levels_in}
-use Rattle.stat_laws.specs.Scoped.{Named, names_ahead, names_passed}
+use Rattle.tree_terms.specs.Levels.{level_after, levels_after, levels_in}
+use Rattle.tree_terms.specs.Labels.{Named, names_ahead, names_passed}
 use Rattle.scope_laws.specs.Keeping.{BodyKeeps, BlockKeeps, StatsKeep, StatKeeps, ArmsKeep}
 use Rattle.scope_laws.specs.Finding.{PlaceIsThere, three_hidden, four_hidden, ExpFinds, ExpsFind, FieldsFind, FieldFinds, BodyFinds, BlockFinds, StatsFind, StatFinds, ArmsFind}
 use Rattle.code_bounds.specs.InScope.{NameInScope, ExpInScope, ExpsInScope, FieldsInScope, FieldInScope, StatInScope, ArmsInScope, StatsInScope, BlockInScope, BodyInScope}

@@ -1,10 +1,9 @@
 -- The code of a body has as many functions in it as are written in the body.
 use Rattle.std.proofs.Common.{◌≡◌, ℕ, ◌+◌, List, Option, arith}
 use Rattle.tree_core.specs.Tree.{Block, Falls, Returns, Body, BodyOf, Stats, EndStats, MoreStats, Stat, Empty, Local, LocalFunction, Assign, CallStat, Do, While, Repeat, If, IfElse, NumFor, NumForStep, GenFor, Label, Goto, Break, Arms, EndArms, MoreArms, Exp, Nil, True, False, Int, Str, Vararg, Function, Var, Index, Call, Method, Unary, Binary, And, Or, Paren, Table, Exps, EndExps, MoreExps, Fields, EndFields, MoreFields, Field, Item, Keyed}
-use Rattle.code_core.specs.Prototype.{Prototypes, none}
-use Rattle.code_core.specs.Prototype.{count as count_of}
+use Rattle.code_core.specs.Prototype.{Prototypes, none, count as count_of}
 use Rattle.code_of.specs.CodeOf.{from_exp, from_exps, from_fields, from_field, from_stat, from_arms, from_stats, from_block, from_body}
-use Rattle.code_bounds.specs.FunctionCount.{functions, functions_in_exps, functions_in_fields, functions_in_field, functions_in_stat, functions_in_arms, functions_in_stats, functions_in_block, functions_in_body}
+use Rattle.tree_terms.specs.FunctionCount.{functions, functions_in_exps, functions_in_fields, functions_in_field, functions_in_stat, functions_in_arms, functions_in_stats, functions_in_block, functions_in_body}
 
 module _ (source : Option (List ℕ)) where
   mutual

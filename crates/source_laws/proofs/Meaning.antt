@@ -8,8 +8,8 @@ use Rattle.scope_core.specs.Places.{placed}
 use Rattle.scope_core.specs.Rules.{violations}
 use Rattle.code_means.specs.Means.{Means}
 use Rattle.code_of.specs.CodeOf.{code_of}
-use Rattle.code_bounds.specs.FunctionCount.{functions_in_body}
-use Rattle.code_bounds.specs.Weight.{weight_of_body}
+use Rattle.tree_terms.specs.FunctionCount.{functions_in_body}
+use Rattle.tree_terms.specs.Weight.{weight_of_body}
 use Rattle.stat_laws.specs.Fits.{is_known, BodyFits}
 use Rattle.stat_laws.proofs.Whole.{means}
 use Rattle.scope_laws.proofs.Main.{names_fit}

@@ -1,26 +1,24 @@
 -- What the static rules, the grammar and the limits on sources give of a tree makes it near.
 use Rattle.std.proofs.Common.{◌≡◌, ℕ, suc, ◌+◌, ◌*◌, ◌<◌, ◌≤◌, ◌^◌, Bool, true, false, cond, List, [], ◌∷◌, ◌++◌, length, map, Option, refl, sym, ap, subst, ◌∙◌, arith}
 use Rattle.tree_core.specs.declared.name.Place.{Place}
-use Rattle.tree_core.specs.declared.name.Place.TheVariants.{Unset, Upvalue, GlobalIn, GlobalOf}
-use Rattle.tree_core.specs.declared.name.Place.TheVariants.{Local as LocalPlace}
+use Rattle.tree_core.specs.declared.name.Place.TheVariants.{Unset, Upvalue, GlobalIn, GlobalOf, Local as LocalPlace}
 use Rattle.tree_core.specs.declared.name.UpName.{UpName}
 use Rattle.tree_core.specs.Tree.{Block, Falls, Returns, Body, BodyOf, Stats, EndStats, MoreStats, Stat, Empty, Local, LocalFunction, Assign, CallStat, Do, While, Repeat, If, IfElse, NumFor, NumForStep, GenFor, Label, Goto, Break, Arms, EndArms, MoreArms, Exp, Nil, True, False, Int, Str, Vararg, Function, Var, Index, Call, Method, Unary, Binary, And, Or, Paren, Table, Exps, EndExps, MoreExps, Fields, EndFields, MoreFields, Item, Keyed}
-use Rattle.tree_activation.specs.Asking.{upvalues_of}
+use Rattle.tree_terms.specs.Bodies.{upvalues_of}
 use Rattle.code_core.specs.Prototype.{Prototype}
 use Rattle.code_of.specs.CodeOf.{upvalue, back_field, code_of}
 use Rattle.code_of.specs.Expressions.{made_by, made_in, count}
-use Rattle.code_of.specs.Levels.{made_by_stat, made_in_arms, made_in_stats, made_in_block, level_after, levels_after, levels_in, closing_after}
-use Rattle.scope_core.specs.Held.{held, held_behind, held_fields, held_targets, held_tests, held_stat}
-use Rattle.scope_core.specs.Held.{count as held_count}
-use Rattle.stat_laws.specs.Scoped.{Named, names_ahead, names_passed}
-use Rattle.stat_laws.specs.Fits.{BodyFits}
-use Rattle.stat_laws.specs.Fits.{InExp as ExpFits, InExps as ExpsFit, InFields as FieldsFit, InStat as StatFits, InArms as ArmsFit, InStats as StatsFit, InBlock as BlockFits}
+use Rattle.code_of.specs.Levels.{made_by_stat, made_in_arms, made_in_stats, made_in_block, closing_after}
+use Rattle.tree_terms.specs.Levels.{level_after, levels_after, levels_in}
+use Rattle.scope_core.specs.Held.{held, held_behind, held_fields, held_targets, held_tests, held_stat, count as held_count}
+use Rattle.tree_terms.specs.Labels.{Named, names_ahead, names_passed}
+use Rattle.stat_laws.specs.Fits.{BodyFits, InExp as ExpFits, InExps as ExpsFit, InFields as FieldsFit, InStat as StatFits, InArms as ArmsFit, InStats as StatsFit, InBlock as BlockFits}
 use Rattle.scope_laws.specs.Keeping.{ExpKeeps, ExpsKeep, FieldsKeep, StatKeeps, ArmsKeep, StatsKeep, BlockKeeps, BodyKeeps}
 use Rattle.scope_laws.specs.Finding.{PlaceIsThere, CaptureIsThere, CapturesAreThere, three_hidden, four_hidden, ExpFinds, ExpsFind, FieldsFind, StatFinds, ArmsFind, StatsFind, BlockFinds, BodyFinds}
 use Rattle.grammar_laws.specs.Formed.{IsNameOrIndex, AreTargets, ExpIsFormed, ExpsAreFormed, FieldsAreFormed, StatIsFormed, ArmsAreFormed, StatsAreFormed, BlockIsFormed, BodyIsFormed}
 use Rattle.grammar_laws.specs.Each.{InExp as ExpHas, InExps as ExpsHave, InFields as FieldsHave, InStat as StatHas, InArms as ArmsHave, InStats as StatsHave, InBlock as BlockHas, InBody as BodyHas}
-use Rattle.grammar_laws.specs.Sizes.{FunctionFits, LoopFits}
-use Rattle.code_bounds.specs.Weight.{weight, weight_of_exps, weight_of_fields, weight_of_stat, weight_of_arms, weight_of_stats, weight_of_block, weight_of_body}
+use Rattle.source_laws.specs.Fields.{FunctionFits, LoopFits}
+use Rattle.tree_terms.specs.Weight.{weight, weight_of_exps, weight_of_fields, weight_of_stat, weight_of_arms, weight_of_stats, weight_of_block, weight_of_body}
 use Rattle.code_bounds.proofs.Functions.{body_made}
 use Rattle.code_checked.specs.Near.{NameIsNear, AreCaptured, ExpIsNear, ExpsAreNear, FieldsAreNear, TargetIsNear, TargetsAreNear, StatIsNear, ArmsAreNear, StatsAreNear, BlockIsNear, AreNear}
 use Rattle.source_laws.proofs.Counting.{held_some, count_same, values_below, arguments_weigh, level_few, levels_few, locals_few}

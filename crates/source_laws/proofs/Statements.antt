@@ -1,24 +1,25 @@
 -- A statement is placed where its names are found, its constants and functions have their numbers, its registers are there and the limits are kept.
 use Rattle.std.proofs.Common.{◌≡◌, ℕ, ◌+◌, ◌≤◌, Bool, true, false, List, [], ◌++◌, length, None, refl, arith}
 use Rattle.tree_core.specs.declared.name.Place.{Place}
-use Rattle.tree_core.specs.declared.name.Place.TheVariants.{Unset, Upvalue, GlobalIn, GlobalOf}
-use Rattle.tree_core.specs.declared.name.Place.TheVariants.{Local as LocalPlace}
+use Rattle.tree_core.specs.declared.name.Place.TheVariants.{Unset, Upvalue, GlobalIn, GlobalOf, Local as LocalPlace}
 use Rattle.tree_core.specs.Tree.{Block, Falls, Returns, Stats, EndStats, MoreStats, Stat, Empty, Local, LocalFunction, Assign, CallStat, Do, While, Repeat, If, IfElse, NumFor, NumForStep, GenFor, Label, Goto, Break, Arms, EndArms, MoreArms, Exp, Nil, True, False, Int, Str, Vararg, Function, Var, Index, Call, Method, Unary, Binary, And, Or, Paren, Table, Exps, EndExps, MoreExps}
-use Rattle.tree_activation.specs.Asking.{upvalues_of}
+use Rattle.tree_terms.specs.Bodies.{upvalues_of}
 use Rattle.code_core.specs.declared.proto.Const.TheVariants.{Str as StrConst}
 use Rattle.code_of.specs.Expressions.{made_by, made_in, is_open}
-use Rattle.code_of.specs.Levels.{made_by_stat, made_in_arms, made_in_stats, made_in_block, level_after, levels_after, levels_in, closing_after, closings_after}
+use Rattle.code_of.specs.Levels.{made_by_stat, made_in_arms, made_in_stats, made_in_block, closing_after, closings_after}
+use Rattle.tree_terms.specs.Levels.{level_after, levels_after, levels_in}
 use Rattle.scope_core.specs.Held.{held_behind, held_stat}
 use Rattle.scope_core.specs.Rules.{tokens_of}
-use Rattle.exp_laws.specs.Placed.{room_of_list}
-use Rattle.stat_laws.specs.Scoped.{Named, names_ahead, names_passed, MayAssign, IsNear, TargetsArePlaced, ListIsPlaced, LastIsPlaced, ReturnIsPlaced, StatIsPlaced, ArmsArePlaced, StatsArePlaced, BlockIsPlaced, OpenIsPlaced}
+use Rattle.code_of.specs.Rooms.{room_of_list}
+use Rattle.tree_terms.specs.Labels.{Named, names_ahead, names_passed}
+use Rattle.stat_laws.specs.Scoped.{MayAssign, IsNear, TargetsArePlaced, ListIsPlaced, LastIsPlaced, ReturnIsPlaced, StatIsPlaced, ArmsArePlaced, StatsArePlaced, BlockIsPlaced, OpenIsPlaced}
 use Rattle.scope_laws.specs.Keeping.{BlockKeeps, StatsKeep, StatKeeps, ArmsKeep}
 use Rattle.scope_laws.specs.Finding.{PlaceIsThere, ExpsFind, BlockFinds, StatsFind, StatFinds, ArmsFind}
 use Rattle.code_bounds.specs.Constants.{ExpsHave, StatHas, ArmsHave, StatsHave, BlockHas}
 use Rattle.code_bounds.specs.Functions.{ExpsMake, StatMakes, ArmsMake, StatsMake, BlockMakes}
 use Rattle.code_bounds.specs.Registers.{TargetsHaveRoom, StatHasRoom, ArmsHaveRoom, StatsHaveRoom, BlockHasRoom}
 use Rattle.code_bounds.proofs.Widths.{list_width, targets_width}
-use Rattle.code_bounds.specs.Weight.{weight_of_exps, weight_of_stat, weight_of_arms, weight_of_stats, weight_of_block}
+use Rattle.tree_terms.specs.Weight.{weight_of_exps, weight_of_stat, weight_of_arms, weight_of_stats, weight_of_block}
 use Rattle.code_bounds.proofs.Counts.{arguments_weigh}
 use Rattle.code_bounds.proofs.ShortStatements.{block_short}
 use Rattle.grammar_laws.specs.Formed.{IsCall, AreTargets, StatIsFormed, ArmsAreFormed, StatsAreFormed, BlockIsFormed}

@@ -6,8 +6,8 @@ use Rattle.tree_core.specs.Tree.{Body}
 use Rattle.scope_laws.specs.Keeping.{BodyKeeps}
 use Rattle.scope_laws.specs.Finding.{BodyFinds}
 use Rattle.stat_laws.specs.Fits.{BodyFits}
-use Rattle.code_bounds.specs.Weight.{weight_of_body}
-use Rattle.code_bounds.specs.FunctionCount.{functions_in_body}
+use Rattle.tree_terms.specs.Weight.{weight_of_body}
+use Rattle.tree_terms.specs.FunctionCount.{functions_in_body}
 use Rattle.grammar_laws.specs.Formed.{BodyIsFormed}
 use Rattle.grammar_laws.specs.Counted.{BodyIsCounted}
 

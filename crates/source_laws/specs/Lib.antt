@@ -2,3 +2,4 @@ pub mod Fitting
 pub mod Meaning
 pub mod Nearing
 pub mod Checked
+pub mod Fields

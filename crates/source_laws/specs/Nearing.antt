@@ -7,8 +7,8 @@ use Rattle.scope_laws.specs.Finding.{BodyFinds}
 use Rattle.grammar_laws.specs.Formed.{BodyIsFormed}
 use Rattle.stat_laws.specs.Fits.{BodyFits}
 use Rattle.grammar_laws.specs.Each.{InBody}
-use Rattle.grammar_laws.specs.Sizes.{FunctionFits, LoopFits}
-use Rattle.code_bounds.specs.Weight.{weight_of_body}
+use Rattle.source_laws.specs.Fields.{FunctionFits, LoopFits}
+use Rattle.tree_terms.specs.Weight.{weight_of_body}
 use Rattle.code_checked.specs.Near.{AreNear}
 
 abbrev pub BodiesAreNear : Type 0

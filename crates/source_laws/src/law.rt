@@ -1,5 +1,6 @@
 // The laws of compiled sources.
 ghost use Rattle.source_laws.specs.Checked.{CodeOfSourcesIsChecked};
+ghost use Rattle.source_laws.specs.Fields.{CodeFitsItsFields};
 ghost use Rattle.source_laws.specs.Fitting.{BodiesFit};
 ghost use Rattle.source_laws.specs.Meaning.{CodeMeansSource};
 ghost use Rattle.source_laws.specs.Nearing.{BodiesAreNear};
@@ -29,4 +30,11 @@ pub fn bodies_are_near()
 /// checked code, and so is that of the functions in it.
 pub fn code_of_sources_is_checked()
     ensures { CodeOfSourcesIsChecked }
+{}
+
+/// The code of a source of at most 1,048,576 bytes that keeps the static rules fits the fields of
+/// instructions: each function in its placed tree has at most 2^24 instructions, fewer than 2^25
+/// constants and at most 2^17 functions of its own, and the jumps of each `for` are short enough.
+pub fn code_fits_its_fields()
+    ensures { CodeFitsItsFields }
 {}

@@ -8,10 +8,12 @@ use Rattle.tree_activation.specs.Work.{complete, run, leave_scope, Work, Pending
 use Rattle.tree_activation.specs.Work as tree
 use Rattle.tree_activation.specs.Activation.{step}
 use Rattle.tree_activation.specs.Statements.{is_closed, executes}
-use Rattle.tree_activation.specs.Jumps.{are_void, is_at_end, passed_by}
+use Rattle.tree_terms.specs.Labels.{are_void, Named, names_ahead}
+use Rattle.tree_activation.specs.Jumps.{is_at_end, passed_by}
 use Rattle.machine_core.specs.Talk.{before}
 use Rattle.code_of.specs.Jumps.{Visible, Reach}
-use Rattle.code_of.specs.Levels.{made_by_stat, level_after, levels_after, has_closed, closing_after}
+use Rattle.code_of.specs.Levels.{made_by_stat, has_closed, closing_after}
+use Rattle.tree_terms.specs.Levels.{level_after, levels_after}
 use Rattle.code_of.specs.Sizes.{stat_size, stats_size}
 use Rattle.code_of.specs.Statements.{visible, labels_ahead, passed_after, stat_code, stats_code}
 use Rattle.exp_laws.specs.Setting.{Setting}
@@ -22,7 +24,7 @@ use Rattle.stat_laws.proofs.Closing.{AllBelow}
 use Rattle.stat_laws.proofs.Standing.{strong, AllFrom, from_lower, from_more, below_higher, Standing, GoesOn, goes_from}
 use Rattle.code_of.proofs.Sizes.{stat_sized}
 use Rattle.stat_laws.proofs.Naming.{StatIsNamed, StatsAreNamed}
-use Rattle.stat_laws.specs.Scoped.{Named, names_ahead, StatIsPlaced, StatsArePlaced}
+use Rattle.stat_laws.specs.Scoped.{StatIsPlaced, StatsArePlaced}
 use Rattle.stat_laws.proofs.Labels.{closed_numbers, closed_after, IsNoLabel, level_rises, level_still, runs_stat, passed_other, named_other, Jumps, jumps_within, point, RunGoes, AllAhead, all_other, AllPassed, passed_within, rest_jumps}
 use Rattle.list_laws.proofs.Items.{append_nil}
 

@@ -5,7 +5,7 @@ use Rattle.code_core.specs.Opcode.{opcodes, number_of}
 use Rattle.tree_core.specs.declared.name.Place.TheVariants.{Local as LocalPlace}
 use Rattle.tree_core.specs.Tree.{Body, Index, LocalFunction, Do, While, Repeat, NumFor, NumForStep, GenFor, Label, Goto, Break, EndExps, MoreExps}
 use Rattle.code_means.specs.Means.{Means}
-use Rattle.code_means.proofs.Forms.{name, no_variable, of_local, loc, outer, int, call, block, returning, loc_is, locals, closed, assigns, assign, global, when, fun, function, does}
+use Rattle.tree_terms.proofs.Forms.{name, no_variable, of_local, loc, outer, int, call, block, returning, loc_is, locals, closed, assigns, assign, global, when, fun, function, does}
 use Rattle.code_of.specs.CodeOf.{code_of}
 use Rattle.stat_laws.specs.Fits.{BodyFits}
 use Rattle.stat_laws.proofs.Whole.{means}

@@ -19,7 +19,8 @@ use Rattle.machine_core.specs.Talk.{before}
 use Rattle.code_of.specs.Coded.{Coded, with_abc, jump_over, jump_back}
 use Rattle.code_of.specs.Expressions.{made_by, is_open, exp_code}
 use Rattle.code_of.specs.Jumps.{Reach}
-use Rattle.code_of.specs.Levels.{made_in_arms, made_in_block, levels_after}
+use Rattle.code_of.specs.Levels.{made_in_arms, made_in_block}
+use Rattle.tree_terms.specs.Levels.{levels_after}
 use Rattle.code_of.specs.Parts.{close_code, past_size, past}
 use Rattle.code_of.specs.Sizes.{arms_size, stats_size, block_size}
 use Rattle.code_of.specs.Statements.{in_loop, arms_code, stats_code, block_code}
@@ -28,13 +29,15 @@ use Rattle.exp_laws.proofs.Registers.{AllUnder, Rel, Ascends}
 use Rattle.exp_laws.specs.Setting.{Setting}
 use Rattle.exp_laws.proofs.Talking.{Agree, go_left, go_right, of_tree, of_code}
 use Rattle.exp_laws.proofs.Placing.{HasAt, has_front, has_back}
-use Rattle.exp_laws.specs.Placed.{IsPlaced, room_of, room_of_name, room_of_list, room_of_values}
+use Rattle.exp_laws.specs.Placed.{IsPlaced}
+use Rattle.code_of.specs.Rooms.{room_of, room_of_name, room_of_list, room_of_values}
 use Rattle.exp_laws.proofs.Going.{Goes, next_there}
 use Rattle.exp_laws.proofs.Tests.{test_on, test_past, jump_step}
 use Rattle.stat_laws.proofs.Closing.{AllBelow, ends_goes}
 use Rattle.stat_laws.proofs.Standing.{strong, numbers, AllFrom, from_lower, from_more, part, ascends_under, Standing, GoesOn, goes_fewer, goes_from, back_goes, lands_ahead, below_higher}
 use Rattle.stat_laws.proofs.Naming.{BlockIsNamed, ArmsAreNamed}
-use Rattle.stat_laws.specs.Scoped.{Named, ArmsArePlaced, BlockIsPlaced}
+use Rattle.tree_terms.specs.Labels.{Named}
+use Rattle.stat_laws.specs.Scoped.{ArmsArePlaced, BlockIsPlaced}
 use Rattle.code_of.proofs.Sizes.{past_sized, block_sized, arms_sized, stats_sized}
 use Rattle.stat_laws.proofs.Labels.{Jumps, jumps_within}
 use Rattle.stat_laws.proofs.Blocks.{has_some, Added, added_all, added_none, levels_rise, closeds_after, StatLaw, StatsLaw}

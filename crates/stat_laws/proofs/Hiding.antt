@@ -11,7 +11,7 @@ use Rattle.code_of.specs.Jumps.{Reach, Landing, label_in}
 use Rattle.exp_laws.specs.Setting.{Setting, hiding}
 use Rattle.exp_laws.proofs.Registers.{Among, AllUnder, IsFree, IsInteger, HeldBelow, Rel}
 use Rattle.exp_laws.proofs.Placing.{HasAt}
-use Rattle.stat_laws.specs.Scoped.{Named}
+use Rattle.tree_terms.specs.Labels.{Named}
 use Rattle.stat_laws.proofs.Standing.{Standing, GoesOn}
 use Rattle.stat_laws.proofs.Values.{split_at}
 use Rattle.stat_laws.proofs.Labels.{JumpGoes, Jumps}

@@ -12,10 +12,12 @@ use Rattle.tree_activation.specs.Work as tree
 use Rattle.tree_activation.specs.Asking.{go}
 use Rattle.tree_activation.specs.Activation.{step}
 use Rattle.tree_activation.specs.Statements.{is_closed, executes, runs_on}
-use Rattle.tree_activation.specs.Jumps.{are_void, is_at_end, Landing as TreeLanding, passed_by, ahead, behind, lands, goes_to, breaks}
+use Rattle.tree_terms.specs.Labels.{are_void, Named, legal, names_ahead, names_passed}
+use Rattle.tree_activation.specs.Jumps.{is_at_end, Landing as TreeLanding, passed_by, ahead, behind, lands, goes_to, breaks}
 use Rattle.machine_core.specs.Talk.{before}
 use Rattle.code_of.specs.Jumps.{Landing, Visible, Reach, label_in, leads, jump_code}
-use Rattle.code_of.specs.Levels.{made_by_stat, level_after, closing_after}
+use Rattle.code_of.specs.Levels.{made_by_stat, closing_after}
+use Rattle.tree_terms.specs.Levels.{level_after}
 use Rattle.code_of.specs.Sizes.{stat_size}
 use Rattle.code_of.specs.Statements.{visible, labels_ahead, passed_after}
 use Rattle.exp_laws.proofs.Registers.{Rel}
@@ -23,7 +25,6 @@ use Rattle.exp_laws.specs.Setting.{Setting}
 use Rattle.exp_laws.proofs.Talking.{Agree, of_tree, of_code}
 use Rattle.exp_laws.proofs.Placing.{HasAt}
 use Rattle.stat_laws.proofs.Closing.{AllBelow}
-use Rattle.stat_laws.specs.Scoped.{Named, legal, names_ahead, names_passed}
 use Rattle.stat_laws.proofs.Standing.{numbers, AllFrom, from_lower, from_more, GoesOn, lands_ahead, lands_back}
 use Rattle.list_laws.proofs.Items.{append_nil}
 

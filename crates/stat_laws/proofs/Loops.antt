@@ -14,7 +14,8 @@ use Rattle.list_laws.proofs.Items.{append_nil}
 use Rattle.code_of.specs.Coded.{Coded, jump_over, jump_back}
 use Rattle.code_of.specs.Expressions.{exp_code}
 use Rattle.code_of.specs.Jumps.{Reach}
-use Rattle.code_of.specs.Levels.{made_in_stats, levels_after}
+use Rattle.code_of.specs.Levels.{made_in_stats}
+use Rattle.tree_terms.specs.Levels.{levels_after}
 use Rattle.code_of.specs.Parts.{close_code}
 use Rattle.code_of.specs.Sizes.{stats_size}
 use Rattle.code_of.specs.Statements.{in_loop, stats_code}

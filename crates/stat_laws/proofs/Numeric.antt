@@ -35,7 +35,8 @@ use Rattle.exp_laws.proofs.Placing.{HasAt, has_front, has_back, here_abx}
 use Rattle.exp_laws.proofs.Leaving.{faults_alike}
 use Rattle.exp_laws.proofs.Going.{next_there, at_place}
 use Rattle.exp_laws.proofs.Steps.{go_step}
-use Rattle.stat_laws.specs.Scoped.{Named, IsNear, BlockIsPlaced}
+use Rattle.tree_terms.specs.Labels.{Named}
+use Rattle.stat_laws.specs.Scoped.{IsNear, BlockIsPlaced}
 use Rattle.code_of.proofs.Sizes.{block_sized}
 use Rattle.stat_laws.proofs.Naming.{BlockIsNamed}
 use Rattle.stat_laws.proofs.Closing.{AllBelow, cut, cut_none, length_take, rel_left, leave_done}

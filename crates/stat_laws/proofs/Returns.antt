@@ -22,7 +22,8 @@ use Rattle.code_of.specs.Expressions.{made_by, count, list_field, exp_code, exps
 use Rattle.code_of.specs.Constants.{loads}
 use Rattle.code_core.specs.declared.proto.Const.TheVariants.{Str as StrConst}
 use Rattle.code_of.specs.Jumps.{Reach}
-use Rattle.code_of.specs.Levels.{level_after, levels_after, closing_after, closings_after, made_in_stats}
+use Rattle.tree_terms.specs.Levels.{level_after, levels_after}
+use Rattle.code_of.specs.Levels.{closing_after, closings_after, made_in_stats}
 use Rattle.code_of.specs.Parts.{values_last, return_code}
 use Rattle.code_of.specs.Sizes.{stat_size, stats_size, block_size, open_size}
 use Rattle.code_of.specs.Statements.{in_loop, stats_code, open_code}
@@ -31,7 +32,8 @@ use Rattle.exp_laws.specs.Setting.{Setting}
 use Rattle.exp_laws.proofs.Talking.{Agree, go_left, of_tree, of_code}
 use Rattle.exp_laws.proofs.Placing.{HasAt, has_front, has_back}
 use Rattle.exp_laws.proofs.Calls.{read_values_step}
-use Rattle.exp_laws.specs.Placed.{room_of_list, IsPlaced, ArePlaced}
+use Rattle.code_of.specs.Rooms.{room_of_list}
+use Rattle.exp_laws.specs.Placed.{IsPlaced, ArePlaced}
 use Rattle.exp_laws.proofs.Steps.{row_step}
 use Rattle.exp_laws.proofs.LastCalls.{call_last_same, method_last_same}
 use Rattle.stat_laws.proofs.Standing.{numbers, GoesOn}

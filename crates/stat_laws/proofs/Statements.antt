@@ -2,7 +2,8 @@
 use Rattle.std.proofs.Common.{◌≡◌, ℕ, Bool, true, false, ◌&&◌, List, refl}
 use Rattle.tree_core.specs.Tree.{Block, Falls, Returns, Stats, EndStats, MoreStats, Stat, Empty, Local, LocalFunction, Assign, CallStat, Do, While, Repeat, If, IfElse, NumFor, NumForStep, GenFor, Label, Goto, Break, Arms, EndArms, MoreArms}
 use Rattle.tree_activation.specs.Work.{Work, End, falls_off, returns_list, until}
-use Rattle.tree_activation.specs.Jumps.{are_void, is_at_end}
+use Rattle.tree_terms.specs.Labels.{are_void}
+use Rattle.tree_activation.specs.Jumps.{is_at_end}
 use Rattle.exp_laws.specs.Setting.{Setting, hiding}
 use Rattle.exp_laws.proofs.Exps.{exp_same}
 use Rattle.stat_laws.proofs.Blocks.{StatLaw, StatsLaw, none_goes, label_goes, more_goes}

@@ -19,14 +19,15 @@ use Rattle.machine_core.specs.Talk.{before}
 use Rattle.list_laws.proofs.Items.{append_nil}
 use Rattle.list_laws.proofs.Values.{nth_write_same, nth_write_other}
 use Rattle.code_of.specs.Coded.{Coded, with_abc}
-use Rattle.code_of.specs.Constants.{loads}
+use Rattle.code_of.specs.Constants.{loads, Found}
 use Rattle.code_of.specs.Expressions.{made_by, count, exp_code}
 use Rattle.code_of.specs.Parts.{name_target, target_code, targets_code, name_store, store_code}
 use Rattle.exp_laws.proofs.Registers.{Among, none_among, Rel, After, after_none, after_then, after_put}
 use Rattle.exp_laws.specs.Setting.{Setting}
 use Rattle.exp_laws.proofs.Talking.{Agree, go_left, go_right, of_tree, of_code}
 use Rattle.exp_laws.proofs.Placing.{HasAt, has_front, has_back, here_abc}
-use Rattle.exp_laws.specs.Placed.{Found, NameIsPlaced, IsPlaced, room_of}
+use Rattle.exp_laws.specs.Placed.{NameIsPlaced, IsPlaced}
+use Rattle.code_of.specs.Rooms.{room_of}
 use Rattle.exp_laws.proofs.Going.{next_there, at_place}
 use Rattle.exp_laws.proofs.Asking.{one_alike}
 use Rattle.exp_laws.proofs.NameForms.{load_right}

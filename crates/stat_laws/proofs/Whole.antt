@@ -15,7 +15,7 @@ use Rattle.code_core.specs.declared.opcode.Opcode.TheVariants.{Return, VarArgPre
 use Rattle.code_core.specs.Instruction.{abc}
 use Rattle.code_core.specs.declared.proto.Const.{Const}
 use Rattle.code_core.specs.Prototype.{Prototype}
-use Rattle.code_core.proofs.FieldLemmas.{opcode_of-abc}
+use Rattle.code_core.proofs.FieldLemmas.{opcode_of-abc, a_of-abc}
 use Rattle.machine_core.specs.InstructionRows.{next}
 use Rattle.machine_core.specs.Moves as moves
 use Rattle.machine_core.specs.Moves.{line_of}
@@ -24,7 +24,8 @@ use Rattle.code_means.specs.Means.{Means}
 use Rattle.code_of.specs.Coded.{Coded, with_abc, lines}
 use Rattle.code_of.specs.Constants.{of_block}
 use Rattle.code_of.specs.Jumps.{Reach}
-use Rattle.code_of.specs.Levels.{levels_after, closings_after, made_in_stats}
+use Rattle.tree_terms.specs.Levels.{levels_after}
+use Rattle.code_of.specs.Levels.{closings_after, made_in_stats}
 use Rattle.code_of.specs.Parts.{return_code}
 use Rattle.code_of.specs.Sizes.{stats_size}
 use Rattle.code_of.specs.Statements.{stats_code, whole_code}
@@ -43,8 +44,6 @@ use Rattle.stat_laws.proofs.Returns.{return_step, return_ends, return_some}
 use Rattle.stat_laws.proofs.Ending.{ends_alike}
 use Rattle.exp_laws.proofs.Returning.{returns_alike}
 use Rattle.exp_laws.proofs.Calls.{behind_fits}
-use Rattle.code_core.specs.Instruction.{abc}
-use Rattle.code_core.proofs.FieldLemmas.{opcode_of-abc, a_of-abc}
 use Rattle.stat_laws.proofs.Values.{length_fitted, nth_fitted}
 use Rattle.stat_laws.proofs.Naming.{BlockIsNamed}
 use Rattle.stat_laws.proofs.Scopes.{body_named}

@@ -6,7 +6,8 @@ use Rattle.tree_core.specs.Tree.{Block, Falls, Returns, Body, BodyOf, Stats, End
 use Rattle.code_core.specs.Prototype.{Prototype, list_of}
 use Rattle.code_of.specs.CodeOf.{code_of}
 use Rattle.code_of.specs.Expressions.{made_by, made_in, made_by_field}
-use Rattle.code_of.specs.Levels.{made_by_stat, made_in_arms, made_in_stats, made_in_block, levels_after, closings_after}
+use Rattle.code_of.specs.Levels.{made_by_stat, made_in_arms, made_in_stats, made_in_block, closings_after}
+use Rattle.tree_terms.specs.Levels.{levels_after}
 use Rattle.exp_laws.specs.Setting.{Setting}
 use Rattle.stat_laws.specs.Scoped.{StatsArePlaced, ReturnIsPlaced}
 

@@ -1,37 +1,22 @@
 -- What is assumed of a statement where t locals are in scope and j functions of its function are made before it: names and labels are in scope, and
 -- there are registers enough.
-use Rattle.std.specs.Prelude.{◌≡◌, ℕ, ◌+◌, ◌*◌, ◌<◌, ◌≤◌, ◌^◌, Bool, true, false, cond, ◌&&◌, ◌||◌, List, [], ◌∷◌, ◌++◌, length, Some, None, nat_le, bytes_eq}
+use Rattle.std.specs.Prelude.{◌≡◌, ℕ, ◌+◌, ◌*◌, ◌<◌, ◌≤◌, ◌^◌, Bool, true, false, List, [], ◌++◌, length, Some, None}
 use Rattle.tree_core.specs.declared.name.Place.{Place}
 use Rattle.tree_core.specs.declared.name.Place.TheVariants.{Local as LocalPlace}
 use Rattle.tree_core.specs.Tree.{Block, Falls, Returns, Stats, EndStats, MoreStats, Stat, Empty, Local, LocalFunction, Assign, CallStat, Do, While, Repeat, If, IfElse, NumFor, NumForStep, GenFor, Label, Goto, Break, Arms, EndArms, MoreArms, Exp, Var, Index, Call, Method, Exps, EndExps, MoreExps}
-use Rattle.tree_activation.specs.Asking.{upvalues_of}
-use Rattle.tree_activation.specs.Jumps.{are_void}
+use Rattle.tree_terms.specs.Bodies.{upvalues_of}
+use Rattle.tree_terms.specs.Labels.{Named, legal, names_ahead, names_passed}
 use Rattle.code_core.specs.declared.proto.Const.{Const}
 use Rattle.code_core.specs.declared.proto.Const.TheVariants.{Str as StrConst}
 use Rattle.code_of.specs.Expressions.{made_by, made_in, count, is_open}
-use Rattle.code_of.specs.Levels.{made_by_stat, made_in_arms, made_in_stats, made_in_block, level_after, levels_after, levels_in, closing_after, closings_after}
+use Rattle.code_of.specs.Levels.{made_by_stat, made_in_arms, made_in_stats, made_in_block, closing_after, closings_after}
+use Rattle.tree_terms.specs.Levels.{level_after, levels_after, levels_in}
 use Rattle.code_of.specs.Sizes.{block_size}
 use Rattle.exp_laws.specs.Setting.{Setting, hiding}
-use Rattle.exp_laws.specs.Placed.{Found, Inner, IsNoneOf, Captures, IsPlaced, ArePlaced, room_of, room_of_list}
-
--- names that a `goto` may have: those of the labels around it, and whether it may go there without entering the scope of a local
-
-abbrev pub Named : Type 0
-Named = List ℕ × Bool
-
-abbrev pub legal : List ℕ → List Named → Bool
-legal name [] = false
-legal name (x ∷ xs) = cond (bytes_eq x.0 name) x.1 (legal name xs)
-
--- of the labels further on, from a statement before which t locals are in scope
-abbrev pub names_ahead : Stats → (falls : Bool) → (t level : ℕ) → List Named
-names_ahead EndStats falls t level = []
-names_ahead (MoreStats (Label line name) ss) falls t level = (name.text, (falls && are_void ss) || nat_le level t) ∷ names_ahead ss falls t level
-names_ahead (MoreStats s ss) falls t level = names_ahead ss falls t (level_after s level)
-
-abbrev pub names_passed : Stat → List Named → List Named
-names_passed (Label line name) named = (name.text, true) ∷ named
-names_passed _ named = named
+use Rattle.code_of.specs.Constants.{Found}
+use Rattle.exp_laws.specs.Placed.{Inner, Captures, IsPlaced, ArePlaced}
+use Rattle.tree_terms.specs.Hidden.{IsNoneOf}
+use Rattle.code_of.specs.Rooms.{room_of, room_of_list}
 
 -- what can be assigned: a name, though no hidden local has one, or an index
 abbrev pub MayAssign : (hidden : List ℕ) → Place → Type 0

@@ -3,7 +3,7 @@ use Rattle.std.specs.Prelude.{ℕ, zero, suc, Bool, true, false, cond, nat_le, n
 use Rattle.int_core.specs.Value.{Value, known, nil, nth, shape, holds, bind, last, without_last}
 use Rattle.int_core.specs.Ask.{CellName, of_local, of_upvalue, Left, throws, Ask, opens, marks, closes, raises, leaves, Reply, values, faulted, left, values_in, Answer, Next, goes_on, says, stuck, Captured, cell_held, held_below, gone_from, shared_by, brought}
 use Rattle.tree_core.specs.declared.name.UpName.{UpName}
-use Rattle.tree_core.specs.Tree.{Body, BodyOf}
+use Rattle.tree_core.specs.Tree.{Body}
 use Rattle.tree_activation.specs.Work.{Control, capture, leave_scope, raise, finish, over, Work, Celling, when_declared, when_captured, Pending, Activation, State, at}
 
 abbrev pub first : List Value → Value
@@ -122,9 +122,3 @@ cell_name u held = cond u.in_stack (bind (cell_held u.index held) (λ cell. Some
 abbrev pub cell_names : List UpName → List (ℕ × ℕ) → Option (List CellName)
 cell_names [] held = Some []
 cell_names (u ∷ us) held = bind (cell_name u held) (λ name. bind (cell_names us held) (λ names. Some (name ∷ names)))
-
-abbrev pub line_of_body : Body → ℕ
-line_of_body (BodyOf params vararg inner ups line) = line
-
-abbrev pub upvalues_of : Body → List UpName
-upvalues_of (BodyOf params vararg inner ups line) = ups

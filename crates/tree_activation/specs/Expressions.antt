@@ -12,7 +12,8 @@ use Rattle.tree_core.specs.declared.operator.BinOp.{BinOp}
 use Rattle.tree_core.specs.declared.operator.BinOp.TheVariants.{Add, Sub, Mul, Mod, Idiv, Band, Bor, Bxor, Shl, Shr, Concat, Eq, Ne, Lt, Le, Gt, Ge}
 use Rattle.tree_core.specs.Tree.{Body, Exp, Nil, True, False, Int, Str, Vararg, Function, Var, Index, Call, Method, Unary, Binary, And, Or, Paren, Table, Exps, EndExps, Fields, EndFields, MoreFields, Item, Keyed}
 use Rattle.tree_activation.specs.Work.{Control, evaluate, give, construct, capture, make, raise, Work, key_of, field_of, operand_of, right_of, and_right, or_right, first_only, callee_of, method_of, item_of, keyed_value, Activation, State}
-use Rattle.tree_activation.specs.Asking.{first, go, asks_quickly, asks, captured_locals, cell_names, line_of_body, upvalues_of}
+use Rattle.tree_activation.specs.Asking.{first, go, asks_quickly, asks, captured_locals, cell_names}
+use Rattle.tree_terms.specs.Bodies.{line_of_body, upvalues_of}
 
 -- one value is given
 abbrev pub gives : Value → Activation → List Work → Next Body State

@@ -1,19 +1,13 @@
 -- Where `break` and `goto` lead (Lua 5.4 manual, 3.3.4). A `goto` looks for its label in the innermost block around it, and then in the
 -- blocks around that one.
-use Rattle.std.specs.Prelude.{ℕ, ◌+◌, Bool, true, false, cond, List, [], ◌∷◌, length, Option, Some, None, bytes_eq}
+use Rattle.std.specs.Prelude.{ℕ, ◌+◌, Bool, false, cond, List, [], ◌∷◌, length, Option, Some, None, bytes_eq}
 use Rattle.int_core.specs.Value.{known, nil}
 use Rattle.int_core.specs.Ask.{Next, stuck}
 use Rattle.tree_core.specs.declared.name.Name.{Name}
-use Rattle.tree_core.specs.Tree.{Body, Stats, EndStats, MoreStats, Empty, Local, LocalFunction, Label}
+use Rattle.tree_core.specs.Tree.{Body, Stats, EndStats, MoreStats, Local, LocalFunction, Label}
 use Rattle.tree_activation.specs.Work.{End, falls_off, Passed, Point, complete, run, pay, leave_scope, Work, in_block, looping, repeating, counting, iterating, Activation, State}
 use Rattle.tree_activation.specs.Asking.{go}
-
--- void statements are empty ones and labels
-abbrev pub are_void : Stats → Bool
-are_void EndStats = true
-are_void (MoreStats (Empty line) ss) = are_void ss
-are_void (MoreStats (Label line name) ss) = are_void ss
-are_void _ = false
+use Rattle.tree_terms.specs.Labels.{are_void}
 
 -- a label that only void statements follow up to the block's end stands outside the scope of the block's locals
 abbrev pub is_at_end : End → Stats → Bool

@@ -2,7 +2,7 @@
 use Rattle.std.proofs.Common.{◌≡◌, ◌-◌, length, map, drop}
 use Rattle.tree_core.specs.Tree.{stats}
 use Rattle.tree_core.specs.Plain.{plain_stat}
-use Rattle.tree_activation.specs.Jumps.{are_void}
+use Rattle.tree_terms.specs.Labels.{are_void}
 use Rattle.code_stat.proofs.scope.are_void.Given as goal
 
 abbrev pub invariant-loop-i : goal.invariant-loop-i

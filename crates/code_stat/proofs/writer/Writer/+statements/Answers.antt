@@ -19,7 +19,8 @@ use Rattle.code_stat.proofs.Heights.{stat_height, stats_height, choice_height, b
 use Rattle.code_stat.proofs.Drafting.{written_sized}
 use Rattle.code_stat.proofs.Choosing.{full_wrote, empty_wrote}
 use Rattle.tree_activation.specs.Activation.{line_of_end}
-use Rattle.code_of.specs.Levels.{levels_after, levels_in, closings_after}
+use Rattle.tree_terms.specs.Levels.{levels_after, levels_in}
+use Rattle.code_of.specs.Levels.{closings_after}
 use Rattle.code_stat.specs.Drafts.{WroteStat, WroteBlock, WroteOpen, newest_first}
 use Rattle.code_stat.proofs.Lists.{all_left, none_left, next_left, levels_next, closings_next}
 use Rattle.code_stat.proofs.Looping.{while_wrote, repeat_wrote, counted_wrote, iterated_wrote, num_for_wrote, gen_for_wrote}

@@ -2,7 +2,8 @@
 use Rattle.std.proofs.Common.{◌≡◌, ◌+◌, ◌*◌, [], map, drop}
 use Rattle.tree_core.specs.Tree.{stats, arms}
 use Rattle.tree_core.specs.Plain.{plain_stat, plain_arm, plain_block}
-use Rattle.code_of.specs.Levels.{levels_after, closings_after}
+use Rattle.tree_terms.specs.Levels.{levels_after}
+use Rattle.code_of.specs.Levels.{closings_after}
 use Rattle.code_stat.specs.Drafts.{newest_first}
 use Rattle.code_stat.proofs.Lists.{StatsLeft}
 use Rattle.code_stat.proofs.Declaring.{DeclaresLeft}

@@ -2,12 +2,11 @@
 use Rattle.std.proofs.Common.{ℕ, ◌≤◌, arith, Bool, true, false, cond, List}
 use Rattle.std.specs.Prelude.{nat_lt}
 use Rattle.tree_core.specs.declared.name.Place.{Place}
-use Rattle.tree_core.specs.declared.name.Place.TheVariants.{Unset, Upvalue, GlobalIn, GlobalOf}
-use Rattle.tree_core.specs.declared.name.Place.TheVariants.{Local as LocalPlace}
+use Rattle.tree_core.specs.declared.name.Place.TheVariants.{Unset, Upvalue, GlobalIn, GlobalOf, Local as LocalPlace}
 use Rattle.code_core.specs.declared.proto.Const.{Const}
 use Rattle.code_core.specs.declared.proto.Const.TheVariants.{Str as StrConst}
 use Rattle.code_of.specs.Constants.{number_in}
-use Rattle.exp_laws.specs.Placed.{room_of_name}
+use Rattle.code_of.specs.Rooms.{room_of_name}
 
 either_some : (b : Bool) → 1 ≤ cond b 1 2
 either_some true = omega arith

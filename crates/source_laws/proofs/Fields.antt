@@ -1,18 +1,26 @@
 -- The code of a small tree fits its fields, everywhere in it.
-use Rattle.std.proofs.Common.{ℕ, ◌≤◌, Bool, List, [], arith}
+use Rattle.std.proofs.Common.{◌≡◌, ℕ, ◌≤◌, Bool, List, [], length, arith}
 use Rattle.tree_core.specs.declared.name.Name.{Name}
 use Rattle.tree_core.specs.declared.name.UpName.{UpName}
 use Rattle.tree_core.specs.Tree.{Block, Falls, Returns, Body, BodyOf, Stats, EndStats, MoreStats, Stat, Empty, Local, LocalFunction, Assign, CallStat, Do, While, Repeat, If, IfElse, NumFor, NumForStep, GenFor, Label, Goto, Break, Arms, EndArms, MoreArms, Exp, Nil, True, False, Int, Str, Vararg, Var, Function, Index, Call, Method, Unary, Binary, And, Or, Paren, Table, Exps, EndExps, MoreExps, Fields, EndFields, MoreFields, Field, Item, Keyed}
-use Rattle.scope_core.specs.Rules.{tokens_of}
-use Rattle.code_bounds.specs.Weight.{weight, weight_of_exps, weight_of_fields, weight_of_field, weight_of_stat, weight_of_arms, weight_of_stats, weight_of_block, weight_of_body}
-use Rattle.code_bounds.specs.FunctionCount.{functions, functions_in_exps, functions_in_fields, functions_in_field, functions_in_stat, functions_in_arms, functions_in_stats, functions_in_block, functions_in_body}
+use Rattle.scope_core.specs.Rules.{tokens_of, violations}
+use Rattle.tree_terms.specs.Weight.{weight, weight_of_exps, weight_of_fields, weight_of_field, weight_of_stat, weight_of_arms, weight_of_stats, weight_of_block, weight_of_body}
+use Rattle.tree_terms.specs.FunctionCount.{functions, functions_in_exps, functions_in_fields, functions_in_field, functions_in_stat, functions_in_arms, functions_in_stats, functions_in_block, functions_in_body}
 use Rattle.code_bounds.proofs.Counts.{arguments_weigh, made_block, few_block}
 use Rattle.code_bounds.proofs.ShortStatements.{block_short}
 use Rattle.code_bounds.proofs.ShortBodies.{body_short}
 use Rattle.grammar_laws.specs.Counted.{ExpIsCounted, ExpsAreCounted, FieldsAreCounted, FieldIsCounted, StatIsCounted, ArmsAreCounted, StatsAreCounted, BlockIsCounted, BodyIsCounted}
 use Rattle.grammar_laws.specs.Each.{InExp, InExps, InFields, InField, InStat, InArms, InStats, InBlock, InBody}
-use Rattle.grammar_laws.proofs.Rules.{Nothing, IsShort}
-use Rattle.grammar_laws.specs.Sizes.{FunctionFits, LoopFits}
+use Rattle.grammar_laws.proofs.Rules.{Nothing, IsShort, short_loops}
+use Rattle.source_laws.specs.Fields.{FunctionFits, LoopFits}
+use Rattle.token_cursor.specs.Words.{Lexeme}
+use Rattle.lua_lex.specs.Lexical.{TokensOf}
+use Rattle.lua_parse.specs.Reading.{Derives}
+use Rattle.scope_core.specs.Places.{placed}
+use Rattle.grammar_laws.proofs.PlacedBlocks.{placed_counted}
+use Rattle.grammar_laws.proofs.PlacedFunctions.{placed_has}
+use Rattle.grammar_laws.proofs.PlacedWeight.{placed_weighs}
+use Rattle.grammar_laws.proofs.WholeSizes.{weighs, takes}
 
 light : (block : Block) → BlockIsCounted block → weight_of_block block ≤ tokens_of block
 light (Falls ss tokens line) c = c.0
@@ -100,3 +108,9 @@ mutual
 
   pub body_fits : (body : Body) → weight_of_body body ≤ 1048579 → functions_in_body body ≤ 131072 → BodyIsCounted body → InBody Nothing IsShort body → InBody FunctionFits LoopFits body
   body_fits (BodyOf params vararg inner ups line) w m c r = (small params vararg inner ups line w m, block_fits inner (omega (arith, w)) m c r.1)
+
+pub fits : (source : List ℕ) (tokens : List Lexeme) (tree : Block) → length source ≤ 1048576 → TokensOf source tokens → Derives tokens tree → violations tree ≡ [] → InBody FunctionFits LoopFits (placed tree)
+fits source tokens tree small t d r =
+    let w = weighs tokens tree d in
+    let b = takes source tokens tree t d in
+    body_fits (placed tree) (omega (arith, small, w.whole, b.tokens_count, placed_weighs tree)) (omega (arith, small, b.functions_count, placed_has tree)) (placed_counted tree w.blocks) (short_loops tree r)

@@ -1,0 +1,49 @@
+-- How many registers the code of an expression names, from its own on.
+use Rattle.std.specs.Prelude.{ℕ, zero, suc, ◌+◌, max, cond, List, Some, None, nat_lt}
+use Rattle.tree_core.specs.declared.name.Place.{Place}
+use Rattle.tree_core.specs.declared.name.Place.TheVariants.{GlobalOf}
+use Rattle.tree_core.specs.Tree.{Exp, Vararg, Var, Index, Call, Method, Unary, Binary, And, Or, Paren, Table, Exps, EndExps, MoreExps, Fields, EndFields, MoreFields, Item, Keyed}
+use Rattle.code_core.specs.declared.proto.Const.{Const}
+use Rattle.code_core.specs.declared.proto.Const.TheVariants.{Str as StrConst}
+use Rattle.code_of.specs.Constants.{number_in}
+use Rattle.code_of.specs.Expressions.{Wanted, field_of, wanted_after, is_last_item}
+
+abbrev pub room_of_values : (field : ℕ) → ℕ
+room_of_values zero = 1
+room_of_values (suc count) = count
+
+abbrev pub room_of_nils : (above : ℕ) → Wanted → ℕ
+room_of_nils above None = 0
+room_of_nils above (Some zero) = 0
+room_of_nils above (Some (suc n)) = above + suc n
+
+module _ (cs : List Const) where
+  abbrev pub room_of_name : Place → List ℕ → ℕ
+  room_of_name (GlobalOf u) text = cond (nat_lt (number_in cs (StrConst text)) 256) 1 2
+  room_of_name _ text = 1
+
+  abbrev mutual
+    pub room_of : Exp → (field : ℕ) → ℕ
+    room_of (Vararg line) field = room_of_values field
+    room_of (Var line name) field = room_of_name name.place name.text
+    room_of (Index line object key) field = max (room_of object 2) (1 + room_of key 2)
+    room_of (Call line f es) field = max (room_of f 2) (max (room_of_list 1 es None) (room_of_values field))
+    room_of (Method line object name es) field = max (room_of object 2) (max (max 2 (room_of_list 2 es None)) (room_of_values field))
+    room_of (Unary line op e) field = room_of e 2
+    room_of (Binary line op e d) field = max (room_of e 2) (1 + room_of d 2)
+    room_of (And line e d) field = max (room_of e 2) (room_of d 2)
+    room_of (Or line e d) field = max (room_of e 2) (room_of d 2)
+    room_of (Paren line e) field = room_of e 2
+    room_of (Table line fs) field = max 1 (1 + room_of_fields fs)
+    room_of _ field = 1
+
+    -- a list that stands `above` registers higher
+    pub room_of_list : (above : ℕ) → Exps → Wanted → ℕ
+    room_of_list above EndExps wanted = room_of_nils above wanted
+    room_of_list above (MoreExps e es) wanted = max (above + room_of e (field_of e es wanted)) (room_of_list (above + 1) es (wanted_after e es wanted))
+
+    -- above the table's own register
+    pub room_of_fields : Fields → ℕ
+    room_of_fields EndFields = 0
+    room_of_fields (MoreFields (Item e) fs) = max (room_of e (cond (is_last_item e fs) 0 2)) (room_of_fields fs)
+    room_of_fields (MoreFields (Keyed line e d) fs) = max (max (room_of e 2) (1 + room_of d 2)) (room_of_fields fs)
