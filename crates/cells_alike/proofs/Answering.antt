@@ -32,10 +32,10 @@ pub given_both : (J : Joint) (w : Waiting) (x y : Answer) (below : List Layer) �
     → Answered (cells_for J.store a.asked.own) w.shared w.also x y
     → Both (given_to (one J) (asker_one w) x (map frame_one below)) (given_to (two J) (asker_two w) y (map frame_two below))
 given_both J w x y below q a l z = record {
-  there = talking_in J w.function w.pending (w.goes x) (w.goes_too y) below;
+  there = talking_in J w.function (w.goes x) (w.goes_too y) below;
   same = refl;
   same_too = refl;
-  stands = busy J w.function w.pending (w.goes x) (w.goes_too y) below
+  stands = busy J w.function (w.goes x) (w.goes_too y) below
       (record { base = q.base; own = a.asked.own; owned = a.owned; like = a.on (cells_for J.store a.asked.own) a.since x y z; layers = l });
 }
 
@@ -76,10 +76,10 @@ enters_both J (object a_function m) arguments ra rb q r =
     by (Some f) =
         either_by (has_room (one J)) (has_room (two J)) _ _ _ _ (room_same J)
         (record {
-          there = talking_in J m [] (start when_declared f.made_of arguments) (start when_captured f.made_of arguments) J.frames;
+          there = talking_in J m (start when_declared f.made_of arguments) (start when_captured f.made_of arguments) J.frames;
           same = refl;
           same_too = refl;
-          stands = busy J m [] (start when_declared f.made_of arguments) (start when_captured f.made_of arguments) J.frames
+          stands = busy J m (start when_declared f.made_of arguments) (start when_captured f.made_of arguments) J.frames
               (record { base = q.base; own = []; owned = λ c k. absurd k; like = starts_alike (cells_for J.store []) f.made_of arguments q.base.store.are q.even; layers = q.layers });
         })
         (r stack_overflow J.fuel)
@@ -127,7 +127,7 @@ leaf J below now q l = now_both (record J { frames = below }) now (framed_in J b
 pub handed_both : (J : Joint) (vs : List Value) (frames : List Layer) → Quiet J → LayersAt J.store (head J.chain) frames
     → Both (handed first_form (one J) vs (map frame_one frames)) (handed second_form (two J) vs (map frame_two frames))
 handed_both J vs [] q l = returns_both J vs q
-handed_both J vs (is_talking f pending s t ∷ below) q l = absurd l.0
+handed_both J vs (is_talking f s t ∷ below) q l = absurd l.0
 handed_both J vs (is_waiting w ∷ below) q l = answered_both J w (values vs) below q l.0 l.1
 handed_both J vs (is_raising w ∷ below) q l = breaks_both J
 handed_both J vs (is_protected ∷ below) q l = leaf J below (gives_back (truth true ∷ vs)) q l.1
@@ -138,7 +138,7 @@ handed_both J vs (is_closing e more ∷ below) q l = closes_on_both J e more bel
 pub raised_both : (J : Joint) (e : Value) (frames : List Layer) → Quiet J → LayersAt J.store (head J.chain) frames
     → Both (raised_to first_form (one J) e (map frame_one frames)) (raised_to second_form (two J) e (map frame_two frames))
 raised_both J e [] q l = either_by (runs_main (one J)) (runs_main (two J)) _ _ _ _ refl (now_both J (unwinds e) q) (fails_both J e q)
-raised_both J e (is_talking f pending s t ∷ frames) q l = absurd l.0
+raised_both J e (is_talking f s t ∷ frames) q l = absurd l.0
 raised_both J e (is_waiting w ∷ frames) q l = raised_both J e frames q l.1
 raised_both J e (is_raising w ∷ frames) q l = raised_both J e frames q l.1
 raised_both J e (is_handled h ∷ frames) q l =
@@ -152,7 +152,7 @@ raised_both J e (is_closing error more ∷ frames) q l = now_both J (unwinds e) 
 pub unwound_both : (J : Joint) (e : Value) (frames : List Layer) → Quiet J → LayersAt J.store (head J.chain) frames
     → Both (unwound first_form (one J) e (map frame_one frames)) (unwound second_form (two J) e (map frame_two frames))
 unwound_both J e [] q l = fails_both J e q
-unwound_both J e (is_talking f pending s t ∷ below) q l = absurd l.0
+unwound_both J e (is_talking f s t ∷ below) q l = absurd l.0
 unwound_both J e (is_waiting w ∷ below) q l = answered_both J w (left e) below q l.0 l.1
 unwound_both J e (is_raising w ∷ below) q l = answered_both J w (left e) below q l.0 l.1
 unwound_both J e (is_protected ∷ below) q l = leaf J below (gives_back (truth false ∷ e ∷ [])) q l.1
@@ -227,11 +227,12 @@ closes_in_both J co e vs q =
     (closes_on_both K e vs J.frames k q.layers)))
     (raises_both J stack_overflow q)
 
-pub closes_both : (J : Joint) (co : ℕ) (c : Thread) → Quiet J → Both (closes_coroutine first_form (one J) co (coroutine_one c)) (closes_coroutine second_form (two J) co (coroutine_two c))
-closes_both J co (is_fresh body) q = closes_in_both J co None [] q
-closes_both J co (is_suspended frames) q =
-    subst (λ vs. Both (closes_in first_form (one J) co None (all_pending (map frame_one frames))) (closes_in second_form (two J) co None vs)) (pending_same frames) (closes_in_both J co None (all_pending (map frame_one frames)) q)
-closes_both J co (has_failed e pending) q = closes_in_both J co (Some e) pending q
-closes_both J co is_dead q = closes_in_both J co None [] q
-closes_both J co is_running q = raises_both J (codes "cannot close a running coroutine") q
-closes_both J co (is_normal frames) q = raises_both J (codes "cannot close a normal coroutine") q
+pub closes_both : (J : Joint) (co : ℕ) (c : Thread) → Quiet J → LayersAt J.store co (layers_in c) → Both (closes_coroutine first_form (one J) co (coroutine_one c)) (closes_coroutine second_form (two J) co (coroutine_two c))
+closes_both J co (is_fresh body) q l = closes_in_both J co None [] q
+closes_both J co (is_suspended frames) q l =
+    let vs = all_pending first_form (one J) (map frame_one frames) in
+    subst (λ ws. Both (closes_in first_form (one J) co None vs) (closes_in second_form (two J) co None ws)) (pending_same J co frames q.even l) (closes_in_both J co None vs q)
+closes_both J co (has_failed e pending) q l = closes_in_both J co (Some e) pending q
+closes_both J co is_dead q l = closes_in_both J co None [] q
+closes_both J co is_running q l = raises_both J (codes "cannot close a running coroutine") q
+closes_both J co (is_normal frames) q l = raises_both J (codes "cannot close a normal coroutine") q

@@ -168,10 +168,10 @@ module _ (W : World Body State) (ready : IsReady W) (s : Script Body) (budget : 
   }
 
   abbrev joint : Joint
-  joint = talking_in waiting_joint (length W.functions) [] (start when_declared s.main []) (start when_captured s.main []) []
+  joint = talking_in waiting_joint (length W.functions) (start when_declared s.main []) (start when_captured s.main []) []
 
   stands : Stands joint
-  stands = busy waiting_joint (length W.functions) [] (start when_declared s.main []) (start when_captured s.main []) [] (record {
+  stands = busy waiting_joint (length W.functions) (start when_declared s.main []) (start when_captured s.main []) [] (record {
     base = base_there;
     own = [];
     owned = λ c m. absurd m;

@@ -21,7 +21,6 @@ pub record Made : Type 0 where
 -- an activation that is_waiting
 pub record Waiting : Type 0 where
   pub function : ℕ
-  pub pending : List Value
   pub line : Option ℕ
   pub shared : List (ℕ × Value)
   pub also : List (ℕ × Value)
@@ -29,7 +28,7 @@ pub record Waiting : Type 0 where
   pub goes_too : Answer → State
 
 pub data Layer : Type 0 where
-  is_talking : (function : ℕ) → (pending : List Value) → (s t : State) → Layer
+  is_talking : (function : ℕ) → (s t : State) → Layer
   is_waiting : Waiting → Layer
   is_raising : Waiting → Layer
   is_protected : Layer
@@ -77,13 +76,13 @@ abbrev pub function_two : Made → Function Body
 function_two f = record { made_of = f.made_of; source = f.source; has_lines = f.has_lines; cells = f.cells_too }
 
 abbrev pub asker_one : Waiting → Asker State
-asker_one w = record { function = w.function; pending = w.pending; line = w.line; shared = w.shared; goes = w.goes }
+asker_one w = record { function = w.function; line = w.line; shared = w.shared; goes = w.goes }
 
 abbrev pub asker_two : Waiting → Asker State
-asker_two w = record { function = w.function; pending = w.pending; line = w.line; shared = w.also; goes = w.goes_too }
+asker_two w = record { function = w.function; line = w.line; shared = w.also; goes = w.goes_too }
 
 abbrev pub frame_one : Layer → Frame State
-frame_one (is_talking f pending s t) = talking f pending s
+frame_one (is_talking f s t) = talking f s
 frame_one (is_waiting w) = waiting (asker_one w)
 frame_one (is_raising w) = raising (asker_one w)
 frame_one is_protected = protected
@@ -92,7 +91,7 @@ frame_one is_handling = handling
 frame_one (is_closing e vs) = closing e vs
 
 abbrev pub frame_two : Layer → Frame State
-frame_two (is_talking f pending s t) = talking f pending t
+frame_two (is_talking f s t) = talking f t
 frame_two (is_waiting w) = waiting (asker_two w)
 frame_two (is_raising w) = raising (asker_two w)
 frame_two is_protected = protected
@@ -166,7 +165,7 @@ pub record WaitsAt (S : Store) (p : Place) (w : Waiting) : Type 0 where
   pub on : (now : Cells) → Onward asked now → (x y : Answer) → Answered now w.shared w.also x y → Rel now (w.goes x) (w.goes_too y)
 
 abbrev pub LayerAt : Store → Place → Layer → Type 0
-LayerAt S p (is_talking f pending s t) = ⊥
+LayerAt S p (is_talking f s t) = ⊥
 LayerAt S p (is_waiting w) = WaitsAt S p w
 LayerAt S p (is_raising w) = WaitsAt S p w
 LayerAt S p layer = Unit {0}
@@ -216,8 +215,8 @@ Quiet J = Stable J.store J.functions J.coroutines J.chain J.frames
 abbrev pub TalksIn : Joint → State → State → List Layer → Type 0
 TalksIn J s t below = Talks J.store J.functions J.coroutines J.chain s t below
 
-abbrev pub talking_in : Joint → ℕ → List Value → State → State → List Layer → Joint
-talking_in J f pending s t below = record J { frames = is_talking f pending s t ∷ below; now = talks }
+abbrev pub talking_in : Joint → ℕ → State → State → List Layer → Joint
+talking_in J f s t below = record J { frames = is_talking f s t ∷ below; now = talks }
 
 -- a run is over that ends so
 abbrev pub IsLast : Ending → Type 0
@@ -227,7 +226,7 @@ IsLast ending = Unit {0}
 pub data Stands : Joint → Type 0 where
   quiet : (J : Joint) → Quiet J → Stands J
   stopped : (J : Joint) (ending : Ending) → IsLast ending → Stands (record J { now = ends ending })
-  busy : (J : Joint) (f : ℕ) (pending : List Value) (s t : State) (below : List Layer) → TalksIn J s t below → Stands (talking_in J f pending s t below)
+  busy : (J : Joint) (f : ℕ) (s t : State) (below : List Layer) → TalksIn J s t below → Stands (talking_in J f s t below)
 
 pub record Both (X Y : World Body State) : Type 0 where
   pub there : Joint

@@ -1,15 +1,20 @@
 -- What both worlds do to calls, results, errors and coroutines, they do alike.
-use Rattle.std.proofs.Common.{◌≡◌, ◌⊎◌, inl, inr, ⊎_elim, ℕ, zero, suc, ◌+◌, Bool, true, false, cond, List, [], ◌∷◌, ◌++◌, Option, Some, None, refl, sym, ◌∙◌, ap, subst}
+use Rattle.std.proofs.Common.{◌≡◌, ◌⊎◌, inl, inr, ⊎_elim, ℕ, zero, suc, ◌+◌, Bool, true, false, cond, List, [], ◌∷◌, ◌++◌, length, Option, Some, None, refl, sym, ◌∙◌, ap, subst}
 use Rattle.std.proofs.lemmas.List.{length-map}
 use Rattle.std.proofs.lemmas.Option.{slice_get-map}
 use Rattle.std.specs.Prelude.{slice_get, slice_set, map, option_map, nat_le, unwrap_or}
-use Rattle.int_core.specs.Value.{Value, bind}
+use Rattle.int_core.specs.Value.{nil, Value, known, bind}
 use Rattle.tree_core.specs.Tree.{Body}
-use Rattle.tree_activation.specs.Work.{State}
-use Rattle.lua_meaning.specs.World.{Function, Now, gives_back, raises_error, ends, broken, World, now_in, breaks, has_room, runs_main, greatest_depth, position, position_of, positions_of, where_among, where_at, limited, raises_text}
+use Rattle.tree_activation.specs.Work.{State, when_declared, when_captured}
+use Rattle.tree_activation.specs.Asking.{to_close}
+use Rattle.int_core.specs.Ask.{left}
+use Rattle.lua_meaning.specs.World.{Function, Now, gives_back, raises_error, ends, broken, World, now_in, breaks, has_room, runs_main, greatest_depth, position, position_of, positions_of, where_among, where_at, limited, raises_text, shared_out}
 use Rattle.lua_meaning.specs.World.{yielded, returned, failed_with}
-use Rattle.lua_meaning.specs.Calls.{truth, frames_in, back_to, leaves_coroutine, pending_in, all_pending, returns_all, fails_all, yields}
-use Rattle.cells_alike.proofs.Joint.{Made, Layer, is_talking, is_waiting, is_raising, is_protected, is_handled, is_handling, is_closing, Thread, is_fresh, is_suspended, is_running, is_normal, is_dead, has_failed, Joint, function_one, function_two, frame_one, frame_two, coroutine_one, coroutine_two, one, two, Store, LayersAt, layers_in, head, Base, Stable, Quiet, quiet, stopped, Both}
+use Rattle.lua_meaning.specs.Calls.{truth, frames_in, back_to, leaves_coroutine, left_now, pending_of, pending_in, all_pending, returns_all, fails_all, yields}
+use Rattle.lua_meaning.specs.TreeMeaning.{trees}
+use Rattle.meaning_cells.specs.Alike.{Cells, AreEven, as_stored}
+use Rattle.meaning_cells.proofs.Relation.{Rel, same, early}
+use Rattle.cells_alike.proofs.Joint.{Made, Waiting, Place, asker_one, asker_two, cells_for, WaitsAt, LayerAt, Layer, is_talking, is_waiting, is_raising, is_protected, is_handled, is_handling, is_closing, Thread, is_fresh, is_suspended, is_running, is_normal, is_dead, has_failed, Joint, function_one, function_two, frame_one, frame_two, coroutine_one, coroutine_two, one, two, Store, LayersAt, layers_in, head, Base, Stable, Quiet, quiet, stopped, Both}
 
 -- lists
 
@@ -58,7 +63,7 @@ asker_place fs n line =
     by (Some f) = refl
 
 position_same : (J : Joint) (f : Layer) → position_of (one J) (frame_one f) ≡ position_of (two J) (frame_two f)
-position_same J (is_talking f pending s t) = refl
+position_same J (is_talking f s t) = refl
 position_same J (is_waiting w) = asker_place J.functions w.function w.line
 position_same J (is_raising w) = asker_place J.functions w.function w.line
 position_same J is_protected = refl
@@ -80,18 +85,46 @@ among_same W V (suc n) (Some place ∷ places) = among_same W V n places
 pub where_same : (J : Joint) (n : ℕ) → where_at (one J) n ≡ where_at (two J) n
 where_same J n = ap (where_among (one J) n) (positions_same J J.frames) ∙ among_same (one J) (two J) n (positions_of (two J) (map frame_two J.frames))
 
-pending_of : (f : Layer) → pending_in (frame_one f) ≡ pending_in (frame_two f)
-pending_of (is_talking f pending s t) = refl
-pending_of (is_waiting w) = refl
-pending_of (is_raising w) = refl
-pending_of is_protected = refl
-pending_of (is_handled h) = refl
-pending_of is_handling = refl
-pending_of (is_closing e vs) = refl
+-- what a frame still has to close, told with the values in its cells that it is left
 
-pub pending_same : (frames : List Layer) → all_pending (map frame_one frames) ≡ all_pending (map frame_two frames)
-pending_same [] = refl
-pending_same (f ∷ frames) = ap (λ vs. vs ++ all_pending (map frame_one frames)) (pending_of f) ∙ ap (λ vs. pending_in (frame_two f) ++ vs) (pending_same frames)
+closes_same : {ps : Cells} {s t : State} → Rel ps s t → to_close s ≡ to_close t
+closes_same (same v k control h d r s) = refl
+closes_same (early v k line ns control h d scope r s) = refl
+
+asker_pending : (J : Joint) (p : Place) (w : Waiting) → AreEven (cells_for J.store []) → WaitsAt J.store p w
+    → pending_of (trees when_declared) (one J) (asker_one w) ≡ pending_of (trees when_captured) (two J) (asker_two w)
+asker_pending J p w even a =
+    ap (λ o. told_by o (to_close (left_now J.store.cells (asker_one w)))) (slice_get-map function_one J.functions w.function)
+    ∙ by (slice_get J.functions w.function) ∙ sym (ap (λ o. told_by o (to_close (left_now J.store.cells_too (asker_two w)))) (slice_get-map function_two J.functions w.function))
+  where
+    told_by : Option (Function Body) → List Value → List Value
+    told_by o vs = elim o [ None ↦ [] | Some g ↦ vs ]
+
+    left_same : to_close (left_now J.store.cells (asker_one w)) ≡ to_close (left_now J.store.cells_too (asker_two w))
+    left_same =
+        closes_same (a.on (cells_for J.store a.asked.own) a.since (record { reply = left (known nil); shared = shared_out w.shared J.store.cells; cell = 0 })
+        (record { reply = left (known nil); shared = shared_out w.also J.store.cells_too; cell = 0 }) (record { reply = refl; brings = as_stored refl refl; even = even }))
+
+    by : (o : Option Made) → told_by (option_map function_one o) (to_close (left_now J.store.cells (asker_one w))) ≡ told_by (option_map function_two o) (to_close (left_now J.store.cells_too (asker_two w)))
+    by None = refl
+    by (Some g) = left_same
+
+layer_pending : (J : Joint) (p : Place) (f : Layer) → AreEven (cells_for J.store []) → LayerAt J.store p f
+    → pending_in (trees when_declared) (one J) (frame_one f) ≡ pending_in (trees when_captured) (two J) (frame_two f)
+layer_pending J p (is_talking f s t) even l = absurd l
+layer_pending J p (is_waiting w) even l = asker_pending J p w even l
+layer_pending J p (is_raising w) even l = asker_pending J p w even l
+layer_pending J p is_protected even l = refl
+layer_pending J p (is_handled h) even l = refl
+layer_pending J p is_handling even l = refl
+layer_pending J p (is_closing e vs) even l = refl
+
+pub pending_same : (J : Joint) (co : ℕ) (frames : List Layer) → AreEven (cells_for J.store []) → LayersAt J.store co frames
+    → all_pending (trees when_declared) (one J) (map frame_one frames) ≡ all_pending (trees when_captured) (two J) (map frame_two frames)
+pending_same J co [] even l = refl
+pending_same J co (f ∷ frames) even l =
+    ap (λ vs. vs ++ all_pending (trees when_declared) (one J) (map frame_one frames)) (layer_pending J (co, length frames) f even l.0)
+    ∙ ap (λ vs. pending_in (trees when_captured) (two J) (frame_two f) ++ vs) (pending_same J co frames even l.1)
 
 -- worlds
 
@@ -197,12 +230,12 @@ pub returns_both : (J : Joint) (vs : List Value) → Quiet J → Both (returns_a
 returns_both J vs q =
     either_by (runs_main (one J)) (runs_main (two J)) _ _ _ _ refl (now_both J (ends (returned vs)) q) (back_both J J.chain is_dead (truth true ∷ vs) q tt)
 
-pub fails_both : (J : Joint) (e : Value) → Quiet J → Both (fails_all (one J) e) (fails_all (two J) e)
+pub fails_both : (J : Joint) (e : Value) → Quiet J → Both (fails_all (trees when_declared) (one J) e) (fails_all (trees when_captured) (two J) e)
 fails_both J e q =
     either_by (runs_main (one J)) (runs_main (two J)) _ _ _ _ refl (now_both J (ends (failed_with e)) q)
-    (subst (λ vs. Both (leaves_coroutine (one J) (coroutine_one (has_failed e (all_pending (map frame_one J.frames)))) (truth false ∷ e ∷ []))
-    (leaves_coroutine (two J) (coroutine_two (has_failed e vs)) (truth false ∷ e ∷ []))) (pending_same J.frames)
-    (back_both J J.chain (has_failed e (all_pending (map frame_one J.frames))) (truth false ∷ e ∷ []) q tt))
+    (subst (λ vs. Both (leaves_coroutine (one J) (coroutine_one (has_failed e (all_pending (trees when_declared) (one J) (map frame_one J.frames)))) (truth false ∷ e ∷ []))
+    (leaves_coroutine (two J) (coroutine_two (has_failed e vs)) (truth false ∷ e ∷ []))) (pending_same J (head J.chain) J.frames q.even q.layers)
+    (back_both J J.chain (has_failed e (all_pending (trees when_declared) (one J) (map frame_one J.frames))) (truth false ∷ e ∷ []) q tt))
 
 pub yields_both : (J : Joint) (vs : List Value) → Quiet J → Both (yields (one J) vs) (yields (two J) vs)
 yields_both J vs q =

@@ -181,7 +181,7 @@ module _ (budget : ℕ) where
       turn_end (ends spent) (one (record J { now = ends spent })) (two (record J { now = ends spent })) no_more (λ z. no_more) m refl given (λ y e. absurd (none_some y e))
   first_end k line input _ (stopped J broken l) m given more =
       turn_end (ends broken) (one (record J { now = ends broken })) (two (record J { now = ends broken })) no_more (λ z. no_more) m refl given (λ y e. absurd (none_some y e))
-  first_end k line input _ (busy J f pending s t below tk) m given more = absurd (cc)
+  first_end k line input _ (busy J f s t below tk) m given more = absurd (cc)
 
   second_end : (k : ℕ) (line : List ℕ) (input : List (List ℕ)) (J : Joint) → Stands J → (m : Meaning Body State)
       → at_end J.now (two J) (λ U. run_from second_form primitives k (handed_line second_form primitives U line budget) input budget) ≡ Some m → OnLines two one second_form first_form k input
@@ -199,7 +199,7 @@ module _ (budget : ℕ) where
       turn_end (ends spent) (two (record J { now = ends spent })) (one (record J { now = ends spent })) no_more (λ z. no_more) m refl given (λ y e. absurd (none_some y e))
   second_end k line input _ (stopped J broken l) m given more =
       turn_end (ends broken) (two (record J { now = ends broken })) (one (record J { now = ends broken })) no_more (λ z. no_more) m refl given (λ y e. absurd (none_some y e))
-  second_end k line input _ (busy J f pending s t below tk) m given more = absurd (cc)
+  second_end k line input _ (busy J f s t below tk) m given more = absurd (cc)
 
   abbrev ends_on : (World Body State → Option (Meaning Body State)) → World Body State → Option (Meaning Body State)
   ends_on goes W = at_end W.now W goes

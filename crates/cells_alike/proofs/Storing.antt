@@ -52,7 +52,7 @@ waits_pass S T P o w p is a =
     }
 
 layer_pass : (S T : Store) (P : Place → Type 0) (o : Place) (l : Layer) → Passes S T P → P o → LayerAt S o l → LayerAt T o l
-layer_pass S T P o (is_talking f pending s t) p is a = absurd a
+layer_pass S T P o (is_talking f s t) p is a = absurd a
 layer_pass S T P o (is_waiting w) p is a = waits_pass S T P o w p is a
 layer_pass S T P o (is_raising w) p is a = waits_pass S T P o w p is a
 layer_pass S T P o is_protected p is a = tt

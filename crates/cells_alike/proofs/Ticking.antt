@@ -97,7 +97,7 @@ primitive_both J lua_xpcall vs q = calls_over_both J (is_handled (nth vs 1)) (nt
 primitive_both J coroutine_create vs q = creates_both J (nth vs 0) q
 primitive_both J coroutine_resume vs q = with_both J (codes "resume") (nth vs 0) _ _ q (λ co c l. resumes_both J co c (drop 1 vs) q l)
 primitive_both J coroutine_yield vs q = yields_both J vs q
-primitive_both J coroutine_close vs q = with_both J (codes "close") (nth vs 0) _ _ q (λ co c l. closes_both J co c q)
+primitive_both J coroutine_close vs q = with_both J (codes "close") (nth vs 0) _ _ q (λ co c l. closes_both J co c q l)
 primitive_both J coroutine_status vs q =
     with_both J (codes "status") (nth vs 0) _ _ q (λ co c l.
     subst (λ z. Both (now_in (one J) (gives_back (text (status_of (coroutine_one c)) ∷ []))) (now_in (two J) (gives_back (text z ∷ [])))) (status_same c) (now_both J (gives_back (text (status_of (coroutine_one c)) ∷ [])) q))
@@ -109,7 +109,7 @@ primitive_both J p vs q = row_both J (row p J.heap vs) q
 -- no activation is on top
 idle_both : (J : Joint) (frames : List Layer) → LayersAt J.store (head J.chain) frames → Both (talks_on first_form (one J) (map frame_one frames)) (talks_on second_form (two J) (map frame_two frames))
 idle_both J [] l = breaks_both J
-idle_both J (is_talking f pending s t ∷ below) l = absurd l.0
+idle_both J (is_talking f s t ∷ below) l = absurd l.0
 idle_both J (is_waiting w ∷ below) l = breaks_both J
 idle_both J (is_raising w ∷ below) l = breaks_both J
 idle_both J (is_protected ∷ below) l = breaks_both J
@@ -147,25 +147,25 @@ unnamed pairs (closes v e) r l = subst (λ z. SameAsk pairs (closes v e) (withou
 unnamed pairs (raises why) r l = subst (λ z. SameAsk pairs (raises why) (without_name z)) l refl
 unnamed pairs (leaves how) r l = subst (λ z. SameAsk pairs (leaves how) (without_name z)) l refl
 
-module _ (J : Joint) (f : ℕ) (pending : List Value) (s t : State) (below : List Layer) (tk : TalksIn J s t below) where
+module _ (J : Joint) (f : ℕ) (s t : State) (below : List Layer) (tk : TalksIn J s t below) where
   abbrev pub top : Joint
-  top = talking_in J f pending s t below
+  top = talking_in J f s t below
 
   abbrev pub place : ℕ × ℕ
   place = (head J.chain, length below)
 
   abbrev pub both_turn : Bool → Next Body State → Next Body State → Type 0
-  both_turn l x y = Both (turns first_form (as_known l x) (one top) f pending (map frame_one below)) (turns second_form (as_known l y) (two top) f pending (map frame_two below))
+  both_turn l x y = Both (turns first_form (as_known l x) (one top) f (map frame_one below)) (turns second_form (as_known l y) (two top) f (map frame_two below))
 
   asks_both : (q r : Ask Body) (line : Option ℕ) (shared also : List (ℕ × Value)) (k h : Answer → State) → SameAsk J.store.pairs q r → CarriesOwn (cells_for J.store tk.own) shared
       → AreEven (after_asks (cells_for J.store tk.own) shared also)
       → ((now : Cells) → Onward (after_asks (cells_for J.store tk.own) shared also) now → (x y : Answer) → Answered now shared also x y → Rel now (k x) (h y))
-      → Both (handle first_form q (record (one top) { cells = shared_in shared J.store.cells }) (record { function = f; pending = pending; line = line; shared = shared; goes = k }) (map frame_one below))
-      (handle second_form r (record (two top) { cells = shared_in also J.store.cells_too }) (record { function = f; pending = pending; line = line; shared = also; goes = h }) (map frame_two below))
+      → Both (handle first_form q (record (one top) { cells = shared_in shared J.store.cells }) (record { function = f; line = line; shared = shared; goes = k }) (map frame_one below))
+      (handle second_form r (record (two top) { cells = shared_in also J.store.cells_too }) (record { function = f; line = line; shared = also; goes = h }) (map frame_two below))
   asks_both q r line shared also k h like carries even on =
       let T = flushed J.store shared also in
       let pass = flush_pass J.store place tk.own shared also tk.base.store tk.owned carries in
-      let w : Waiting = record { function = f; pending = pending; line = line; shared = shared; also = also; goes = k; goes_too = h } in
+      let w : Waiting = record { function = f; line = line; shared = shared; also = also; goes = k; goes_too = h } in
       let owned : OwnedAt T place tk.own = λ c m. pass.owners c place (tk.owned c m) in
       handle_both (record top { store = T }) q r w below like
       (record {
@@ -180,12 +180,12 @@ module _ (J : Joint) (f : ℕ) (pending : List Value) (s t : State) (below : Lis
         on = on;
       })
 
-  goes_both : (u v : State) → Rel (cells_for J.store tk.own) u v → Stands (talking_in J f pending u v below)
-  goes_both u v like = busy J f pending u v below (record { base = tk.base; own = tk.own; owned = tk.owned; like = like; layers = tk.layers })
+  goes_both : (u v : State) → Rel (cells_for J.store tk.own) u v → Stands (talking_in J f u v below)
+  goes_both u v like = busy J f u v below (record { base = tk.base; own = tk.own; owned = tk.owned; like = like; layers = tk.layers })
 
   moves_both : (l : Bool) (x y : Next Body State) → Moves Rel (cells_for J.store tk.own) x y → both_turn l x y
-  moves_both true (goes_on u) (goes_on v) m = record { there = talking_in J f pending u v below; same = refl; same_too = refl; stands = goes_both u v m }
-  moves_both false (goes_on u) (goes_on v) m = record { there = talking_in J f pending u v below; same = refl; same_too = refl; stands = goes_both u v m }
+  moves_both true (goes_on u) (goes_on v) m = record { there = talking_in J f u v below; same = refl; same_too = refl; stands = goes_both u v m }
+  moves_both false (goes_on u) (goes_on v) m = record { there = talking_in J f u v below; same = refl; same_too = refl; stands = goes_both u v m }
   moves_both true (says q line shared k) (says r other also h) m =
       subst (λ z. both_turn true (says q line shared k) (says r z also h)) m.1 (asks_both q r line shared also k h m.0 m.2 m.3 m.4)
   moves_both false (says q line shared k) (says r other also h) m =
@@ -200,11 +200,11 @@ module _ (J : Joint) (f : ℕ) (pending : List Value) (s t : State) (below : Lis
   opened_once shared values = record { reply = no_values; shared = map second shared; cell = new_cell shared values }
 
   late_stands : (u v : State) (c d : ℕ) (also : List (ℕ × Value)) (w : Value) → Member c tk.own → Rel (cells_for (opened_late J.store c d also w) tk.own) u v
-      → Stands (talking_in (record J { store = opened_late J.store c d also w }) f pending u v below)
+      → Stands (talking_in (record J { store = opened_late J.store c d also w }) f u v below)
   late_stands u v c d also w mine like =
       let T = opened_late J.store c d also w in
       let pass = late_pass J.store place tk.own c d also w tk.base.store tk.owned mine (rel_cells (cells_for T tk.own) u v like) in
-      busy (record J { store = T }) f pending u v below (record {
+      busy (record J { store = T }) f u v below (record {
         base = base_pass J.store T J.functions J.coroutines J.chain (length below) pass tk.base;
         own = tk.own;
         owned = tk.owned;
@@ -215,21 +215,21 @@ module _ (J : Joint) (f : ℕ) (pending : List Value) (s t : State) (below : Lis
   second_opens_both : (l : Bool) (x y : Next Body State) → SecondOpens Rel (cells_for J.store tk.own) x y → both_turn l x y
   second_opens_both true (goes_on u) (says (opens w) line also h) m =
       let b = opened_once also J.store.cells_too in
-      record { there = talking_in (record J { store = opened_late J.store m.0 b.cell also w }) f pending u (h b) below; same = refl; same_too = refl; stands = late_stands u (h b) m.0 b.cell also w m.1 (m.3 b refl refl) }
+      record { there = talking_in (record J { store = opened_late J.store m.0 b.cell also w }) f u (h b) below; same = refl; same_too = refl; stands = late_stands u (h b) m.0 b.cell also w m.1 (m.3 b refl refl) }
   second_opens_both false (goes_on u) (says (opens w) line also h) m =
       let b = opened_once also J.store.cells_too in
-      record { there = talking_in (record J { store = opened_late J.store m.0 b.cell also w }) f pending u (h b) below; same = refl; same_too = refl; stands = late_stands u (h b) m.0 b.cell also w m.1 (m.3 b refl refl) }
+      record { there = talking_in (record J { store = opened_late J.store m.0 b.cell also w }) f u (h b) below; same = refl; same_too = refl; stands = late_stands u (h b) m.0 b.cell also w m.1 (m.3 b refl refl) }
   second_opens_both l x y m = absurd m
 
   new_is : (shared : List (ℕ × Value)) → new_cell shared J.store.cells ≡ length J.store.owners
   new_is shared = in_size shared J.store.cells ∙ sym tk.base.store.count
 
   both_stands : (u v : State) (c d : ℕ) (shared also : List (ℕ × Value)) (w z : Value) → CarriesOwn (cells_for J.store tk.own) shared → c ≡ length J.store.owners
-      → Rel (cells_for (opened_both J.store place c d shared also w z) (c ∷ tk.own)) u v → Stands (talking_in (record J { store = opened_both J.store place c d shared also w z }) f pending u v below)
+      → Rel (cells_for (opened_both J.store place c d shared also w z) (c ∷ tk.own)) u v → Stands (talking_in (record J { store = opened_both J.store place c d shared also w z }) f u v below)
   both_stands u v c d shared also w z carries number like =
       let T = opened_both J.store place c d shared also w z in
       let pass = both_pass J.store place tk.own (c ∷ tk.own) c d shared also w z tk.base.store tk.owned carries number (rel_cells (cells_for T (c ∷ tk.own)) u v like) in
-      busy (record J { store = T }) f pending u v below (record {
+      busy (record J { store = T }) f u v below (record {
         base = base_pass J.store T J.functions J.coroutines J.chain (length below) pass tk.base;
         own = c ∷ tk.own;
         owned = owned_more J.store place tk.own c tk.owned number;
@@ -242,7 +242,7 @@ module _ (J : Joint) (f : ℕ) (pending : List Value) (s t : State) (below : Lis
       let a = opened_once shared J.store.cells in
       let b = opened_once also J.store.cells_too in
       record {
-        there = talking_in (record J { store = opened_both J.store place a.cell b.cell shared also w z }) f pending (k a) (h b) below;
+        there = talking_in (record J { store = opened_both J.store place a.cell b.cell shared also w z }) f (k a) (h b) below;
         same = refl;
         same_too = refl;
         stands = both_stands (k a) (h b) a.cell b.cell shared also w z m.2 (new_is shared) (m.3 a b refl refl refl refl);
@@ -251,7 +251,7 @@ module _ (J : Joint) (f : ℕ) (pending : List Value) (s t : State) (below : Lis
       let a = opened_once shared J.store.cells in
       let b = opened_once also J.store.cells_too in
       record {
-        there = talking_in (record J { store = opened_both J.store place a.cell b.cell shared also w z }) f pending (k a) (h b) below;
+        there = talking_in (record J { store = opened_both J.store place a.cell b.cell shared also w z }) f (k a) (h b) below;
         same = refl;
         same_too = refl;
         stands = both_stands (k a) (h b) a.cell b.cell shared also w z m.2 (new_is shared) (m.3 a b refl refl refl refl);
@@ -262,7 +262,7 @@ module _ (J : Joint) (f : ℕ) (pending : List Value) (s t : State) (below : Lis
 abbrev pub behind : {J : Joint} → Stands J → ℕ
 behind (quiet J q) = 0
 behind (stopped J ending l) = 0
-behind (busy J f pending s t below tk) = steps_behind tk.like
+behind (busy J f s t below tk) = steps_behind tk.like
 
 -- the first world alone has gone on
 pub record Ahead (X : World Body State) (J : Joint) (m : ℕ) : Type 0 where
@@ -272,34 +272,34 @@ pub record Ahead (X : World Body State) (J : Joint) (m : ℕ) : Type 0 where
   pub stands : Stands there
   pub fewer : behind stands ≤ m
 
-module _ (J : Joint) (f : ℕ) (pending : List Value) (s t : State) (below : List Layer) (tk : TalksIn J s t below) (m : ℕ) where
+module _ (J : Joint) (f : ℕ) (s t : State) (below : List Layer) (tk : TalksIn J s t below) (m : ℕ) where
   abbrev pub ahead : Bool → Next Body State → Type 0
-  ahead l x = Ahead (turns first_form (as_known l x) (one (top J f pending s t below tk)) f pending (map frame_one below)) (top J f pending s t below tk) m
+  ahead l x = Ahead (turns first_form (as_known l x) (one (top J f s t below tk)) f (map frame_one below)) (top J f s t below tk) m
 
   goes_ahead : (u : State) → Behind m (cells_for J.store tk.own) u t → ahead true (goes_on u)
   goes_ahead u b = record {
-    there = talking_in J f pending u t below;
+    there = talking_in J f u t below;
     same = refl;
     stays = refl;
-    stands = busy J f pending u t below (record { base = tk.base; own = tk.own; owned = tk.owned; like = b.0; layers = tk.layers });
+    stands = busy J f u t below (record { base = tk.base; own = tk.own; owned = tk.owned; like = b.0; layers = tk.layers });
     fewer = b.1;
   }
 
   opens_ahead : (line : Option ℕ) (shared : List (ℕ × Value)) (v : Value) (k : Answer → State) → FirstAlone (Behind m) (cells_for J.store tk.own) (says (opens v) line shared k) t → ahead true (says (opens v) line shared k)
   opens_ahead line shared v k z =
-      let a = opened_once J f pending s t below tk shared J.store.cells in
-      let p = place J f pending s t below tk in
+      let a = opened_once J f s t below tk shared J.store.cells in
+      let p = place J f s t below tk in
       let T = opened_early J.store p shared v in
       let b = z.1 a refl refl in
       let pass = early_pass J.store p tk.own (a.cell ∷ tk.own) shared v tk.base.store tk.owned z.0 (rel_cells (cells_for T (a.cell ∷ tk.own)) (k a) t b.0) in
       record {
-        there = talking_in (record J { store = T }) f pending (k a) t below;
+        there = talking_in (record J { store = T }) f (k a) t below;
         same = refl;
         stays = refl;
-        stands = busy (record J { store = T }) f pending (k a) t below (record {
+        stands = busy (record J { store = T }) f (k a) t below (record {
           base = base_pass J.store T J.functions J.coroutines J.chain (length below) pass tk.base;
           own = a.cell ∷ tk.own;
-          owned = owned_more J.store p tk.own a.cell tk.owned (new_is J f pending s t below tk shared);
+          owned = owned_more J.store p tk.own a.cell tk.owned (new_is J f s t below tk shared);
           like = b.0;
           layers = layers_pass J.store T (IsOther p) (head J.chain) below pass (λ n l. place_below (head J.chain) n (length below) l) tk.layers;
         });
@@ -327,43 +327,43 @@ split : (cs : Cells) (s t : State) (r : Rel cs s t) → Split cs s t r
 split cs _ _ (same v k control h d r l) = as_one (same_like Rel (λ _ _ _ z. z) cs v k control h d r l)
 split cs _ _ (early v k line ns control h d scope r l) = first_only (length ns) (early_like cs v k line ns control h d scope r l) (omega arith)
 
-abbrev top_by : System Body State → Option (Function Body) → World Body State → ℕ → List Value → State → List (Frame State) → World Body State
-top_by system o W f pending s below = elim o as (λ _. World Body State) [ None ↦ breaks W | Some g ↦ turns system (as_known g.has_lines (system.steps g.made_of s)) W f pending below ]
+abbrev top_by : System Body State → Option (Function Body) → World Body State → ℕ → State → List (Frame State) → World Body State
+top_by system o W f s below = elim o as (λ _. World Body State) [ None ↦ breaks W | Some g ↦ turns system (as_known g.has_lines (system.steps g.made_of s)) W f below ]
 
-busy_step : (J : Joint) (f : ℕ) (pending : List Value) (s t : State) (below : List Layer) (tk : TalksIn J s t below)
-    → Step (talking_in J f pending s t below) (busy J f pending s t below tk)
-busy_step J f pending s t below tk = by (slice_get J.functions f) refl where
+busy_step : (J : Joint) (f : ℕ) (s t : State) (below : List Layer) (tk : TalksIn J s t below)
+    → Step (talking_in J f s t below) (busy J f s t below tk)
+busy_step J f s t below tk = by (slice_get J.functions f) refl where
   there : (o : Option Made) → slice_get J.functions f ≡ o
-      → tick first_form primitives (one (talking_in J f pending s t below)) ≡ top_by first_form (option_map function_one o) (one (talking_in J f pending s t below)) f pending s (map frame_one below)
-  there o e = ap (λ z. top_by first_form z (one (talking_in J f pending s t below)) f pending s (map frame_one below)) (slice_get-map function_one J.functions f ∙ ap (option_map function_one) e)
+      → tick first_form primitives (one (talking_in J f s t below)) ≡ top_by first_form (option_map function_one o) (one (talking_in J f s t below)) f s (map frame_one below)
+  there o e = ap (λ z. top_by first_form z (one (talking_in J f s t below)) f s (map frame_one below)) (slice_get-map function_one J.functions f ∙ ap (option_map function_one) e)
 
   there_too : (o : Option Made) → slice_get J.functions f ≡ o
-      → tick second_form primitives (two (talking_in J f pending s t below)) ≡ top_by second_form (option_map function_two o) (two (talking_in J f pending s t below)) f pending t (map frame_two below)
-  there_too o e = ap (λ z. top_by second_form z (two (talking_in J f pending s t below)) f pending t (map frame_two below)) (slice_get-map function_two J.functions f ∙ ap (option_map function_two) e)
+      → tick second_form primitives (two (talking_in J f s t below)) ≡ top_by second_form (option_map function_two o) (two (talking_in J f s t below)) f t (map frame_two below)
+  there_too o e = ap (λ z. top_by second_form z (two (talking_in J f s t below)) f t (map frame_two below)) (slice_get-map function_two J.functions f ∙ ap (option_map function_two) e)
 
   joined : (o : Option Made) → slice_get J.functions f ≡ o
-      → Both (top_by first_form (option_map function_one o) (one (talking_in J f pending s t below)) f pending s (map frame_one below)) (top_by second_form (option_map function_two o) (two (talking_in J f pending s t below)) f pending t (map frame_two below))
-      → Step (talking_in J f pending s t below) (busy J f pending s t below tk)
+      → Both (top_by first_form (option_map function_one o) (one (talking_in J f s t below)) f s (map frame_one below)) (top_by second_form (option_map function_two o) (two (talking_in J f s t below)) f t (map frame_two below))
+      → Step (talking_in J f s t below) (busy J f s t below tk)
   joined o e b =
-      together (subst (λ X. Both X (tick second_form primitives (two (talking_in J f pending s t below)))) (sym (there o e))
-      (subst (λ Y. Both (top_by first_form (option_map function_one o) (one (talking_in J f pending s t below)) f pending s (map frame_one below)) Y) (sym (there_too o e)) b))
+      together (subst (λ X. Both X (tick second_form primitives (two (talking_in J f s t below)))) (sym (there o e))
+      (subst (λ Y. Both (top_by first_form (option_map function_one o) (one (talking_in J f s t below)) f s (map frame_one below)) Y) (sym (there_too o e)) b))
 
-  moved : (g : Made) → slice_get J.functions f ≡ Some g → Split (cells_for J.store tk.own) s t tk.like → Step (talking_in J f pending s t below) (busy J f pending s t below tk)
+  moved : (g : Made) → slice_get J.functions f ≡ Some g → Split (cells_for J.store tk.own) s t tk.like → Step (talking_in J f s t below) (busy J f s t below tk)
   moved g e (as_one z) = ⊎_elim
-      (λ m. joined (Some g) e (moves_both J f pending s t below tk g.has_lines (step s) (step t) m))
+      (λ m. joined (Some g) e (moves_both J f s t below tk g.has_lines (step s) (step t) m))
       (λ y. ⊎_elim
-      (λ m. joined (Some g) e (second_opens_both J f pending s t below tk g.has_lines (step s) (step t) m))
-      (λ m. joined (Some g) e (both_open_both J f pending s t below tk g.has_lines (step s) (step t) m)) y) z
+      (λ m. joined (Some g) e (second_opens_both J f s t below tk g.has_lines (step s) (step t) m))
+      (λ m. joined (Some g) e (both_open_both J f s t below tk g.has_lines (step s) (step t) m)) y) z
   moved g e (first_only m z l) =
-      let a = first_ahead J f pending s t below tk m g.has_lines (step s) z in
+      let a = first_ahead J f s t below tk m g.has_lines (step s) z in
       let fewer = a.fewer in
       alone a.there a.stands (there (Some g) e ∙ a.same) a.stays (omega (arith, fewer, l)) refl
 
-  by : (o : Option Made) → slice_get J.functions f ≡ o → Step (talking_in J f pending s t below) (busy J f pending s t below tk)
-  by None e = joined None e (breaks_both (talking_in J f pending s t below))
+  by : (o : Option Made) → slice_get J.functions f ≡ o → Step (talking_in J f s t below) (busy J f s t below tk)
+  by None e = joined None e (breaks_both (talking_in J f s t below))
   by (Some g) e = moved g e (split (cells_for J.store tk.own) s t tk.like)
 
 pub step_both : (J : Joint) (st : Stands J) → Step J st
 step_both _ (quiet J q) = together (quiet_tick J J.now q)
 step_both _ (stopped J ending l) = together (record { there = record J { now = ends ending }; same = refl; same_too = refl; stands = stopped J ending l })
-step_both _ (busy J f pending s t below tk) = busy_step J f pending s t below tk
+step_both _ (busy J f s t below tk) = busy_step J f s t below tk

@@ -2,7 +2,7 @@
 use Rattle.std.proofs.Common.{◌≡◌, ⊎_elim, ℕ, zero, suc, false, List, [], ◌∷◌, ◌++◌, length, Option, Some, None, refl, sym, ◌∙◌, ap, subst}
 use Rattle.std.proofs.lemmas.List.{length-map}
 use Rattle.std.proofs.lemmas.Option.{slice_get-map}
-use Rattle.std.specs.Prelude.{slice_get, slice_set, map, option_map, drop, codes}
+use Rattle.std.specs.Prelude.{slice_get, slice_set, map, option_map, codes}
 use Rattle.int_core.specs.Value.{Value, object, a_table, a_function, is_nil, nth, bind}
 use Rattle.int_core.specs.Heap.{filled_table, add_table}
 use Rattle.int_core.specs.Operations.{Settled, found, ask, fault, does, handler_in, of_close}
@@ -12,7 +12,7 @@ use Rattle.tree_activation.specs.Work.{State}
 use Rattle.lua_meaning.specs.World.{Function, spent, gives_back, unwinds, ends, World, breaks, cell_of, second, answered, answered_at_once}
 use Rattle.lua_meaning.specs.Asks.{one as one_value, none as no_values, cells_named, made_in, pays_unit, calls_for, calls_in_place, settled, handle}
 use Rattle.meaning_cells.specs.Alike.{Has, Pairs, SameCells, SameAsk, as_carried}
-use Rattle.cells_alike.proofs.Joint.{Made, Waiting, Layer, is_waiting, is_raising, Place, Store, Joint, function_one, function_two, asker_one, asker_two, frame_one, frame_two, one, two, WaitsAt, LayerAt, ArePaired, head, Base, Stable, stopped, Both}
+use Rattle.cells_alike.proofs.Joint.{Made, Waiting, Layer, is_waiting, is_raising, Joint, function_one, function_two, asker_one, asker_two, frame_one, frame_two, one, two, WaitsAt, LayerAt, ArePaired, head, Base, Stable, stopped, Both}
 use Rattle.cells_alike.proofs.Moving.{more_map, get_more, either_by, now_both, breaks_both, raises_both}
 use Rattle.cells_alike.proofs.Answering.{first_form, second_form, given_both, answered_both, calls_both}
 use Rattle.cells_alike.proofs.Storing.{IsAny, layers_pass, base_pass_any, waits_any, written, write_pass, write_even}
@@ -152,9 +152,6 @@ makes_both J body names others w below q a l =
 
 -- other asks
 
-pending_waits : (S : Store) (p : Place) (w : Waiting) (pending : List Value) → WaitsAt S p w → WaitsAt S p (record w { pending = pending })
-pending_waits S p w pending a = record { asked = a.asked; since = a.since; owned = a.owned; on = a.on }
-
 rests_with : (J : Joint) (below : List Layer) (l : Layer) → RestsOn J below → LayerAt J.store (head J.chain, length below) l → RestsOn J (l ∷ below)
 rests_with J below l q a = record { base = q.base; even = q.even; layers = (a, q.layers) }
 
@@ -227,9 +224,9 @@ plain_both J (marks v name) w below p q a =
     let why = codes "variable '" ++ name ++ codes "' got a non-closable value" in
     either_by (is_nil (handler_in J.heap of_close v)) (is_nil (handler_in J.heap of_close v)) _ _ _ _ refl
     (once_both J w 0 (faulted why) (faulted why) below refl q a)
-    (once_both J (record w { pending = v ∷ w.pending }) 0 no_values no_values below refl q (pending_waits J.store (head J.chain, length below) w (v ∷ w.pending) a))
+    (once_both J w 0 no_values no_values below refl q a)
 plain_both J (closes v e) w below p q a =
-    calls_for_both J (record w { pending = drop 1 w.pending }) below (handler_in J.heap of_close v) (v ∷ e ∷ []) q (pending_waits J.store (head J.chain, length below) w (drop 1 w.pending) a)
+    calls_for_both J w below (handler_in J.heap of_close v) (v ∷ e ∷ []) q a
 plain_both J (raises why) w below p q a = raises_both (record J { frames = is_raising w ∷ below }) why (rests_with J below (is_raising w) q a)
 plain_both J (leaves (returns vs)) w below p q a = now_both (record J { frames = below }) (gives_back vs) q
 plain_both J (leaves (throws e)) w below p q a = now_both (record J { frames = below }) (unwinds e) q

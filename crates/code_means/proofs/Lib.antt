@@ -3,3 +3,4 @@ pub mod Forms
 mod Pairs
 mod Same
 mod WholeRuns
+mod StillPending

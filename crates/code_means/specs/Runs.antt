@@ -1,14 +1,28 @@
 -- Whole runs of code, in the same worlds as those of trees: only what functions are made of, and the states of activations, differ.
-use Rattle.std.specs.Prelude.{◌≡◌, ℕ, List, Option}
+use Rattle.std.specs.Prelude.{◌≡◌, ℕ, zero, suc, List, [], ◌∷◌, length, Option, Some, None}
+use Rattle.int_core.specs.Value.{Value, nth}
 use Rattle.code_core.specs.Prototype.{Prototype}
+use Rattle.machine_core.specs.World.{Activation}
+use Rattle.machine_core.specs.Text.{last_pending, done}
+use Rattle.machine_core.specs.InstructionRows.{left_so}
 use Rattle.machine_core.specs.Talk as code
-use Rattle.machine_core.specs.Talk.{talk_start, talk_step}
+use Rattle.machine_core.specs.Talk.{before, amid, talk_start, talk_step}
 use Rattle.lua_meaning.specs.World.{System}
 use Rattle.lua_meaning.specs.Meaning.{Script, Meaning, Outcome, has_returned, has_failed, has_spent, is_suspended, is_broken, meaning}
 use Rattle.lua_meaning.specs.Opening.{Entry, opening, primitives}
 
+-- what code still closes where it is left: the pending registers are read from the last one on, each after what the closing before it changed
+
+abbrev pub closed_of : Prototype → (count : ℕ) → Activation → List Value
+closed_of p zero a = []
+closed_of p (suc n) a = elim (last_pending 0 a.pending) [ None ↦ [] | Some r ↦ nth a.registers r ∷ closed_of p n (done left_so p [] a) ]
+
+abbrev pub to_close : Prototype → code.State → List Value
+to_close p (before a c) = closed_of p (length a.pending) a
+to_close p (amid t env a c) = closed_of p (length a.pending) a
+
 abbrev pub codes_run : System Prototype code.State
-codes_run = record { starts = talk_start; steps = talk_step }
+codes_run = record { starts = talk_start; steps = talk_step; pending = to_close }
 
 abbrev pub code_meaning : (steps : ℕ) → (prelude : List (Entry Prototype)) → Script Prototype → List (List ℕ) → (budget : ℕ) → Option (Meaning Prototype code.State)
 code_meaning steps prelude script input budget = meaning codes_run primitives steps (opening prelude) script input budget

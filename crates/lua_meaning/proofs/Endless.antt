@@ -68,7 +68,6 @@ call_of_f celling c = record { celling = celling; locals = one ∷ []; varargs =
 abbrev pub f_waits : Celling → (c : ℕ) → Asker State
 f_waits celling c = record {
   function = f;
-  pending = [];
   line = Some 1;
   shared = shared_by (held celling c) (one ∷ []);
   goes = λ x. heard x.reply 1 (told (call_of_f celling c) x.shared) (left_of 1 Add one ∷ listed (for_return 1) [] EndExps ∷ end_of_body 1 ∷ []) give;
@@ -81,7 +80,6 @@ call_of_main celling = record { celling = celling; locals = object a_function f 
 abbrev pub main_waits : Celling → Asker State
 main_waits celling = record {
   function = main;
-  pending = [];
   line = Some 1;
   shared = (2, object a_function f) ∷ [];
   goes = λ x. heard x.reply 1 (told (call_of_main celling) x.shared)
@@ -124,7 +122,7 @@ with_f more = object a_table environment_table ∷ object a_table globals_table 
 
 -- f was called
 abbrev pub entered : Celling → Caller → (cells : List ℕ) → (more : List Value) → (fuel : ℕ) → Run
-entered celling caller cells more fuel = world caller.script (with_f more) fuel (talking f [] (start celling calls_itself (one ∷ [])) ∷ tower celling caller cells) talks
+entered celling caller cells more fuel = world caller.script (with_f more) fuel (talking f (start celling calls_itself (one ∷ [])) ∷ tower celling caller cells) talks
 
 -- the script calls f
 
@@ -209,7 +207,6 @@ n_kept celling c values = shared_in (n_gone celling c (n_in celling c values)) v
 abbrev pub f_raises : Celling → (c : ℕ) → (n : Value) → Asker State
 f_raises celling c n = record {
   function = f;
-  pending = [];
   line = Some 1;
   shared = n_gone celling c n;
   goes = λ x. heard x.reply 1

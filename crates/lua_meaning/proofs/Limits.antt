@@ -8,7 +8,7 @@ use Rattle.int_core.specs.Operations.{Callee, callee, not_callable, callee_of, g
 use Rattle.int_core.specs.Ask.{faulted, Ask, reads_upvalue, writes_upvalue, makes_table, makes_function, fills_table, pays, opens, operates, calls, calls_last, marks, closes, raises, leaves, returns, throws, Answer, Next, goes_on, says, stuck}
 use Rattle.lua_meaning.specs.World.{System, Function, Asker, Frame, talking, waiting, raising, protected, handled_by, handling, closing, Coroutine, fresh, suspended, running, normal, dead, failed, Now, talks, gives_back, raises_error, unwinds, calls_primitive, ends, World, now_in, breaks, greatest_depth, has_room, on_frames, runs_main, raises_text, blamed, given_to, answered, answered_at_once, as_known, cell_of, shared_in}
 use Rattle.lua_meaning.specs.Calls.{error_in_handler, error_or_nil, put_coroutine, frames_in, back_to, returns_all, fails_all, enters_function, enters, pays_with, pays_for, calls_value, calls_over, closes_on, handed, raised_to, unwound, goes_along, goes_into, resumes, greatest_resumes, yields, closes_in, closes_coroutine}
-use Rattle.lua_meaning.specs.Asks.{calls_for, calls_in_place, settled, pays_unit, with_pending, handle, turns, talks_on}
+use Rattle.lua_meaning.specs.Asks.{calls_for, calls_in_place, settled, pays_unit, handle, turns, talks_on}
 use Rattle.lua_meaning.specs.Primitives.{Primitive, lua_error, lua_pcall, lua_xpcall, coroutine_close, coroutine_create, coroutine_isyieldable, coroutine_resume, coroutine_running, coroutine_status, coroutine_yield, prelude_out, Done, done, row}
 use Rattle.lua_meaning.specs.Primitives.{refused as no_result}
 use Rattle.lua_meaning.specs.Step.{error_by, level_in, creates, with_coroutine, after_row, does_primitive, has_ended, tick_by, tick, ticks}
@@ -62,8 +62,8 @@ module _ {F S : Type 0} where
   returns_keep : (n : ℕ) (W : World F S) (vs : List Value) → Keeps n W → Keeps n (returns_all W vs)
   returns_keep n W vs k = either n (runs_main W) _ _ (λ _. now_keeps n W _ k) (λ _. back_keeps n W dead _ W.chain k (omega arith))
 
-  fails_keep : (n : ℕ) (W : World F S) (e : Value) → Keeps n W → Keeps n (fails_all W e)
-  fails_keep n W e k = either n (runs_main W) _ _ (λ _. now_keeps n W _ k) (λ _. back_keeps n W (failed e _) _ W.chain k (omega arith))
+  fails_keep : (system : System F S) (n : ℕ) (W : World F S) (e : Value) → Keeps n W → Keeps n (fails_all system W e)
+  fails_keep system n W e k = either n (runs_main W) _ _ (λ _. now_keeps n W _ k) (λ _. back_keeps n W (failed e _) _ W.chain k (omega arith))
 
   yields_keep : (n : ℕ) (W : World F S) (vs : List Value) → Keeps n W → Keeps n (yields W vs)
   yields_keep n W vs k = either n (runs_main W) _ _ (λ _. now_keeps n W _ k) (λ _. back_keeps n W (suspended W.frames) _ W.chain k k.top)
@@ -124,7 +124,7 @@ module _ {F S : Type 0} (system : System F S) where
 
   handed_keeps : (n : ℕ) (W : World F S) (vs : List Value) (frames : List (Frame S)) → Keeps n W → length frames ≤ greatest_depth → Keeps n (handed system W vs frames)
   handed_keeps n W vs [] k few = returns_keep n W vs k
-  handed_keeps n W vs (talking f pending s ∷ below) k few = now_keeps n W _ k
+  handed_keeps n W vs (talking f s ∷ below) k few = now_keeps n W _ k
   handed_keeps n W vs (waiting asker ∷ below) k few = given_keeps n W asker _ below k (omega (arith, few))
   handed_keeps n W vs (raising asker ∷ below) k few = now_keeps n W _ k
   handed_keeps n W vs (protected ∷ below) k few = now_keeps n (on_frames W below) _ (frames_keep n W below k (omega (arith, few)))
@@ -133,8 +133,8 @@ module _ {F S : Type 0} (system : System F S) where
   handed_keeps n W vs (closing e vs_left ∷ below) k few = closes_on_keeps n W e vs_left below k (omega (arith, few))
 
   raised_keeps : (n : ℕ) (W : World F S) (e : Value) (frames : List (Frame S)) → Keeps n W → Keeps n (raised_to system W e frames)
-  raised_keeps n W e [] k = either n (runs_main W) _ _ (λ _. now_keeps n W _ k) (λ _. fails_keep n W e k)
-  raised_keeps n W e (talking f pending s ∷ frames) k = raised_keeps n W e frames k
+  raised_keeps n W e [] k = either n (runs_main W) _ _ (λ _. now_keeps n W _ k) (λ _. fails_keep system n W e k)
+  raised_keeps n W e (talking f s ∷ frames) k = raised_keeps n W e frames k
   raised_keeps n W e (waiting asker ∷ frames) k = raised_keeps n W e frames k
   raised_keeps n W e (raising asker ∷ frames) k = raised_keeps n W e frames k
   raised_keeps n W e (handled_by h ∷ frames) k =
@@ -147,8 +147,8 @@ module _ {F S : Type 0} (system : System F S) where
   raised_keeps n W e (closing error vs_left ∷ frames) k = now_keeps n W _ k
 
   unwound_keeps : (n : ℕ) (W : World F S) (e : Value) (frames : List (Frame S)) → Keeps n W → length frames ≤ greatest_depth → Keeps n (unwound system W e frames)
-  unwound_keeps n W e [] k few = fails_keep n W e k
-  unwound_keeps n W e (talking f pending s ∷ below) k few = now_keeps n W _ k
+  unwound_keeps n W e [] k few = fails_keep system n W e k
+  unwound_keeps n W e (talking f s ∷ below) k few = now_keeps n W _ k
   unwound_keeps n W e (waiting asker ∷ below) k few = given_keeps n W asker _ below k (omega (arith, few))
   unwound_keeps n W e (raising asker ∷ below) k few = given_keeps n W asker _ below k (omega (arith, few))
   unwound_keeps n W e (protected ∷ below) k few = now_keeps n (on_frames W below) _ (frames_keep n W below k (omega (arith, few)))
@@ -237,23 +237,23 @@ module _ {F S : Type 0} (system : System F S) where
   handle_keeps n (calls f vs) W asker below k few = calls_for_keeps n W asker below f vs k few
   handle_keeps n (calls_last f vs) W asker below k few = in_place_keeps n W asker below f vs k few
   handle_keeps n (marks v name) W asker below k few =
-      either n (is_nil (handler_in W.heap of_close v)) _ _ (λ _. given_keeps n W asker _ below k few) (λ _. given_keeps n W (with_pending asker (v ∷ asker.pending)) _ below k few)
+      either n (is_nil (handler_in W.heap of_close v)) _ _ (λ _. given_keeps n W asker _ below k few) (λ _. given_keeps n W asker _ below k few)
   handle_keeps n (closes v e) W asker below k few =
-      calls_for_keeps n W (with_pending asker (drop 1 asker.pending)) below (handler_in W.heap of_close v) (v ∷ e ∷ []) k few
+      calls_for_keeps n W asker below (handler_in W.heap of_close v) (v ∷ e ∷ []) k few
   handle_keeps n (raises why) W asker below k few = now_keeps n (on_frames W (raising asker ∷ below)) _ (frames_keep n W (raising asker ∷ below) k (omega (arith, few)))
   handle_keeps n (leaves (returns vs)) W asker below k few = now_keeps n (on_frames W below) _ (frames_keep n W below k (omega (arith, few)))
   handle_keeps n (leaves (throws e)) W asker below k few = now_keeps n (on_frames W below) _ (frames_keep n W below k (omega (arith, few)))
 
-  turns_keep : (n : ℕ) (next : Next F S) (W : World F S) (f : ℕ) (pending : List Value) (below : List (Frame S)) → Keeps n W → length below + 1 ≤ greatest_depth
-      → Keeps n (turns system next W f pending below)
-  turns_keep n (goes_on s) W f pending below k few = frames_keep n W (talking f pending s ∷ below) k (omega (arith, few))
-  turns_keep n (says q line shared goes) W f pending below k few =
+  turns_keep : (n : ℕ) (next : Next F S) (W : World F S) (f : ℕ) (below : List (Frame S)) → Keeps n W → length below + 1 ≤ greatest_depth
+      → Keeps n (turns system next W f below)
+  turns_keep n (goes_on s) W f below k few = frames_keep n W (talking f s ∷ below) k (omega (arith, few))
+  turns_keep n (says q line shared goes) W f below k few =
       handle_keeps n q (record W { cells = shared_in shared W.cells }) _ below (record { spends = k.spends; top = k.top; others = k.others }) few
-  turns_keep n stuck W f pending below k few = now_keeps n W _ k
+  turns_keep n stuck W f below k few = now_keeps n W _ k
 
   talks_keep : (n : ℕ) (W : World F S) (frames : List (Frame S)) → Keeps n W → length frames ≤ greatest_depth → Keeps n (talks_on system W frames)
-  talks_keep n W (talking f pending s ∷ below) k few =
-      if_there n (slice_get W.functions f) _ _ (now_keeps n W _ k) (λ g. turns_keep n (as_known g.has_lines (system.steps g.made_of s)) W f pending below k (omega (arith, few)))
+  talks_keep n W (talking f s ∷ below) k few =
+      if_there n (slice_get W.functions f) _ _ (now_keeps n W _ k) (λ g. turns_keep n (as_known g.has_lines (system.steps g.made_of s)) W f below k (omega (arith, few)))
   talks_keep n W [] k few = now_keeps n W _ k
   talks_keep n W (waiting asker ∷ below) k few = now_keeps n W _ k
   talks_keep n W (raising asker ∷ below) k few = now_keeps n W _ k

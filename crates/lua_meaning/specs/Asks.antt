@@ -1,5 +1,5 @@
 -- Who answers each ask of an activation.
-use Rattle.std.specs.Prelude.{ℕ, zero, suc, false, cond, List, [], ◌∷◌, ◌++◌, length, drop, Some, None, slice_get, slice_set, codes}
+use Rattle.std.specs.Prelude.{ℕ, zero, suc, false, cond, List, [], ◌∷◌, ◌++◌, length, Some, None, slice_get, slice_set, codes}
 use Rattle.int_core.specs.Value.{a_table, a_function, Value, object, is_nil, nth}
 use Rattle.int_core.specs.Heap.{filled_table, add_table}
 use Rattle.int_core.specs.Operations.{Settled, found, ask, fault, does, handler_in, of_close}
@@ -25,9 +25,6 @@ made_in W maker body names = elim (slice_get W.functions maker) [
   | None ↦ record { made_of = body; source = []; has_lines = false; cells = cells_named W maker names }
   | Some g ↦ record { made_of = body; source = g.source; has_lines = g.has_lines; cells = cells_named W maker names }
 ]
-
-abbrev pub with_pending : {S : Type 0} → Asker S → List Value → Asker S
-with_pending asker pending = record asker { pending = pending }
 
 -- a unit is spent; where none is left, the turn has ended
 abbrev pub pays_unit : {F S : Type 0} → (fuel : ℕ) → World F S → Asker S → List (Frame S) → World F S
@@ -73,22 +70,22 @@ module _ {F S : Type 0} (system : System F S) where
   handle (marks v name) W asker below =
       cond (is_nil (handler_in W.heap of_close v))
       (answered_at_once W asker 0 (faulted (codes "variable '" ++ name ++ codes "' got a non-closable value")) below)
-      (answered_at_once W (with_pending asker (v ∷ asker.pending)) 0 none below)
-  handle (closes v e) W asker below = calls_for W (with_pending asker (drop 1 asker.pending)) below (handler_in W.heap of_close v) (v ∷ e ∷ [])
+      (answered_at_once W asker 0 none below)
+  handle (closes v e) W asker below = calls_for W asker below (handler_in W.heap of_close v) (v ∷ e ∷ [])
   handle (raises why) W asker below = raises_text (on_frames W (raising asker ∷ below)) why
   handle (leaves (returns vs)) W asker below = now_in (on_frames W below) (gives_back vs)
   handle (leaves (throws e)) W asker below = now_in (on_frames W below) (unwinds e)
 
   -- what the activation on top does next
-  abbrev pub turns : Next F S → World F S → (function : ℕ) → (pending : List Value) → List (Frame S) → World F S
-  turns (goes_on s) W f pending below = on_frames W (talking f pending s ∷ below)
-  turns (says q line shared k) W f pending below =
-      handle q (record W { cells = shared_in shared W.cells }) (record { function = f; pending = pending; line = line; shared = shared; goes = k }) below
-  turns stuck W f pending below = breaks W
+  abbrev pub turns : Next F S → World F S → (function : ℕ) → List (Frame S) → World F S
+  turns (goes_on s) W f below = on_frames W (talking f s ∷ below)
+  turns (says q line shared k) W f below =
+      handle q (record W { cells = shared_in shared W.cells }) (record { function = f; line = line; shared = shared; goes = k }) below
+  turns stuck W f below = breaks W
 
   abbrev pub talks_on : World F S → List (Frame S) → World F S
-  talks_on W (talking f pending s ∷ below) = elim (slice_get W.functions f) [
+  talks_on W (talking f s ∷ below) = elim (slice_get W.functions f) [
     | None ↦ breaks W
-    | Some g ↦ turns (as_known g.has_lines (system.steps g.made_of s)) W f pending below
+    | Some g ↦ turns (as_known g.has_lines (system.steps g.made_of s)) W f below
   ]
   talks_on W _ = breaks W

@@ -1,10 +1,10 @@
 -- Calls and what follows them: results that reach a frame, errors, closing methods, and the moves between coroutines
 -- (Lua 5.4 manual, 2.3, 2.6 and 3.3.8).
-use Rattle.std.specs.Prelude.{ℕ, zero, suc, Bool, true, false, cond, List, [], ◌∷◌, length, flat_map, Option, Some, None, nat_lt, slice_get, slice_set, codes}
+use Rattle.std.specs.Prelude.{ℕ, zero, suc, Bool, true, false, cond, List, [], ◌∷◌, ◌++◌, length, Option, Some, None, nat_lt, slice_get, slice_set, codes}
 use Rattle.int_core.specs.Value.{nil, boolean, string, primitive, a_function, Value, known, object, nth}
 use Rattle.int_core.specs.Operations.{Callee, callee, not_callable, callee_of, greatest_chain, handler_in, of_close}
 use Rattle.int_core.specs.Ask.{values, left}
-use Rattle.lua_meaning.specs.World.{System, Function, Frame, talking, waiting, raising, protected, handled_by, handling, closing, Coroutine, fresh, suspended, running, normal, dead, failed, yielded, returned, failed_with, spent, talks, gives_back, unwinds, calls_primitive, ends, World, now_in, breaks, stack_overflow, has_room, on_frames, runs_main, raises_text, answered}
+use Rattle.lua_meaning.specs.World.{System, Function, Asker, Frame, talking, waiting, raising, protected, handled_by, handling, closing, Coroutine, fresh, suspended, running, normal, dead, failed, yielded, returned, failed_with, spent, talks, gives_back, unwinds, calls_primitive, ends, World, now_in, breaks, stack_overflow, has_room, on_frames, runs_main, raises_text, shared_out, answered}
 
 abbrev pub text : List ℕ → Value
 text bytes = known (string bytes)
@@ -36,22 +36,13 @@ back_to W c vs _ = breaks W
 abbrev pub leaves_coroutine : {F S : Type 0} → World F S → Coroutine S → List Value → World F S
 leaves_coroutine W c vs = back_to W c vs W.chain
 
-abbrev pub pending_in : {S : Type 0} → Frame S → List Value
-pending_in (talking f pending s) = pending
-pending_in (waiting asker) = asker.pending
-pending_in (raising asker) = asker.pending
-pending_in _ = []
-
--- the values to be closed in all frames, in the order in which they are closed
-abbrev pub all_pending : {S : Type 0} → List (Frame S) → List Value
-all_pending frames = flat_map pending_in frames
+-- an activation is told that it is left, with the present values of the cells that it shares
+abbrev pub left_now : {S : Type 0} → (cells : List Value) → Asker S → S
+left_now cells asker = asker.goes (record { reply = left (known nil); shared = shared_out asker.shared cells; cell = 0 })
 
 -- the coroutine comes to its end
 abbrev pub returns_all : {F S : Type 0} → World F S → List Value → World F S
 returns_all W vs = cond (runs_main W) (now_in W (ends (returned vs))) (leaves_coroutine W dead (truth true ∷ vs))
-
-abbrev pub fails_all : {F S : Type 0} → World F S → Value → World F S
-fails_all W e = cond (runs_main W) (now_in W (ends (failed_with e))) (leaves_coroutine W (failed e (all_pending W.frames)) (truth false ∷ e ∷ []))
 
 abbrev pub error_in_handler : Value
 error_in_handler = text (codes "error in error handling")
@@ -90,13 +81,31 @@ abbrev pub yields : {F S : Type 0} → World F S → List Value → World F S
 yields W vs = cond (runs_main W) (now_in W (ends (yielded vs))) (leaves_coroutine W (suspended W.frames) (truth true ∷ vs))
 
 module _ {F S : Type 0} (system : System F S) where
+  -- what frames still have to close is asked of their activations, as if they were left
+
+  abbrev pub pending_of : World F S → Asker S → List Value
+  pending_of W asker = elim (slice_get W.functions asker.function) [ None ↦ [] | Some g ↦ system.pending g.made_of (left_now W.cells asker) ]
+
+  abbrev pub pending_in : World F S → Frame S → List Value
+  pending_in W (waiting asker) = pending_of W asker
+  pending_in W (raising asker) = pending_of W asker
+  pending_in W _ = []
+
+  -- the values to be closed in all frames, in the order in which they are closed
+  abbrev pub all_pending : World F S → List (Frame S) → List Value
+  all_pending W [] = []
+  all_pending W (f ∷ frames) = pending_in W f ++ all_pending W frames
+
+  abbrev pub fails_all : World F S → Value → World F S
+  fails_all W e = cond (runs_main W) (now_in W (ends (failed_with e))) (leaves_coroutine W (failed e (all_pending W W.frames)) (truth false ∷ e ∷ []))
+
   -- calls
 
   -- a function is entered; a call beyond the depth is refused
   abbrev pub enters_function : World F S → (number : ℕ) → Option (Function F) → List Value → (refused : List ℕ → World F S → World F S) → World F S
   enters_function W n None arguments refused = breaks W
   enters_function W n (Some f) arguments refused =
-      cond (has_room W) (record W { frames = talking n [] (system.starts f.made_of arguments) ∷ W.frames; now = talks }) (refused stack_overflow W)
+      cond (has_room W) (record W { frames = talking n (system.starts f.made_of arguments) ∷ W.frames; now = talks }) (refused stack_overflow W)
 
   abbrev pub enters : World F S → Value → List Value → (refused : List ℕ → World F S → World F S) → World F S
   enters W (known (primitive n)) arguments refused = now_in W (calls_primitive n arguments)
@@ -130,7 +139,7 @@ module _ {F S : Type 0} (system : System F S) where
   -- results reach the frame on top
   abbrev pub handed : World F S → List Value → List (Frame S) → World F S
   handed W vs [] = returns_all W vs
-  handed W vs (talking f pending s ∷ below) = breaks W
+  handed W vs (talking f s ∷ below) = breaks W
   handed W vs (waiting asker ∷ below) = answered W asker (values vs) below
   handed W vs (raising asker ∷ below) = breaks W
   handed W vs (protected ∷ below) = now_in (on_frames W below) (gives_back (truth true ∷ vs))
@@ -144,7 +153,7 @@ module _ {F S : Type 0} (system : System F S) where
   -- before any of them is left
   abbrev pub raised_to : World F S → Value → List (Frame S) → World F S
   raised_to W e [] = cond (runs_main W) (now_in W (unwinds e)) (fails_all W e)
-  raised_to W e (talking f pending s ∷ frames) = raised_to W e frames
+  raised_to W e (talking f s ∷ frames) = raised_to W e frames
   raised_to W e (waiting asker ∷ frames) = raised_to W e frames
   raised_to W e (raising asker ∷ frames) = raised_to W e frames
   raised_to W e (handled_by h ∷ frames) =
@@ -158,7 +167,7 @@ module _ {F S : Type 0} (system : System F S) where
   -- an error reaches the frame on top
   abbrev pub unwound : World F S → Value → List (Frame S) → World F S
   unwound W e [] = fails_all W e
-  unwound W e (talking f pending s ∷ below) = breaks W
+  unwound W e (talking f s ∷ below) = breaks W
   unwound W e (waiting asker ∷ below) = answered W asker (left e) below
   unwound W e (raising asker ∷ below) = answered W asker (left e) below
   unwound W e (protected ∷ below) = now_in (on_frames W below) (gives_back (truth false ∷ e ∷ []))
@@ -184,7 +193,7 @@ module _ {F S : Type 0} (system : System F S) where
 
   abbrev pub closes_coroutine : World F S → ℕ → Coroutine S → World F S
   closes_coroutine W co (fresh body) = closes_in W co None []
-  closes_coroutine W co (suspended frames) = closes_in W co None (all_pending frames)
+  closes_coroutine W co (suspended frames) = closes_in W co None (all_pending W frames)
   closes_coroutine W co (failed e pending) = closes_in W co (Some e) pending
   closes_coroutine W co dead = closes_in W co None []
   closes_coroutine W co running = raises_text W (codes "cannot close a running coroutine")

@@ -86,7 +86,7 @@ module _ {F S : Type 0} (system : System F S) (primitives : ℕ → Option Primi
       record W {
         functions = W.functions ++ record { made_of = script.main; source = script.name; has_lines = script.has_lines; cells = length W.cells ∷ [] } ∷ [];
         cells = W.cells ++ object a_table W.globals ∷ [];
-        frames = talking (length W.functions) [] (system.starts script.main []) ∷ [];
+        frames = talking (length W.functions) (system.starts script.main []) ∷ [];
         printed = [];
         fuel = budget;
         now = talks;

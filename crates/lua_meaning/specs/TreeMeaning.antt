@@ -2,6 +2,7 @@
 use Rattle.std.specs.Prelude.{ℕ, List, Option}
 use Rattle.tree_core.specs.Tree.{Body}
 use Rattle.tree_activation.specs.Work.{Celling, State}
+use Rattle.tree_activation.specs.Asking.{to_close}
 use Rattle.tree_activation.specs.Activation.{start, step}
 use Rattle.lua_meaning.specs.World.{System, World}
 use Rattle.lua_meaning.specs.Meaning.{Script, Meaning, meaning, onward}
@@ -9,7 +10,7 @@ use Rattle.lua_meaning.specs.Opening.{Entry, opening, primitives}
 
 -- a local variable gets its cell as `celling` says
 abbrev pub trees : Celling → System Body State
-trees celling = record { starts = start celling; steps = λ body s. step s }
+trees celling = record { starts = start celling; steps = λ body s. step s; pending = λ body s. to_close s }
 
 abbrev pub tree_meaning : Celling → (steps : ℕ) → (prelude : List (Entry Body)) → Script Body → List (List ℕ) → (budget : ℕ) → Option (Meaning Body State)
 tree_meaning celling steps prelude script input budget = meaning (trees celling) primitives steps (opening prelude) script input budget

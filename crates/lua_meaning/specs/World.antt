@@ -5,10 +5,11 @@ use Rattle.int_core.specs.Value.{greatest_string, string, Value, known, nth, bin
 use Rattle.int_core.specs.Heap.{Heap}
 use Rattle.int_core.specs.Ask.{Ask, marks, goes_on, says, stuck, Reply, Answer, Next}
 
--- how activations begin and go on
+-- how activations begin and go on, and what they still have to close where they are left: the values, the last one first
 pub record System (F S : Type 0) : Type 0 where
   pub starts : F → (arguments : List Value) → S
   pub steps : F → S → Next F S
+  pub pending : F → S → List Value
 
 -- a function: what it is made of, the name of its source, whether its lines are known, and the cells of the outer variables that it names
 pub record Function (F : Type 0) : Type 0 where
@@ -17,11 +18,9 @@ pub record Function (F : Type 0) : Type 0 where
   pub has_lines : Bool
   pub cells : List ℕ
 
--- an activation that waits for an answer: the values that it has marked to be closed, the last one first; the line of its ask; the cells
--- that it shares, with their values at the ask; and how it goes on
+-- an activation that waits for an answer: the line of its ask; the cells that it shares, with their values at the ask; and how it goes on
 pub record Asker (S : Type 0) : Type 0 where
   pub function : ℕ
-  pub pending : List Value
   pub line : Option ℕ
   pub shared : List (ℕ × Value)
   pub goes : Answer → S
@@ -29,7 +28,7 @@ pub record Asker (S : Type 0) : Type 0 where
 -- frames: an activation that talks or waits; one whose own step was at fault, which waits to be left; a call by `pcall`; one by `xpcall` with its message handler; a message handler's call; and
 -- the closing of a coroutine's variables by `coroutine.close`, with the error so far and the values that are left
 pub data Frame (S : Type 0) : Type 0 where
-  talking : (function : ℕ) → (pending : List Value) → S → Frame S
+  talking : (function : ℕ) → S → Frame S
   waiting : Asker S → Frame S
   raising : Asker S → Frame S
   protected : Frame S
@@ -37,7 +36,7 @@ pub data Frame (S : Type 0) : Type 0 where
   handling : Frame S
   closing : (error : Option Value) → (values_left : List Value) → Frame S
 
--- the frames of a coroutine that is not running stand from the top. One that failed keeps the values that it had marked to be closed
+-- the frames of a coroutine that is not running stand from the top. One that failed keeps the values that it still had to close
 pub data Coroutine (S : Type 0) : Type 0 where
   fresh : (body : Value) → Coroutine S
   suspended : List (Frame S) → Coroutine S
@@ -168,7 +167,7 @@ raises_text W text = now_in W (raises_error (blamed W text))
 -- answers
 
 abbrev pub given_to : {F S : Type 0} → World F S → Asker S → Answer → (below : List (Frame S)) → World F S
-given_to W asker x below = record W { frames = talking asker.function asker.pending (asker.goes x) ∷ below; now = talks }
+given_to W asker x below = record W { frames = talking asker.function (asker.goes x) ∷ below; now = talks }
 
 -- with the present values of the cells that the asker shares
 abbrev pub answered : {F S : Type 0} → World F S → Asker S → Reply → (below : List (Frame S)) → World F S

@@ -10,7 +10,7 @@ use Rattle.tree_activation.specs.Work.{Celling, State}
 use Rattle.tree_activation.specs.Activation.{start, step}
 use Rattle.lua_meaning.specs.World.{System, Function, Asker, Frame, talking, waiting, raising, protected, handled_by, handling, closing, Coroutine, fresh, suspended, running, normal, dead, failed, Now, talks, gives_back, raises_error, unwinds, calls_primitive, ends, World, now_in, breaks, has_room, on_frames, runs_main, raises_text, given_to, answered, answered_at_once, as_known, cell_of, shared_in, shared_out}
 use Rattle.lua_meaning.specs.Calls.{error_in_handler, error_or_nil, put_coroutine, frames_in, back_to, returns_all, fails_all, enters_function, enters, pays_with, pays_for, calls_value, calls_over, closes_on, handed, raised_to, unwound, goes_along, resumes, greatest_resumes, yields, closes_in, closes_coroutine, all_pending, text}
-use Rattle.lua_meaning.specs.Asks.{calls_for, calls_in_place, settled, pays_unit, with_pending, handle, turns, talks_on}
+use Rattle.lua_meaning.specs.Asks.{calls_for, calls_in_place, settled, pays_unit, handle, turns, talks_on}
 use Rattle.lua_meaning.specs.Primitives.{Primitive, lua_error, lua_pcall, lua_xpcall, coroutine_close, coroutine_create, coroutine_isyieldable, coroutine_resume, coroutine_running, coroutine_status, coroutine_yield, prelude_out, Done, done, row}
 use Rattle.lua_meaning.specs.Primitives.{refused as no_result}
 use Rattle.lua_meaning.specs.Step.{error_by, level_in, creates, with_coroutine, after_row, does_primitive, has_ended, tick_by, gives_one, status_of}
@@ -42,7 +42,7 @@ if_there b n (Some x) V goes k more = more x
 given_goes : (b n m : ℕ) (W : Run) (asker : Asker State) (x : Answer) (below : List (Frame State)) → W.fuel ≤ b → Fits W.chain below W.coroutines m
     → 4 * measure (asker.goes x) + 2 + m < n → Goes b n (given_to W asker x below)
 given_goes b n m W asker x below h p less =
-    gets_less h refl (4 * measure (asker.goes x) + 2 + m) (over W.chain (talking asker.function asker.pending (asker.goes x)) below W.coroutines (4 * measure (asker.goes x) + 2) m (omega arith) p) (omega (arith, less))
+    gets_less h refl (4 * measure (asker.goes x) + 2 + m) (over W.chain (talking asker.function (asker.goes x)) below W.coroutines (4 * measure (asker.goes x) + 2) m (omega arith) p) (omega (arith, less))
 
 heard_goes : (b n m a : ℕ) (W : Run) (asker : Asker State) (x : Answer) (below : List (Frame State)) → W.fuel ≤ b → Fits W.chain below W.coroutines m
     → ((x : Answer) → 4 * measure (asker.goes x) + 2 ≤ a) → a + m < n → Goes b n (given_to W asker x below)
@@ -56,7 +56,7 @@ left_goes b n m a W asker e below h p some less =
 
 given_spends : (b n m : ℕ) (W : Run) (asker : Asker State) (x : Answer) (below : List (Frame State)) → W.fuel < b → Fits W.chain below W.coroutines m → Goes b n (given_to W asker x below)
 given_spends b n m W asker x below h p =
-    spends h (4 * measure (asker.goes x) + 2 + m, over W.chain (talking asker.function asker.pending (asker.goes x)) below W.coroutines (4 * measure (asker.goes x) + 2) m (omega arith) p)
+    spends h (4 * measure (asker.goes x) + 2 + m, over W.chain (talking asker.function (asker.goes x)) below W.coroutines (4 * measure (asker.goes x) + 2) m (omega arith) p)
 
 -- moves back to the coroutine that resumed
 
@@ -75,8 +75,8 @@ back_goes b n m x W c vs (co ∷ by ∷ chain) frames h can p one less =
 returns_go : (b n m : ℕ) (W : Run) (vs : List Value) (frames : List (Frame State)) → W.fuel ≤ b → CanEnd W → Fits W.chain frames W.coroutines m → m < n → Goes b n (returns_all W vs)
 returns_go b n m W vs frames h can p less = either b n (runs_main W) _ _ (has_end refl can) (back_goes b n m 0 W dead _ W.chain frames h can p tt (omega (arith, less)))
 
-fails_go : (b n m : ℕ) (W : Run) (e : Value) (frames : List (Frame State)) → W.fuel ≤ b → CanEnd W → Fits W.chain frames W.coroutines m → m < n → Goes b n (fails_all W e)
-fails_go b n m W e frames h can p less = either b n (runs_main W) _ _ (has_end refl can) (back_goes b n m 0 W (failed e (all_pending W.frames)) _ W.chain frames h can p tt (omega (arith, less)))
+fails_go : (celling : Celling) (b n m : ℕ) (W : Run) (e : Value) (frames : List (Frame State)) → W.fuel ≤ b → CanEnd W → Fits W.chain frames W.coroutines m → m < n → Goes b n (fails_all (trees celling) W e)
+fails_go celling b n m W e frames h can p less = either b n (runs_main W) _ _ (has_end refl can) (back_goes b n m 0 W (failed e (all_pending (trees celling) W W.frames)) _ W.chain frames h can p tt (omega (arith, less)))
 
 -- primitives: a primitive may do as much as it likes, but one that is the body of a coroutine is called by its resume at no price
 
@@ -108,7 +108,7 @@ module _ (celling : Celling) where
   raises_why why V = raises_text V why
 
   started : (W : Run) (k : ℕ) (g : Function Body) (arguments : List Value) (m : ℕ) → Fits W.chain W.frames W.coroutines m
-      → Fits W.chain (talking k [] (start celling g.made_of arguments) ∷ W.frames) W.coroutines (4 * measure (start celling g.made_of arguments) + 2 + m)
+      → Fits W.chain (talking k (start celling g.made_of arguments) ∷ W.frames) W.coroutines (4 * measure (start celling g.made_of arguments) + 2 + m)
   started W k g arguments m p = over W.chain _ W.frames W.coroutines (4 * measure (start celling g.made_of arguments) + 2) m (omega arith) p
 
   entered_goes : (b n k : ℕ) (W : Run) (o : Option (Function Body)) (arguments : List Value) (refused : List ℕ → Run → Run) → W.fuel < b → CanEnd W
@@ -158,7 +158,7 @@ module _ (celling : Celling) where
   handed_goes : (b n m : ℕ) (W : Run) (vs : List Value) (frames : List (Frame State)) → W.fuel ≤ b → CanEnd W → Fits W.chain frames W.coroutines m → m + 1 ≤ n
       → Goes b n (handed system W vs frames)
   handed_goes b n m W vs [] h can p less = returns_go b n m W vs [] h can p (omega (arith, less))
-  handed_goes b n m W vs (talking f pending s ∷ below) h can p less = has_end refl can
+  handed_goes b n m W vs (talking f s ∷ below) h can p less = has_end refl can
   handed_goes b n m W vs (waiting asker ∷ below) h can p less =
       let t = under W.chain _ below W.coroutines m p in let one = t.2 in let s = t.4 in
       heard_goes b n t.1 t.0 W asker _ below h t.3 one (omega (arith, s, less))
@@ -174,8 +174,8 @@ module _ (celling : Celling) where
 
   raised_goes : (b n m : ℕ) (W : Run) (e : Value) (frames : List (Frame State)) → W.fuel ≤ b → CanEnd W → Fits W.chain W.frames W.coroutines m → m + 3 ≤ n
       → Goes b n (raised_to system W e frames)
-  raised_goes b n m W e [] h can p less = either b n (runs_main W) _ _ (gets_less h refl m p (omega (arith, less))) (fails_go b n m W e W.frames h can p (omega (arith, less)))
-  raised_goes b n m W e (talking f pending s ∷ frames) h can p less = raised_goes b n m W e frames h can p less
+  raised_goes b n m W e [] h can p less = either b n (runs_main W) _ _ (gets_less h refl m p (omega (arith, less))) (fails_go celling b n m W e W.frames h can p (omega (arith, less)))
+  raised_goes b n m W e (talking f s ∷ frames) h can p less = raised_goes b n m W e frames h can p less
   raised_goes b n m W e (waiting asker ∷ frames) h can p less = raised_goes b n m W e frames h can p less
   raised_goes b n m W e (raising asker ∷ frames) h can p less = raised_goes b n m W e frames h can p less
   raised_goes b n m W e (handled_by g ∷ frames) h can p less =
@@ -190,8 +190,8 @@ module _ (celling : Celling) where
 
   unwound_goes : (b n m : ℕ) (W : Run) (e : Value) (frames : List (Frame State)) → W.fuel ≤ b → CanEnd W → Fits W.chain frames W.coroutines m → m + 1 ≤ n
       → Goes b n (unwound system W e frames)
-  unwound_goes b n m W e [] h can p less = fails_go b n m W e [] h can p (omega (arith, less))
-  unwound_goes b n m W e (talking f pending s ∷ below) h can p less = has_end refl can
+  unwound_goes b n m W e [] h can p less = fails_go celling b n m W e [] h can p (omega (arith, less))
+  unwound_goes b n m W e (talking f s ∷ below) h can p less = has_end refl can
   unwound_goes b n m W e (waiting asker ∷ below) h can p less =
       let t = under W.chain _ below W.coroutines m p in let one = t.2 in let s = t.4 in
       heard_goes b n t.1 t.0 W asker _ below h t.3 one (omega (arith, s, less))
@@ -264,9 +264,9 @@ module _ (celling : Celling) where
   handle_goes b n m top (calls_last f vs) W asker below h can p some room = in_place_goes b n m top W asker below f vs h p (λ x. some x tt) room
   handle_goes b n m top (marks v name) W asker below h can p some room =
       either b n (is_nil (handler_in W.heap of_close v)) _ _ (on_goes b n m top W asker _ below h p (λ x. some x tt) room)
-      (on_goes b n m top W (with_pending asker (v ∷ asker.pending)) _ below h p (λ x. some x tt) room)
+      (on_goes b n m top W asker _ below h p (λ x. some x tt) room)
   handle_goes b n m top (closes v e) W asker below h can p some room =
-      calls_for_goes b n m top W (with_pending asker (drop 1 asker.pending)) below (handler_in W.heap of_close v) (v ∷ e ∷ []) h p (λ x. some x tt) room
+      calls_for_goes b n m top W asker below (handler_in W.heap of_close v) (v ∷ e ∷ []) h p (λ x. some x tt) room
   handle_goes b n m top (raises why) W asker below h can p some room = raises_goes b n m top W asker below why h p some room
   handle_goes b n m top (leaves (returns vs)) W asker below h can p some room = gets_less h refl m p (omega (arith, room))
   handle_goes b n m top (leaves (throws e)) W asker below h can p some room = gets_less h refl m p (omega (arith, room))
@@ -278,19 +278,19 @@ module _ (celling : Celling) where
   known_falls false top (says q line shared k) falls = falls
   known_falls false top stuck falls = tt
 
-  turns_go : (b n m top : ℕ) (next : Next Body State) (W : Run) (f : ℕ) (pending : List Value) (below : List (Frame State)) → W.fuel ≤ b → CanEnd W → Fits W.chain below W.coroutines m
-      → FallsBelow measure top next → 4 * top + 2 + m ≤ n → W.now ≡ talks → Goes b n (turns system next W f pending below)
-  turns_go b n m top (goes_on s) W f pending below h can p falls room now =
-      let free = ap cost now in gets_less h (ap is_call now) (4 * measure s + 2 + m) (over W.chain (talking f pending s) below W.coroutines (4 * measure s + 2) m (omega arith) p) (omega (arith, falls, room, free))
-  turns_go b n m top (says q line shared k) W f pending below h can p falls room now =
+  turns_go : (b n m top : ℕ) (next : Next Body State) (W : Run) (f : ℕ) (below : List (Frame State)) → W.fuel ≤ b → CanEnd W → Fits W.chain below W.coroutines m
+      → FallsBelow measure top next → 4 * top + 2 + m ≤ n → W.now ≡ talks → Goes b n (turns system next W f below)
+  turns_go b n m top (goes_on s) W f below h can p falls room now =
+      let free = ap cost now in gets_less h (ap is_call now) (4 * measure s + 2 + m) (over W.chain (talking f s) below W.coroutines (4 * measure s + 2) m (omega arith) p) (omega (arith, falls, room, free))
+  turns_go b n m top (says q line shared k) W f below h can p falls room now =
       handle_goes b n m top q (record W { cells = shared_in shared W.cells }) _ below h can p falls room
-  turns_go b n m top stuck W f pending below h can p falls room now = has_end refl can
+  turns_go b n m top stuck W f below h can p falls room now = has_end refl can
 
   talks_go : (b n m : ℕ) (W : Run) (frames : List (Frame State)) → W.fuel ≤ b → CanEnd W → Fits W.chain frames W.coroutines m → m ≤ n → W.now ≡ talks → Goes b n (talks_on system W frames)
-  talks_go b n m W (talking f pending s ∷ below) h can p room now =
+  talks_go b n m W (talking f s ∷ below) h can p room now =
       let t = under W.chain _ below W.coroutines m p in let one = t.2 in let u = t.4 in
       if_there b n (slice_get W.functions f) _ _ (has_end refl can)
-      (λ g. turns_go b n t.1 (measure s) (as_known g.has_lines (step s)) W f pending below h can t.3 (known_falls g.has_lines (measure s) (step s) (step_falls s)) (omega (arith, one, u, room)) now)
+      (λ g. turns_go b n t.1 (measure s) (as_known g.has_lines (step s)) W f below h can t.3 (known_falls g.has_lines (measure s) (step s) (step_falls s)) (omega (arith, one, u, room)) now)
   talks_go b n m W [] h can p room now = has_end refl can
   talks_go b n m W (waiting asker ∷ below) h can p room now = has_end refl can
   talks_go b n m W (raising asker ∷ below) h can p room now = has_end refl can
@@ -371,7 +371,7 @@ module _ (celling : Celling) where
 
   closes_after : (b c m co : ℕ) (W : Run) (d : Coroutine State) → W.fuel ≤ b → Fits W.chain W.frames W.coroutines m → After b c (closes_coroutine system W co d)
   closes_after b c m co W (fresh body) h p = closes_in_after b c m co W None [] h p
-  closes_after b c m co W (suspended frames) h p = closes_in_after b c m co W None (all_pending frames) h p
+  closes_after b c m co W (suspended frames) h p = closes_in_after b c m co W None (all_pending system W frames) h p
   closes_after b c m co W (failed e pending) h p = closes_in_after b c m co W (Some e) pending h p
   closes_after b c m co W dead h p = closes_in_after b c m co W None [] h p
   closes_after b c m co W running h p = settles h refl (m, p)

@@ -23,7 +23,7 @@ is_call now = false
 
 -- a frame has at most this size; one that waits, whatever it is answered
 abbrev pub FrameFits : Frame State → ℕ → Type 0
-FrameFits (talking f pending s) n = 4 * measure s + 2 ≤ n
+FrameFits (talking f s) n = 4 * measure s + 2 ≤ n
 FrameFits (waiting asker) n = (x : Answer) → 4 * measure (asker.goes x) + 2 ≤ n
 FrameFits (raising asker) n = (x : Answer) → IsLeft x.reply → 4 * measure (asker.goes x) + 2 ≤ n
 FrameFits protected n = 1 ≤ n

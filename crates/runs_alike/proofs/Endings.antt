@@ -2,23 +2,19 @@
 use Rattle.std.proofs.Common.{◌≡◌, ℕ, zero, suc, ◌+◌, ◌-◌, ◌≤◌, Bool, true, List, [], ◌∷◌, ◌++◌, Option, Some, None, refl, ◌∙◌, ap, ap₂, subst, arith}
 use Rattle.std.specs.Prelude.{option_map, unwrap_or}
 use Rattle.int_core.specs.Value.{Value}
-use Rattle.lua_meaning.specs.World.{System, yielded, returned, failed_with, spent, broken, Now, talks, gives_back, raises_error, unwinds, calls_primitive, ends, World}
+use Rattle.int_core.specs.Ask.{NextLike}
+use Rattle.lua_meaning.specs.World.{System, yielded, returned, failed_with, spent, broken, Now, talks, gives_back, raises_error, unwinds, calls_primitive, ends, World, as_known}
 use Rattle.lua_meaning.specs.Primitives.{Primitive}
 use Rattle.lua_meaning.specs.Step.{has_ended, ticks}
 use Rattle.lua_meaning.specs.Meaning.{report, has_returned, has_failed, has_spent, is_suspended, is_broken, Meaning, behind, meant, at_end, suspends, handed_line, run_from}
 use Rattle.code_means.specs.Runs.{RunAlike}
 use Rattle.runs_alike.proofs.Dressed.{Part, dress_world, Mid, Like}
-use Rattle.runs_alike.proofs.Ticking.{sum_of, stay, ticks_sum}
+use Rattle.runs_alike.proofs.Ticking.{sum_of, stay, ticks_sum, PendAlike}
 use Rattle.runs_alike.proofs.Ticks.{ticks_out}
 
 sum_is : (m k : ℕ) → sum_of m k ≡ m + k
 sum_is zero k = omega arith
 sum_is (suc m) k = let h = sum_is m k in omega (arith, h)
-
--- as many asks as so many steps in each of the turns can make
-abbrev pub all_of : ℕ → List (List ℕ) → ℕ
-all_of k [] = sum_of k zero
-all_of k (line ∷ more) = sum_of k (all_of k more)
 
 same_given : {C : Type 0} → (x y : C) → Some x ≡ Some y → x ≡ y
 same_given x y e = ap (λ o. unwrap_or o x) e
@@ -79,28 +75,28 @@ module _ {A B S T : Type 0} where
   turn_end (unwinds e) U V goes on m same given more = absurd (cc)
   turn_end (calls_primitive n vs) U V goes on m same given more = absurd (cc)
 
-module _ {A B S T : Type 0} (Sa : System A S) (Sb : System B T) (R : Bool → ℕ → A → B → Type 0) (Q : Bool → ℕ → A → B → S → T → Type 0)
-    (asks : (l : Bool) (n : ℕ) (a : A) (b : B) (s : S) (t : T) → Q l (suc n) a b s t → Mid Sa Sb R Q l n a b s t)
-    (begins : (l : Bool) (n : ℕ) (a : A) (b : B) (arguments : List Value) → R l n a b → Q l n a b (Sa.starts a arguments) (Sb.starts b arguments))
-    (fewer : (l : Bool) (n : ℕ) (a : A) (b : B) (s : S) (t : T) → Q l (suc n) a b s t → Q l n a b s t)
-    (fewer_made : (l : Bool) (n : ℕ) (a : A) (b : B) → R l (suc n) a b → R l n a b)
+module _ {A B S T : Type 0} (Sa : System A S) (Sb : System B T) (R : Bool → A → B → Type 0) (Q : Bool → A → B → S → T → Type 0)
+    (asks : (l : Bool) (a : A) (b : B) (s : S) (t : T) → Q l a b s t → Mid Sa Sb R Q l a b s t)
+    (begins : (l : Bool) (a : A) (b : B) (arguments : List Value) → R l a b → Q l a b (Sa.starts a arguments) (Sb.starts b arguments))
+    (pends : (l : Bool) (a : A) (b : B) (s : S) (t : T) → NextLike (R l) (Q l a b) (as_known l (Sa.steps a s)) (as_known l (Sb.steps b t))
+    → PendAlike Sa Sb a b (as_known l (Sa.steps a s)) (as_known l (Sb.steps b t)))
     (prims : ℕ → Option Primitive) where
-  abbrev Alike : ℕ → World A S → List B → List (List (Part T)) → List (Part T) → Type 0
-  Alike n W bs xss xs = Like Sa Sb R Q n W bs xss xs
+  abbrev Alike : World A S → List B → List (List (Part T)) → List (Part T) → Type 0
+  Alike W bs xss xs = Like Sa Sb R Q W bs xss xs
 
   -- a turn that has ended at U ends on the other side at the same, dressed anew
-  pub record Turn (n : ℕ) (U : World A S) (V : World B T) : Type 0 where
+  pub record Turn (U : World A S) (V : World B T) : Type 0 where
     pub bs : List B
     pub xss : List (List (Part T))
     pub xs : List (Part T)
     pub count : ℕ
     pub gives : (z : ℕ) → count ≤ z → ticks Sb prims z V ≡ dress_world U bs xss xs
-    pub like : Alike n U bs xss xs
+    pub like : Alike U bs xss xs
 
-  turn_out : (k n : ℕ) (W : World A S) (bs : List B) (xss : List (List (Part T))) (xs : List (Part T)) → Alike (sum_of k n) W bs xss xs → has_ended (ticks Sa prims k W).now ≡ true
-      → Turn n (ticks Sa prims k W) (dress_world W bs xss xs)
-  turn_out k n W bs xss xs like ended =
-      let r = ticks_out Sa Sb R Q asks begins fewer fewer_made prims k n W bs xss xs like in
+  turn_out : (k : ℕ) (W : World A S) (bs : List B) (xss : List (List (Part T))) (xs : List (Part T)) → Alike W bs xss xs → has_ended (ticks Sa prims k W).now ≡ true
+      → Turn (ticks Sa prims k W) (dress_world W bs xss xs)
+  turn_out k W bs xss xs like ended =
+      let r = ticks_out Sa Sb R Q asks begins pends prims k W bs xss xs like in
       let V = dress_world W bs xss xs in
       record {
         bs = r.out.bs;
@@ -115,11 +111,11 @@ module _ {A B S T : Type 0} (Sa : System A S) (Sb : System B T) (R : Bool → �
         like = r.out.like;
       }
 
-  pub runs_out : (input : List (List ℕ)) (k budget : ℕ) (W : World A S) (bs : List B) (xss : List (List (Part T))) (xs : List (Part T)) (m : Meaning A S) → Alike (all_of k input) W bs xss xs
+  pub runs_out : (input : List (List ℕ)) (k budget : ℕ) (W : World A S) (bs : List B) (xss : List (List (Part T))) (xs : List (Part T)) (m : Meaning A S) → Alike W bs xss xs
       → run_from Sa prims k W input budget ≡ Some m → Later m (λ z. run_from Sb prims z (dress_world W bs xss xs) input budget)
   runs_out [] k budget W bs xss xs m like given =
       let U = ticks Sa prims k W in
-      let t = turn_out k zero W bs xss xs like (gives_ended U.now U suspends m given) in
+      let t = turn_out k W bs xss xs like (gives_ended U.now U suspends m given) in
       let V = dress_world U t.bs t.xss t.xs in
       let l = turn_end U.now U V suspends (λ z. suspends) m refl given (suspends_out U V) in
       record {
@@ -132,7 +128,7 @@ module _ {A B S T : Type 0} (Sa : System A S) (Sb : System B T) (R : Bool → �
       let U = ticks Sa prims k W in
       let goes = λ (X : World A S). run_from Sa prims k (handed_line Sa prims X line budget) more budget in
       let on = λ (z : ℕ) (Y : World B T). run_from Sb prims z (handed_line Sb prims Y line budget) more budget in
-      let t = turn_out k (all_of k more) W bs xss xs like (gives_ended U.now U goes m given) in
+      let t = turn_out k W bs xss xs like (gives_ended U.now U goes m given) in
       let V = dress_world U t.bs t.xss t.xs in
       let l = turn_end U.now U V goes on m refl given
       (λ y e. runs_out more k budget (handed_line Sa prims U line budget) t.bs t.xss t.xs y (record { functions = t.like.functions; coroutines = t.like.coroutines; frames = t.like.frames }) e) in

@@ -1,7 +1,11 @@
 mod Dressed
 mod Moving
 mod Answering
-mod Lowering
+mod NewFunctions
+mod AllAsks
+mod TreeLeft
+mod CodeLeft
+mod Pending
 mod Turning
 mod Ticking
 mod Ticks

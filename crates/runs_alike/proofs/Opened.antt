@@ -1,5 +1,5 @@
 -- Two worlds that are alike before a script: with the script about to run, one is the other, dressed anew.
-use Rattle.std.proofs.Common.{◌≡◌, ℕ, zero, suc, Bool, List, [], ◌∷◌, ◌++◌, length, Option, Some, refl, sym, ◌∙◌, ap, arith}
+use Rattle.std.proofs.Common.{◌≡◌, ℕ, Bool, List, [], ◌∷◌, ◌++◌, length, Option, Some, refl, sym, ◌∙◌, ap, arith}
 use Rattle.std.specs.Prelude.{slice_get}
 use Rattle.int_core.specs.Value.{Value, object, a_table}
 use Rattle.int_core.specs.Heap.{Heap}
@@ -8,7 +8,7 @@ use Rattle.lua_meaning.specs.Primitives.{Primitive}
 use Rattle.lua_meaning.specs.Meaning.{begun}
 use Rattle.runs_alike.specs.Alike.{FunctionAlike, FunctionsAlike, CoroutinesAlike, WorldsAlike, script}
 use Rattle.runs_alike.proofs.Dressed.{Part, state, dressed_function, dress_functions, dress_coroutines, dress_world, Mid, FunctionsLike, Body, CoroutinesLike, Like}
-use Rattle.runs_alike.proofs.Lowering.{dress_more, functions_more}
+use Rattle.runs_alike.proofs.NewFunctions.{dress_more, functions_more}
 
 abbrev pub made_by : {B : Type 0} → List (Function B) → List B
 made_by [] = []
@@ -22,32 +22,32 @@ no_parts (c ∷ cs) = [] ∷ no_parts cs
 abbrev function_of : {B : Type 0} → B → List ℕ → Bool → List ℕ → Function B
 function_of b source has_lines cells = record { made_of = b; source = source; has_lines = has_lines; cells = cells }
 
-module _ {A B S T : Type 0} (Sa : System A S) (Sb : System B T) (R : Bool → ℕ → A → B → Type 0) (Q : Bool → ℕ → A → B → S → T → Type 0)
-    (asks : (l : Bool) (n : ℕ) (a : A) (b : B) (s : S) (t : T) → Q l (suc n) a b s t → Mid Sa Sb R Q l n a b s t)
-    (begins : (l : Bool) (n : ℕ) (a : A) (b : B) (arguments : List Value) → R l n a b → Q l n a b (Sa.starts a arguments) (Sb.starts b arguments))
-    (P : Bool → A → B → Type 0) (means : (l : Bool) (n : ℕ) (a : A) (b : B) → P l a b → R l n a b) (prims : ℕ → Option Primitive) where
-  function_dressed : (f : Function A) (g : Function B) → FunctionAlike P f g → dressed_function f g.made_of ≡ g
+module _ {A B S T : Type 0} (Sa : System A S) (Sb : System B T) (R : Bool → A → B → Type 0) (Q : Bool → A → B → S → T → Type 0)
+    (asks : (l : Bool) (a : A) (b : B) (s : S) (t : T) → Q l a b s t → Mid Sa Sb R Q l a b s t)
+    (begins : (l : Bool) (a : A) (b : B) (arguments : List Value) → R l a b → Q l a b (Sa.starts a arguments) (Sb.starts b arguments))
+    (prims : ℕ → Option Primitive) where
+  function_dressed : (f : Function A) (g : Function B) → FunctionAlike R f g → dressed_function f g.made_of ≡ g
   function_dressed f g like =
       ap (λ s. function_of g.made_of s f.has_lines f.cells) like.source ∙ ap (λ l. function_of g.made_of g.source l f.cells) like.has_lines
       ∙ ap (λ c. function_of g.made_of g.source g.has_lines c) like.cells
 
-  functions_dressed : (fs : List (Function A)) (gs : List (Function B)) → FunctionsAlike P fs gs → dress_functions fs (made_by gs) ≡ gs
+  functions_dressed : (fs : List (Function A)) (gs : List (Function B)) → FunctionsAlike R fs gs → dress_functions fs (made_by gs) ≡ gs
   functions_dressed [] [] like = refl
   functions_dressed (f ∷ fs) (g ∷ gs) like = ap (λ h. h ∷ dress_functions fs (made_by gs)) (function_dressed f g like.0) ∙ ap (λ hs. g ∷ hs) (functions_dressed fs gs like.1)
   functions_dressed [] (g ∷ gs) like = absurd like
   functions_dressed (f ∷ fs) [] like = absurd like
 
-  functions_count : (fs : List (Function A)) (gs : List (Function B)) → FunctionsAlike P fs gs → length fs ≡ length gs
+  functions_count : (fs : List (Function A)) (gs : List (Function B)) → FunctionsAlike R fs gs → length fs ≡ length gs
   functions_count [] [] like = refl
   functions_count (f ∷ fs) (g ∷ gs) like = let h = functions_count fs gs like.1 in omega (arith, h)
   functions_count [] (g ∷ gs) like = absurd like
   functions_count (f ∷ fs) [] like = absurd like
 
-  functions_like : (n : ℕ) (fs : List (Function A)) (gs : List (Function B)) → FunctionsAlike P fs gs → FunctionsLike Sa Sb R Q n fs (made_by gs)
-  functions_like n [] [] like = tt
-  functions_like n (f ∷ fs) (g ∷ gs) like = (means f.has_lines (suc n) f.made_of g.made_of like.0.made_of, functions_like n fs gs like.1)
-  functions_like n [] (g ∷ gs) like = absurd like
-  functions_like n (f ∷ fs) [] like = absurd like
+  functions_like : (fs : List (Function A)) (gs : List (Function B)) → FunctionsAlike R fs gs → FunctionsLike Sa Sb R Q fs (made_by gs)
+  functions_like [] [] like = tt
+  functions_like (f ∷ fs) (g ∷ gs) like = (like.0.made_of, functions_like fs gs like.1)
+  functions_like [] (g ∷ gs) like = absurd like
+  functions_like (f ∷ fs) [] like = absurd like
 
   coroutines_dressed : (cs : List (Coroutine S)) (ds : List (Coroutine T)) → CoroutinesAlike cs ds → dress_coroutines cs (no_parts cs) ≡ ds
   coroutines_dressed [] [] like = refl
@@ -61,15 +61,15 @@ module _ {A B S T : Type 0} (Sa : System A S) (Sb : System B T) (R : Bool → �
   coroutines_dressed [] (d ∷ ds) like = absurd like
   coroutines_dressed (c ∷ cs) [] like = absurd like
 
-  coroutines_like : (n : ℕ) (fs : List (Function A)) (bs : List B) (cs : List (Coroutine S)) (ds : List (Coroutine T)) → CoroutinesAlike cs ds → CoroutinesLike Sa Sb R Q n fs bs cs (no_parts cs)
-  coroutines_like n fs bs [] [] like = tt
-  coroutines_like n fs bs (fresh f ∷ cs) (fresh g ∷ ds) like = (tt, coroutines_like n fs bs cs ds like.1)
-  coroutines_like n fs bs (running ∷ cs) (running ∷ ds) like = (tt, coroutines_like n fs bs cs ds like.1)
-  coroutines_like n fs bs (dead ∷ cs) (dead ∷ ds) like = (tt, coroutines_like n fs bs cs ds like.1)
-  coroutines_like n fs bs (failed e vs ∷ cs) (failed d ws ∷ ds) like = (tt, coroutines_like n fs bs cs ds like.1)
-  coroutines_like n fs bs (c ∷ cs) (d ∷ ds) like = absurd like.0
-  coroutines_like n fs bs [] (d ∷ ds) like = absurd like
-  coroutines_like n fs bs (c ∷ cs) [] like = absurd like
+  coroutines_like : (fs : List (Function A)) (bs : List B) (cs : List (Coroutine S)) (ds : List (Coroutine T)) → CoroutinesAlike cs ds → CoroutinesLike Sa Sb R Q fs bs cs (no_parts cs)
+  coroutines_like fs bs [] [] like = tt
+  coroutines_like fs bs (fresh f ∷ cs) (fresh g ∷ ds) like = (tt, coroutines_like fs bs cs ds like.1)
+  coroutines_like fs bs (running ∷ cs) (running ∷ ds) like = (tt, coroutines_like fs bs cs ds like.1)
+  coroutines_like fs bs (dead ∷ cs) (dead ∷ ds) like = (tt, coroutines_like fs bs cs ds like.1)
+  coroutines_like fs bs (failed e vs ∷ cs) (failed d ws ∷ ds) like = (tt, coroutines_like fs bs cs ds like.1)
+  coroutines_like fs bs (c ∷ cs) (d ∷ ds) like = absurd like.0
+  coroutines_like fs bs [] (d ∷ ds) like = absurd like
+  coroutines_like fs bs (c ∷ cs) [] like = absurd like
 
   -- the script's main function is the last one
 
@@ -77,14 +77,14 @@ module _ {A B S T : Type 0} (Sa : System A S) (Sb : System B T) (R : Bool → �
   last_there [] f = refl
   last_there (g ∷ fs) f = last_there fs f
 
-  last_dressed : (n : ℕ) (fs : List (Function A)) (bs : List B) (f : Function A) (b : B) → FunctionsLike Sa Sb R Q n fs bs
+  last_dressed : (fs : List (Function A)) (bs : List B) (f : Function A) (b : B) → FunctionsLike Sa Sb R Q fs bs
       → slice_get (dress_functions (fs ++ f ∷ []) (bs ++ b ∷ [])) (length fs) ≡ Some (dressed_function f b)
-  last_dressed n [] [] f b like = refl
-  last_dressed n (g ∷ fs) (c ∷ bs) f b like = last_dressed n fs bs f b like.1
-  last_dressed n [] (c ∷ bs) f b like = absurd like
-  last_dressed n (g ∷ fs) [] f b like = absurd like
+  last_dressed [] [] f b like = refl
+  last_dressed (g ∷ fs) (c ∷ bs) f b like = last_dressed fs bs f b like.1
+  last_dressed [] (c ∷ bs) f b like = absurd like
+  last_dressed (g ∷ fs) [] f b like = absurd like
 
-  module _ (W : World A S) (V : World B T) (worlds : WorldsAlike P W V) (a : A) (b : B) (name : List ℕ) (lines : Bool) (main : P lines a b) (budget : ℕ) where
+  module _ (W : World A S) (V : World B T) (worlds : WorldsAlike R W V) (a : A) (b : B) (name : List ℕ) (lines : Bool) (main : R lines a b) (budget : ℕ) where
     abbrev main_of_left : Function A
     main_of_left = function_of a name lines (length W.cells ∷ [])
 
@@ -110,13 +110,13 @@ module _ {A B S T : Type 0} (Sa : System A S) (Sb : System B T) (R : Bool → �
       printed = [];
       fuel = budget;
       chain = chain;
-      frames = talking count [] (Sb.starts b []) ∷ [];
+      frames = talking count (Sb.starts b []) ∷ [];
       now = talks;
     }
 
     all_functions : dress_functions (W.functions ++ main_of_left ∷ []) bs_there ≡ V.functions ++ function_of b name lines (length V.cells ∷ []) ∷ []
     all_functions =
-        sym (dress_more Sa Sb R Q zero W.functions (made_by V.functions) main_of_left b (functions_like zero W.functions V.functions worlds.functions))
+        sym (dress_more Sa Sb R Q W.functions (made_by V.functions) main_of_left b (functions_like W.functions V.functions worlds.functions))
         ∙ ap (λ gs. gs ++ dressed_function main_of_left b ∷ []) (functions_dressed W.functions V.functions worlds.functions)
         ∙ ap (λ (c : List Value). V.functions ++ function_of b name lines (length c ∷ []) ∷ []) worlds.cells
 
@@ -136,17 +136,17 @@ module _ {A B S T : Type 0} (Sa : System A S) (Sb : System B T) (R : Bool → �
         ∙ ap (λ x. whole V.heap fs (V.cells ++ object a_table V.globals ∷ []) V.coroutines V.globals V.chain x) (functions_count W.functions V.functions worlds.functions)
         )
 
-    pub begun_like : (n : ℕ) → Like Sa Sb R Q n left_begun bs_there parts_there parts_on_top
-    begun_like n =
-        let before = functions_like n W.functions V.functions worlds.functions in
+    pub begun_like : Like Sa Sb R Q left_begun bs_there parts_there parts_on_top
+    begun_like =
+        let before = functions_like W.functions V.functions worlds.functions in
         let body : Body Sa Sb R Q (W.functions ++ main_of_left ∷ []) bs_there (length W.functions) = record {
           function = main_of_left;
           code = b;
           there = last_there W.functions main_of_left;
-          there_too = last_dressed n W.functions (made_by V.functions) main_of_left b before;
+          there_too = last_dressed W.functions (made_by V.functions) main_of_left b before;
         } in
         record {
-          functions = functions_more Sa Sb R Q n W.functions (made_by V.functions) main_of_left b before (means lines (suc n) a b main);
-          coroutines = coroutines_like n (W.functions ++ main_of_left ∷ []) bs_there W.coroutines V.coroutines worlds.coroutines;
-          frames = (record { body = body; mid = asks lines n a b (Sa.starts a []) (Sb.starts b []) (begins lines (suc n) a b [] (means lines (suc n) a b main)) }, tt);
+          functions = functions_more Sa Sb R Q W.functions (made_by V.functions) main_of_left b before main;
+          coroutines = coroutines_like (W.functions ++ main_of_left ∷ []) bs_there W.coroutines V.coroutines worlds.coroutines;
+          frames = (record { body = body; mid = asks lines a b (Sa.starts a []) (Sb.starts b []) (begins lines a b [] main) }, tt);
         }

@@ -1,7 +1,7 @@
 -- Trees and codes that mean them, side by side in both orders.
-use Rattle.std.proofs.Common.{◌≡◌, ℕ, zero, suc, Bool, true, false, List, [], ◌∷◌, ◌≤◌, refl, sym, ◌∙◌, ap, subst, arith}
+use Rattle.std.proofs.Common.{◌≡◌, ℕ, Bool, true, false, List, [], ◌∷◌, ◌≤◌, refl, sym, ◌∙◌, ap, subst, arith}
 use Rattle.int_core.specs.Value.{Value}
-use Rattle.int_core.specs.Ask.{Ask, reads_upvalue, writes_upvalue, makes_table, makes_function, fills_table, pays, opens, operates, calls, calls_last, marks, closes, raises, leaves, Answer, Next, says, stuck, runs, AskLike, NextLike, IsReplyTo, IsQuiet, FitsAsk}
+use Rattle.int_core.specs.Ask.{Ask, reads_upvalue, writes_upvalue, makes_table, makes_function, fills_table, pays, opens, operates, calls, calls_last, marks, closes, raises, leaves, Reply, values, faulted, left, Answer, Next, goes_on, says, stuck, runs, AskLike, NextLike, IsReplyTo, IsLeft, IsQuiet, FitsAsk}
 use Rattle.tree_core.specs.Tree.{Body}
 use Rattle.tree_activation.specs.Work.{when_captured, State as TreeState}
 use Rattle.tree_activation.specs.Activation.{start, step}
@@ -11,12 +11,16 @@ use Rattle.lua_meaning.specs.World.{System, Function, Coroutine, fresh, running,
 use Rattle.lua_meaning.specs.Meaning.{Outcome, has_returned, has_failed, has_spent, is_suspended, is_broken, Meaning, run_from, IsMeaning}
 use Rattle.lua_meaning.specs.Opening.{primitives}
 use Rattle.lua_meaning.specs.TreeMeaning.{trees}
-use Rattle.code_means.specs.Means.{Same, Means}
+use Rattle.code_means.specs.Means.{Means}
 use Rattle.code_means.specs.Runs.{codes_run, EndAlike, RunAlike}
 use Rattle.runs_alike.specs.Alike.{FunctionsAlike, CoroutinesAlike, WorldsAlike, IsMeantBy, script, CodeEnds, TreeEnds}
 use Rattle.runs_alike.proofs.Dressed.{Mid}
-use Rattle.runs_alike.proofs.Lowering.{next_map}
-use Rattle.runs_alike.proofs.Endings.{runs_out, all_of}
+use Rattle.runs_alike.proofs.AllAsks.{Talk, all_same}
+use Rattle.runs_alike.proofs.TreeLeft as tree_left
+use Rattle.runs_alike.proofs.CodeLeft as code_left
+use Rattle.runs_alike.proofs.Pending.{left_alike}
+use Rattle.runs_alike.proofs.Ticking.{PendAlike}
+use Rattle.runs_alike.proofs.Endings.{runs_out}
 use Rattle.runs_alike.proofs.Opened.{begun_dressed, begun_like}
 
 abbrev Flip : {A B : Type 0} → (A → B → Type 0) → B → A → Type 0
@@ -97,57 +101,93 @@ next_plain R Q false x y like = absurd like
 
 -- code and body
 
-abbrev MadeAlike : Bool → ℕ → Body → Prototype → Type 0
-MadeAlike l n b p = (arguments : List Value) → Same l n p (start when_captured b arguments) (talk_start p arguments)
+abbrev TalkAlike : Bool → Body → Prototype → TreeState → CodeState → Type 0
+TalkAlike l b p s t = Talk l b p s t
 
-abbrev TalkAlike : Bool → ℕ → Body → Prototype → TreeState → CodeState → Type 0
-TalkAlike l n b p s t = Same l n p s t
+asks_tree : (l : Bool) (b : Body) (p : Prototype) (s : TreeState) (t : CodeState) → Talk l b p s t → Mid (trees when_captured) codes_run IsMeantBy TalkAlike l b p s t
+asks_tree l b p s t same =
+    let m = all_same l b p s t same in
+    (m.0, m.1, next_plain (IsMeantBy l) (Talk l b p) l (runs step m.0 s) (runs (talk_step p) m.1 t) m.2)
 
-fewer : (l : Bool) (n : ℕ) (p : Prototype) (s : TreeState) (t : CodeState) → Same l (suc n) p s t → Same l n p s t
-fewer l zero p s t same = tt
-fewer l (suc n) p s t same = (
-  same.0,
-  same.1,
-  next_map (MadeAlike l (suc n)) (MadeAlike l n) (Same l (suc n) p) (Same l n p) (λ b q made arguments. fewer l n q (start when_captured b arguments) (talk_start q arguments) (made arguments)) (fewer l n p)
-      (as_known l (runs step same.0 s)) (runs (talk_step p) same.1 t) same.2,
-)
-
-asks_tree : (l : Bool) (n : ℕ) (b : Body) (p : Prototype) (s : TreeState) (t : CodeState) → Same l (suc n) p s t → Mid (trees when_captured) codes_run MadeAlike TalkAlike l n b p s t
-asks_tree l n b p s t same = (same.0, same.1, next_plain (MadeAlike l n) (Same l n p) l (runs step same.0 s) (runs (talk_step p) same.1 t) same.2)
-
-fewer_made : (l : Bool) (n : ℕ) (b : Body) (p : Prototype) → MadeAlike l (suc n) b p → MadeAlike l n b p
-fewer_made l n b p made arguments = fewer l n p (start when_captured b arguments) (talk_start p arguments) (made arguments)
-
-fewer_tree : (l : Bool) (n : ℕ) (b : Body) (p : Prototype) (s : TreeState) (t : CodeState) → TalkAlike l (suc n) b p s t → TalkAlike l n b p s t
-fewer_tree l n b p s t same = fewer l n p s t same
-
-begins_tree : (l : Bool) (n : ℕ) (b : Body) (p : Prototype) (arguments : List Value) → MadeAlike l n b p → TalkAlike l n b p (start when_captured b arguments) (talk_start p arguments)
-begins_tree l n b p arguments made = made arguments
-
-made_tree : (l : Bool) (n : ℕ) (b : Body) (p : Prototype) → IsMeantBy l b p → MadeAlike l n b p
-made_tree l n b p means = means n
+begins_tree : (l : Bool) (b : Body) (p : Prototype) (arguments : List Value) → Means l p b → Talk l b p (start when_captured b arguments) (talk_start p arguments)
+begins_tree l b p arguments means n = means n arguments
 
 -- and in the other order
 
-abbrev MadeBack : Bool → ℕ → Prototype → Body → Type 0
-MadeBack l n p b = MadeAlike l n b p
+abbrev MeansBack : Bool → Prototype → Body → Type 0
+MeansBack l p b = Means l p b
 
-abbrev TalkBack : Bool → ℕ → Prototype → Body → CodeState → TreeState → Type 0
-TalkBack l n p b t s = Same l n p s t
+abbrev TalkBack : Bool → Prototype → Body → CodeState → TreeState → Type 0
+TalkBack l p b t s = Talk l b p s t
 
-asks_code : (l : Bool) (n : ℕ) (p : Prototype) (b : Body) (t : CodeState) (s : TreeState) → Same l (suc n) p s t → Mid codes_run (trees when_captured) MadeBack TalkBack l n p b t s
-asks_code l n p b t s same =
-    let m = asks_tree l n b p s t same in
-    (m.1, m.0, next_flip (MadeAlike l n) (Same l n p) (as_known l (runs step m.0 s)) (as_known l (runs (talk_step p) m.1 t)) m.2)
+asks_code : (l : Bool) (p : Prototype) (b : Body) (t : CodeState) (s : TreeState) → Talk l b p s t → Mid codes_run (trees when_captured) MeansBack TalkBack l p b t s
+asks_code l p b t s same =
+    let m = asks_tree l b p s t same in
+    (m.1, m.0, next_flip (IsMeantBy l) (Talk l b p) (as_known l (runs step m.0 s)) (as_known l (runs (talk_step p) m.1 t)) m.2)
 
-fewer_back : (l : Bool) (n : ℕ) (p : Prototype) (b : Body) → MadeBack l (suc n) p b → MadeBack l n p b
-fewer_back l n p b made = fewer_made l n b p made
+begins_code : (l : Bool) (p : Prototype) (b : Body) (arguments : List Value) → Means l p b → Talk l b p (start when_captured b arguments) (talk_start p arguments)
+begins_code l p b arguments means n = means n arguments
 
-fewer_code : (l : Bool) (n : ℕ) (p : Prototype) (b : Body) (t : CodeState) (s : TreeState) → TalkBack l (suc n) p b t s → TalkBack l n p b t s
-fewer_code l n p b t s same = fewer l n p s t same
+-- what is pending where both are left while they wait
 
-begins_code : (l : Bool) (n : ℕ) (p : Prototype) (b : Body) (arguments : List Value) → MadeBack l n p b → TalkBack l n p b (talk_start p arguments) (start when_captured b arguments)
-begins_code l n p b arguments made = made arguments
+named_reply : {F : Type 0} → (q : Ask F) (reply : Reply) → IsReplyTo (without_name q) reply → IsReplyTo q reply
+named_reply (reads_upvalue u) reply fits = fits
+named_reply (writes_upvalue u v) reply fits = fits
+named_reply makes_table reply fits = fits
+named_reply (makes_function f cells) reply fits = fits
+named_reply (fills_table t last vs) reply fits = fits
+named_reply pays reply fits = fits
+named_reply (opens v) reply fits = fits
+named_reply (operates op vs) reply fits = fits
+named_reply (calls f vs) reply fits = fits
+named_reply (calls_last f vs) reply fits = fits
+named_reply (marks v name) reply fits = fits
+named_reply (closes v e) reply fits = fits
+named_reply (raises text) reply fits = fits
+named_reply (leaves m) reply fits = fits
+
+tree_known : (l : Bool) (x : Next Body TreeState) → tree_left.LeavesSo x → tree_left.LeavesSo (as_known l x)
+tree_known true x so = so
+tree_known false (goes_on s) so = so
+tree_known false (says q line shared k) so = λ e vs cell fits. so e vs cell (named_reply q (left e) fits)
+tree_known false stuck so = so
+
+code_known : (l : Bool) (y : Next Prototype CodeState) → code_left.LeavesSo y → code_left.LeavesSo (as_known l y)
+code_known true y so = so
+code_known false (goes_on t) so = so
+code_known false (says q line shared k) so = λ e vs cell fits. so e vs cell (named_reply q (left e) fits)
+code_known false stuck so = so
+
+pends_same : (l : Bool) (b : Body) (p : Prototype) (x : Next Body TreeState) (y : Next Prototype CodeState) → tree_left.LeavesSo x → code_left.LeavesSo y
+    → NextLike (IsMeantBy l) (Talk l b p) x y → PendAlike (trees when_captured) codes_run b p x y
+pends_same l b p (says q line shared k) (says r other also h) so so_too like = λ x fits is_left. by x.reply x.shared x.cell fits is_left where
+  by : (reply : Reply) (vs : List Value) (cell : ℕ) → FitsAsk q shared (record { reply = reply; shared = vs; cell = cell }) → IsLeft reply
+      → codes_run.pending p (h (record { reply = reply; shared = vs; cell = cell })) ≡ (trees when_captured).pending b (k (record { reply = reply; shared = vs; cell = cell }))
+  by (values ws) vs cell fits is_left = absurd is_left
+  by (faulted text) vs cell fits is_left = absurd is_left
+  by (left e) vs cell fits is_left =
+      let x : Answer = record { reply = left e; shared = vs; cell = cell } in
+      let fits_too = fits_flip (Flip (IsMeantBy l)) r q also shared x (ask_flip (IsMeantBy l) q r like.0) (sym like.1.1.0) fits in
+      left_alike l b p (k x) (h x) (so e vs cell fits.reply) (so_too e vs cell fits_too.reply) (like.1.1.1 x fits)
+pends_same l b p stuck stuck so so_too like = tt
+pends_same l b p x y so so_too like = absurd like
+
+pends_tree : (l : Bool) (b : Body) (p : Prototype) (s : TreeState) (t : CodeState) → NextLike (IsMeantBy l) (Talk l b p) (as_known l (step s)) (as_known l (talk_step p t))
+    → PendAlike (trees when_captured) codes_run b p (as_known l (step s)) (as_known l (talk_step p t))
+pends_tree l b p s t like =
+    pends_same l b p (as_known l (step s)) (as_known l (talk_step p t)) (tree_known l (step s) (tree_left.step_left s)) (code_known l (talk_step p t) (code_left.code_left p t)) like
+
+pends_flip : (l : Bool) (b : Body) (p : Prototype) (x : Next Body TreeState) (y : Next Prototype CodeState) → NextLike (IsMeantBy l) (Talk l b p) x y
+    → PendAlike (trees when_captured) codes_run b p x y → PendAlike codes_run (trees when_captured) p b y x
+pends_flip l b p (says q line shared k) (says r other also h) like pend = λ x fits is_left. sym (pend x (fits_flip (IsMeantBy l) q r shared also x like.0 like.1.1.0 fits) is_left)
+pends_flip l b p stuck stuck like pend = tt
+pends_flip l b p x y like pend = absurd like
+
+pends_code : (l : Bool) (p : Prototype) (b : Body) (t : CodeState) (s : TreeState) → NextLike (MeansBack l) (TalkBack l p b) (as_known l (talk_step p t)) (as_known l (step s))
+    → PendAlike codes_run (trees when_captured) p b (as_known l (talk_step p t)) (as_known l (step s))
+pends_code l p b t s like =
+    let there = next_flip (MeansBack l) (TalkBack l p b) (as_known l (talk_step p t)) (as_known l (step s)) like in
+    pends_flip l b p (as_known l (step s)) (as_known l (talk_step p t)) there (pends_tree l b p s t there)
 
 -- worlds and endings in the other order
 
@@ -167,12 +207,6 @@ coroutines_flip (failed e vs ∷ cs) (failed d ws ∷ ds) like = ((sym like.0.0,
 coroutines_flip (c ∷ cs) (d ∷ ds) like = absurd like.0
 coroutines_flip [] (d ∷ ds) like = absurd like
 coroutines_flip (c ∷ cs) [] like = absurd like
-
-abbrev MeansBack : Bool → Prototype → Body → Type 0
-MeansBack l p b = Means l p b
-
-made_code : (l : Bool) (n : ℕ) (p : Prototype) (b : Body) → MeansBack l p b → MadeBack l n p b
-made_code l n p b means = means n
 
 turned : (l m : Bool) (b : Body) (p : Prototype) → l ≡ m → Means l p b → Means m p b
 turned l m b p same means = subst (λ k. Means k p b) same means
@@ -212,9 +246,9 @@ module _ (W : World Body TreeState) (V : World Prototype CodeState) (worlds : Wo
 
   pub code_ends : (m : Meaning Body TreeState) → IsMeaning (trees when_captured) primitives W (script main name lines) input budget m → CodeEnds V (script code name lines) input budget m
   code_ends m given =
-      let like = begun_like Sa Sb MadeAlike TalkAlike asks_tree begins_tree IsMeantBy made_tree primitives W V worlds main code name lines means budget (all_of given.steps input) in
-      let same = begun_dressed Sa Sb MadeAlike TalkAlike asks_tree begins_tree IsMeantBy made_tree primitives W V worlds main code name lines means budget in
-      let l = runs_out Sa Sb MadeAlike TalkAlike asks_tree begins_tree fewer_tree fewer_made primitives input given.steps budget _ _ _ _ m like given.gives in
+      let like = begun_like Sa Sb IsMeantBy TalkAlike asks_tree begins_tree primitives W V worlds main code name lines means budget in
+      let same = begun_dressed Sa Sb IsMeantBy TalkAlike asks_tree begins_tree primitives W V worlds main code name lines means budget in
+      let l = runs_out Sa Sb IsMeantBy TalkAlike asks_tree begins_tree pends_tree primitives input given.steps budget _ _ _ _ m like given.gives in
       record {
         meaning = l.other;
         is_meant = record { steps = l.count; gives = ap (λ U. run_from Sb primitives l.count U input budget) same ∙ l.gives l.count (itself l.count) };
@@ -224,9 +258,9 @@ module _ (W : World Body TreeState) (V : World Prototype CodeState) (worlds : Wo
   pub tree_ends : (m : Meaning Prototype CodeState) → IsMeaning codes_run primitives V (script code name lines) input budget m → TreeEnds W (script main name lines) input budget m
   tree_ends m given =
       let back = worlds_flip W V worlds in
-      let like = begun_like Sb Sa MadeBack TalkBack asks_code begins_code MeansBack made_code primitives V W back code main name lines means budget (all_of given.steps input) in
-      let same = begun_dressed Sb Sa MadeBack TalkBack asks_code begins_code MeansBack made_code primitives V W back code main name lines means budget in
-      let l = runs_out Sb Sa MadeBack TalkBack asks_code begins_code fewer_code fewer_back primitives input given.steps budget _ _ _ _ m like given.gives in
+      let like = begun_like Sb Sa MeansBack TalkBack asks_code begins_code primitives V W back code main name lines means budget in
+      let same = begun_dressed Sb Sa MeansBack TalkBack asks_code begins_code primitives V W back code main name lines means budget in
+      let l = runs_out Sb Sa MeansBack TalkBack asks_code begins_code pends_code primitives input given.steps budget _ _ _ _ m like given.gives in
       record {
         meaning = l.other;
         is_meant = record { steps = l.count; gives = ap (λ U. run_from Sa primitives l.count U input budget) same ∙ l.gives l.count (itself l.count) };

@@ -3,7 +3,7 @@ use Rattle.std.proofs.Common.{◌≡◌, ℕ, zero, suc, Bool, true, false, List
 use Rattle.std.specs.Prelude.{ℤ, slice_get, drop, codes}
 use Rattle.int_core.specs.Value.{Value, known, string, object, a_table, a_function, a_coroutine, nth}
 use Rattle.int_core.specs.Operations.{is_function}
-use Rattle.int_core.specs.Ask.{Next, goes_on, says, stuck, on_from, runs, NextLike}
+use Rattle.int_core.specs.Ask.{Answer, IsLeft, FitsAsk, Next, goes_on, says, stuck, on_from, runs, NextLike}
 use Rattle.lua_meaning.specs.World.{System, Function, Frame, talking, protected, handled_by, Coroutine, fresh, suspended, running, normal, dead, failed, talks, gives_back, raises_error, World, now_in, breaks, shared_in, as_known, limited}
 use Rattle.lua_meaning.specs.Calls.{text}
 use Rattle.lua_meaning.specs.Asks.{turns}
@@ -13,7 +13,6 @@ use Rattle.lua_meaning.specs.Step.{placed, error_by, level_in, creates, with_cor
 use Rattle.runs_alike.proofs.Dressed.{Part, dress, dress_coroutine, dress_coroutines, dress_world, Mid, Body, FramesLike, CoroutineLike, CoroutinesLike, Like, Out}
 use Rattle.runs_alike.proofs.Moving.{with_same, with_like, where_same, either_out, now_out, raises_out, yields_out}
 use Rattle.runs_alike.proofs.Answering.{calls_over_out, resumes_out, closes_out}
-use Rattle.runs_alike.proofs.Lowering.{like_lower}
 use Rattle.runs_alike.proofs.Turning.{handle_out}
 
 abbrev pub NoOwn : {F S : Type 0} → Next F S → Type 0
@@ -59,135 +58,135 @@ module _ {F S : Type 0} (system : System F S) (prims : ℕ → Option Primitive)
     by false e h = h
 
   -- an activation on top that goes on by itself
-  abbrev pub seen : World F S → ℕ → List Value → List (Frame S) → S → World F S
-  seen V f pending below s = record V { frames = talking f pending s ∷ below; now = talks }
+  abbrev pub seen : World F S → ℕ → List (Frame S) → S → World F S
+  seen V f below s = record V { frames = talking f s ∷ below; now = talks }
 
-  pub own_tick : (V : World F S) (f : ℕ) (pending : List Value) (below : List (Frame S)) (g : Function F) (s t : S) → slice_get V.functions f ≡ Some g → system.steps g.made_of s ≡ goes_on t
-      → tick system prims (seen V f pending below s) ≡ seen V f pending below t
-  own_tick V f pending below g s t there moves =
-      subst (λ o. elim o as (λ _. World F S) [ None ↦ breaks (seen V f pending below s) | Some h ↦ turns system (as_known h.has_lines (system.steps h.made_of s)) (seen V f pending below s) f pending below ] ≡ seen V f pending below t) (sym there)
-      (ap (λ x. turns system (as_known g.has_lines x) (seen V f pending below s) f pending below) moves
-      ∙ ap (λ x. turns system x (seen V f pending below s) f pending below) (known_goes g.has_lines t))
+  pub own_tick : (V : World F S) (f : ℕ) (below : List (Frame S)) (g : Function F) (s t : S) → slice_get V.functions f ≡ Some g → system.steps g.made_of s ≡ goes_on t
+      → tick system prims (seen V f below s) ≡ seen V f below t
+  own_tick V f below g s t there moves =
+      subst (λ o. elim o as (λ _. World F S) [ None ↦ breaks (seen V f below s) | Some h ↦ turns system (as_known h.has_lines (system.steps h.made_of s)) (seen V f below s) f below ] ≡ seen V f below t) (sym there)
+      (ap (λ x. turns system (as_known g.has_lines x) (seen V f below s) f below) moves
+      ∙ ap (λ x. turns system x (seen V f below s) f below) (known_goes g.has_lines t))
 
   -- some steps lead to the state from which it asks
-  pub record Comes (V : World F S) (f : ℕ) (pending : List Value) (below : List (Frame S)) (a : F) (j : ℕ) (s : S) : Type 0 where
+  pub record Comes (V : World F S) (f : ℕ) (below : List (Frame S)) (a : F) (j : ℕ) (s : S) : Type 0 where
     pub count : ℕ
     pub there : S
     pub asks : system.steps a there ≡ runs (system.steps a) j s
-    pub leads : ticks system prims count (seen V f pending below s) ≡ seen V f pending below there
+    pub leads : ticks system prims count (seen V f below s) ≡ seen V f below there
 
-  pub comes : (V : World F S) (f : ℕ) (pending : List Value) (below : List (Frame S)) (g : Function F) (j : ℕ) (s : S) → slice_get V.functions f ≡ Some g
-      → NoOwn (runs (system.steps g.made_of) j s) → Comes V f pending below g.made_of j s
-  comes V f pending below g zero s found free = record { count = 0; there = s; asks = refl; leads = refl }
-  comes V f pending below g (suc j) s found free = by (system.steps g.made_of s) refl free (comes V f pending below g j) where
+  pub comes : (V : World F S) (f : ℕ) (below : List (Frame S)) (g : Function F) (j : ℕ) (s : S) → slice_get V.functions f ≡ Some g
+      → NoOwn (runs (system.steps g.made_of) j s) → Comes V f below g.made_of j s
+  comes V f below g zero s found free = record { count = 0; there = s; asks = refl; leads = refl }
+  comes V f below g (suc j) s found free = by (system.steps g.made_of s) refl free (comes V f below g j) where
     by : (x : Next F S) → system.steps g.made_of s ≡ x → NoOwn (on_from x (runs (system.steps g.made_of) j))
-        → ((t : S) → slice_get V.functions f ≡ Some g → NoOwn (runs (system.steps g.made_of) j t) → Comes V f pending below g.made_of j t) → Comes V f pending below g.made_of (suc j) s
+        → ((t : S) → slice_get V.functions f ≡ Some g → NoOwn (runs (system.steps g.made_of) j t) → Comes V f below g.made_of j t) → Comes V f below g.made_of (suc j) s
     by (goes_on t) e free more =
         let c = more t found free in
         record {
           count = suc c.count;
           there = c.there;
           asks = c.asks ∙ sym (ap (λ x. on_from x (runs (system.steps g.made_of) j)) e);
-          leads = ap (ticks system prims c.count) (own_tick V f pending below g s t found e) ∙ c.leads;
+          leads = ap (ticks system prims c.count) (own_tick V f below g s t found e) ∙ c.leads;
         }
     by (says q line shared k) e free more = record { count = 0; there = s; asks = e ∙ sym (ap (λ x. on_from x (runs (system.steps g.made_of) j)) e); leads = refl }
     by stuck e free more = record { count = 0; there = s; asks = e ∙ sym (ap (λ x. on_from x (runs (system.steps g.made_of) j)) e); leads = refl }
 
+-- two activations that are left while they wait still have to close the same
+abbrev pub PendAlike : {A B S T : Type 0} → (Sa : System A S) (Sb : System B T) → A → B → Next A S → Next B T → Type 0
+PendAlike Sa Sb a b (says q line shared k) (says r other also h) = (x : Answer) → FitsAsk q shared x → IsLeft x.reply → Sb.pending b (h x) ≡ Sa.pending a (k x)
+PendAlike Sa Sb a b x y = Unit {0}
+
 -- steps of both worlds
 
-module _ {A B S T : Type 0} (Sa : System A S) (Sb : System B T) (R : Bool → ℕ → A → B → Type 0) (Q : Bool → ℕ → A → B → S → T → Type 0)
-    (asks : (l : Bool) (n : ℕ) (a : A) (b : B) (s : S) (t : T) → Q l (suc n) a b s t → Mid Sa Sb R Q l n a b s t)
-    (begins : (l : Bool) (n : ℕ) (a : A) (b : B) (arguments : List Value) → R l n a b → Q l n a b (Sa.starts a arguments) (Sb.starts b arguments))
-    (fewer : (l : Bool) (n : ℕ) (a : A) (b : B) (s : S) (t : T) → Q l (suc n) a b s t → Q l n a b s t)
-    (fewer_made : (l : Bool) (n : ℕ) (a : A) (b : B) → R l (suc n) a b → R l n a b)
+module _ {A B S T : Type 0} (Sa : System A S) (Sb : System B T) (R : Bool → A → B → Type 0) (Q : Bool → A → B → S → T → Type 0)
+    (asks : (l : Bool) (a : A) (b : B) (s : S) (t : T) → Q l a b s t → Mid Sa Sb R Q l a b s t)
+    (begins : (l : Bool) (a : A) (b : B) (arguments : List Value) → R l a b → Q l a b (Sa.starts a arguments) (Sb.starts b arguments))
     (prims : ℕ → Option Primitive) where
-  abbrev Both : ℕ → World A S → World B T → Type 0
-  Both n X Y = Out Sa Sb R Q n X Y
+  abbrev Both : World A S → World B T → Type 0
+  Both X Y = Out Sa Sb R Q X Y
 
-  abbrev Alike : ℕ → World A S → List B → List (List (Part T)) → List (Part T) → Type 0
-  Alike n W bs xss xs = Like Sa Sb R Q n W bs xss xs
-
-  abbrev pub lower : (n : ℕ) (W : World A S) (bs : List B) (xss : List (List (Part T))) (xs : List (Part T)) → Alike (suc n) W bs xss xs → Alike n W bs xss xs
-  lower n W bs xss xs like = like_lower Sa Sb R Q fewer fewer_made n W bs xss xs like
+  abbrev Alike : World A S → List B → List (List (Part T)) → List (Part T) → Type 0
+  Alike W bs xss xs = Like Sa Sb R Q W bs xss xs
 
   -- some steps of the other world
-  pub record Reach (n : ℕ) (X : World A S) (Y : World B T) : Type 0 where
+  pub record Reach (X : World A S) (Y : World B T) : Type 0 where
     pub count : ℕ
-    pub out : Both n X (ticks Sb prims count Y)
+    pub out : Both X (ticks Sb prims count Y)
 
-  pub turns_out : (n : ℕ) (W : World A S) (bs : List B) (xss : List (List (Part T))) (xs : List (Part T)) (f : ℕ) (pending : List Value) (below : List (Frame S)) (ys : List (Part T)) (body : Body Sa Sb R Q W.functions bs f) (x : Next A S) (y : Next B T)
-      → Alike n W bs xss xs → NextLike (R body.function.has_lines (suc n)) (Q body.function.has_lines (suc n) body.function.made_of body.code) x y → FramesLike Sa Sb R Q n W.functions bs below ys
-      → Both n (turns Sa x W f pending below) (turns Sb y (dress_world W bs xss xs) f pending (dress below ys))
-  turns_out n W bs xss xs f pending below ys body (says q line shared k) (says r other also h) like next rest =
-      subst (λ z. Both n (turns Sa (says q line shared k) W f pending below) (turns Sb (says r z also h) (dress_world W bs xss xs) f pending (dress below ys))) next.1.0
-      (subst (λ z. Both n (turns Sa (says q line shared k) W f pending below) (turns Sb (says r line z h) (dress_world W bs xss xs) f pending (dress below ys))) next.1.1.0
-      (handle_out Sa Sb R Q asks begins n (record W { cells = shared_in shared W.cells }) bs xss xs q r (record { function = f; pending = pending; line = line; shared = shared; goes = k }) h below ys
-      (record { functions = like.functions; coroutines = like.coroutines; frames = like.frames }) (record { body = body; on = λ x fits. next.1.1.1 x fits }) next.0 rest))
-  turns_out n W bs xss xs f pending below ys body stuck stuck like next rest = now_out Sa Sb R Q n W bs xss xs _ like
-  turns_out n W bs xss xs f pending below ys body x y like next rest = absurd next
+  pub turns_out : (W : World A S) (bs : List B) (xss : List (List (Part T))) (xs : List (Part T)) (f : ℕ) (below : List (Frame S)) (ys : List (Part T)) (body : Body Sa Sb R Q W.functions bs f) (x : Next A S) (y : Next B T)
+      → Alike W bs xss xs → NextLike (R body.function.has_lines) (Q body.function.has_lines body.function.made_of body.code) x y → PendAlike Sa Sb body.function.made_of body.code x y → FramesLike Sa Sb R Q W.functions bs below ys
+      → Both (turns Sa x W f below) (turns Sb y (dress_world W bs xss xs) f (dress below ys))
+  turns_out W bs xss xs f below ys body (says q line shared k) (says r other also h) like next pend rest =
+      subst (λ z. Both (turns Sa (says q line shared k) W f below) (turns Sb (says r z also h) (dress_world W bs xss xs) f (dress below ys))) next.1.0
+      (subst (λ z. Both (turns Sa (says q line shared k) W f below) (turns Sb (says r line z h) (dress_world W bs xss xs) f (dress below ys))) next.1.1.0
+      (handle_out Sa Sb R Q asks begins (record W { cells = shared_in shared W.cells }) bs xss xs q r (record { function = f; line = line; shared = shared; goes = k }) h below ys
+      (record { functions = like.functions; coroutines = like.coroutines; frames = like.frames }) (record { body = body; on = λ x fits. next.1.1.1 x fits; pends = pend }) next.0 rest))
+  turns_out W bs xss xs f below ys body stuck stuck like next pend rest = now_out Sa Sb R Q W bs xss xs _ like
+  turns_out W bs xss xs f below ys body x y like next pend rest = absurd next
 
-  row_out : (n : ℕ) (W : World A S) (bs : List B) (xss : List (List (Part T))) (xs : List (Part T)) (o : Option Done) → Alike n W bs xss xs → Both n (after_row W o) (after_row (dress_world W bs xss xs) o)
-  row_out n W bs xss xs None like = now_out Sa Sb R Q n W bs xss xs _ like
-  row_out n W bs xss xs (Some (done H vs)) like = now_out Sa Sb R Q n (record W { heap = H }) bs xss xs _ (record { functions = like.functions; coroutines = like.coroutines; frames = like.frames })
-  row_out n W bs xss xs (Some (no_result why)) like = raises_out Sa Sb R Q n why W bs xss xs like
+  row_out : (W : World A S) (bs : List B) (xss : List (List (Part T))) (xs : List (Part T)) (o : Option Done) → Alike W bs xss xs → Both (after_row W o) (after_row (dress_world W bs xss xs) o)
+  row_out W bs xss xs None like = now_out Sa Sb R Q W bs xss xs _ like
+  row_out W bs xss xs (Some (done H vs)) like = now_out Sa Sb R Q (record W { heap = H }) bs xss xs _ (record { functions = like.functions; coroutines = like.coroutines; frames = like.frames })
+  row_out W bs xss xs (Some (no_result why)) like = raises_out Sa Sb R Q why W bs xss xs like
 
-  placed_same : (n : ℕ) (W : World A S) (bs : List B) (xss : List (List (Part T))) (xs : List (Part T)) (z : ℤ) (v : Value) → Alike n W bs xss xs → placed (dress_world W bs xss xs) z v ≡ placed W z v
-  placed_same n W bs xss xs (Rattle.std.specs.Prelude.pos (suc level)) (known (string s)) like = ap (λ place. limited (place ++ s)) (where_same Sa Sb R Q n level W bs xss xs like)
-  placed_same n W bs xss xs z v like = refl
+  placed_same : (W : World A S) (bs : List B) (xss : List (List (Part T))) (xs : List (Part T)) (z : ℤ) (v : Value) → Alike W bs xss xs → placed (dress_world W bs xss xs) z v ≡ placed W z v
+  placed_same W bs xss xs (Rattle.std.specs.Prelude.pos (suc level)) (known (string s)) like = ap (λ place. limited (place ++ s)) (where_same Sa Sb R Q level W bs xss xs like)
+  placed_same W bs xss xs z v like = refl
 
-  error_out : (n : ℕ) (W : World A S) (bs : List B) (xss : List (List (Part T))) (xs : List (Part T)) (v level : Value) (o : Option ℤ) → Alike n W bs xss xs → Both n (error_by W v level o) (error_by (dress_world W bs xss xs) v level o)
-  error_out n W bs xss xs v level None like = raises_out Sa Sb R Q n _ W bs xss xs like
-  error_out n W bs xss xs v level (Some z) like =
-      subst (λ e. Both n (now_in W (raises_error (placed W z v))) (now_in (dress_world W bs xss xs) (raises_error e))) (sym (placed_same n W bs xss xs z v like)) (now_out Sa Sb R Q n W bs xss xs (raises_error (placed W z v)) like)
+  error_out : (W : World A S) (bs : List B) (xss : List (List (Part T))) (xs : List (Part T)) (v level : Value) (o : Option ℤ) → Alike W bs xss xs → Both (error_by W v level o) (error_by (dress_world W bs xss xs) v level o)
+  error_out W bs xss xs v level None like = raises_out Sa Sb R Q _ W bs xss xs like
+  error_out W bs xss xs v level (Some z) like =
+      subst (λ e. Both (now_in W (raises_error (placed W z v))) (now_in (dress_world W bs xss xs) (raises_error e))) (sym (placed_same W bs xss xs z v like)) (now_out Sa Sb R Q W bs xss xs (raises_error (placed W z v)) like)
 
-  count_coroutines : (n : ℕ) (fs : List (Function A)) (bs : List B) (cs : List (Coroutine S)) (xss : List (List (Part T))) → CoroutinesLike Sa Sb R Q n fs bs cs xss → length (dress_coroutines cs xss) ≡ length cs
-  count_coroutines n fs bs [] [] like = refl
-  count_coroutines n fs bs (c ∷ cs) (xs ∷ xss) like = let h = count_coroutines n fs bs cs xss like.1 in omega (arith, h)
-  count_coroutines n fs bs [] (xs ∷ xss) like = absurd like
-  count_coroutines n fs bs (c ∷ cs) [] like = absurd like
+  count_coroutines : (fs : List (Function A)) (bs : List B) (cs : List (Coroutine S)) (xss : List (List (Part T))) → CoroutinesLike Sa Sb R Q fs bs cs xss → length (dress_coroutines cs xss) ≡ length cs
+  count_coroutines fs bs [] [] like = refl
+  count_coroutines fs bs (c ∷ cs) (xs ∷ xss) like = let h = count_coroutines fs bs cs xss like.1 in omega (arith, h)
+  count_coroutines fs bs [] (xs ∷ xss) like = absurd like
+  count_coroutines fs bs (c ∷ cs) [] like = absurd like
 
-  creates_out : (n : ℕ) (W : World A S) (bs : List B) (xss : List (List (Part T))) (xs : List (Part T)) (f : Value) → Alike n W bs xss xs → Both n (creates W f) (creates (dress_world W bs xss xs) f)
-  creates_out n W bs xss xs f like =
-      either_out Sa Sb R Q n (is_function f) _ _ _ _
+  creates_out : (W : World A S) (bs : List B) (xss : List (List (Part T))) (xs : List (Part T)) (f : Value) → Alike W bs xss xs → Both (creates W f) (creates (dress_world W bs xss xs) f)
+  creates_out W bs xss xs f like =
+      either_out Sa Sb R Q (is_function f) _ _ _ _
       (record {
         bs = bs;
         xss = xss ++ [] ∷ [];
         xs = xs;
         same =
-            ap (λ cs. record (dress_world W bs xss xs) { coroutines = cs; now = gives_back (object a_coroutine (length (dress_coroutines W.coroutines xss)) ∷ []) }) (with_same Sa Sb R Q n W.functions bs W.coroutines xss (fresh f) [] like.coroutines)
-            ∙ ap (λ c. record (dress_world W bs xss xs) { coroutines = dress_coroutines (W.coroutines ++ fresh f ∷ []) (xss ++ [] ∷ []); now = gives_back (object a_coroutine c ∷ []) }) (count_coroutines n W.functions bs W.coroutines xss like.coroutines);
-        like = record { functions = like.functions; coroutines = with_like Sa Sb R Q n W.functions bs W.coroutines xss (fresh f) [] like.coroutines tt; frames = like.frames };
+            ap (λ cs. record (dress_world W bs xss xs) { coroutines = cs; now = gives_back (object a_coroutine (length (dress_coroutines W.coroutines xss)) ∷ []) }) (with_same Sa Sb R Q W.functions bs W.coroutines xss (fresh f) [] like.coroutines)
+            ∙ ap (λ c. record (dress_world W bs xss xs) { coroutines = dress_coroutines (W.coroutines ++ fresh f ∷ []) (xss ++ [] ∷ []); now = gives_back (object a_coroutine c ∷ []) }) (count_coroutines W.functions bs W.coroutines xss like.coroutines);
+        like = record { functions = like.functions; coroutines = with_like Sa Sb R Q W.functions bs W.coroutines xss (fresh f) [] like.coroutines tt; frames = like.frames };
       })
-      (raises_out Sa Sb R Q n _ W bs xss xs like)
+      (raises_out Sa Sb R Q _ W bs xss xs like)
 
-  data Got (n : ℕ) (fs : List (Function A)) (bs : List B) (cs : List (Coroutine S)) (xss : List (List (Part T))) (k : ℕ) : Type 0 where
-    got_none : slice_get cs k ≡ None → slice_get (dress_coroutines cs xss) k ≡ None → Got n fs bs cs xss k
-    got_some : (c : Coroutine S) (ys : List (Part T)) → slice_get cs k ≡ Some c → slice_get (dress_coroutines cs xss) k ≡ Some (dress_coroutine c ys) → CoroutineLike Sa Sb R Q n fs bs c ys → Got n fs bs cs xss k
+  data Got (fs : List (Function A)) (bs : List B) (cs : List (Coroutine S)) (xss : List (List (Part T))) (k : ℕ) : Type 0 where
+    got_none : slice_get cs k ≡ None → slice_get (dress_coroutines cs xss) k ≡ None → Got fs bs cs xss k
+    got_some : (c : Coroutine S) (ys : List (Part T)) → slice_get cs k ≡ Some c → slice_get (dress_coroutines cs xss) k ≡ Some (dress_coroutine c ys) → CoroutineLike Sa Sb R Q fs bs c ys → Got fs bs cs xss k
 
-  got : (n : ℕ) (fs : List (Function A)) (bs : List B) (cs : List (Coroutine S)) (xss : List (List (Part T))) (k : ℕ) → CoroutinesLike Sa Sb R Q n fs bs cs xss → Got n fs bs cs xss k
-  got n fs bs [] [] k like = got_none refl refl
-  got n fs bs (c ∷ cs) (xs ∷ xss) zero like = got_some c xs refl refl like.0
-  got n fs bs (c ∷ cs) (xs ∷ xss) (suc k) like = elim (got n fs bs cs xss k like.1) [
+  got : (fs : List (Function A)) (bs : List B) (cs : List (Coroutine S)) (xss : List (List (Part T))) (k : ℕ) → CoroutinesLike Sa Sb R Q fs bs cs xss → Got fs bs cs xss k
+  got fs bs [] [] k like = got_none refl refl
+  got fs bs (c ∷ cs) (xs ∷ xss) zero like = got_some c xs refl refl like.0
+  got fs bs (c ∷ cs) (xs ∷ xss) (suc k) like = elim (got fs bs cs xss k like.1) [
     | got_none e d ↦ got_none e d
     | got_some c' ys e d one ↦ got_some c' ys e d one
   ]
-  got n fs bs [] (xs ∷ xss) k like = absurd like
-  got n fs bs (c ∷ cs) [] k like = absurd like
+  got fs bs [] (xs ∷ xss) k like = absurd like
+  got fs bs (c ∷ cs) [] k like = absurd like
 
-  with_out : (n : ℕ) (W : World A S) (bs : List B) (xss : List (List (Part T))) (xs : List (Part T)) (f : List ℕ) (v : Value) (ga : ℕ → Coroutine S → World A S) (gb : ℕ → Coroutine T → World B T) → Alike n W bs xss xs
-      → ((co : ℕ) (c : Coroutine S) (ys : List (Part T)) → CoroutineLike Sa Sb R Q n W.functions bs c ys → Both n (ga co c) (gb co (dress_coroutine c ys)))
-      → Both n (with_coroutine W f v ga) (with_coroutine (dress_world W bs xss xs) f v gb)
-  with_out n W bs xss xs f (object a_coroutine co) ga gb like more = by (got n W.functions bs W.coroutines xss co like.coroutines) where
-    by : Got n W.functions bs W.coroutines xss co → Both n (with_coroutine W f (object a_coroutine co) ga) (with_coroutine (dress_world W bs xss xs) f (object a_coroutine co) gb)
+  with_out : (W : World A S) (bs : List B) (xss : List (List (Part T))) (xs : List (Part T)) (f : List ℕ) (v : Value) (ga : ℕ → Coroutine S → World A S) (gb : ℕ → Coroutine T → World B T) → Alike W bs xss xs
+      → ((co : ℕ) (c : Coroutine S) (ys : List (Part T)) → CoroutineLike Sa Sb R Q W.functions bs c ys → Both (ga co c) (gb co (dress_coroutine c ys)))
+      → Both (with_coroutine W f v ga) (with_coroutine (dress_world W bs xss xs) f v gb)
+  with_out W bs xss xs f (object a_coroutine co) ga gb like more = by (got W.functions bs W.coroutines xss co like.coroutines) where
+    by : Got W.functions bs W.coroutines xss co → Both (with_coroutine W f (object a_coroutine co) ga) (with_coroutine (dress_world W bs xss xs) f (object a_coroutine co) gb)
     by (got_none e d) =
-        subst (λ o. Both n (elim o as (λ _. World A S) [ None ↦ breaks W | Some c ↦ ga co c ]) (elim (slice_get (dress_coroutines W.coroutines xss) co) as (λ _. World B T) [ None ↦ breaks (dress_world W bs xss xs) | Some c ↦ gb co c ])) (sym e)
-        (subst (λ o. Both n (breaks W) (elim o as (λ _. World B T) [ None ↦ breaks (dress_world W bs xss xs) | Some c ↦ gb co c ])) (sym d) (now_out Sa Sb R Q n W bs xss xs _ like))
+        subst (λ o. Both (elim o as (λ _. World A S) [ None ↦ breaks W | Some c ↦ ga co c ]) (elim (slice_get (dress_coroutines W.coroutines xss) co) as (λ _. World B T) [ None ↦ breaks (dress_world W bs xss xs) | Some c ↦ gb co c ])) (sym e)
+        (subst (λ o. Both (breaks W) (elim o as (λ _. World B T) [ None ↦ breaks (dress_world W bs xss xs) | Some c ↦ gb co c ])) (sym d) (now_out Sa Sb R Q W bs xss xs _ like))
     by (got_some c ys e d one) =
-        subst (λ o. Both n (elim o as (λ _. World A S) [ None ↦ breaks W | Some c ↦ ga co c ]) (elim (slice_get (dress_coroutines W.coroutines xss) co) as (λ _. World B T) [ None ↦ breaks (dress_world W bs xss xs) | Some c ↦ gb co c ])) (sym e)
-        (subst (λ o. Both n (ga co c) (elim o as (λ _. World B T) [ None ↦ breaks (dress_world W bs xss xs) | Some c ↦ gb co c ])) (sym d) (more co c ys one))
-  with_out n W bs xss xs f (known p) ga gb like more = raises_out Sa Sb R Q n _ W bs xss xs like
-  with_out n W bs xss xs f (object a_table m) ga gb like more = raises_out Sa Sb R Q n _ W bs xss xs like
-  with_out n W bs xss xs f (object a_function m) ga gb like more = raises_out Sa Sb R Q n _ W bs xss xs like
+        subst (λ o. Both (elim o as (λ _. World A S) [ None ↦ breaks W | Some c ↦ ga co c ]) (elim (slice_get (dress_coroutines W.coroutines xss) co) as (λ _. World B T) [ None ↦ breaks (dress_world W bs xss xs) | Some c ↦ gb co c ])) (sym e)
+        (subst (λ o. Both (ga co c) (elim o as (λ _. World B T) [ None ↦ breaks (dress_world W bs xss xs) | Some c ↦ gb co c ])) (sym d) (more co c ys one))
+  with_out W bs xss xs f (known p) ga gb like more = raises_out Sa Sb R Q _ W bs xss xs like
+  with_out W bs xss xs f (object a_table m) ga gb like more = raises_out Sa Sb R Q _ W bs xss xs like
+  with_out W bs xss xs f (object a_function m) ga gb like more = raises_out Sa Sb R Q _ W bs xss xs like
 
   status_same : (c : Coroutine S) (ys : List (Part T)) → status_of (dress_coroutine c ys) ≡ status_of c
   status_same (fresh body) ys = refl
@@ -197,22 +196,22 @@ module _ {A B S T : Type 0} (Sa : System A S) (Sb : System B T) (R : Bool → �
   status_same dead ys = refl
   status_same (failed e pending) ys = refl
 
-  pub primitive_out : (n : ℕ) (p : Primitive) (W : World A S) (bs : List B) (xss : List (List (Part T))) (xs : List (Part T)) (vs : List Value) → Alike n W bs xss xs
-      → Both n (does_primitive Sa p W vs) (does_primitive Sb p (dress_world W bs xss xs) vs)
-  primitive_out n lua_error W bs xss xs vs like = error_out n W bs xss xs (nth vs 0) (nth vs 1) (level_in (nth vs 1)) like
-  primitive_out n lua_pcall W bs xss xs vs like = calls_over_out Sa Sb R Q asks begins n W bs xss xs protected (nth vs 0) (drop 1 vs) tt like
-  primitive_out n lua_xpcall W bs xss xs vs like = calls_over_out Sa Sb R Q asks begins n W bs xss xs (handled_by (nth vs 1)) (nth vs 0) (drop 2 vs) tt like
-  primitive_out n coroutine_create W bs xss xs vs like = creates_out n W bs xss xs (nth vs 0) like
-  primitive_out n coroutine_resume W bs xss xs vs like =
-      with_out n W bs xss xs (codes "resume") (nth vs 0) _ _ like (λ co c ys one. resumes_out Sa Sb R Q asks begins n W bs xss xs co c ys (drop 1 vs) like one)
-  primitive_out n coroutine_yield W bs xss xs vs like = yields_out Sa Sb R Q n W bs xss xs vs like
-  primitive_out n coroutine_close W bs xss xs vs like =
-      with_out n W bs xss xs (codes "close") (nth vs 0) _ _ like (λ co c ys one. closes_out Sa Sb R Q asks begins n W bs xss xs co c ys like one)
-  primitive_out n coroutine_status W bs xss xs vs like =
-      with_out n W bs xss xs (codes "status") (nth vs 0) _ _ like (λ co c ys one.
-      subst (λ z. Both n (now_in W (gives_back (text (status_of c) ∷ []))) (now_in (dress_world W bs xss xs) (gives_back (text z ∷ [])))) (sym (status_same c ys)) (now_out Sa Sb R Q n W bs xss xs _ like))
-  primitive_out n coroutine_isyieldable W bs xss xs vs like = now_out Sa Sb R Q n W bs xss xs _ like
-  primitive_out n coroutine_running W bs xss xs vs like = now_out Sa Sb R Q n W bs xss xs _ like
-  primitive_out n prelude_out W bs xss xs vs like =
-      now_out Sa Sb R Q n (record W { printed = W.printed ++ name_in (nth vs 0) }) bs xss xs _ (record { functions = like.functions; coroutines = like.coroutines; frames = like.frames })
-  primitive_out n p W bs xss xs vs like = row_out n W bs xss xs (row p W.heap vs) like
+  pub primitive_out : (p : Primitive) (W : World A S) (bs : List B) (xss : List (List (Part T))) (xs : List (Part T)) (vs : List Value) → Alike W bs xss xs
+      → Both (does_primitive Sa p W vs) (does_primitive Sb p (dress_world W bs xss xs) vs)
+  primitive_out lua_error W bs xss xs vs like = error_out W bs xss xs (nth vs 0) (nth vs 1) (level_in (nth vs 1)) like
+  primitive_out lua_pcall W bs xss xs vs like = calls_over_out Sa Sb R Q asks begins W bs xss xs protected (nth vs 0) (drop 1 vs) tt like
+  primitive_out lua_xpcall W bs xss xs vs like = calls_over_out Sa Sb R Q asks begins W bs xss xs (handled_by (nth vs 1)) (nth vs 0) (drop 2 vs) tt like
+  primitive_out coroutine_create W bs xss xs vs like = creates_out W bs xss xs (nth vs 0) like
+  primitive_out coroutine_resume W bs xss xs vs like =
+      with_out W bs xss xs (codes "resume") (nth vs 0) _ _ like (λ co c ys one. resumes_out Sa Sb R Q asks begins W bs xss xs co c ys (drop 1 vs) like one)
+  primitive_out coroutine_yield W bs xss xs vs like = yields_out Sa Sb R Q W bs xss xs vs like
+  primitive_out coroutine_close W bs xss xs vs like =
+      with_out W bs xss xs (codes "close") (nth vs 0) _ _ like (λ co c ys one. closes_out Sa Sb R Q asks begins W bs xss xs co c ys like one)
+  primitive_out coroutine_status W bs xss xs vs like =
+      with_out W bs xss xs (codes "status") (nth vs 0) _ _ like (λ co c ys one.
+      subst (λ z. Both (now_in W (gives_back (text (status_of c) ∷ []))) (now_in (dress_world W bs xss xs) (gives_back (text z ∷ [])))) (sym (status_same c ys)) (now_out Sa Sb R Q W bs xss xs _ like))
+  primitive_out coroutine_isyieldable W bs xss xs vs like = now_out Sa Sb R Q W bs xss xs _ like
+  primitive_out coroutine_running W bs xss xs vs like = now_out Sa Sb R Q W bs xss xs _ like
+  primitive_out prelude_out W bs xss xs vs like =
+      now_out Sa Sb R Q (record W { printed = W.printed ++ name_in (nth vs 0) }) bs xss xs _ (record { functions = like.functions; coroutines = like.coroutines; frames = like.frames })
+  primitive_out p W bs xss xs vs like = row_out W bs xss xs (row p W.heap vs) like

@@ -79,6 +79,15 @@ marks_local line name n next a k =
 
 -- leaving
 
+-- what the locals to be closed hold that need it, the last one first
+abbrev pub closed_of : List Value → List Pending → List Value
+closed_of locals [] = []
+closed_of locals (p ∷ pending) = closed_of locals pending ++ cond p.needed (nth locals p.number ∷ []) []
+
+-- what an activation still closes where it is left
+abbrev pub to_close : State → List Value
+to_close (at control a k) = closed_of a.locals a.pending
+
 -- the activation's own step is at fault: its cells are cut loose, the world raises the error, and it is left with what the error has become
 abbrev pub raises_fault : ℕ → List ℕ → Activation → Next Body State
 raises_fault line text a = asks (raises text) line (record a { captured = cut 0 a }) [] (λ _. over)
