@@ -1,1 +1,7 @@
 mod Plain
+mod Cases
+mod StringVectors
+mod FormatVectors
+mod SearchVectors
+mod CodepointVectors
+mod TableVectors

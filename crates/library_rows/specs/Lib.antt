@@ -1,2 +1,11 @@
 pub mod Look
 pub mod Plainly
+pub mod Arguments
+pub mod Strings
+pub mod Integers
+pub mod Formats
+pub mod Codepoints
+pub mod Searches
+pub mod Base
+pub mod Library
+pub mod PreludeText
