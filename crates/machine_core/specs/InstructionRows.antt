@@ -178,13 +178,6 @@ compares operation x y w = operate operation (x ∷ y ∷ []) for_truth [] (trut
 abbrev pub with_number : Instruction → Arg
 with_number w = written (integer (sb_of w))
 
-abbrev pub is_integer : ℤ → Shape → Bool
-is_integer n s = elim (integer_of_shape s) [ None ↦ false | Some m ↦ same_integer m n ]
-
-abbrev pub is_constant : Shape → Shape → Bool
-is_constant (is_known c) (is_known v) = same_plain v c
-is_constant _ _ = false
-
 -- loops
 
 abbrev pub runs : ℤ → ℤ → ℤ → Bool
@@ -316,8 +309,8 @@ row_of p pc Jmp w = jumps (sj_of w)
 row_of p pc Eq w = own (read_register (a_of w)) (λ x _. own (read_register (b_of w)) (λ y _. compares equal (read x) (read y) w))
 row_of p pc Lt w = own (read_register (a_of w)) (λ x _. own (read_register (b_of w)) (λ y _. compares less (read x) (read y) w))
 row_of p pc Le w = own (read_register (a_of w)) (λ x _. own (read_register (b_of w)) (λ y _. compares less_equal (read x) (read y) w))
-row_of p pc EqK w = own (read_register (a_of w)) (λ _ s. own (read_constant (b_of w)) (λ _ c. tested (is_constant c s) (k_of w)))
-row_of p pc EqI w = own (read_register (a_of w)) (λ _ s. tested (is_integer (sb_of w) s) (k_of w))
+row_of p pc EqK w = own (read_register (a_of w)) (λ x _. own (read_constant (b_of w)) (λ y _. compares equal (read x) (read y) w))
+row_of p pc EqI w = own (read_register (a_of w)) (λ x _. compares equal (read x) (with_number w) w)
 row_of p pc LtI w = own (read_register (a_of w)) (λ x _. compares less (read x) (with_number w) w)
 row_of p pc LeI w = own (read_register (a_of w)) (λ x _. compares less_equal (read x) (with_number w) w)
 row_of p pc GtI w = own (read_register (a_of w)) (λ x _. compares less (with_number w) (read x) w)

@@ -11,7 +11,7 @@ use Rattle.code_core.specs.Instruction.{a_of, b_of, k_of, bx_of, sb_of, sj_of}
 use Rattle.code_core.specs.Fields.{registers, anything, second_half, target, takes_list}
 use Rattle.machine_core.specs.World.{for_truth, for_close}
 use Rattle.machine_core.specs.Text.{Arg, read, written, constant, close_cells, take_pending, Text, go_by, arg, quick, pay, raise, mark_pending, write_register, is_there, close}
-use Rattle.machine_core.specs.InstructionRows.{to_register, next, skip, tested, truth_decides, with_number, is_integer, is_constant, jumps, back, goes_round, prepares, starts, runs, rounds, integer_of_shape, marks, variable_name, closes, compares, writes_integer, then}
+use Rattle.machine_core.specs.InstructionRows.{to_register, next, skip, tested, truth_decides, with_number, jumps, back, goes_round, prepares, starts, runs, rounds, integer_of_shape, marks, variable_name, closes, compares, writes_integer, then}
 use Rattle.machine_core.specs.FrameRows.{expand, raises}
 use Rattle.machine_sound.specs.Sound.{Top, waits_at}
 use Rattle.machine_sound.specs.Safe.{on_lua, ArgsOk, WaitsAs, Safe, HasPlace, list_of_option}
@@ -47,10 +47,10 @@ pub le_safe : RowSafe Le
 le_safe t w h = ((sized h refl 0 (a_of w) refl, tt), λ x. ((sized h refl 1 (b_of w) refl, tt), λ y. compares_safe (x ∷ y ∷ []) less_equal (read 0) (read 1) h refl (refl, refl, refl, refl) refl (tt, (tt, tt))))
 
 pub eq_k_safe : RowSafe EqK
-eq_k_safe t w h = ((sized h refl 0 (a_of w) refl, tt), λ x. ((con h 0 (b_of w) anything refl, tt), λ c. tested_safe (x ∷ known (constant c.found) ∷ []) h refl (refl, refl, refl, refl) (is_constant (is_known (constant c.found)) (shape x)) (k_of w)))
+eq_k_safe t w h = ((sized h refl 0 (a_of w) refl, tt), λ x. ((con h 0 (b_of w) anything refl, tt), λ c. compares_safe (x ∷ known (constant c.found) ∷ []) equal (read 0) (read 1) h refl (refl, refl, refl, refl) refl (tt, (tt, tt))))
 
 pub eq_i_safe : RowSafe EqI
-eq_i_safe t w h = ((sized h refl 0 (a_of w) refl, tt), λ x. tested_safe (x ∷ []) h refl (refl, refl, refl, refl) (is_integer (sb_of w) (shape x)) (k_of w))
+eq_i_safe t w h = ((sized h refl 0 (a_of w) refl, tt), λ x. compares_safe (x ∷ []) equal (read 0) (with_number w) h refl (refl, refl, refl, refl) refl (tt, (tt, tt)))
 
 pub lt_i_safe : RowSafe LtI
 lt_i_safe t w h = ((sized h refl 0 (a_of w) refl, tt), λ x. compares_safe (x ∷ []) less (read 0) (with_number w) h refl (refl, refl, refl, refl) refl (tt, (tt, tt)))

@@ -3,7 +3,7 @@ use Rattle.std.proofs.Common.{ℕ, zero, suc, ◌≡◌, ◌<◌, ◌≤◌, ◌
 use Rattle.std.specs.Prelude.{slice_get, cond, IsTrue, if◌then◌else◌}
 use Rattle.int_core.specs.Value.{Value}
 use Rattle.code_core.specs.declared.opcode.Opcode.{Opcode}
-use Rattle.code_core.specs.declared.opcode.Opcode.TheVariants.{GetTabUp, GetTable, GetI, GetField, SetTabUp, SetTable, SetI, SetField, OpSelf, MmBin, MmBinI, MmBinK, Unm, BNot, Len, Concat, Close, Eq, Lt, Le, LtI, LeI, GtI, GeI, Call, Return, Return0, Return1, TForCall}
+use Rattle.code_core.specs.declared.opcode.Opcode.TheVariants.{GetTabUp, GetTable, GetI, GetField, SetTabUp, SetTable, SetI, SetField, OpSelf, MmBin, MmBinI, MmBinK, Unm, BNot, Len, Concat, Close, Eq, Lt, Le, EqK, EqI, LtI, LeI, GtI, GeI, Call, Return, Return0, Return1, TForCall}
 use Rattle.code_core.specs.declared.instruction.Instruction.{Instruction}
 use Rattle.code_core.specs.Instruction.{opcode_of, a_of, b_of, c_of}
 use Rattle.code_core.specs.Fields.{registers, last_of}
@@ -158,6 +158,8 @@ rest_safe for_truth Eq t w vs b f s = decides_safe vs (here b s) refl (refl, ref
 rest_safe for_truth Lt t w vs b f s = decides_safe vs (here b s) refl (refl, refl, refl, refl)
 rest_safe for_truth Le t w vs b f s = decides_safe vs (here b s) refl (refl, refl, refl, refl)
 rest_safe for_truth LtI t w vs b f s = decides_safe vs (here b s) refl (refl, refl, refl, refl)
+rest_safe for_truth EqK t w vs b f s = decides_safe vs (here b s) refl (refl, refl, refl, refl)
+rest_safe for_truth EqI t w vs b f s = decides_safe vs (here b s) refl (refl, refl, refl, refl)
 rest_safe for_truth LeI t w vs b f s = decides_safe vs (here b s) refl (refl, refl, refl, refl)
 rest_safe for_truth GtI t w vs b f s = decides_safe vs (here b s) refl (refl, refl, refl, refl)
 rest_safe for_truth GeI t w vs b f s = decides_safe vs (here b s) refl (refl, refl, refl, refl)

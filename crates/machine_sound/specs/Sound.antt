@@ -7,7 +7,7 @@ use Rattle.int_core.specs.Value.{Plain, string, primitive, Value, known, object,
 use Rattle.int_core.specs.Heap.{Table}
 use Rattle.int_core.specs.Operations.{is_function}
 use Rattle.code_core.specs.declared.opcode.Opcode.{Opcode}
-use Rattle.code_core.specs.declared.opcode.Opcode.TheVariants.{GetTabUp, GetTable, GetI, GetField, SetTabUp, SetTable, SetI, SetField, OpSelf, MmBin, MmBinI, MmBinK, Unm, BNot, Len, Concat, Close, Eq, Lt, Le, LtI, LeI, GtI, GeI, Call, Return, Return0, Return1, TForCall, ExtraArg}
+use Rattle.code_core.specs.declared.opcode.Opcode.TheVariants.{GetTabUp, GetTable, GetI, GetField, SetTabUp, SetTable, SetI, SetField, OpSelf, MmBin, MmBinI, MmBinK, Unm, BNot, Len, Concat, Close, Eq, Lt, Le, EqK, EqI, LtI, LeI, GtI, GeI, Call, Return, Return0, Return1, TForCall, ExtraArg}
 use Rattle.code_core.specs.declared.instruction.Instruction.{Instruction}
 use Rattle.code_core.specs.Instruction.{opcode_of, a_of, b_of}
 use Rattle.code_core.specs.Prototype.{Prototype}
@@ -108,6 +108,8 @@ waits_at for_value Len w = true
 waits_at for_truth Eq w = true
 waits_at for_truth Lt w = true
 waits_at for_truth Le w = true
+waits_at for_truth EqK w = true
+waits_at for_truth EqI w = true
 waits_at for_truth LtI w = true
 waits_at for_truth LeI w = true
 waits_at for_truth GtI w = true
