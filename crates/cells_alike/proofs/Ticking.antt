@@ -14,7 +14,7 @@ use Rattle.lua_meaning.specs.Calls.{text, truth}
 use Rattle.lua_meaning.specs.Asks.{none as no_values, handle, turns, talks_on}
 use Rattle.lua_meaning.specs.Primitives.{Primitive, lua_error, lua_pcall, lua_xpcall, coroutine_close, coroutine_create, coroutine_isyieldable, coroutine_resume, coroutine_running, coroutine_status, coroutine_yield, prelude_out, Done, done, wrong_type, name_in, row}
 use Rattle.lua_meaning.specs.Primitives.{refused as no_result}
-use Rattle.lua_meaning.specs.Step.{placed, error_by, level_in, creates, with_coroutine, status_of, running_one as running_value, after_row, does_primitive, has_ended, tick_by, tick}
+use Rattle.lua_meaning.specs.Step.{placed, error_by, level_in, creates, with_coroutine, status_of, runs_one, after_row, does_primitive, has_ended, tick_by, tick}
 use Rattle.lua_meaning.specs.Opening.{primitives}
 use Rattle.meaning_cells.specs.Alike.{Member, Pairs, Cells, AreEven, Onward, Answered, after_asks, CarriesOwn, SameAsk, new_cell, Moves, FirstAlone, SecondOpens, BothOpen, Together}
 use Rattle.meaning_cells.proofs.Relation.{Rel, same, early, steps_behind}
@@ -90,6 +90,10 @@ status_same (is_normal frames) = refl
 status_same is_dead = refl
 status_same (has_failed e pending) = refl
 
+runs_one_both : (J : Joint) (chain : List ℕ) → Quiet J → Both (runs_one (one J) chain) (runs_one (two J) chain)
+runs_one_both J [] q = breaks_both J
+runs_one_both J (co ∷ chain) q = now_both J (gives_back (object a_coroutine co ∷ truth false ∷ [])) q
+
 primitive_both : (J : Joint) (p : Primitive) (vs : List Value) → Quiet J → Both (does_primitive first_form p (one J) vs) (does_primitive second_form p (two J) vs)
 primitive_both J lua_error vs q = error_both J (nth vs 0) (nth vs 1) (level_in (nth vs 1)) q
 primitive_both J lua_pcall vs q = calls_over_both J is_protected (nth vs 0) (drop 1 vs) q tt
@@ -102,7 +106,7 @@ primitive_both J coroutine_status vs q =
     with_both J (codes "status") (nth vs 0) _ _ q (λ co c l.
     subst (λ z. Both (now_in (one J) (gives_back (text (status_of (coroutine_one c)) ∷ []))) (now_in (two J) (gives_back (text z ∷ [])))) (status_same c) (now_both J (gives_back (text (status_of (coroutine_one c)) ∷ [])) q))
 primitive_both J coroutine_isyieldable vs q = now_both J (gives_back (truth true ∷ [])) q
-primitive_both J coroutine_running vs q = now_both J (gives_back (running_value (one J) ∷ truth false ∷ [])) q
+primitive_both J coroutine_running vs q = runs_one_both J J.chain q
 primitive_both J prelude_out vs q = now_both (record J { printed = J.printed ++ name_in (nth vs 0) }) (gives_back []) q
 primitive_both J p vs q = row_both J (row p J.heap vs) q
 

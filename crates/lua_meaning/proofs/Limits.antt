@@ -11,7 +11,7 @@ use Rattle.lua_meaning.specs.Calls.{error_in_handler, error_or_nil, put_coroutin
 use Rattle.lua_meaning.specs.Asks.{calls_for, calls_in_place, settled, pays_unit, handle, turns, talks_on}
 use Rattle.lua_meaning.specs.Primitives.{Primitive, lua_error, lua_pcall, lua_xpcall, coroutine_close, coroutine_create, coroutine_isyieldable, coroutine_resume, coroutine_running, coroutine_status, coroutine_yield, prelude_out, Done, done, row}
 use Rattle.lua_meaning.specs.Primitives.{refused as no_result}
-use Rattle.lua_meaning.specs.Step.{error_by, level_in, creates, with_coroutine, after_row, does_primitive, has_ended, tick_by, tick, ticks}
+use Rattle.lua_meaning.specs.Step.{error_by, level_in, creates, with_coroutine, after_row, does_primitive, runs_one, has_ended, tick_by, tick, ticks}
 use Rattle.lua_meaning.specs.Laws.{AllShallow}
 
 -- at most this fuel, and shallow
@@ -285,6 +285,10 @@ module _ {F S : Type 0} (system : System F S) where
   row_keeps n W (Some (done H vs)) k = record { spends = k.spends; top = k.top; others = k.others }
   row_keeps n W (Some (no_result why)) k = now_keeps n W _ k
 
+  runs_one_keeps : (n : ℕ) (W : World F S) (chain : List ℕ) → Keeps n W → Keeps n (runs_one W chain)
+  runs_one_keeps n W [] k = now_keeps n W _ k
+  runs_one_keeps n W (co ∷ chain) k = now_keeps n W _ k
+
   primitive_keeps : (n : ℕ) (p : Primitive) (W : World F S) (vs : List Value) → Keeps n W → Keeps n (does_primitive system p W vs)
   primitive_keeps n lua_error W vs k = error_keeps n W (nth vs 0) (nth vs 1) (level_in (nth vs 1)) k
   primitive_keeps n lua_pcall W vs k = calls_over_keep n W protected (nth vs 0) (drop 1 vs) k
@@ -295,7 +299,7 @@ module _ {F S : Type 0} (system : System F S) where
   primitive_keeps n coroutine_close W vs k = with_keeps n W (codes "close") (nth vs 0) _ k (λ co c few. closes_keep n W co c k)
   primitive_keeps n coroutine_status W vs k = with_keeps n W (codes "status") (nth vs 0) _ k (λ co c few. now_keeps n W _ k)
   primitive_keeps n coroutine_isyieldable W vs k = now_keeps n W _ k
-  primitive_keeps n coroutine_running W vs k = now_keeps n W _ k
+  primitive_keeps n coroutine_running W vs k = runs_one_keeps n W W.chain k
   primitive_keeps n prelude_out W vs k = record { spends = k.spends; top = k.top; others = k.others }
   primitive_keeps n p W vs k = row_keeps n W (row p W.heap vs) k
 

@@ -1,13 +1,16 @@
 -- Handlers in metatables and the primitives on tables, by runs of scripts. What is expected is what the Lua 5.4 manual says.
-use Rattle.std.proofs.Common.{◌≡◌, List, [], ◌∷◌, refl}
+use Rattle.std.proofs.Common.{◌≡◌, false, cond, List, [], ◌∷◌, length, Some, None, refl, ap}
 use Prim.Native.String.{String}
+use Rattle.std.specs.Prelude.{nat_le, codes}
 use Rattle.std.specs.Int.{int_wrap}
 use Rattle.std.specs.Fmt.{digits}
-use Rattle.int_core.specs.Heap.{raw_set}
+use Rattle.int_core.specs.Value.{greatest_string, nil, Value, known}
+use Rattle.int_core.specs.Heap.{Heap, raw_set}
+use Rattle.int_core.specs.Operations.{ask}
 use Rattle.tree_core.specs.declared.operator.BinOp.TheVariants.{Add, Mul, Concat, Lt, Le, Gt, Eq, Ne}
 use Rattle.tree_core.specs.declared.operator.UnOp.TheVariants.{Neg, Len}
 use Rattle.tree_core.specs.Tree.{Stat, Exp, Nil, Table, Unary, Index, Keyed, Item, Field, fields}
-use Rattle.lua_meaning.specs.Primitives.{put_metatable}
+use Rattle.lua_meaning.specs.Primitives.{put_metatable, prelude_text, refused, gives, word, done_so, next_in, text_in, row}
 use Rattle.lua_meaning.proofs.Scripts.{loc, global, int, str, bin, call, field, function, block, returning, loc_is, assign, does, fun, env, chunk, run, ran, prints, usual}
 
 abbrev keyed : String → Exp → Field
@@ -98,3 +101,14 @@ nil_index : run 300 (chunk (block (loc_is "t" 0 (Table 1 (fields [])) ∷ assign
     ≡ ran "error\ts.lua:1: table index is nil\n" 1
 unfolding digits
 nil_index = refl
+
+-- a text that a `__name` makes too long for a string is an error
+too_long : (H : Heap) (t : Value) → nat_le (length (text_in H t)) greatest_string ≡ false → row prelude_text H (t ∷ []) ≡ Some (refused (codes "resulting string too large"))
+too_long H t long = ap (λ b. Some (cond b (gives H (word (text_in H t))) (refused (codes "resulting string too large")))) long
+
+-- what cannot arise has no result, and no error with an empty text
+no_table : (H : Heap) (key : Value) → next_in H (known nil) key ≡ None
+no_table H key = refl
+
+no_handler : (h : Value) (vs : List Value) → done_so (ask h vs) ≡ None
+no_handler h vs = refl

@@ -1,8 +1,8 @@
 -- The primitives of the base library that look at values and tables alone (Lua 5.4 manual, 6.1). A missing argument counts as nil, except
 -- where arguments are counted.
-use Rattle.std.specs.Prelude.{ℕ, zero, suc, ◌+◌, ◌-◌, ℤ, pos, negsuc, Bool, true, false, cond, List, [], ◌∷◌, ◌++◌, length, drop, Option, Some, None, nat_lt, slice_get, slice_set, codes, decimal, bytes_eq}
+use Rattle.std.specs.Prelude.{ℕ, zero, suc, ◌+◌, ◌-◌, ℤ, pos, negsuc, Bool, true, false, cond, List, [], ◌∷◌, ◌++◌, length, drop, Option, Some, None, nat_le, nat_lt, slice_get, slice_set, codes, decimal, bytes_eq}
 use Rattle.int_core.specs.Rows.{next}
-use Rattle.int_core.specs.Value.{nil, boolean, integer, string, primitive, a_table, Value, known, object, Shape, is_object, shape, same, is_nil, table_values, nth, bind}
+use Rattle.int_core.specs.Value.{greatest_string, nil, boolean, integer, string, primitive, a_table, Value, known, object, Shape, is_object, shape, same, is_nil, table_values, nth, bind}
 use Rattle.int_core.specs.Heap.{Heap, raw_get, metatable_of}
 use Rattle.int_core.specs.Operations.{Settled, found, ask, fault, type_name, integer_text, number_in, raw_length, set_raw}
 
@@ -55,26 +55,27 @@ is_table (object a_table n) = true
 is_table _ = false
 
 -- the first argument has to be a table
-abbrev pub with_table : List ℕ → List Value → Done → Done
-with_table f vs goes = cond (is_table (nth vs 0)) goes (refused (wrong_type 1 f (codes "table") (nth vs 0)))
+abbrev pub with_table : List ℕ → List Value → Option Done → Option Done
+with_table f vs goes = cond (is_table (nth vs 0)) goes (Some (refused (wrong_type 1 f (codes "table") (nth vs 0))))
 
 abbrev pub gives : Heap → Value → Done
 gives H v = done H (v ∷ [])
 
-abbrev pub done_so : Settled → Done
-done_so (found H vs) = done H vs
-done_so (ask h vs) = refused []
-done_so (fault why) = refused why
+-- none of these asks a handler
+abbrev pub done_so : Settled → Option Done
+done_so (found H vs) = Some (done H vs)
+done_so (ask h vs) = None
+done_so (fault why) = Some (refused why)
 
 -- the rows
 
 -- the row behind a key's row; a key that has no row is an error
-abbrev pub next_in : Heap → Value → Value → Done
+abbrev pub next_in : Heap → Value → Value → Option Done
 next_in H (object a_table n) key = elim (bind (slice_get H.tables n) (λ t. next table_values t.rows key)) [
-  | None ↦ refused (codes "invalid key to 'next'")
-  | Some found_row ↦ elim found_row [ None ↦ gives H (known nil) | Some row ↦ done H (row.0 ∷ row.1 ∷ []) ]
+  | None ↦ Some (refused (codes "invalid key to 'next'"))
+  | Some found_row ↦ Some (elim found_row [ None ↦ gives H (known nil) | Some row ↦ done H (row.0 ∷ row.1 ∷ []) ])
 ]
-next_in H t key = refused []
+next_in H t key = None
 
 -- those from the nth on; a negative n counts from the end
 abbrev pub selected : Heap → Option ℤ → Value → List Value → Done
@@ -119,10 +120,10 @@ sets_metatable H t v = refused (wrong_type 2 (codes "setmetatable") (codes "nil 
 abbrev pub raw_field : Heap → Value → Value → Value
 raw_field H t key = elim (raw_get H t key) [ None ↦ known nil | Some v ↦ v ]
 
-abbrev pub raw_size : Heap → Value → Done
+abbrev pub raw_size : Heap → Value → Option Done
 raw_size H (object a_table n) = done_so (raw_length H (object a_table n))
-raw_size H (known (string s)) = gives H (known (integer (pos (length s))))
-raw_size H v = refused (wrong_type 1 (codes "rawlen") (codes "table or string") v)
+raw_size H (known (string s)) = Some (gives H (known (integer (pos (length s)))))
+raw_size H v = Some (refused (wrong_type 1 (codes "rawlen") (codes "table or string") v))
 
 -- the text of a value without a `__tostring`; of an object it begins with a string `__name` where there is one, and never shows a number
 abbrev pub kind_text : Shape → Value → List ℕ
@@ -141,25 +142,29 @@ text_by_name (object kind n) name = kind_text (is_object kind) name
 abbrev pub text_in : Heap → Value → List ℕ
 text_in H v = text_by_name v (meta_field H v (codes "__name"))
 
+-- with a `__name` it may be too long for a string
+abbrev pub gives_text : Heap → List ℕ → Done
+gives_text H bytes = cond (nat_le (length bytes) greatest_string) (gives H (word bytes)) (refused (codes "resulting string too large"))
+
 abbrev pub name_in : Value → List ℕ
 name_in (known (string s)) = s
 name_in v = []
 
--- a primitive that looks at values and tables alone; None for those that move frames or print
+-- a primitive that looks at values and tables alone; None for those that move frames or print, and for what cannot arise
 abbrev pub row : Primitive → Heap → List Value → Option Done
 row lua_getmetatable H vs = Some (gives H (seen_metatable H (nth vs 0)))
-row lua_next H vs = Some (with_table (codes "next") vs (next_in H (nth vs 0) (nth vs 1)))
+row lua_next H vs = with_table (codes "next") vs (next_in H (nth vs 0) (nth vs 1))
 row lua_rawequal H vs = Some (gives H (known (boolean (same (nth vs 0) (nth vs 1)))))
-row lua_rawget H vs = Some (with_table (codes "rawget") vs (gives H (raw_field H (nth vs 0) (nth vs 1))))
-row lua_rawlen H vs = Some (raw_size H (nth vs 0))
-row lua_rawset H vs = Some (with_table (codes "rawset") vs (elim (set_raw H (nth vs 0) (nth vs 1) (nth vs 2)) [
-  | found J ws ↦ gives J (nth vs 0)
-  | ask h ws ↦ refused []
-  | fault why ↦ refused why
-]))
+row lua_rawget H vs = with_table (codes "rawget") vs (Some (gives H (raw_field H (nth vs 0) (nth vs 1))))
+row lua_rawlen H vs = raw_size H (nth vs 0)
+row lua_rawset H vs = with_table (codes "rawset") vs (elim (set_raw H (nth vs 0) (nth vs 1) (nth vs 2)) [
+  | found J ws ↦ Some (gives J (nth vs 0))
+  | ask h ws ↦ None
+  | fault why ↦ Some (refused why)
+])
 row lua_select H vs = Some (selects H vs)
-row lua_setmetatable H vs = Some (with_table (codes "setmetatable") vs (sets_metatable H (nth vs 0) (nth vs 1)))
+row lua_setmetatable H vs = with_table (codes "setmetatable") vs (Some (sets_metatable H (nth vs 0) (nth vs 1)))
 row lua_type H vs = Some (gives H (word (type_of (nth vs 0))))
 row prelude_meta H vs = Some (gives H (meta_field H (nth vs 0) (name_in (nth vs 1))))
-row prelude_text H vs = Some (gives H (word (text_in H (nth vs 0))))
+row prelude_text H vs = Some (gives_text H (text_in H (nth vs 0)))
 row _ H vs = None

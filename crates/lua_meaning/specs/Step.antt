@@ -43,8 +43,10 @@ status_of (normal frames) = codes "normal"
 status_of dead = codes "dead"
 status_of (failed e pending) = codes "dead"
 
-abbrev pub running_one : {F S : Type 0} → World F S → Value
-running_one W = elim W.chain [ [] ↦ known nil | co ∷ chain ↦ object a_coroutine co ]
+-- the running coroutine, and whether it is the main one
+abbrev pub runs_one : {F S : Type 0} → World F S → (chain : List ℕ) → World F S
+runs_one W [] = breaks W
+runs_one W (co ∷ chain) = now_in W (gives_back (object a_coroutine co ∷ truth false ∷ []))
 
 abbrev pub after_row : {F S : Type 0} → World F S → Option Done → World F S
 after_row W None = breaks W
@@ -66,7 +68,7 @@ module _ {F S : Type 0} (system : System F S) where
   does_primitive coroutine_close W vs = with_coroutine W (codes "close") (nth vs 0) (λ co c. closes_coroutine system W co c)
   does_primitive coroutine_status W vs = with_coroutine W (codes "status") (nth vs 0) (λ co c. gives_one W (text (status_of c)))
   does_primitive coroutine_isyieldable W vs = gives_one W (truth true)
-  does_primitive coroutine_running W vs = now_in W (gives_back (running_one W ∷ truth false ∷ []))
+  does_primitive coroutine_running W vs = runs_one W W.chain
   does_primitive prelude_out W vs = now_in (record W { printed = W.printed ++ name_in (nth vs 0) }) (gives_back [])
   does_primitive p W vs = after_row W (row p W.heap vs)
 

@@ -13,7 +13,7 @@ use Rattle.lua_meaning.specs.Calls.{error_in_handler, error_or_nil, put_coroutin
 use Rattle.lua_meaning.specs.Asks.{calls_for, calls_in_place, settled, pays_unit, handle, turns, talks_on}
 use Rattle.lua_meaning.specs.Primitives.{Primitive, lua_error, lua_pcall, lua_xpcall, coroutine_close, coroutine_create, coroutine_isyieldable, coroutine_resume, coroutine_running, coroutine_status, coroutine_yield, prelude_out, Done, done, row}
 use Rattle.lua_meaning.specs.Primitives.{refused as no_result}
-use Rattle.lua_meaning.specs.Step.{error_by, level_in, creates, with_coroutine, after_row, does_primitive, has_ended, tick_by, gives_one, status_of}
+use Rattle.lua_meaning.specs.Step.{error_by, level_in, creates, with_coroutine, after_row, does_primitive, has_ended, tick_by, gives_one, status_of, runs_one}
 use Rattle.lua_meaning.specs.Opening.{primitives}
 use Rattle.lua_meaning.specs.TreeMeaning.{trees}
 use Rattle.meaning_ends.specs.Units.{IsOnTheUnit, FallsBelow}
@@ -418,6 +418,10 @@ module _ (celling : Celling) where
       after b c (m + p.top + 1) _ (either b (m + p.top + 1) (runs_main W) _ _ (has_end refl (m, p))
       (back_goes b (m + p.top + 1) m p.top W (suspended W.frames) _ W.chain W.frames h (m, p) p p.frames_fit (omega arith)))
 
+  runs_one_after : (b c m : ℕ) (W : Run) (chain : List ℕ) → W.fuel ≤ b → Fits W.chain W.frames W.coroutines m → After b c (runs_one W chain)
+  runs_one_after b c m W [] h p = settles h refl (m, p)
+  runs_one_after b c m W (co ∷ chain) h p = settles h refl (m, p)
+
   primitive_after : (b m : ℕ) (k : Primitive) (W : Run) (vs : List Value) → W.fuel ≤ b → Fits W.chain W.frames W.coroutines m → After b (fresh_count W.coroutines) (does_primitive system k W vs)
   primitive_after b m lua_error W vs h p = error_after b _ m W (nth vs 0) (nth vs 1) (level_in (nth vs 1)) h p
   primitive_after b m lua_pcall W vs h p = after b _ (1 + m + 4) _ (calls_over_go b (1 + m + 4) m 1 W protected (nth vs 0) (drop 1 vs) h p (omega arith) (omega arith))
@@ -431,7 +435,7 @@ module _ (celling : Celling) where
   primitive_after b m coroutine_status W vs h p =
       with_after b _ m p.others W (codes "status") (nth vs 0) (λ co c. gives_one W (text (status_of c))) h p p.others_fit (λ co d e fit. settles h refl (m, p))
   primitive_after b m coroutine_isyieldable W vs h p = settles h refl (m, p)
-  primitive_after b m coroutine_running W vs h p = settles h refl (m, p)
+  primitive_after b m coroutine_running W vs h p = runs_one_after b _ m W W.chain h p
   primitive_after b m prelude_out W vs h p = settles h refl (m, p)
   primitive_after b m k W vs h p = row_after b _ m W (row k W.heap vs) h p
 

@@ -9,7 +9,7 @@ use Rattle.lua_meaning.specs.Calls.{text}
 use Rattle.lua_meaning.specs.Asks.{turns}
 use Rattle.lua_meaning.specs.Primitives.{Primitive, lua_error, lua_pcall, lua_xpcall, coroutine_close, coroutine_create, coroutine_isyieldable, coroutine_resume, coroutine_running, coroutine_status, coroutine_yield, prelude_out, Done, done, name_in, row}
 use Rattle.lua_meaning.specs.Primitives.{refused as no_result}
-use Rattle.lua_meaning.specs.Step.{placed, error_by, level_in, creates, with_coroutine, status_of, after_row, does_primitive, has_ended, tick, ticks}
+use Rattle.lua_meaning.specs.Step.{placed, error_by, level_in, creates, with_coroutine, status_of, runs_one, after_row, does_primitive, has_ended, tick, ticks}
 use Rattle.runs_alike.proofs.Dressed.{Part, dress, dress_coroutine, dress_coroutines, dress_world, Mid, Body, FramesLike, CoroutineLike, CoroutinesLike, Like, Out}
 use Rattle.runs_alike.proofs.Moving.{with_same, with_like, where_same, either_out, now_out, raises_out, yields_out}
 use Rattle.runs_alike.proofs.Answering.{calls_over_out, resumes_out, closes_out}
@@ -196,6 +196,10 @@ module _ {A B S T : Type 0} (Sa : System A S) (Sb : System B T) (R : Bool → A 
   status_same dead ys = refl
   status_same (failed e pending) ys = refl
 
+  runs_one_out : (W : World A S) (bs : List B) (xss : List (List (Part T))) (xs : List (Part T)) (chain : List ℕ) → Alike W bs xss xs → Both (runs_one W chain) (runs_one (dress_world W bs xss xs) chain)
+  runs_one_out W bs xss xs [] like = now_out Sa Sb R Q W bs xss xs _ like
+  runs_one_out W bs xss xs (co ∷ chain) like = now_out Sa Sb R Q W bs xss xs _ like
+
   pub primitive_out : (p : Primitive) (W : World A S) (bs : List B) (xss : List (List (Part T))) (xs : List (Part T)) (vs : List Value) → Alike W bs xss xs
       → Both (does_primitive Sa p W vs) (does_primitive Sb p (dress_world W bs xss xs) vs)
   primitive_out lua_error W bs xss xs vs like = error_out W bs xss xs (nth vs 0) (nth vs 1) (level_in (nth vs 1)) like
@@ -211,7 +215,7 @@ module _ {A B S T : Type 0} (Sa : System A S) (Sb : System B T) (R : Bool → A 
       with_out W bs xss xs (codes "status") (nth vs 0) _ _ like (λ co c ys one.
       subst (λ z. Both (now_in W (gives_back (text (status_of c) ∷ []))) (now_in (dress_world W bs xss xs) (gives_back (text z ∷ [])))) (sym (status_same c ys)) (now_out Sa Sb R Q W bs xss xs _ like))
   primitive_out coroutine_isyieldable W bs xss xs vs like = now_out Sa Sb R Q W bs xss xs _ like
-  primitive_out coroutine_running W bs xss xs vs like = now_out Sa Sb R Q W bs xss xs _ like
+  primitive_out coroutine_running W bs xss xs vs like = runs_one_out W bs xss xs W.chain like
   primitive_out prelude_out W bs xss xs vs like =
       now_out Sa Sb R Q (record W { printed = W.printed ++ name_in (nth vs 0) }) bs xss xs _ (record { functions = like.functions; coroutines = like.coroutines; frames = like.frames })
   primitive_out p W bs xss xs vs like = row_out W bs xss xs (row p W.heap vs) like
