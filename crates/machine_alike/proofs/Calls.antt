@@ -1,5 +1,5 @@
 -- Calls, errors of a frame's own step, and frames that are left keep agreement.
-use Rattle.std.proofs.Common.{ℕ, zero, suc, ◌-◌, ◌≡◌, List, [], ◌∷◌, ◌++◌, Option, Some, None, refl, subst, ap, ◌∙◌, drop, Bool, not, cond}
+use Rattle.std.proofs.Common.{ℕ, zero, suc, ◌≡◌, List, [], ◌∷◌, ◌++◌, Option, Some, None, refl, subst, ap, ◌∙◌, drop, Bool, not, cond}
 use Rattle.std.specs.Prelude.{slice_get, nat_eq, reverse, filter_map, codes, decimal}
 use Rattle.code_core.specs.Prototype.{Prototype}
 use Rattle.code_core.specs.Writable.{string_fits}
@@ -7,7 +7,7 @@ use Rattle.int_core.specs.Value.{nil, boolean, integer, string, primitive, a_tab
 use Rattle.int_core.specs.Operations.{Callee, callee_of, greatest_chain, handler_in, of_close}
 use Rattle.machine_core.specs.World.{Function, Wait, running, for_call, for_iterator, for_value, for_truth, dropped, for_concat, for_close, returning, leaving, LuaFrame, Frame, lua, World, Stack, stack_of, Place}
 use Rattle.machine_core.specs.Text.{Arg, arg, Own, close_cells, keep_pending, Given, results, thrown, given_values}
-use Rattle.machine_core.specs.Moves.{without_mark, line_of, frame_place, where_text, blamed, stack_overflow, made, enter, enter_tail, find_close, is_closable, begin_leaving, leave_frame, CallShape, is_entered, is_primitive, not_paid, not_entered, TopShape, no_top, named, new_frame, has_room, enters, enters_paid, called, popped, called_tail, runs_main, top_shape, top_now}
+use Rattle.machine_core.specs.Moves.{without_mark, line_of, frame_place, where_text, limited, placed, blamed, stack_overflow, made, enter, enter_tail, await, find_close, is_closable, begin_leaving, leave_frame, CallShape, is_entered, is_primitive, not_paid, not_entered, TopShape, no_top, named, new_frame, has_room, enters, enters_paid, called, popped, called_tail, runs_main, top_shape, top_now}
 use Rattle.machine_alike.specs.Agree.{Pairs, SameNumber, Each, SameValue, same_known, same_object, SameValues, SameFunction, SameWait, same_running, same_for_call, same_for_iterator, same_for_value, same_for_truth, same_dropped, same_for_concat, same_for_close, same_returning, same_leaving, SameLuaFrame, SameFrame, same_lua, same_pcall, same_xpcall, same_handler, same_closing, AgreeInTurn}
 use Rattle.machine_alike.specs.Laws.{MadeAlike, Alike, Keeps}
 use Rattle.machine_alike.proofs.Pairwise.{each_bind, zip_found, zip_reverse, zip_last, zip_length, zip_drop, cond_rel}
@@ -112,7 +112,7 @@ place_same_text p W X a f g same_handler = refl
 place_same_text p W X a f g (same_closing v w vs ws h k) = refl
 
 abbrev where_by : World → ℕ → Option Stack → List ℕ
-where_by W level o = elim (bind o (λ s. slice_get (filter_map (frame_place W) (reverse s.frames)) (level - 1))) [ None ↦ [] | Some text ↦ text ]
+where_by W level o = elim (bind o (λ s. slice_get (filter_map (frame_place W) (reverse s.frames)) level)) [ None ↦ [] | Some text ↦ text ]
 
 where_same : (p : Pairs) (W X : World) (level : ℕ) → AgreeInTurn p W X → where_text W level ≡ where_text X level
 where_same p W X level a = by (stack_of W) (stack_of X) (stack_same p W X a)
@@ -122,13 +122,30 @@ where_same p W X level a = by (stack_of W) (stack_of X) (stack_same p W X a)
     by None (Some t) k = absurd k
     by (Some s) None k = absurd k
     by (Some s) (Some t) k =
-        ap (λ texts. elim (slice_get texts (level - 1)) [ None ↦ [] | Some text ↦ text ])
+        ap (λ texts. elim (slice_get texts level) [ None ↦ [] | Some text ↦ text ])
         (zip_found (SameFrame p) (frame_place W) (frame_place X) (place_same_text p W X a) (reverse s.frames) (reverse t.frames) (zip_reverse (SameFrame p) s.frames t.frames k.frames))
 
 pub blamed_same : (p : Pairs) (W X : World) (text : List ℕ) → AgreeInTurn p W X → SameValue p (blamed W text) (blamed X text)
 blamed_same p W X text a =
-    let e : blamed W text ≡ blamed X text = ap (λ front. known (string (cond (string_fits (front ++ text)) (front ++ text) (codes "resulting string too large")))) (where_same p W X 1 a) in
-    subst (λ v. SameValue p (blamed W text) v) e (same_known (string (cond (string_fits (where_text W 1 ++ text)) (where_text W 1 ++ text) (codes "resulting string too large"))))
+    let e : blamed W text ≡ blamed X text = ap (λ front. known (string (cond (string_fits (front ++ text)) (front ++ text) (codes "resulting string too large")))) (where_same p W X 0 a) in
+    subst (λ v. SameValue p (blamed W text) v) e (same_known (string (cond (string_fits (where_text W 0 ++ text)) (where_text W 0 ++ text) (codes "resulting string too large"))))
+
+pub placed_same : (p : Pairs) (W X : World) (level : ℕ) (v w : Value) → AgreeInTurn p W X → SameValue p v w → SameValue p (placed W level v) (placed X level w)
+placed_same p W X level v w a (same_known (string text)) =
+    let e : limited (where_text W level ++ text) ≡ limited (where_text X level ++ text) = ap (λ front. limited (front ++ text)) (where_same p W X level a) in
+    subst (λ v. SameValue p (limited (where_text W level ++ text)) v) e (same_known (string (cond (string_fits (where_text W level ++ text)) (where_text W level ++ text) (codes "resulting string too large"))))
+placed_same p W X level v w a (same_known nil) = same_known nil
+placed_same p W X level v w a (same_known (boolean b)) = same_known (boolean b)
+placed_same p W X level v w a (same_known (integer n)) = same_known (integer n)
+placed_same p W X level v w a (same_known (primitive n)) = same_known (primitive n)
+placed_same p W X level v w a (same_object kind i j h) = same_object kind i j h
+
+pub await_keeps : (f : Arg) (slot : ℕ) (wait : Wait Arg) (prepared : List Own) → Keeps (await f slot wait prepared)
+await_keeps f slot wait prepared p env other W X s g = on_place p (Unit {0}) W X _ _ g
+    (λ a b h. made_same p p (Unit {0}) _ _ [] [] tt tt (extends_self p)
+    (moving_agrees p _ _ (arg env f ∷ drop slot env) (arg other f ∷ drop slot other)
+    (with_own_same p W X a b (named env wait) (named other wait) prepared env other g h (named_same p env other wait s) s) (arg_same p env other f s, zip_drop (SameValue p) slot env other s))
+    tt refl)
 
 pub begin_leaving_keeps : (text : List ℕ) → Keeps (begin_leaving text)
 begin_leaving_keeps text p env other W X s g = on_place p (Unit {0}) W X _ _ g

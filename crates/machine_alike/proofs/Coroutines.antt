@@ -188,20 +188,20 @@ resume_keeps x slot p env other W X s g = on_stack p ResumeShape W X _ _ g
 
 -- closing a coroutine
 
-closes_same : (p : Pairs) (W X : World) (s t : Stack) (e f : Option Value) (vs ws : List Value) → AgreeInTurn p W X → SameStack p s t → Each (SameValue p) e f → SameValues p vs ws → Alike p ResumeShape (closes_in W s e vs) (closes_in X t f ws)
-closes_same p W X s t e f vs ws a b h k =
+closes_same : (p : Pairs) (W X D E : World) (s t : Stack) (e f : Option Value) (vs ws : List Value) → AgreeInTurn p W X → AgreeInTurn p D E → SameStack p s t → Each (SameValue p) e f → SameValues p vs ws → Alike p ResumeShape (closes_in W D s e vs) (closes_in X E t f ws)
+closes_same p W X D E s t e f vs ws a d b h k =
     cond_rel (Alike p ResumeShape) (has_room W 1) (has_room X 1) _ _ _ _ (has_room_same p W X 1 a)
-    (made_same p p ResumeShape (push W s (closing e vs)) (push X t (closing f ws)) [] [] (resumed is_entered) (resumed is_entered) (extends_self p) (push_same p W X s t (closing e vs) (closing f ws) a b (same_closing e f vs ws h k)) tt refl)
+    (made_same p p ResumeShape (push D s (closing e vs)) (push E t (closing f ws)) [] [] (resumed is_entered) (resumed is_entered) (extends_self p) (push_same p D E s t (closing e vs) (closing f ws) d b (same_closing e f vs ws h k)) tt refl)
     (made_same p p ResumeShape W X [] [] (resumed (not_entered stack_overflow)) (resumed (not_entered stack_overflow)) (extends_self p) a tt refl)
 
 closes_coroutine_same : (p : Pairs) (W X : World) (s t : Stack) (i j : ℕ) → AgreeInTurn p W X → SameStack p s t → SameNumber p a_coroutine i j → (c d : Coroutine) → SameCoroutine p c d → Alike p ResumeShape (closes_coroutine W s i c) (closes_coroutine X t j d)
-closes_coroutine_same p W X s t i j a b h c d (same_fresh v w k) = closes_same p _ _ s t None None [] [] (put_coroutine_same p W X i j dead dead a h same_dead) b tt tt
+closes_coroutine_same p W X s t i j a b h c d (same_fresh v w k) = closes_same p W X _ _ s t None None [] [] a (put_coroutine_same p W X i j dead dead a h same_dead) b tt tt
 closes_coroutine_same p W X s t i j a b h c d (same_suspended fs gs k) =
-    closes_same p _ _ s t None None (flat_map pending_values fs) (flat_map pending_values gs) (put_coroutine_same p _ _ i j dead dead (closed_agree p W X i j fs gs a h k) h same_dead) b tt (all_pending_same p fs gs k)
+    closes_same p W X _ _ s t None None (flat_map pending_values fs) (flat_map pending_values gs) a (put_coroutine_same p _ _ i j dead dead (closed_agree p W X i j fs gs a h k) h same_dead) b tt (all_pending_same p fs gs k)
 closes_coroutine_same p W X s t i j a b h c d (same_in_progress fs gs k) = refused_same p W X _ a
 closes_coroutine_same p W X s t i j a b h c d (same_normal fs gs k) = refused_same p W X _ a
-closes_coroutine_same p W X s t i j a b h c d same_dead = closes_same p W X s t None None [] [] a b tt tt
-closes_coroutine_same p W X s t i j a b h c d (same_failed v w vs ws k l) = closes_same p _ _ s t (Some v) (Some w) vs ws (put_coroutine_same p W X i j dead dead a h same_dead) b k l
+closes_coroutine_same p W X s t i j a b h c d same_dead = closes_same p W X W X s t None None [] [] a a b tt tt
+closes_coroutine_same p W X s t i j a b h c d (same_failed v w vs ws k l) = closes_same p W X _ _ s t (Some v) (Some w) vs ws a (put_coroutine_same p W X i j dead dead a h same_dead) b k l
 
 pub begin_closing_keeps : (x : Arg) → Keeps (begin_closing x)
 begin_closing_keeps x p env other W X s g = on_stack p ResumeShape W X _ _ g

@@ -10,8 +10,8 @@ use Rattle.int_core.specs.Value.{Value, bind, last}
 use Rattle.machine_core.specs.World.{Function, Wait, leaving, LuaFrame, Frame, lua, lua_frame, World, Stack, stack_of, Place, place_of}
 use Rattle.machine_core.specs.Text.{Text, trap}
 use Rattle.machine_core.specs.InstructionRows.{text_at, text_by, rest_by, rest_at}
-use Rattle.machine_core.specs.Moves.{Row, act, see_top, Ending, go, returned, calls_primitive, raised, unwinding, spent, main_returned, main_failed, main_yielded, Outcome, trapped, run}
-use Rattle.machine_core.specs.FrameRows.{expand, raised_row, unwound, handed_to}
+use Rattle.machine_core.specs.Moves.{Row, act, see_top, Ending, go, returned, asks, calls_primitive, raised, unwinding, spent, main_returned, main_failed, main_yielded, Outcome, trapped, run}
+use Rattle.machine_core.specs.FrameRows.{by_asking, expand, goes_on_by, asked_row, raised_row, unwound, handed_to}
 use Rattle.machine_core.specs.MachineStep.{woken, lua_step, frame_step, top_step, from_world, step_by, step, and_then, steps}
 use Rattle.machine_core.specs.RowFits.{MakesNone, OpensFirst}
 use Rattle.machine_core.proofs.RowsOpen.{row_opens, rest_none}
@@ -20,9 +20,9 @@ use Rattle.machine_alike.specs.Laws.{SameOutcome, both_trap, both_end, NoneMade,
 use Rattle.machine_alike.proofs.Pairwise.{zip_last, zip_length}
 use Rattle.machine_alike.proofs.Same.{SameStack, SamePlace, stack_same, function_at, extends_self}
 use Rattle.machine_alike.proofs.Frames.{moving_agrees, put_top_same}
-use Rattle.machine_alike.proofs.PlainRows.{raised_none, unwound_none, handed_to_none}
+use Rattle.machine_alike.proofs.PlainRows.{asked_none, raised_none, unwound_none, handed_to_none}
 use Rattle.machine_alike.proofs.Opened.{open_none, Ready}
-use Rattle.machine_alike.proofs.Rows.{outcome_on, rows_keep, keeps_plain, first_keeps}
+use Rattle.machine_alike.proofs.Rows.{outcome_on, rows_keep, keeps_plain_by, first_keeps}
 
 woken_same : (p : Pairs) (W X : World) (s t : Stack) (f g : LuaFrame) → AgreeInTurn p W X → SameStack p s t → SameLuaFrame p f g → AgreeInTurn p (woken W s f) (woken X t g)
 unfolding woken
@@ -76,10 +76,10 @@ place_is W s f x d e g =
 module _ (p : Pairs) (W X : World) (s t : Stack) (f g : LuaFrame) (a : AgreeInTurn p W X) (b : SameStack p s t) (h : SameLuaFrame p f g) where
   -- the frame goes on with what has come
   goes_on : (code : Prototype) (v w : Wait Value) (vs ws : List Value) → rest_at v code f.own.pc ≡ rest_at w code f.own.pc → SameValues p vs ws
-      → SameOutcome p (run (expand (rest_at v code f.own.pc)) vs (woken W s f)) (run (expand (rest_at w code g.own.pc)) ws (woken X t g))
+      → SameOutcome p (run (goes_on_by (rest_at v code f.own.pc)) vs (woken W s f)) (run (goes_on_by (rest_at w code g.own.pc)) ws (woken X t g))
   goes_on code v w vs ws e k =
-      let r = keeps_plain (rest_at v code f.own.pc) (rest_plain v code f.own.pc) p vs ws (woken W s f) (woken X t g) k (woken_same p W X s t f g a b h) in
-      subst (λ rest. SameOutcome p (run (expand (rest_at v code f.own.pc)) vs (woken W s f)) (run (expand rest) ws (woken X t g))) (e ∙ ap (rest_at w code) h.own.pc) r
+      let r = keeps_plain_by by_asking (rest_at v code f.own.pc) (rest_plain v code f.own.pc) p vs ws (woken W s f) (woken X t g) k (woken_same p W X s t f g a b h) in
+      subst (λ rest. SameOutcome p (run (goes_on_by (rest_at v code f.own.pc)) vs (woken W s f)) (run (goes_on_by rest) ws (woken X t g))) (e ∙ ap (rest_at w code) h.own.pc) r
 
   lua_by : (code : Prototype) → Ready p code [] W X → (v w : Wait Value) → SameWait p v w → SameOutcome p (lua_step W s f code v) (lua_step X t g code w)
   lua_by code ready v w same_running =
@@ -151,6 +151,7 @@ from_world_same p W X o o' a (both_end q spent V Y h b) = both_end p spent W X (
 from_world_same p W X o o' a (both_end q go V Y h b) = both_end q go V Y h b
 from_world_same p W X o o' a (both_end q returned V Y h b) = both_end q returned V Y h b
 from_world_same p W X o o' a (both_end q (calls_primitive n) V Y h b) = both_end q (calls_primitive n) V Y h b
+from_world_same p W X o o' a (both_end q asks V Y h b) = both_end q asks V Y h b
 from_world_same p W X o o' a (both_end q raised V Y h b) = both_end q raised V Y h b
 from_world_same p W X o o' a (both_end q unwinding V Y h b) = both_end q unwinding V Y h b
 from_world_same p W X o o' a (both_end q main_yielded V Y h b) = both_end q main_yielded V Y h b
@@ -166,6 +167,7 @@ module _ (primitives : ℕ → Row) (plain : (n : ℕ) → NoneMade (primitives 
   step_by_same go p W X a = or_trapped p (top_step W) (top_step X) (top_step_same p W X a)
   step_by_same returned p W X a = rows_keep (act see_top (λ _ top. handed_to top)) (λ _ top. handed_to_none top) p [] [] W X tt a
   step_by_same (calls_primitive n) p W X a = rows_keep (primitives n) (plain n) p [] [] W X tt a
+  step_by_same asks p W X a = rows_keep asked_row asked_none p [] [] W X tt a
   step_by_same raised p W X a = rows_keep raised_row raised_none p [] [] W X tt a
   step_by_same unwinding p W X a = rows_keep (act see_top (λ _ top. unwound top)) (λ _ top. unwound_none top) p [] [] W X tt a
   step_by_same spent p W X a = both_end p spent W X (extends_self p) a

@@ -1,17 +1,17 @@
 -- Values on their way, and moves on frames that are no Lua functions', keep agreement.
-use Rattle.std.proofs.Common.{ℕ, ◌≡◌, List, [], ◌∷◌, ◌++◌, Option, Some, None, refl, ap, ◌∙◌, length, drop}
+use Rattle.std.proofs.Common.{ℕ, ◌≡◌, List, [], ◌∷◌, ◌++◌, Option, Some, None, refl, drop, Bool, true, false}
 use Rattle.std.specs.Prelude.{reverse}
 use Rattle.int_core.specs.Value.{nil, Value, Shape, bind, last, without_last}
 use Rattle.machine_core.specs.World.{Frame, closing, World, Stack, stack_of, put_top, pop}
 use Rattle.machine_core.specs.Text.{Arg, arg, args_of}
-use Rattle.machine_core.specs.Moves.{blamed, stack_overflow, Over, over_nothing, over_pcall, over_xpcall, over_handler, frames_over, Made, made, take_moving, look, give, give_with, blame, enter_over, see_top, see_catcher, pop_frame, take_closing, set_error, CallShape, not_entered, TopShape, ClosingShape, one_left, all_closed, closed_with_error, has_room, handler_value, catcher, top_now, error_or_nil, next_closing, with_error}
+use Rattle.machine_core.specs.Moves.{blamed, placed, Over, over_pcall, over_xpcall, over_handler, frame_over, Made, made, take_moving, look, give, give_with, blame, place_text, push_frame, call_value, see_top, see_catcher, pop_frame, take_closing, set_error, TopShape, ClosingShape, one_left, all_closed, closed_with_error, has_room, handler_value, catcher, top_now, error_or_nil, next_closing, with_error}
 use Rattle.machine_alike.specs.Agree.{Pairs, Each, SameValue, same_known, SameValues, SameFrame, same_lua, same_pcall, same_xpcall, same_handler, same_closing, SameFrames, AgreeInTurn}
 use Rattle.machine_alike.specs.Laws.{MadeAlike, Alike, Keeps}
-use Rattle.machine_alike.proofs.Pairwise.{each_bind, zip_reverse, zip_last, zip_length, zip_append, zip_drop, zip_without_last, cond_rel}
+use Rattle.machine_alike.proofs.Pairwise.{each_bind, zip_reverse, zip_last, zip_append, zip_drop, zip_without_last, cond_rel}
 use Rattle.machine_alike.proofs.Same.{SameStack, stack_same, extends_self, shape_same}
 use Rattle.machine_alike.proofs.OwnMoves.{arg_same, args_same}
 use Rattle.machine_alike.proofs.Frames.{made_same, moving_agrees, put_top_same, pop_same, push_all_same, has_room_same}
-use Rattle.machine_alike.proofs.Calls.{called_same, blamed_same, top_shape_same, top_same}
+use Rattle.machine_alike.proofs.Calls.{placed_same, called_same, blamed_same, top_shape_same, top_same}
 
 -- a move at the stack of the machine
 pub on_stack : (p : Pairs) (A : Type 0) (W X : World) (f g : Stack → Option (Made A)) → AgreeInTurn p W X → ((s t : Stack) → SameStack p s t → Alike p A (f s) (g t)) → Alike p A (bind (stack_of W) f) (bind (stack_of X) g)
@@ -38,21 +38,24 @@ give_with_keeps xs slot p env other W X s g =
 pub blame_keeps : (text : List ℕ) → Keeps (blame text)
 blame_keeps text p env other W X s g = made_same p p (Unit {0}) _ _ [] [] tt tt (extends_self p) (moving_agrees p W X (blamed W text ∷ []) (blamed X text ∷ []) g (blamed_same p W X text g, tt)) tt refl
 
--- calls over new frames
+pub place_text_keeps : (x : Arg) (level : ℕ) → Keeps (place_text x level)
+place_text_keeps x level p env other W X s g = made_same p p (Unit {0}) W X (placed W level (arg env x) ∷ []) (placed X level (arg other x) ∷ []) tt tt (extends_self p) g (placed_same p W X level (arg env x) (arg other x) g (arg_same p env other x s), tt) refl
 
-over_same : (p : Pairs) (over : Over) (env other : List Value) → SameValues p env other → SameFrames p (frames_over over env) (frames_over over other)
-over_same p over_nothing env other s = tt
-over_same p over_pcall env other s = (same_pcall, tt)
-over_same p (over_xpcall h) env other s = (same_xpcall (arg env h) (arg other h) (arg_same p env other h s), tt)
-over_same p over_handler env other s = (same_handler, tt)
+-- new frames, and calls over them
 
-pub enter_over_keeps : (over : Over) (f : Arg) (slot : ℕ) → Keeps (enter_over over f slot)
-enter_over_keeps over f slot p env other W X s g =
-    let h = over_same p over env other s in
-    cond_rel (Alike p CallShape) (has_room W (length (frames_over over env))) (has_room X (length (frames_over over other))) _ _ _ _
-    (has_room_same p W X (length (frames_over over env)) g ∙ ap (has_room X) (zip_length (SameFrame p) (frames_over over env) (frames_over over other) h))
-    (called_same p W X _ _ (arg env f) (arg other f) (drop slot env) (drop slot other) g (push_all_same p (frames_over over env) (frames_over over other) W X g h) (arg_same p env other f s) (zip_drop (SameValue p) slot env other s))
-    (made_same p p CallShape W X [] [] (not_entered stack_overflow) (not_entered stack_overflow) (extends_self p) g tt refl)
+over_same : (p : Pairs) (over : Over) (env other : List Value) → SameValues p env other → SameFrame p (frame_over over env) (frame_over over other)
+over_same p over_pcall env other s = same_pcall
+over_same p (over_xpcall h) env other s = same_xpcall (arg env h) (arg other h) (arg_same p env other h s)
+over_same p over_handler env other s = same_handler
+
+pub push_frame_keeps : (over : Over) → Keeps (push_frame over)
+push_frame_keeps over p env other W X s g =
+    cond_rel (Alike p Bool) (has_room W 1) (has_room X 1) _ _ _ _ (has_room_same p W X 1 g)
+    (made_same p p Bool _ _ [] [] true true (extends_self p) (push_all_same p (frame_over over env ∷ []) (frame_over over other ∷ []) W X g (over_same p over env other s, tt)) tt refl)
+    (made_same p p Bool W X [] [] false false (extends_self p) g tt refl)
+
+pub call_value_keeps : (f : Arg) (slot : ℕ) → Keeps (call_value f slot)
+call_value_keeps f slot p env other W X s g = called_same p W X W X (arg env f) (arg other f) (drop slot env) (drop slot other) g g (arg_same p env other f s) (zip_drop (SameValue p) slot env other s)
 
 -- what is on top
 

@@ -1,9 +1,10 @@
 -- Which rows make no function: those of texts that make none, and those of frames, errors and results.
 use Rattle.std.proofs.Common.{ℕ, suc, Bool, true, false, cond, List, [], ◌∷◌}
-use Rattle.machine_core.specs.Text.{read, Own, read_upvalue, write_upvalue, make_table, make_function, fill_table, pay, Text, go_by, own, open_cell, quick, operate, call, tail_call, close, closable, raise, leave, trap, Given, results, thrown}
+use Rattle.machine_core.specs.World.{Wait}
+use Rattle.machine_core.specs.Text.{Arg, read, Own, read_upvalue, write_upvalue, make_table, make_function, fill_table, pay, Text, go_by, own, open_cell, quick, operate, call, tail_call, close, closable, raise, leave, trap, Given, results, thrown}
 use Rattle.machine_core.specs.InstructionRows.{fails, is_true}
 use Rattle.machine_core.specs.Moves.{CallShape, is_entered, is_primitive, not_paid, not_entered, SettledShape, is_found, is_asked, is_fault, TopShape, lua_top, pcall_top, xpcall_top, handler_top, closing_top, no_top, ClosingShape, one_left, all_closed, closed_with_error, Row, only}
-use Rattle.machine_core.specs.FrameRows.{handed, hand_over, raises, after_call, call_row, prepares, after_leaving, expand, after_handler, raised_to, raised_row, after_entry, closing_by, closing_row, unwound, handed_to}
+use Rattle.machine_core.specs.FrameRows.{handed, hand_over, raises, after_call, When, at_once, by_asking, calls_row, prepares, after_leaving, expand_by, raised_to, raised_row, refused_under, after_asked, asked_row, closing_by, closing_row, unwound, handed_to}
 use Rattle.machine_core.specs.RowFits.{MakesNone}
 use Rattle.machine_alike.specs.Laws.{NoneMade}
 
@@ -36,33 +37,37 @@ cond_none : (b : Bool) (r s : Row) → NoneMade r → NoneMade s → NoneMade (c
 cond_none true r s h k = h
 cond_none false r s h k = k
 
-pub expand_none : (t : Text) → MakesNone t → NoneMade (expand t)
-expand_none (go_by z) h = λ _ _. tt
-expand_none (own m k) h = λ n s. expand_none (k n s) (h n s)
-expand_none (open_cell r t) h = λ _ _. expand_none t h
-expand_none (quick (read_upvalue u) k) h = λ n _. expand_none (k n) (h n)
-expand_none (quick (write_upvalue u x) k) h = λ n _. expand_none (k n) (h n)
-expand_none (quick make_table k) h = λ n _. expand_none (k n) (h n)
-expand_none (quick (make_function n) k) h = absurd h
-expand_none (quick (fill_table t last slot) k) h = λ n _. expand_none (k n) (h n)
-expand_none (quick pay k) h = λ n paid. cond_none paid _ _ (expand_none (k n) (h n)) tt
-expand_none (operate op xs wait prepared t) h = λ n s. by n s (expand_none t h)
+calls_none : (when : When) (f : Arg) (slot : ℕ) (wait : Wait Arg) (prepared : List Own) → NoneMade (calls_row when f slot wait prepared)
+calls_none at_once f slot wait prepared = λ _ s. after_call_none s
+calls_none by_asking f slot wait prepared = λ _ _. tt
+
+pub expand_none : (when : When) (t : Text) → MakesNone t → NoneMade (expand_by when t)
+expand_none when (go_by z) h = λ _ _. tt
+expand_none when (own m k) h = λ n s. expand_none when (k n s) (h n s)
+expand_none when (open_cell r t) h = λ _ _. expand_none when t h
+expand_none when (quick (read_upvalue u) k) h = λ n _. expand_none when (k n) (h n)
+expand_none when (quick (write_upvalue u x) k) h = λ n _. expand_none when (k n) (h n)
+expand_none when (quick make_table k) h = λ n _. expand_none when (k n) (h n)
+expand_none when (quick (make_function n) k) h = absurd h
+expand_none when (quick (fill_table t last slot) k) h = λ n _. expand_none when (k n) (h n)
+expand_none when (quick pay k) h = λ n paid. cond_none paid _ _ (expand_none when (k n) (h n)) tt
+expand_none when (operate op xs wait prepared t) h = λ n s. by n s (expand_none when t h)
   where
-    by : (n : ℕ) (s : SettledShape) → NoneMade (expand t) → NoneMade (elim s [
-      | is_found ↦ prepares prepared (only n (expand t))
-      | is_asked ↦ call_row (read n) (suc n) wait prepared
+    by : (n : ℕ) (s : SettledShape) → NoneMade (expand_by when t) → NoneMade (elim s [
+      | is_found ↦ prepares prepared (only n (expand_by when t))
+      | is_asked ↦ calls_row when (read n) (suc n) wait prepared
       | is_fault text ↦ prepares prepared (raises text)
     ])
     by n is_found k = prepares_none prepared _ k
-    by n is_asked k = λ _ s. after_call_none s
+    by n is_asked k = calls_none when (read n) (suc n) wait prepared
     by n (is_fault text) k = prepares_none prepared _ (λ _ _. tt)
-expand_none (call f slot wait prepared) h = λ _ s. after_call_none s
-expand_none (tail_call f slot) h = λ _ s. after_call_none s
-expand_none (close v e wait prepared) h = λ _ _ _ s. after_call_none s
-expand_none (closable v name t) h = λ _ yes. cond_none yes _ _ (expand_none t h) (λ _ _. tt)
-expand_none (raise text) h = λ _ _. tt
-expand_none (leave given) h = λ _ top. after_leaving_none given top
-expand_none trap h = tt
+expand_none when (call f slot wait prepared) h = calls_none when f slot wait prepared
+expand_none when (tail_call f slot) h = λ _ s. after_call_none s
+expand_none when (close v e wait prepared) h = λ n _. calls_none when (read n) (suc n) wait prepared
+expand_none when (closable v name t) h = λ _ yes. cond_none yes _ _ (expand_none when t h) (λ _ _. tt)
+expand_none when (raise text) h = λ _ _. tt
+expand_none when (leave given) h = λ _ top. after_leaving_none given top
+expand_none when trap h = tt
 
 plain_cond : (b : Bool) (t u : Text) → MakesNone t → MakesNone u → MakesNone (cond b t u)
 plain_cond true t u h k = h
@@ -71,16 +76,10 @@ plain_cond false t u h k = k
 fails_none : MakesNone fails
 fails_none n s = plain_cond (is_true s) _ _ tt tt
 
-after_handler_none : (s : CallShape) → NoneMade (after_handler s)
-after_handler_none is_entered = tt
-after_handler_none (is_primitive n) = tt
-after_handler_none not_paid = tt
-after_handler_none (not_entered text) = λ _ _. tt
-
 raised_to_none : (top : TopShape) (h : ℕ) → NoneMade (raised_to top h)
 raised_to_none lua_top h = tt
 raised_to_none pcall_top h = tt
-raised_to_none xpcall_top h = λ _ _ _ s. after_handler_none s
+raised_to_none xpcall_top h = λ _ _ _ room. cond_none room _ _ (λ _ _. tt) (λ _ _. tt)
 raised_to_none handler_top h = tt
 raised_to_none closing_top h = tt
 raised_to_none (no_top true) h = tt
@@ -89,14 +88,25 @@ raised_to_none (no_top false) h = λ _ _ _ _ _ _. hand_over_none
 pub raised_none : NoneMade raised_row
 raised_none h top = raised_to_none top h
 
-after_entry_none : (s : CallShape) → NoneMade (after_entry s)
-after_entry_none is_entered = tt
-after_entry_none (is_primitive n) = tt
-after_entry_none not_paid = tt
-after_entry_none (not_entered text) = λ _ _. tt
+refused_none : (top : TopShape) (text : List ℕ) → NoneMade (refused_under top text)
+refused_none lua_top text = λ _ _. tt
+refused_none pcall_top text = λ _ _. tt
+refused_none xpcall_top text = λ _ _. tt
+refused_none handler_top text = λ _ _. tt
+refused_none closing_top text = λ _ _. tt
+refused_none (no_top in_main) text = λ _ _. tt
+
+after_asked_none : (s : CallShape) → NoneMade (after_asked s)
+after_asked_none is_entered = tt
+after_asked_none (is_primitive n) = tt
+after_asked_none not_paid = tt
+after_asked_none (not_entered text) = λ _ top. refused_none top text
+
+pub asked_none : NoneMade asked_row
+asked_none f _ _ s = after_asked_none s
 
 closing_by_none : (s : ClosingShape) (v : ℕ) → NoneMade (closing_by s v)
-closing_by_none one_left v = λ _ _ _ s. after_entry_none s
+closing_by_none one_left v = λ _ _ _ _. tt
 closing_by_none all_closed v = λ _ _ _ _. hand_over_none
 closing_by_none closed_with_error v = λ _ _ _ _. hand_over_none
 
@@ -104,18 +114,19 @@ closing_none : NoneMade closing_row
 closing_none v s = closing_by_none s v
 
 pub unwound_none : (top : TopShape) → NoneMade (unwound top)
-unwound_none lua_top = λ _ _. expand_none fails fails_none
+unwound_none lua_top = λ _ _. expand_none by_asking fails fails_none
 unwound_none pcall_top = λ _ _ _ _ _ _. hand_over_none
 unwound_none xpcall_top = λ _ _ _ _ _ _. hand_over_none
 unwound_none handler_top = λ _ _ _ _. tt
 unwound_none closing_top = λ _ _ _ _. closing_none
-unwound_none (no_top in_main) = tt
+unwound_none (no_top true) = λ _ _ _ _ _ _. tt
+unwound_none (no_top false) = λ _ _ _ _ _ _. hand_over_none
 
 pub handed_to_none : (top : TopShape) → NoneMade (handed_to top)
 handed_to_none lua_top = tt
 handed_to_none pcall_top = λ _ _ _ _ _ _. hand_over_none
 handed_to_none xpcall_top = λ _ _ _ _ _ _. hand_over_none
 handed_to_none handler_top = λ _ _ _ _ _ _. tt
-handed_to_none closing_top = closing_none
+handed_to_none closing_top = λ _ _. closing_none
 handed_to_none (no_top true) = λ _ _. tt
 handed_to_none (no_top false) = λ _ _ _ _ _ _. hand_over_none

@@ -5,8 +5,8 @@ use Rattle.code_core.specs.Prototype.{Prototype}
 use Rattle.int_core.specs.Value.{Value, bind}
 use Rattle.machine_core.specs.World.{World, Place, place_of, find_open}
 use Rattle.machine_core.specs.Text.{Text, go_by, own, open_cell, quick, operate, call, tail_call, close, closable, raise, leave, trap, read_upvalue, write_upvalue, make_table, make_function, fill_table, pay}
-use Rattle.machine_core.specs.Moves.{Move, on_own, move_pc, open_register, outside, settle, enter, enter_tail, find_close, is_closable, begin_leaving, leave_frame, take_moving, look, give, give_with, blame, enter_over, see_top, see_catcher, pop_frame, take_closing, set_error, end_coroutine, fail_coroutine, suspend, resume, begin_closing, Told, Made, made, move, opened_cells, Row, traps, stop, only, act, Outcome, trapped, run}
-use Rattle.machine_core.specs.FrameRows.{expand}
+use Rattle.machine_core.specs.Moves.{Move, on_own, move_pc, open_register, outside, settle, enter, enter_tail, await, find_close, is_closable, begin_leaving, leave_frame, take_moving, look, give, give_with, blame, place_text, push_frame, call_value, see_top, see_catcher, pop_frame, take_closing, set_error, end_coroutine, fail_coroutine, suspend, resume, begin_closing, Told, Made, made, move, opened_cells, Row, traps, stop, only, act, Outcome, trapped, run}
+use Rattle.machine_core.specs.FrameRows.{When, at_once, expand_by, expand}
 use Rattle.machine_core.specs.RowFits.{MakesNone, OpensFirst}
 use Rattle.machine_alike.specs.Agree.{Pairs, SameValue, SameValues, AgreeInTurn, Extends}
 use Rattle.machine_alike.specs.Laws.{SameOutcome, both_trap, both_end, Alike, Keeps, MovesKeep, NoneMade, RowsKeep}
@@ -14,8 +14,8 @@ use Rattle.machine_alike.proofs.Pairwise.{zip_append, zip_length, zip_drop}
 use Rattle.machine_alike.proofs.Same.{extends_self, extends_on, values_on}
 use Rattle.machine_alike.proofs.Frames.{place_on}
 use Rattle.machine_alike.proofs.OwnFrame.{own_keeps, pc_keeps, open_keeps, opened_at, outside_keeps, settle_keeps}
-use Rattle.machine_alike.proofs.Calls.{enter_keeps, enter_tail_keeps, find_close_keeps, is_closable_keeps, begin_leaving_keeps, leave_keeps}
-use Rattle.machine_alike.proofs.OtherFrames.{take_moving_keeps, look_keeps, give_keeps, give_with_keeps, blame_keeps, enter_over_keeps, see_top_keeps, see_catcher_keeps, pop_keeps, take_closing_keeps, set_error_keeps}
+use Rattle.machine_alike.proofs.Calls.{await_keeps, enter_keeps, enter_tail_keeps, find_close_keeps, is_closable_keeps, begin_leaving_keeps, leave_keeps}
+use Rattle.machine_alike.proofs.OtherFrames.{take_moving_keeps, look_keeps, give_keeps, give_with_keeps, blame_keeps, place_text_keeps, push_frame_keeps, call_value_keeps, see_top_keeps, see_catcher_keeps, pop_keeps, take_closing_keeps, set_error_keeps}
 use Rattle.machine_alike.proofs.Coroutines.{end_keeps, fail_keeps, suspend_keeps, resume_keeps, begin_closing_keeps}
 use Rattle.machine_alike.proofs.PlainRows.{expand_none}
 use Rattle.machine_alike.proofs.Opened.{open_one_more, Ready, makes_alike}
@@ -37,7 +37,10 @@ moves_keep (look x) = look_keeps x
 moves_keep (give xs) = give_keeps xs
 moves_keep (give_with xs slot) = give_with_keeps xs slot
 moves_keep (blame text) = blame_keeps text
-moves_keep (enter_over over f slot) = enter_over_keeps over f slot
+moves_keep (await f slot wait prepared) = await_keeps f slot wait prepared
+moves_keep (place_text x level) = place_text_keeps x level
+moves_keep (push_frame over) = push_frame_keeps over
+moves_keep (call_value f slot) = call_value_keeps f slot
 moves_keep see_top = see_top_keeps
 moves_keep see_catcher = see_catcher_keeps
 moves_keep pop_frame = pop_keeps
@@ -99,7 +102,10 @@ plain (look x) k h = record { keeps = moves_keep (look x); next = h }
 plain (give xs) k h = record { keeps = moves_keep (give xs); next = h }
 plain (give_with xs slot) k h = record { keeps = moves_keep (give_with xs slot); next = h }
 plain (blame text) k h = record { keeps = moves_keep (blame text); next = h }
-plain (enter_over over f slot) k h = record { keeps = moves_keep (enter_over over f slot); next = h }
+plain (await f slot wait prepared) k h = record { keeps = moves_keep (await f slot wait prepared); next = h }
+plain (place_text x level) k h = record { keeps = moves_keep (place_text x level); next = h }
+plain (push_frame over) k h = record { keeps = moves_keep (push_frame over); next = h }
+plain (call_value f slot) k h = record { keeps = moves_keep (call_value f slot); next = h }
 plain see_top k h = record { keeps = moves_keep see_top; next = h }
 plain see_catcher k h = record { keeps = moves_keep see_catcher; next = h }
 plain pop_frame k h = record { keeps = moves_keep pop_frame; next = h }
@@ -121,8 +127,11 @@ rows_keep (act m k) h p env other W X s a =
 
 -- the row of a text that opens what it shares
 
+pub keeps_plain_by : (when : When) (t : Text) → MakesNone t → (p : Pairs) (env other : List Value) (W X : World) → SameValues p env other → AgreeInTurn p W X → SameOutcome p (run (expand_by when t) env W) (run (expand_by when t) other X)
+keeps_plain_by when t h p env other W X s a = rows_keep (expand_by when t) (expand_none when t h) p env other W X s a
+
 pub keeps_plain : (t : Text) → MakesNone t → (p : Pairs) (env other : List Value) (W X : World) → SameValues p env other → AgreeInTurn p W X → SameOutcome p (run (expand t) env W) (run (expand t) other X)
-keeps_plain t h p env other W X s a = rows_keep (expand t) (expand_none t h) p env other W X s a
+keeps_plain t h p env other W X s a = keeps_plain_by at_once t h p env other W X s a
 
 -- what the move at a place opens
 abbrev opened_world : World → Place → ℕ → World

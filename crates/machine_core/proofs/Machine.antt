@@ -187,13 +187,13 @@ by_xpcall : result (protected 6 fails 1) ≡ (Some (main_returned, known (boolea
 unfolding opcodes number_of int_wrap put_frames put_top push pop write_cell with_own put_coroutine back_to_resumer raw_set woken
 by_xpcall = refl
 
--- what is left when the second closing method cannot be paid: its error stands in the wait of the frame
-not_closed : result (protected 5 fails 1) ≡ (Some (spent, [], 0), int 7 ∷ int 43 ∷ [])
+-- where the second closing method cannot be paid, it moves with its arguments, and the frame waits for it
+not_closed : result (protected 5 fails 1) ≡ (Some (spent, object a_function 2 ∷ object a_table 0 ∷ int 43 ∷ [], 0), int 7 ∷ int 43 ∷ [])
 unfolding opcodes number_of int_wrap put_frames put_top push pop write_cell with_own put_coroutine back_to_resumer raw_set woken
 not_closed = refl
 
--- where the handler cannot be paid, the step has no effect: the error is still on its way
-handler_unpaid : result (protected 3 fails 1) ≡ (Some (spent, int 42 ∷ [], 0), [])
+-- where the handler cannot be paid, it moves with the error
+handler_unpaid : result (protected 3 fails 1) ≡ (Some (spent, object a_function 3 ∷ int 42 ∷ [], 0), [])
 unfolding opcodes number_of int_wrap put_frames put_top push pop write_cell with_own put_coroutine back_to_resumer raw_set woken
 handler_unpaid = refl
 

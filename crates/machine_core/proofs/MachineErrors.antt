@@ -91,7 +91,7 @@ unfolding opcodes number_of int_wrap put_frames put_top push pop write_cell with
 failed_closed_later = refl
 
 -- xpcall, f and error are paid, the handler cannot be called, one of two methods is paid
-handler_not_callable : result (closing_world 4 calls_all (base 1 ∷ object a_function 3 ∷ int 1 ∷ [])) ≡ (Some (spent, [], 0), text (codes "error in error handling") ∷ [])
+handler_not_callable : result (closing_world 4 calls_all (base 1 ∷ object a_function 3 ∷ int 1 ∷ [])) ≡ (Some (spent, object a_function 2 ∷ object a_table 0 ∷ text (codes "error in error handling") ∷ [], 0), text (codes "error in error handling") ∷ [])
 unfolding opcodes number_of int_wrap put_frames put_top push pop write_cell with_own put_coroutine back_to_resumer raw_set woken
 handler_not_callable = refl
 

@@ -1,28 +1,59 @@
 -- The machine's step over whole worlds, the rows of the primitives that move frames and coroutines, and runs of some steps.
-use Rattle.std.specs.Prelude.{ℕ, zero, suc, ◌++◌, true, false, cond, List, [], ◌∷◌, Option, Some, None, slice_get, codes}
+use Rattle.std.specs.Prelude.{ℕ, zero, suc, ◌++◌, ℤ, pos, true, false, cond, List, [], ◌∷◌, Option, Some, None, slice_get, codes, decimal}
 use Rattle.code_core.specs.Prototype.{Prototype}
-use Rattle.int_core.specs.Value.{boolean, string, a_coroutine, Value, Shape, is_object, bind, last}
+use Rattle.int_core.specs.Numeral.{integer_of}
+use Rattle.int_core.specs.Value.{nil, boolean, integer, string, a_coroutine, Value, Shape, is_known, is_object, bind, last}
 use Rattle.machine_core.specs.World.{Wait, running, LuaFrame, Frame, lua, World, Stack, stack_of, put_top}
 use Rattle.int_core.specs.Operations.{type_name}
 use Rattle.machine_core.specs.Text.{read, written}
 use Rattle.machine_core.specs.InstructionRows.{text_at, after, told_values}
 use Rattle.int_core.specs.Ask.{values}
-use Rattle.machine_core.specs.Moves.{over_pcall, over_xpcall, take_moving, look, give, give_with, enter_over, see_top, suspend, resume, begin_closing, is_entered, ResumeShape, resumed, refused, Ending, go, returned, calls_primitive, raised, unwinding, spent, main_yielded, Row, stop, act, Outcome, trapped, ends, run}
-use Rattle.machine_core.specs.FrameRows.{then, hand_over, expand, raised_row, blames, after_entry, closing_row, unwound, handed_to}
+use Rattle.machine_core.specs.Moves.{over_pcall, over_xpcall, take_moving, look, give, give_with, place_text, see_top, suspend, resume, begin_closing, CallShape, is_entered, is_primitive, not_paid, not_entered, ResumeShape, resumed, refused, Ending, go, returned, asks, calls_primitive, raised, unwinding, spent, main_yielded, Row, stop, act, Outcome, trapped, ends, run}
+use Rattle.machine_core.specs.FrameRows.{then, hand_over, expand, goes_on_by, raised_row, blames, over_frame, asked_row, closing_row, unwound, handed_to}
 
 -- primitives that move frames and coroutines; their arguments move
 
 abbrev pub pcall_row : Row
-pcall_row = act take_moving (λ f _. act (enter_over over_pcall (read f) (suc f)) (λ _ s. after_entry s))
+pcall_row = act take_moving (λ f _. over_frame over_pcall (then (give_with (read f ∷ []) (suc f)) (stop asks)))
 
 abbrev pub xpcall_row : Row
-xpcall_row = act take_moving (λ f _. act (enter_over (over_xpcall (read (suc f))) (read f) (suc (suc f))) (λ _ s. after_entry s))
+xpcall_row = act take_moving (λ f _. over_frame (over_xpcall (read (suc f))) (then (give_with (read f ∷ []) (suc (suc f))) (stop asks)))
+
+abbrev pub bad_argument : (number : ℕ) → (name what : List ℕ) → List ℕ
+bad_argument i name what = codes "bad argument #" ++ decimal i ++ codes " to '" ++ name ++ codes "' (" ++ what ++ codes ")"
+
+abbrev pub wrong_type : (number : ℕ) → (name expected : List ℕ) → Shape → List ℕ
+wrong_type i name expected s = bad_argument i name (expected ++ codes " expected, got " ++ type_name s)
+
+-- the integer that a value is, or that a string spells
+abbrev pub integer_in : Shape → Option ℤ
+integer_in (is_known (integer n)) = Some n
+integer_in (is_known (string text)) = integer_of text
+integer_in _ = None
+
+-- a missing level is 1
+abbrev pub level_in : Shape → Option ℤ
+level_in (is_known nil) = Some (pos 1)
+level_in s = integer_in s
+
+-- `error`: a string gets the place of a frame in front, by the level
+abbrev pub errs_at : (e : ℕ) → Shape → Option ℤ → Row
+errs_at e s None = blames (wrong_type 2 (codes "error") (codes "number") s)
+errs_at e s (Some (pos (suc level))) = act (place_text (read e) level) (λ v _. then (give (read v ∷ [])) (stop raised))
+errs_at e s (Some _) = then (give (read e ∷ [])) (stop raised)
 
 abbrev pub error_row : Row
-error_row = act take_moving (λ e _. then (give (read e ∷ [])) (stop raised))
+error_row = act take_moving (λ e _. act (look (read (suc e))) (λ _ s. errs_at e s (level_in s)))
 
 abbrev pub not_coroutine : List ℕ → Shape → Row
-not_coroutine name s = blames (codes "bad argument #1 to '" ++ name ++ codes "' (coroutine expected, got " ++ type_name s ++ codes ")")
+not_coroutine name s = blames (wrong_type 1 name (codes "coroutine") s)
+
+-- a coroutine's function was called, or a closing frame pushed
+abbrev pub after_entry : CallShape → Row
+after_entry is_entered = stop go
+after_entry (is_primitive n) = stop (calls_primitive n)
+after_entry not_paid = stop spent
+after_entry (not_entered text) = blames text
 
 abbrev pub after_resume : ResumeShape → Row
 after_resume (resumed is_entered) = hand_over
@@ -60,7 +91,7 @@ woken W s f = record (put_top W s (lua (record f { wait = running }))) { moving 
 
 abbrev pub lua_step : World → Stack → LuaFrame → Prototype → Wait Value → Outcome
 lua_step W s f p running = run (expand (text_at p f.own.pc)) [] W
-lua_step W s f p wait = run (expand (after wait p f.own.pc (values W.moving))) (told_values wait (values W.moving)) (woken W s f)
+lua_step W s f p wait = run (goes_on_by (after wait p f.own.pc (values W.moving))) (told_values wait (values W.moving)) (woken W s f)
 
 abbrev pub frame_step : World → Stack → Frame → Option Outcome
 frame_step W s (lua f) = bind (slice_get W.functions f.function) (λ g. Some (lua_step W s f g.code f.wait))
@@ -78,6 +109,7 @@ from_world W o = o
 abbrev pub step_by : (ℕ → Row) → Ending → World → Outcome
 step_by primitives go W = elim (top_step W) [ None ↦ trapped | Some o ↦ o ]
 step_by primitives returned W = run (act see_top (λ _ top. handed_to top)) [] W
+step_by primitives asks W = run asked_row [] W
 step_by primitives (calls_primitive n) W = run (primitives n) [] W
 step_by primitives raised W = run raised_row [] W
 step_by primitives unwinding W = run (act see_top (λ _ top. unwound top)) [] W

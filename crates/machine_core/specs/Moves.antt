@@ -27,14 +27,20 @@ frame_place W (lua f) = bind (slice_get W.functions f.function) (λ g. bind g.co
     Some (without_mark name ++ codes ":" ++ decimal line ++ codes ": "))))
 frame_place W _ = None
 
--- that of the nth such frame from the top of the running coroutine
-abbrev pub where_text : World → ℕ → List ℕ
-where_text W level = elim (bind (stack_of W) (λ s. slice_get (filter_map (frame_place W) (reverse s.frames)) (level - 1))) [ None ↦ [] | Some text ↦ text ]
+-- that of the nth such frame from the top of the running coroutine, counted from 0
+abbrev pub where_text : World → (level : ℕ) → List ℕ
+where_text W level = elim (bind (stack_of W) (λ s. slice_get (filter_map (frame_place W) (reverse s.frames)) level)) [ None ↦ [] | Some text ↦ text ]
+
+abbrev pub limited : List ℕ → Value
+limited text = known (string (cond (string_fits text) text (codes "resulting string too large")))
 
 abbrev pub blamed : World → List ℕ → Value
-blamed W text =
-    let whole = where_text W 1 ++ text in
-    known (string (cond (string_fits whole) whole (codes "resulting string too large")))
+blamed W text = limited (where_text W 0 ++ text)
+
+-- a string gets the place of a level in front
+abbrev pub placed : World → (level : ℕ) → Value → Value
+placed W level (known (string text)) = limited (where_text W level ++ text)
+placed W level v = v
 
 abbrev pub stack_overflow : List ℕ
 stack_overflow = codes "stack overflow"
@@ -45,18 +51,16 @@ greatest_depth = 100000
 abbrev pub greatest_resumes : ℕ
 greatest_resumes = 200
 
--- frames that a row pushes
+-- a frame that a row pushes, over which a value is then called
 pub data Over : Type 0 where
-  over_nothing : Over
   over_pcall : Over
   over_xpcall : Arg → Over
   over_handler : Over
 
-abbrev pub frames_over : Over → List Value → List Frame
-frames_over over_nothing env = []
-frames_over over_pcall env = pcall ∷ []
-frames_over (over_xpcall h) env = xpcall (arg env h) ∷ []
-frames_over over_handler env = handler ∷ []
+abbrev pub frame_over : Over → List Value → Frame
+frame_over over_pcall env = pcall
+frame_over (over_xpcall h) env = xpcall (arg env h)
+frame_over over_handler env = handler
 
 pub data Move : Type 0 where
   on_own : Own → Move
@@ -66,6 +70,7 @@ pub data Move : Type 0 where
   settle : Operation → List Arg → Move
   enter : (f : Arg) → (slot : ℕ) → Wait Arg → (prepared : List Own) → Move
   enter_tail : (f : Arg) → (slot : ℕ) → Move
+  await : (f : Arg) → (slot : ℕ) → Wait Arg → (prepared : List Own) → Move
   find_close : (v error : Arg) → Move
   is_closable : Arg → Move
   begin_leaving : List ℕ → Move
@@ -75,7 +80,9 @@ pub data Move : Type 0 where
   give : List Arg → Move
   give_with : List Arg → (slot : ℕ) → Move
   blame : List ℕ → Move
-  enter_over : Over → (f : Arg) → (slot : ℕ) → Move
+  place_text : Arg → (level : ℕ) → Move
+  push_frame : Over → Move
+  call_value : (f : Arg) → (slot : ℕ) → Move
   see_top : Move
   see_catcher : Move
   pop_frame : Move
@@ -123,7 +130,8 @@ Told (look x) = Shape
 Told (settle op xs) = SettledShape
 Told (enter f slot wait prepared) = CallShape
 Told (enter_tail f slot) = CallShape
-Told (enter_over over f slot) = CallShape
+Told (push_frame over) = Bool
+Told (call_value f slot) = CallShape
 Told (is_closable x) = Bool
 Told (leave_frame given) = TopShape
 Told see_top = TopShape
@@ -136,10 +144,12 @@ Told (begin_closing co) = ResumeShape
 Told _ = Unit {0}
 
 -- how a row ends. `go`: the Lua frame on top runs, or gets what moves; `returned`: what moves is handed to whatever else is on top;
+-- `asks`: a value moves with the arguments that it is to be called with, and the frame on top waits for what comes of it;
 -- `raised`: an error moves, and it is to be found who catches it; `unwinding`: an error moves, and the frame on top is left with it
 pub data Ending : Type 0 where
   go : Ending
   returned : Ending
+  asks : Ending
   calls_primitive : ℕ → Ending
   raised : Ending
   unwinding : Ending
@@ -374,16 +384,16 @@ resumes W s co c arguments =
     cond (can_start c && nat_lt greatest_resumes (length W.chain)) (made W [] (refused (codes "too many nested resumes")))
     (starts_in (cond (can_start c) (put_coroutine W s.coroutine (normal s.frames)) W) co c arguments)
 
--- a closing frame on the running coroutine
-abbrev pub closes_in : World → Stack → Option Value → List Value → Option (Made ResumeShape)
-closes_in W s e left = cond (has_room W 1) (made (push W s (closing e left)) [] (resumed is_entered)) (made W [] (resumed (not_entered stack_overflow)))
+-- a closing frame on the running coroutine, where there is room; D is W with the closed coroutine dead
+abbrev pub closes_in : (W D : World) → Stack → Option Value → List Value → Option (Made ResumeShape)
+closes_in W D s e left = cond (has_room W 1) (made (push D s (closing e left)) [] (resumed is_entered)) (made W [] (resumed (not_entered stack_overflow)))
 
 abbrev pub closes_coroutine : World → Stack → ℕ → Coroutine → Option (Made ResumeShape)
-closes_coroutine W s co (fresh body) = closes_in (put_coroutine W co dead) s None []
+closes_coroutine W s co (fresh body) = closes_in W (put_coroutine W co dead) s None []
 closes_coroutine W s co (suspended frames) =
-    closes_in (put_coroutine (record W { cells = all_closed_from co 0 frames W.cells }) co dead) s None (flat_map pending_values frames)
-closes_coroutine W s co (failed e pending) = closes_in (put_coroutine W co dead) s (Some e) pending
-closes_coroutine W s co dead = closes_in W s None []
+    closes_in W (put_coroutine (record W { cells = all_closed_from co 0 frames W.cells }) co dead) s None (flat_map pending_values frames)
+closes_coroutine W s co (failed e pending) = closes_in W (put_coroutine W co dead) s (Some e) pending
+closes_coroutine W s co dead = closes_in W W s None []
 closes_coroutine W s co (in_progress _) = made W [] (refused (codes "cannot close a running coroutine"))
 closes_coroutine W s co (normal _) = made W [] (refused (codes "cannot close a normal coroutine"))
 
@@ -407,6 +417,8 @@ move (outside q) env W = bind (place_of W) (do_outside q env W)
 move (settle op xs) env W = bind (place_of W) (λ p. settled W p (does op (args_of env xs) W.heap))
 move (enter f slot wait prepared) env W = bind (place_of W) (λ p. called W (with_own W p (named env wait) prepared env) (arg env f) (drop slot env))
 move (enter_tail f slot) env W = bind (place_of W) (λ p. called_tail W p (callee_of greatest_chain W.heap (arg env f) (drop slot env)))
+move (await f slot wait prepared) env W = bind (place_of W) (λ p.
+    made (record (with_own W p (named env wait) prepared env) { moving = arg env f ∷ drop slot env }) [] tt)
 move (find_close v e) env W = made W (handler_in W.heap of_close (arg env v) ∷ arg env v ∷ arg env e ∷ []) tt
 move (is_closable v) env W = made W [] (not (is_nil (handler_in W.heap of_close (arg env v))))
 move (begin_leaving text) env W = bind (place_of W) (λ p.
@@ -418,8 +430,9 @@ move (look x) env W = made W [] (shape (arg env x))
 move (give xs) env W = made (record W { moving = args_of env xs }) [] tt
 move (give_with xs slot) env W = made (record W { moving = args_of env xs ++ drop slot env }) [] tt
 move (blame text) env W = made (record W { moving = blamed W text ∷ [] }) [] tt
-move (enter_over over f slot) env W =
-    cond (has_room W (length (frames_over over env))) (called W (push_all W (frames_over over env)) (arg env f) (drop slot env)) (made W [] (not_entered stack_overflow))
+move (place_text x level) env W = made W (placed W level (arg env x) ∷ []) tt
+move (push_frame over) env W = cond (has_room W 1) (made (push_all W (frame_over over env ∷ [])) [] true) (made W [] false)
+move (call_value f slot) env W = called W W (arg env f) (drop slot env)
 move see_top env W = bind (top_now W) (λ top. made W [] top)
 move see_catcher env W = bind (stack_of W) (λ s. let c = catcher (reverse s.frames) in made W (handler_value c) (top_shape W c))
 move pop_frame env W = bind (stack_of W) (λ s. made (pop W s) [] tt)

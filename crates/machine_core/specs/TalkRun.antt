@@ -1,14 +1,14 @@
 -- Whole runs of talking activations in one coroutine: who answers each ask. Cells are values by number, frames are listed from the top, and
 -- of a `World` only tables, metatables, functions and the budget are looked at.
-use Rattle.std.specs.Prelude.{ℕ, zero, suc, ◌+◌, Bool, true, false, cond, List, [], ◌∷◌, ◌++◌, length, drop, filter_map, Option, Some, None, nat_le, slice_get, slice_set, codes, decimal}
+use Rattle.std.specs.Prelude.{ℕ, zero, suc, ◌+◌, ℤ, pos, Bool, true, false, cond, List, [], ◌∷◌, ◌++◌, length, drop, filter_map, Option, Some, None, nat_le, slice_get, slice_set, codes, decimal}
 use Rattle.code_core.specs.Prototype.{Prototype}
-use Rattle.int_core.specs.Value.{boolean, string, primitive, a_table, a_function, Value, known, object, is_nil, nth, bind}
+use Rattle.int_core.specs.Value.{boolean, string, primitive, a_table, a_function, Value, known, object, Shape, shape, is_nil, nth, bind}
 use Rattle.machine_core.specs.World.{World}
 use Rattle.int_core.specs.Operations.{Settled, found, ask, fault, does, Callee, callee, not_callable, callee_of, greatest_chain, handler_in, of_close}
 use Rattle.int_core.specs.Ask.{Reply, values, faulted, left, CellName, of_local, of_upvalue, returns, throws, Ask, reads_upvalue, writes_upvalue, makes_table, makes_function, fills_table, pays, opens, operates, calls, calls_last, marks, closes, raises, leaves, Answer, Next, goes_on, says, stuck}
 use Rattle.int_core.specs.Heap.{add_table, filled_table}
-use Rattle.code_core.specs.Writable.{string_fits}
-use Rattle.machine_core.specs.Moves.{without_mark, stack_overflow, greatest_depth}
+use Rattle.machine_core.specs.Moves.{without_mark, limited, stack_overflow, greatest_depth}
+use Rattle.machine_core.specs.MachineStep.{wrong_type, level_in}
 use Rattle.machine_core.specs.Talk.{State, talk_step, talk_start}
 
 -- an activation that runs, or waits at a line for an answer and shares some cells
@@ -56,10 +56,16 @@ place_text T (waiting f line shared k) = bind (slice_get T.world.functions f) (�
     Some (without_mark name ++ codes ":" ++ decimal line ++ codes ": "))))
 place_text T _ = None
 
+-- levels are counted from 0
+abbrev pub where_text : Talks → (level : ℕ) → List ℕ
+where_text T level = elim (slice_get (filter_map (place_text T) T.frames) level) [ None ↦ [] | Some place ↦ place ]
+
 abbrev pub blamed : Talks → List ℕ → Value
-blamed T text =
-    let whole = elim (slice_get (filter_map (place_text T) T.frames) 0) [ None ↦ [] | Some place ↦ place ] ++ text in
-    known (string (cond (string_fits whole) whole (codes "resulting string too large")))
+blamed T text = limited (where_text T 0 ++ text)
+
+abbrev pub placed : Talks → (level : ℕ) → Value → Value
+placed T level (known (string text)) = limited (where_text T level ++ text)
+placed T level v = v
 
 abbrev pub has_room : List TalkFrame → ℕ → Bool
 has_room frames count = nat_le (length frames + count) greatest_depth
@@ -179,11 +185,17 @@ raised_to e T _ = record T { now = unwinding e }
 abbrev pub blames : Talks → List ℕ → Talks
 blames T text = record T { now = raising (blamed T text) }
 
+-- an error with its value, by the level
+abbrev pub errs_at : Talks → Value → Shape → Option ℤ → Talks
+errs_at T v s None = blames T (wrong_type 2 (codes "error") (codes "number") s)
+errs_at T v s (Some (pos (suc level))) = record T { now = raising (placed T level v) }
+errs_at T v s (Some _) = record T { now = raising v }
+
 -- pcall, xpcall and error; and yield, which in the main coroutine ends the turn
 abbrev pub primitive_called : ℕ → List Value → Talks → Talks
 primitive_called zero arguments T = calls_over T protected (nth arguments 0) (drop 1 arguments) blames
 primitive_called (suc zero) arguments T = calls_over T (handled_by (nth arguments 1)) (nth arguments 0) (drop 2 arguments) blames
-primitive_called (suc (suc zero)) arguments T = record T { now = raising (nth arguments 0) }
+primitive_called (suc (suc zero)) arguments T = errs_at T (nth arguments 0) (shape (nth arguments 1)) (level_in (shape (nth arguments 1)))
 primitive_called (suc (suc (suc (suc zero)))) arguments T = record T { now = has_yielded arguments }
 primitive_called _ _ T = record T { now = is_stuck }
 

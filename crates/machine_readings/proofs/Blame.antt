@@ -2,14 +2,14 @@
 use Rattle.std.proofs.Common.{ℕ, ◌≡◌, List, [], ◌∷◌, ◌++◌, Option, Some, None, refl, sym, ap, ◌∙◌, Bool}
 use Rattle.std.specs.Prelude.{slice_get, reverse, filter_map, cond, codes, decimal}
 use Rattle.std.proofs.lemmas.List.{reverse-append}
-use Rattle.int_core.specs.Value.{Value, known, string, bind}
+use Rattle.int_core.specs.Value.{nil, boolean, integer, primitive, Value, known, object, string, bind}
 use Rattle.int_core.specs.Heap.{Heap}
 use Rattle.int_core.specs.Ask.{Answer}
 use Rattle.machine_core.specs.Talk.{State}
 use Rattle.code_core.specs.Writable.{string_fits}
 use Rattle.machine_core.specs.World.{Function, Cell, LuaFrame, Frame, lua, pcall, xpcall, handler, World}
-use Rattle.machine_core.specs.Moves.{frame_place, blamed, without_mark, line_of}
-use Rattle.machine_core.specs.TalkRun.{TalkFrame, waiting, protected, handled_by, handling, Now, Talks, place_text, blamed as talk_blamed}
+use Rattle.machine_core.specs.Moves.{frame_place, limited, placed, blamed, without_mark, line_of}
+use Rattle.machine_core.specs.TalkRun.{TalkFrame, waiting, protected, handled_by, handling, Now, Talks, place_text, blamed as talk_blamed, placed as talk_placed}
 use Rattle.list_laws.proofs.Ends.{upward}
 use Rattle.machine_readings.proofs.Cells.{Held}
 use Rattle.machine_readings.proofs.Sim.{Pair, under, Below}
@@ -67,3 +67,14 @@ pub blamed_alike : (b d : World) (H : Heap) (fs : List Function) (ws : List Cell
 blamed_alike b d H fs ws vs ms ts hs mv now fuel lax text k =
     ap (λ places. whole_text places text) (sym (places_alike (mk b H fs ws ms mv fuel) (mk_talks d H fs vs ts now fuel) fs refl refl lax vs ms ts hs k))
     ∙ sym (blamed_is b H fs ws ms mv fuel text)
+
+pub placed_alike : (b d : World) (H : Heap) (fs : List Function) (ws : List Cell) (vs : List Value) (ms : List Frame) (ts : List TalkFrame) (hs : List Held) (mv : List Value) (now : Now) (fuel : ℕ) (lax : Bool) (level : ℕ) (v : Value) → Below lax fs vs ms ts hs
+    → talk_placed (mk_talks d H fs vs ts now fuel) level v ≡ placed (mk b H fs ws ms mv fuel) level v
+placed_alike b d H fs ws vs ms ts hs mv now fuel lax level (known (string text)) k =
+    ap (λ places. limited (elim (slice_get places level) [ None ↦ [] | Some place ↦ place ] ++ text)) (sym (places_alike (mk b H fs ws ms mv fuel) (mk_talks d H fs vs ts now fuel) fs refl refl lax vs ms ts hs k))
+    ∙ sym (ap (λ frames. limited (elim (slice_get (filter_map (frame_place (mk b H fs ws ms mv fuel)) frames) level) [ None ↦ [] | Some place ↦ place ] ++ text)) (reverse_upward ms))
+placed_alike b d H fs ws vs ms ts hs mv now fuel lax level (known nil) k = refl
+placed_alike b d H fs ws vs ms ts hs mv now fuel lax level (known (boolean c)) k = refl
+placed_alike b d H fs ws vs ms ts hs mv now fuel lax level (known (integer c)) k = refl
+placed_alike b d H fs ws vs ms ts hs mv now fuel lax level (known (primitive c)) k = refl
+placed_alike b d H fs ws vs ms ts hs mv now fuel lax level (object kind c) k = refl

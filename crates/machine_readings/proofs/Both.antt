@@ -1,14 +1,17 @@
 -- Where both readings stand between two steps, and what a step leads to.
-use Rattle.std.proofs.Common.{ℕ, suc, ◌≡◌, List, [], ◌∷◌, ◌++◌, Option, Some, None, sym, ap, subst, true, false}
+use Rattle.std.proofs.Common.{ℕ, suc, ◌≡◌, List, [], ◌∷◌, ◌++◌, Option, Some, None, refl, sym, ap, subst, true, false}
 use Rattle.std.specs.Prelude.{map, slice_get, length}
 use Rattle.int_core.specs.Value.{Value}
 use Rattle.int_core.specs.Heap.{Heap}
 use Rattle.int_core.specs.Ask.{Captured}
-use Rattle.machine_core.specs.World.{Function, Cell, closed, running, Activation, Frame, lua, World}
-use Rattle.machine_core.specs.Moves.{Ending, go, returned, calls_primitive, raised, unwinding, spent, main_yielded, main_returned, main_failed, Made, Told, Move, move, Row, act, Outcome, trapped, ends, run}
+use Rattle.machine_core.specs.World.{Function, Cell, closed, running, Activation, Frame, lua, pcall, xpcall, handler, closing, World}
+use Rattle.machine_core.specs.Moves.{Ending, go, returned, asks, calls_primitive, raised, unwinding, spent, main_yielded, main_returned, main_failed, Made, Told, Move, move, Row, act, Outcome, trapped, ends, run}
 use Rattle.machine_core.specs.Talk.{State, before, talk_step}
 use Rattle.machine_core.specs.TalkRun.{TalkFrame, talking, Now, talks, returning, raising, has_returned, has_yielded, has_failed, is_spent, is_stuck, Talks, shared_in, turn, tick_by, ticks}
 use Rattle.machine_core.specs.TalkRun.{unwinding as talk_unwinding, calls_primitive as talk_primitive}
+use Rattle.machine_core.specs.FrameRows.{asked_row}
+use Rattle.machine_core.specs.MachineStep.{step, from_world}
+use Rattle.machine_readings.specs.Join.{primitives}
 use Rattle.machine_readings.proofs.Sim.{Alike, Working, Stacks}
 use Rattle.machine_readings.proofs.Worlds.{mk, asleep, frame}
 
@@ -33,6 +36,9 @@ pub data Both (b d : World) : Talks → Ending → World → Type 0 where
       → Stacks false fs ws vs ms ts → Both b d (mk_talks d H fs vs ts (talk_primitive k mv) fuel) (calls_primitive k) (mk b H fs ws ms mv fuel)
   both_yielded : (H : Heap) (fs : List Function) (vs : List Value) (ws : List Cell) (fuel : ℕ) (ms : List Frame) (ts : List TalkFrame) (mv : List Value)
       → Stacks false fs ws vs ms ts → Both b d (mk_talks d H fs vs ts (has_yielded mv) fuel) main_yielded (asleep b H fs ws ms mv fuel)
+  -- what was asked for is called on the machine's side in a step of its own
+  both_asked : (T : Talks) (W : World) (j : ℕ) (e : Ending) (V : World) → step primitives asks W ≡ ends e V → Both b d (ticks j T) e V → Both b d T asks W
+  both_asked_trap : (T : Talks) (W : World) → step primitives asks W ≡ trapped → Both b d T asks W
   both_spent : (T : Talks) (W : World) → T.now ≡ is_spent → Both b d T spent W
   both_returned : (H : Heap) (fs : List Function) (vs : List Value) (fuel : ℕ) (T : Talks) (W : World) (mv : List Value) → T.now ≡ has_returned mv → T.world ≡ record d { heap = H; functions = fs; fuel = fuel } → T.cells ≡ vs
       → W.moving ≡ mv → W.heap ≡ H → W.functions ≡ fs → W.cells ≡ map closed vs → W.fuel ≡ fuel → Both b d T main_returned W
@@ -61,3 +67,46 @@ pub talk_tick : (d : World) (H : Heap) (fs : List Function) (vs : List Value) (t
     → tick (mk_talks d H fs vs (talking n s ∷ ts) talks fuel) ≡ turn (talk_step g.code s) (mk_talks d H fs vs (talking n s ∷ ts) talks fuel) n ts
 talk_tick d H fs vs ts fuel n g s e =
     ap (λ o. elim o [ None ↦ record (mk_talks d H fs vs (talking n s ∷ ts) talks fuel) { now = is_stuck } | Some g ↦ turn (talk_step g.code s) (mk_talks d H fs vs (talking n s ∷ ts) talks fuel) n ts ]) e
+
+-- a step that is not paid has no effect
+spent_now : (b d : World) (T : Talks) (e : Ending) (W : World) → Both b d T e W → e ≡ spent → T.now ≡ is_spent
+spent_now b d T e W (both_run H fs vs ws fuel ms ts n g a a' c al f k) q = absurd (cc)
+spent_now b d T e W (both_hand H fs vs ws fuel ms ts mv k) q = absurd (by ms q)
+  where
+    by : (ms : List Frame) → handing ms ≡ spent → ⊥
+    by [] q = cc
+    by (lua fr ∷ ms) q = cc
+    by (pcall ∷ ms) q = cc
+    by (xpcall h ∷ ms) q = cc
+    by (handler ∷ ms) q = cc
+    by (closing x l ∷ ms) q = cc
+spent_now b d T e W (both_raise H fs vs ws fuel ms ts v k) q = absurd (cc)
+spent_now b d T e W (both_unwind H fs vs ws fuel ms ts v k) q = absurd (cc)
+spent_now b d T e W (both_primitive H fs vs ws fuel ms ts n mv k) q = absurd (cc)
+spent_now b d T e W (both_yielded H fs vs ws fuel ms ts mv k) q = absurd (cc)
+spent_now b d T e W (both_asked _ _ j e' V x k) q = absurd (cc)
+spent_now b d T e W (both_asked_trap _ _ x) q = absurd (cc)
+spent_now b d T e W (both_spent _ _ k) q = k
+spent_now b d T e W (both_returned H fs vs fuel _ _ mv x y c z u v k w) q = absurd (cc)
+spent_now b d T e W (both_failed H fs vs fuel _ _ v x y c z u t k w) q = absurd (cc)
+
+pub leads_from : (b d : World) (T : Talks) (W : World) (o : Outcome) → Leads b d T o → Leads b d T (from_world W o)
+leads_from b d T W trapped k = tt
+leads_from b d T W (ends spent V) k = (k.0, both_spent (ticks k.0 T) W (spent_now b d (ticks k.0 T) spent V k.1 refl))
+leads_from b d T W (ends go V) k = k
+leads_from b d T W (ends returned V) k = k
+leads_from b d T W (ends (calls_primitive n) V) k = k
+leads_from b d T W (ends asks V) k = k
+leads_from b d T W (ends raised V) k = k
+leads_from b d T W (ends unwinding V) k = k
+leads_from b d T W (ends main_yielded V) k = k
+leads_from b d T W (ends main_returned V) k = k
+leads_from b d T W (ends main_failed V) k = k
+
+-- where what was asked for is called at once on one side, and in a step of its own on the other
+pub asks_leads : (b d : World) (T : Talks) (W : World) → Leads b d T (run asked_row [] W) → Leads b d T (ends asks W)
+asks_leads b d T W l = by (step primitives asks W) refl (leads_from b d T W (run asked_row [] W) l)
+  where
+    by : (o : Outcome) → step primitives asks W ≡ o → Leads b d T o → Leads b d T (ends asks W)
+    by trapped q k = (0, both_asked_trap T W q)
+    by (ends e V) q k = (0, both_asked T W k.0 e V q k.1)

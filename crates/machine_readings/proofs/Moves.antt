@@ -8,7 +8,7 @@ use Rattle.int_core.specs.Heap.{Heap}
 use Rattle.int_core.specs.Operations.{Operation, does, callee_of, greatest_chain}
 use Rattle.machine_core.specs.World.{Function, Cell, Wait, leaving, Activation, Frame, lua, World, find_open, close_from}
 use Rattle.machine_core.specs.Text.{Arg, arg, args_of, Own, close_cells, keep_pending, reads, tells, effect, fits, done, Quick, Given, given_values}
-use Rattle.machine_core.specs.Moves.{on_own, move_pc, open_register, outside, settle, enter, enter_tail, begin_leaving, leave_frame, Made, made, CallShape, is_entered, not_entered, move, with_own, cells_after, cells_done, do_own, moved_pc, do_outside, settled, enters, enters_paid, called_tail, popped, top_now, has_room, greatest_depth, stack_overflow, named, place_from, opened_cells, blamed, new_frame}
+use Rattle.machine_core.specs.Moves.{on_own, move_pc, open_register, outside, settle, enter, enter_tail, await, begin_leaving, leave_frame, Made, made, CallShape, is_entered, not_entered, move, with_own, cells_after, cells_done, do_own, moved_pc, do_outside, settled, enters, enters_paid, called_tail, popped, top_now, has_room, greatest_depth, stack_overflow, named, place_from, opened_cells, blamed, new_frame}
 use Rattle.machine_readings.proofs.Worlds.{mk, frame, place, shape_of, put_top_is, pop_is, push_is, room_is, top_is, place_is}
 
 module _ (b : World) (H : Heap) (fs : List Function) (ws : List Cell) (mv : List Value) (fuel : ℕ) (ms : List Frame) (n : ℕ) (w : Wait Value) (a : Activation) (g : Function) where
@@ -48,6 +48,10 @@ module _ (b : World) (H : Heap) (fs : List Function) (ws : List Cell) (mv : List
     pub enter_move : (f : Arg) (slot : ℕ) (wait : Wait Arg) (ps : List Own) (env : List Value) → move (enter f slot wait ps) env world ≡ enters_paid world (done_world (named env wait) ps env) (callee_of greatest_chain H (arg env f) (drop slot env))
     enter_move f slot wait ps env = ap (λ o. bind o (λ p. enters_paid world (with_own world p (named env wait) ps env) (callee_of greatest_chain H (arg env f) (drop slot env)))) (place_is b H fs ws mv fuel ms n w a g e)
         ∙ ap (λ W. enters_paid world W (callee_of greatest_chain H (arg env f) (drop slot env))) (with_own_is (named env wait) ps env)
+
+    pub await_move : (f : Arg) (slot : ℕ) (wait : Wait Arg) (ps : List Own) (env : List Value) → move (await f slot wait ps) env world ≡ made (record (done_world (named env wait) ps env) { moving = arg env f ∷ drop slot env }) [] tt
+    await_move f slot wait ps env = ap (λ o. bind o (λ p. made (record (with_own world p (named env wait) ps env) { moving = arg env f ∷ drop slot env }) [] tt)) (place_is b H fs ws mv fuel ms n w a g e)
+        ∙ ap (λ (W : World). made (record W { moving = arg env f ∷ drop slot env }) [] tt) (with_own_is (named env wait) ps env)
 
     pub tail_move : (f : Arg) (slot : ℕ) (env : List Value) → move (enter_tail f slot) env world ≡ called_tail world (place ms n w a g) (callee_of greatest_chain H (arg env f) (drop slot env))
     tail_move f slot env = ap (λ o. bind o (λ p. called_tail world p (callee_of greatest_chain H (arg env f) (drop slot env)))) (place_is b H fs ws mv fuel ms n w a g e)

@@ -13,23 +13,22 @@ use Rattle.machine_readings.specs.Join.{primitives, Beginning, Final, out_of_bud
 use Rattle.machine_readings.specs.Join.{returned as with_results, failed as with_error}
 use Rattle.machine_readings.specs.Turns.{Turn, IsYield, is_over, waits, goes_on, wakes, answers, MachineTurns, TalkTurns, Untrapped, TalksFollowTurns, MachineFollowsTurns}
 use Rattle.machine_readings.proofs.Worlds.{mk, top_is}
-use Rattle.machine_readings.proofs.Both.{handing, Both, both_run, both_hand, both_raise, both_unwind, both_primitive, both_spent, both_yielded, both_returned, both_failed, tick, Leads}
+use Rattle.machine_readings.proofs.Both.{handing, Both, both_run, both_hand, both_raise, both_unwind, both_primitive, both_asked, both_asked_trap, both_spent, both_yielded, both_returned, both_failed, tick, Leads}
 use Rattle.machine_readings.proofs.Rows.{handed_is}
-use Rattle.machine_readings.proofs.Steps.{step_leads}
-use Rattle.machine_readings.proofs.Runs.{machine_talk, talk_machine, both_final, ticks_add, final_fixed, talks_at, world_at, first_both}
+use Rattle.machine_readings.proofs.Runs.{goes_along, ends_no_ask, machine_talk, talk_machine, both_final, ticks_add, final_fixed, talks_at, world_at, first_both}
 
 -- any number of steps
 steps_lead : (b d : World) (n : ℕ) (T : Talks) (e : Ending) (W : World) → Both b d T e W → Leads b d T (steps primitives n e W)
 steps_lead b d zero T e W k = (0, k)
-steps_lead b d (suc n) T e W k = by (step primitives e W) (step_leads b d T e W k) (λ T e W k. steps_lead b d n T e W k)
+steps_lead b d (suc n) T e W k = by (step primitives e W) (goes_along b d T e W k) (λ T e W k. steps_lead b d n T e W k)
   where
-    by : (o : Outcome) → Leads b d (tick T) o → ((T : Talks) (e : Ending) (W : World) → Both b d T e W → Leads b d T (steps primitives n e W)) → Leads b d T (and_then o (steps primitives n))
+    by : (o : Outcome) → Leads b d T o → ((T : Talks) (e : Ending) (W : World) → Both b d T e W → Leads b d T (steps primitives n e W)) → Leads b d T (and_then o (steps primitives n))
     by trapped l ih = tt
-    by (ends e' V) l ih = later (steps primitives n e' V) (ih (ticks l.0 (tick T)) e' V l.1)
+    by (ends e' V) l ih = later (steps primitives n e' V) (ih (ticks l.0 T) e' V l.1)
       where
-        later : (o : Outcome) → Leads b d (ticks l.0 (tick T)) o → Leads b d T o
+        later : (o : Outcome) → Leads b d (ticks l.0 T) o → Leads b d T o
         later trapped m = tt
-        later (ends e'' U) m = (suc l.0 + m.0, subst (λ T. Both b d T e'' U) (sym (ticks_add (suc l.0) m.0 T)) m.1)
+        later (ends e'' U) m = (l.0 + m.0, subst (λ T. Both b d T e'' U) (sym (ticks_add l.0 m.0 T)) m.1)
 
 -- a coroutine that goes on
 hand_over_is : (b : World) (H : Heap) (fs : List Function) (ws : List Cell) (ms : List Frame) (mv : List Value) (fuel : ℕ) → run hand_over [] (mk b H fs ws ms mv fuel) ≡ ends (handing ms) (mk b H fs ws ms mv fuel)
@@ -59,6 +58,8 @@ next_turn b d t T e W x (both_raise H fs vs ws fuel ms ts v k) h i = absurd (cc)
 next_turn b d t T e W x (both_unwind H fs vs ws fuel ms ts v k) h i = absurd (cc)
 next_turn b d t T e W x (both_primitive H fs vs ws fuel ms ts n mv k) h i = absurd (cc)
 next_turn b d t T e W x (both_yielded H fs vs ws fuel ms ts mv k) h i = record { ending = handing ms; world = mk b H fs ws ms t.values t.fuel; is = hand_over_is b H fs ws ms t.values t.fuel; both = both_hand H fs vs ws t.fuel ms ts t.values k }
+next_turn b d t T e W x (both_asked _ _ j e' V q k) h i = absurd (cc)
+next_turn b d t T e W x (both_asked_trap _ _ q) h i = absurd (cc)
 next_turn b d t T e W x (both_spent _ _ k) h i = let z : out_of_budget ≡ x = cc in absurd (subst IsYield (sym z) i)
 next_turn b d t T e W x (both_returned H fs vs fuel _ _ mv p q c z u v k w) h i = let y : with_results W.moving W.heap W.functions W.cells W.fuel ≡ x = cc in absurd (subst IsYield (sym y) i)
 next_turn b d t T e W x (both_failed H fs vs fuel _ _ v p q c z u y k w) h i = let y : with_error (nth W.moving 0) W.heap W.functions W.cells W.fuel ≡ x = cc in absurd (subst IsYield (sym y) i)
@@ -75,7 +76,7 @@ follow b d o turns xs T e W q k (goes_on _ t more n x ys h i rest) =
     by (ends e1 W1) r l ih =
         let h1 : final_world e1 W1 ≡ Some x = sym (ap (λ o. final (and_then o (steps primitives n))) q ∙ ap final r) ∙ h in
         let g = next_turn b d t (ticks l.0 T) e1 W1 x l.1 h1 i in
-        goes_on T t more l.0 x ys (sym (both_final b d (ticks l.0 T) e1 W1 l.1) ∙ h1) i
+        goes_on T t more l.0 x ys (sym (both_final b d (ticks l.0 T) e1 W1 (ends_no_ask e1 W1 x h1) l.1) ∙ h1) i
         (ih (answers t (ticks l.0 T)) g.ending g.world (ap (λ o. wakes t (and_then o (steps primitives n))) q ∙ ap (wakes t) r ∙ g.is) g.both)
 
 -- and the other way round
@@ -115,7 +116,7 @@ lead b d turns xs S T o e W p q k u (goes_on _ t more j x ys h i rest) =
     by n (ends e1 W1) r g a l ih =
         let h1 : final_world e1 W1 ≡ Some x = sym (ap final r) ∙ g in
         let z = next_turn b d t (ticks l.0 T) e1 W1 x l.1 h1 i in
-        let same : ticks j S ≡ ticks l.0 T = ap (ticks j) p ∙ one_end j l.0 T x x a (sym (both_final b d (ticks l.0 T) e1 W1 l.1) ∙ h1) in
+        let same : ticks j S ≡ ticks l.0 T = ap (ticks j) p ∙ one_end j l.0 T x x a (sym (both_final b d (ticks l.0 T) e1 W1 (ends_no_ask e1 W1 x h1) l.1) ∙ h1) in
         goes_on o t more n x ys (ap (λ o. final (and_then o (steps primitives n))) q ∙ g) i
         (ih n (answers t (ticks l.0 T)) z.ending z.world (ap (answers t) same) (ap (λ o. final (and_then o (steps primitives n))) q ∙ g) (ap (λ o. wakes t (and_then o (steps primitives n))) q ∙ ap (wakes t) r ∙ z.is) z.both)
 

@@ -3,16 +3,16 @@ use Rattle.std.proofs.Common.{ℕ, List, Option}
 use Rattle.int_core.specs.Value.{Value}
 use Rattle.machine_core.specs.World.{World}
 use Rattle.machine_core.specs.Text.{read_upvalue, write_upvalue, make_table, make_function, fill_table, pay}
-use Rattle.machine_core.specs.Moves.{Move, on_own, move_pc, open_register, outside, settle, enter, enter_tail, find_close, is_closable, begin_leaving, leave_frame, take_moving, look, give, give_with, blame, enter_over, see_top, see_catcher, pop_frame, take_closing, set_error, end_coroutine, fail_coroutine, suspend, resume, begin_closing, TopShape}
+use Rattle.machine_core.specs.Moves.{Move, on_own, move_pc, open_register, outside, settle, enter, enter_tail, await, find_close, is_closable, begin_leaving, leave_frame, take_moving, look, give, give_with, blame, place_text, push_frame, call_value, see_top, see_catcher, pop_frame, take_closing, set_error, end_coroutine, fail_coroutine, suspend, resume, begin_closing, TopShape}
 use Rattle.machine_sound.specs.Sound.{Top}
 use Rattle.machine_sound.specs.Safe.{on_lua, waiting, in_resumed, handing, Is, Ready, MoveGood, MovesGood, RowsGood}
 use Rattle.machine_sound.proofs.Moves.{own_move, pc_move}
 use Rattle.machine_sound.proofs.Outside.{settle_move, find_close_move, is_closable_move, take_moving_move, make_table_move, fill_table_move, pay_move}
 use Rattle.machine_sound.proofs.Cells.{read_upvalue_move, open_register_move, make_function_move}
 use Rattle.machine_sound.proofs.Writes.{write_upvalue_move}
-use Rattle.machine_sound.proofs.Calls.{enter_move, enter_tail_move, leave_move, begin_leaving_move}
-use Rattle.machine_sound.proofs.WaitingMoves.{see_top_waits, see_catcher_waits, take_moving_waits, look_waits, give_waits, give_with_waits, blame_waits, find_close_waits, enter_over_waits, pop_frame_waits, take_closing_waits, set_error_waits}
-use Rattle.machine_sound.proofs.CoroutineMoves.{end_coroutine_waits, suspend_waits, resume_waits, fail_resumed, take_moving_resumed, see_top_handing}
+use Rattle.machine_sound.proofs.Calls.{enter_move, enter_tail_move, await_move, leave_move, begin_leaving_move}
+use Rattle.machine_sound.proofs.WaitingMoves.{see_top_waits, see_catcher_waits, take_moving_waits, look_waits, give_waits, give_with_waits, blame_waits, find_close_waits, place_text_waits, push_frame_waits, call_value_waits, pop_frame_waits, take_closing_waits, set_error_waits}
+use Rattle.machine_sound.proofs.CoroutineMoves.{end_coroutine_waits, suspend_waits, resume_waits, fail_resumed, fail_waits, take_moving_resumed, see_top_handing}
 use Rattle.machine_sound.proofs.Closings.{begin_closing_waits}
 use Rattle.machine_sound.proofs.Rows.{rows_good}
 
@@ -29,6 +29,7 @@ lua_moves n (outside pay) t env W i r = pay_move n t env W i r
 lua_moves n (settle op xs) t env W i r = settle_move n op xs t env W i r
 lua_moves n (enter f slot wait prepared) t env W i r = enter_move n f slot wait prepared t env W i r
 lua_moves n (enter_tail f slot) t env W i r = enter_tail_move n f slot t env W i r
+lua_moves n (await f slot wait prepared) t env W i r = await_move n f slot wait prepared t env W i r
 lua_moves n (find_close v e) t env W i r = find_close_move n v e t env W i r
 lua_moves n (is_closable v) t env W i r = is_closable_move n v t env W i
 lua_moves n (begin_leaving text) t env W i r = begin_leaving_move n text t env W i r
@@ -45,11 +46,14 @@ waiting_moves n (give xs) s env W i r = give_waits n xs s env W i r
 waiting_moves n (give_with xs slot) s env W i r = give_with_waits n xs slot s env W i r
 waiting_moves n (blame text) s env W i r = blame_waits n text s env W i r
 waiting_moves n (find_close v e) s env W i r = find_close_waits n v e s env W i r
-waiting_moves n (enter_over over f slot) s env W i r = enter_over_waits n over f slot s env W i r
+waiting_moves n (place_text x level) s env W i r = place_text_waits n x level s env W i r
+waiting_moves n (push_frame over) s env W i r = push_frame_waits n over s env W i r
+waiting_moves n (call_value f slot) s env W i r = call_value_waits n f slot s env W i r
 waiting_moves n pop_frame s env W i r = pop_frame_waits n s env W i r
 waiting_moves n take_closing s env W i r = take_closing_waits n s env W i r
 waiting_moves n (set_error x) s env W i r = set_error_waits n x s env W i r
 waiting_moves n end_coroutine s env W i r = end_coroutine_waits n s env W i r
+waiting_moves n (fail_coroutine x) s env W i r = fail_waits n x s env W i r
 waiting_moves n suspend s env W i r = suspend_waits n s env W i r
 waiting_moves n (resume x slot) s env W i r = resume_waits n x slot s env W i r
 waiting_moves n (begin_closing x) s env W i r = begin_closing_waits n x s env W i r

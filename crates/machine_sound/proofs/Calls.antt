@@ -1,7 +1,7 @@
 -- The moves by which a Lua frame on top waits for a call, is replaced by one, is left, or begins to be left.
 use Rattle.std.proofs.Common.{ℕ, zero, suc, ◌<◌, ◌≤◌, ◌≡◌, List, [], ◌∷◌, ◌++◌, Option, Some, None, refl, subst, sym, ap, ◌∙◌, length, drop, arith, Bool, true, false, cond, length-append}
 use Rattle.std.specs.Prelude.{slice_get, IsTrue, codes}
-use Rattle.int_core.specs.Value.{Value, bind, last, greatest_string}
+use Rattle.int_core.specs.Value.{nil, boolean, integer, string, primitive, Value, known, object, bind, last, greatest_string}
 use Rattle.int_core.specs.Operations.{Callee, callee, not_callable, callee_of, greatest_chain}
 use Rattle.code_core.specs.declared.opcode.Opcode.{Opcode}
 use Rattle.code_core.specs.declared.instruction.Instruction.{Instruction}
@@ -10,10 +10,10 @@ use Rattle.code_core.specs.Check.{at}
 use Rattle.code_core.specs.Writable.{string_fits}
 use Rattle.machine_core.specs.World.{Cell, closed, open_at, Wait, running, for_call, for_iterator, for_value, for_truth, dropped, for_concat, for_close, returning, leaving, Activation, Frame, lua, World, Stack, place_of, put_frames, pop, close_from}
 use Rattle.machine_core.specs.Text.{Arg, arg, Own, close_cells, keep_pending, done, Given, results, thrown, given_values}
-use Rattle.machine_core.specs.Moves.{enter, enter_tail, begin_leaving, leave_frame, greatest_depth, CallShape, is_entered, is_primitive, not_paid, not_entered, top_shape, top_now, Made, made, move, named, cells_done, with_own, enters, enters_paid, called, popped, called_tail, blamed, where_text}
+use Rattle.machine_core.specs.Moves.{enter, enter_tail, await, begin_leaving, leave_frame, greatest_depth, CallShape, is_entered, is_primitive, not_paid, not_entered, top_shape, top_now, Made, made, move, named, cells_done, with_own, enters, enters_paid, called, popped, called_tail, placed, blamed, where_text}
 use Rattle.machine_sound.specs.Sound.{Each, Sizes, sizes, Valid, WaitOk, waits_at, waiting_size, kept_below, FrameOk, LuaWaits, FrameWaits, registers_in, registers_of, Solid, Top, RunsOrWaits, TopIs, StackWaits}
 use Rattle.machine_sound.specs.Safe.{on_lua, waiting, Is, IsPhase, TopReady, WaitArgOk, GivenOk, WaitsAs, after_all, after_entering, after_tail, MoveGood, AllReady}
-use Rattle.machine_sound.proofs.Lists.{each_none, each_one, each_push, each_front, each_drop, each_on, bind_at, without_push}
+use Rattle.machine_sound.proofs.Lists.{each_none, each_cons, each_one, each_push, each_front, each_drop, each_on, bind_at, without_push}
 use Rattle.machine_sound.proofs.Values.{arg_valid, le_of}
 use Rattle.machine_sound.proofs.Grow.{Grows, grows_then, values_on, valid_on, each_waits_on}
 use Rattle.machine_sound.proofs.Own.{OwnIs, all_good, close_length, close_open, close_closed}
@@ -208,6 +208,24 @@ enter_move n f slot wait prepared t env W i r =
           holds = made_so n (on_lua t) (after_entering x.shape t (after_all prepared env t)) env [] W x.world i (grows_then (sizes n W) (sizes n Q) (sizes n x.world) gr x.grows) x.solid (entered_phase n Q x.world t (after_all prepared env t) x.shape qt x.as') (each_none (Valid (sizes n x.world)));
         }
 
+-- the frame waits, and what it asks for moves
+pub await_move : (n : ℕ) (f : Arg) (slot : ℕ) (wait : Wait Arg) (prepared : List Own) (t : Top) (env : List Value) (W : World) → Is n (on_lua t) env W → TopReady t env (await f slot wait prepared) → MoveGood n (on_lua t) env (await f slot wait prepared) W
+await_move n f slot wait prepared t env W i r =
+    let P = ready_world n t env W i wait prepared r.prepares r.waits in
+    let gr = ready_grows n t env W i wait prepared r.prepares r.waits in
+    let ps = ready_solid n t env W i wait prepared r.prepares r.waits in
+    let top = ready_top n t env W i wait prepared r.prepares r.waits in
+    let vs = arg env f ∷ drop slot env in
+    let V = with_moving P vs P.fuel in
+    let valid = values_on (sizes n W) (sizes n P) gr vs (each_cons (Valid (sizes n W)) (arg env f) (drop slot env) (arg_valid (sizes n W) env f i.valid r.callee) (each_drop (Valid (sizes n W)) slot env i.valid)) in
+    record {
+      event = tt;
+      world = V;
+      is = bind_at _ (place_of W) (the_place n t W i.phase) (place_is n t W i.phase) ∙ ap (λ P. made (record P { moving = vs }) [] tt) (ready_is n t env W i wait prepared r.prepares r.waits);
+      holds = made_so n (on_lua t) (waiting None) env [] W V i (grows_then (sizes n W) (sizes n P) (sizes n V) gr (moving_grows n P vs P.fuel)) (moving_solid n P vs P.fuel ps valid)
+          (record { all = moving_waits n P vs P.fuel (top_waits n (record (after_all prepared env t) { runs = false }) P refl top); top = tt }) (each_none (Valid (sizes n V)));
+    }
+
 -- leaving
 
 -- the frames below the one on top, whose cells are closed
@@ -344,7 +362,15 @@ short_enough text = pick (string_fits text) refl
     pick false e = le_of _ greatest_string refl
 
 pub blamed_valid : (z : Sizes) (W : World) (text : List ℕ) → Valid z (blamed W text)
-blamed_valid z W text = short_enough (where_text W 1 ++ text)
+blamed_valid z W text = short_enough (where_text W 0 ++ text)
+
+pub placed_valid : (z : Sizes) (W : World) (level : ℕ) (v : Value) → Valid z v → Valid z (placed W level v)
+placed_valid z W level (known (string text)) h = short_enough (where_text W level ++ text)
+placed_valid z W level (known nil) h = h
+placed_valid z W level (known (boolean b)) h = h
+placed_valid z W level (known (integer m)) h = h
+placed_valid z W level (known (primitive m)) h = h
+placed_valid z W level (object kind m) h = h
 
 pub begin_leaving_move : (n : ℕ) (text : List ℕ) (t : Top) (env : List Value) (W : World) → Is n (on_lua t) env W → TopReady t env (begin_leaving text) → MoveGood n (on_lua t) env (begin_leaving text) W
 begin_leaving_move n text t env W i r =

@@ -52,23 +52,24 @@ module _ (n : ℕ) (W : World) (s : Solid n W) (h : StackWaits n W) (co : ℕ) (
   abbrev pub dead_waits : StackWaits n dead_world
   dead_waits = record { coroutine = h.coroutine; frames = h.frames; last = h.last; running = dead_running; waits = each_waits_on (sizes n W) (sizes n dead_world) dead_grows h.frames h.waits }
 
--- a closing frame on top
-pub record Begun (n : ℕ) (V : World) (o : Option (Made ResumeShape)) : Type 0 where
+-- a closing frame on top, or no room for it
+pub record Begun (n : ℕ) (W : World) (o : Option (Made ResumeShape)) : Type 0 where
   pub event : ResumeEvent
   pub world : World
   pub is : o ≡ Some (record { world = world; values = []; told = event.outcome })
-  pub grows : Grows (sizes n V) (sizes n world)
+  pub grows : Grows (sizes n W) (sizes n world)
   pub solid : Solid n world
   pub phase : IsPhase n (after_beginning event.outcome) world
 
-begins : (n : ℕ) (V : World) (s : Solid n V) (h : StackWaits n V) (e : Option Value) (vs : List Value) → OptionOk (Valid (sizes n V)) e → Each (Valid (sizes n V)) vs → Begun n V (closes_in V (record { coroutine = h.coroutine; frames = h.frames }) e vs)
-begins n V s h e vs a b = from (nat_le (length h.frames + 1) greatest_depth) refl
+-- of the world before W, and V, in which the coroutine is dead
+begins : (n : ℕ) (W V : World) (ws : Solid n W) (wh : StackWaits n W) (gv : Grows (sizes n W) (sizes n V)) (s : Solid n V) (h : StackWaits n V) → wh.coroutine ≡ h.coroutine → wh.frames ≡ h.frames → (e : Option Value) (vs : List Value) → OptionOk (Valid (sizes n V)) e → Each (Valid (sizes n V)) vs → Begun n W (closes_in W V (record { coroutine = h.coroutine; frames = h.frames }) e vs)
+begins n W V ws wh gv s h same_co same_frames e vs a b = from (nat_le (length h.frames + 1) greatest_depth) refl
   where
-    is : (q : Bool) → nat_le (length h.frames + 1) greatest_depth ≡ q → closes_in V (record { coroutine = h.coroutine; frames = h.frames }) e vs ≡ cond q (made (push V (record { coroutine = h.coroutine; frames = h.frames }) (closing e vs)) [] (resumed is_entered)) (made V [] (resumed (not_entered stack_overflow)))
-    is q k = ap (λ q. cond q (made (push V (record { coroutine = h.coroutine; frames = h.frames }) (closing e vs)) [] (resumed is_entered)) (made V [] (resumed (not_entered stack_overflow))))
-        (ap (λ (o : Option Stack). elim o as (λ _. Bool) [ None ↦ false | Some s ↦ nat_le (length s.frames + 1) greatest_depth ]) (waits_stack n V h) ∙ k)
+    is : (q : Bool) → nat_le (length h.frames + 1) greatest_depth ≡ q → closes_in W V (record { coroutine = h.coroutine; frames = h.frames }) e vs ≡ cond q (made (push V (record { coroutine = h.coroutine; frames = h.frames }) (closing e vs)) [] (resumed is_entered)) (made W [] (resumed (not_entered stack_overflow)))
+    is q k = ap (λ q. cond q (made (push V (record { coroutine = h.coroutine; frames = h.frames }) (closing e vs)) [] (resumed is_entered)) (made W [] (resumed (not_entered stack_overflow))))
+        (ap (λ (o : Option Stack). elim o as (λ _. Bool) [ None ↦ false | Some s ↦ nat_le (length s.frames + 1) greatest_depth ]) (waits_stack n W wh) ∙ ap (λ (fs : List Frame). nat_le (length fs + 1) greatest_depth) same_frames ∙ k)
 
-    from : (q : Bool) → nat_le (length h.frames + 1) greatest_depth ≡ q → Begun n V (closes_in V (record { coroutine = h.coroutine; frames = h.frames }) e vs)
+    from : (q : Bool) → nat_le (length h.frames + 1) greatest_depth ≡ q → Begun n W (closes_in W V (record { coroutine = h.coroutine; frames = h.frames }) e vs)
     from true k =
         let room : length h.frames < greatest_depth = (let l = le_of (length h.frames + 1) greatest_depth k in omega arith) in
         let x = closing e vs in
@@ -78,24 +79,24 @@ begins n V s h e vs a b = from (nat_le (length h.frames + 1) greatest_depth) ref
           event = record { outcome = resumed is_entered; right = tt };
           world = U;
           is = is true k ∙ ap (λ U. made U [] (resumed is_entered)) (push_is V (record { coroutine = h.coroutine; frames = h.frames }) x);
-          grows = g;
+          grows = grows_then (sizes n W) (sizes n V) (sizes n U) gv g;
           solid = pushed_solid n V s h x (a, b) room;
           phase = record {
             all = record { coroutine = h.coroutine; frames = h.frames ++ x ∷ []; last = h.last; running = pushed_there n V s h x (a, b) room; waits = each_push (FrameWaits (sizes n U)) h.frames x (each_waits_on (sizes n V) (sizes n U) g h.frames h.waits) tt };
             top = ap (top_shape U) (last_push h.frames x);
           };
         }
-    from false k = record { event = record { outcome = resumed (not_entered stack_overflow); right = tt }; world = V; is = is false k; grows = grows_self (sizes n V); solid = s; phase = record { all = h; top = tt } }
+    from false k = record { event = record { outcome = resumed (not_entered stack_overflow); right = tt }; world = W; is = is false k; grows = grows_self (sizes n W); solid = ws; phase = record { all = wh; top = tt } }
 
-fresh_closes : (W : World) (s : Stack) (co : ℕ) (v : Value) → closes_coroutine W s co (fresh v) ≡ closes_in (record W { coroutines = slice_set W.coroutines co dead }) s None []
+fresh_closes : (W : World) (s : Stack) (co : ℕ) (v : Value) → closes_coroutine W s co (fresh v) ≡ closes_in W (record W { coroutines = slice_set W.coroutines co dead }) s None []
 unfolding put_coroutine
 fresh_closes W s co v = refl
 
-failed_closes : (W : World) (s : Stack) (co : ℕ) (v : Value) (vs : List Value) → closes_coroutine W s co (failed v vs) ≡ closes_in (record W { coroutines = slice_set W.coroutines co dead }) s (Some v) vs
+failed_closes : (W : World) (s : Stack) (co : ℕ) (v : Value) (vs : List Value) → closes_coroutine W s co (failed v vs) ≡ closes_in W (record W { coroutines = slice_set W.coroutines co dead }) s (Some v) vs
 unfolding put_coroutine
 failed_closes W s co v vs = refl
 
-suspended_closes : (W : World) (s : Stack) (co : ℕ) (gs : List Frame) → closes_coroutine W s co (suspended gs) ≡ closes_in (record W { cells = all_closed_from co 0 gs W.cells; coroutines = slice_set W.coroutines co dead }) s None (flat_map pending_values gs)
+suspended_closes : (W : World) (s : Stack) (co : ℕ) (gs : List Frame) → closes_coroutine W s co (suspended gs) ≡ closes_in W (record W { cells = all_closed_from co 0 gs W.cells; coroutines = slice_set W.coroutines co dead }) s None (flat_map pending_values gs)
 unfolding put_coroutine
 suspended_closes W s co gs = refl
 
@@ -117,17 +118,17 @@ begin_closing_waits n x s env W i r = from (named_there n env W x i.valid r).cor
     refuses : (text : List ℕ) → length text ≤ greatest_string → move (begin_closing x) env W ≡ made W [] (refused text) → MoveGood n (waiting s) env (begin_closing x) W
     refuses text l e = record { event = record { outcome = refused text; right = l }; world = W; is = e; holds = made_so n (waiting s) (waiting None) env [] W W i (grows_self (sizes n W)) i.solid (record { all = i.phase.all; top = tt }) (each_none (Valid (sizes n W))) }
 
-    begun : (V : World) → Grows (sizes n W) (sizes n V) → (o : Option (Made ResumeShape)) → move (begin_closing x) env W ≡ o → Begun n V o → MoveGood n (waiting s) env (begin_closing x) W
-    begun V g o e b = record { event = b.event; world = b.world; is = e ∙ b.is; holds = made_so n (waiting s) (after_beginning b.event.outcome) env [] W b.world i (grows_then (sizes n W) (sizes n V) (sizes n b.world) g b.grows) b.solid b.phase (each_none (Valid (sizes n b.world))) }
+    begun : (o : Option (Made ResumeShape)) → move (begin_closing x) env W ≡ o → Begun n W o → MoveGood n (waiting s) env (begin_closing x) W
+    begun o e b = record { event = b.event; world = b.world; is = e ∙ b.is; holds = made_so n (waiting s) (after_beginning b.event.outcome) env [] W b.world i b.grows b.solid b.phase (each_none (Valid (sizes n b.world))) }
 
     buried : (c : Coroutine) (e : slice_get W.coroutines (named_there n env W x i.valid r).number ≡ Some c) (a : standing c ≡ apart) (cells : List Cell) (left : CellsLeft n W (named_there n env W x i.valid r).number dead cells) (er : Option Value) (vs : List Value) → OptionOk (Valid (sizes n W)) er → Each (Valid (sizes n W)) vs
-        → move (begin_closing x) env W ≡ closes_in (record W { cells = cells; coroutines = slice_set W.coroutines (named_there n env W x i.valid r).number dead }) (record { coroutine = i.phase.all.coroutine; frames = i.phase.all.frames }) er vs → MoveGood n (waiting s) env (begin_closing x) W
+        → move (begin_closing x) env W ≡ closes_in W (record W { cells = cells; coroutines = slice_set W.coroutines (named_there n env W x i.valid r).number dead }) (record { coroutine = i.phase.all.coroutine; frames = i.phase.all.frames }) er vs → MoveGood n (waiting s) env (begin_closing x) W
     buried c e a cells left er vs p q m =
         let co = (named_there n env W x i.valid r).number in
         let V = dead_world n W i.solid i.phase.all co c e a cells left in
         let g = dead_grows n W i.solid i.phase.all co c e a cells left in
-        begun V g (closes_in V (record { coroutine = i.phase.all.coroutine; frames = i.phase.all.frames }) er vs) m
-        (begins n V (dead_solid n W i.solid i.phase.all co c e a cells left) (dead_waits n W i.solid i.phase.all co c e a cells left) er vs (option_on (sizes n W) (sizes n V) g (Valid (sizes n W)) (Valid (sizes n V)) (valid_on (sizes n W) (sizes n V) g) er p) (values_on (sizes n W) (sizes n V) g vs q))
+        begun (closes_in W V (record { coroutine = i.phase.all.coroutine; frames = i.phase.all.frames }) er vs) m
+        (begins n W V i.solid i.phase.all g (dead_solid n W i.solid i.phase.all co c e a cells left) (dead_waits n W i.solid i.phase.all co c e a cells left) refl refl er vs (option_on (sizes n W) (sizes n V) g (Valid (sizes n W)) (Valid (sizes n V)) (valid_on (sizes n W) (sizes n V) g) er p) (values_on (sizes n W) (sizes n V) g vs q))
 
     from : (c : Coroutine) → slice_get W.coroutines (named_there n env W x i.valid r).number ≡ Some c → MoveGood n (waiting s) env (begin_closing x) W
     from (fresh v) e = buried (fresh v) e refl W.cells (no_cells n W i.solid _ (fresh v) e refl) None [] tt (each_none (Valid (sizes n W))) (is (fresh v) e ∙ fresh_closes W (record { coroutine = i.phase.all.coroutine; frames = i.phase.all.frames }) _ v)
@@ -138,6 +139,6 @@ begin_closing_waits n x s env W i r = from (named_there n env W x i.valid r).cor
         let ok : AllWait (sizes n W) gs = i.solid.coroutines _ (suspended gs) e in
         buried (suspended gs) e refl (all_closed_from (named_there n env W x i.valid r).number 0 gs W.cells) (buried_cells n W i.solid _ (suspended gs) dead gs e refl ok.right) None (flat_map pending_values gs) tt (pendings_valid (sizes n W) gs ok.right.each)
         (is (suspended gs) e ∙ suspended_closes W (record { coroutine = i.phase.all.coroutine; frames = i.phase.all.frames }) _ gs)
-    from dead e = begun W (grows_self (sizes n W)) (closes_in W (record { coroutine = i.phase.all.coroutine; frames = i.phase.all.frames }) None []) (is dead e) (begins n W i.solid i.phase.all None [] tt (each_none (Valid (sizes n W))))
+    from dead e = begun (closes_in W W (record { coroutine = i.phase.all.coroutine; frames = i.phase.all.frames }) None []) (is dead e) (begins n W W i.solid i.phase.all (grows_self (sizes n W)) i.solid i.phase.all refl refl None [] tt (each_none (Valid (sizes n W))))
     from (in_progress gs) e = refuses (codes "cannot close a running coroutine") (le_of _ greatest_string refl) (is (in_progress gs) e)
     from (normal gs) e = refuses (codes "cannot close a normal coroutine") (le_of _ greatest_string refl) (is (normal gs) e)

@@ -83,6 +83,22 @@ fail_resumed n x env W i r =
       holds = made_so n in_resumed (waiting None) env [] W g.world i g.grows g.solid (g.phase false i.phase.resumed_one) (each_none (Valid (sizes n g.world)));
     }
 
+pub fail_waits : (n : ℕ) (x : Arg) → WaitingGood n (fail_coroutine x)
+fail_waits n x (Some (no_top b)) env W i r =
+    let h = i.phase.all in
+    let z = sizes n W in
+    let fr = i.solid.coroutines h.coroutine (in_progress h.frames) h.running in
+    let d = failed (arg env x) (flat_map pending_values h.frames) in
+    let g = goes_back n W i.solid h d refl (arg_valid z env x i.valid r.1, pendings_valid z h.frames fr.each) (all_closed_from h.coroutine 0 h.frames W.cells) (dead_cells n W i.solid h d) in
+    let m = main_of W (last h.frames) b i.phase.top in
+    record {
+      event = record { in_main = b; is = refl };
+      world = g.world;
+      is = bind_at _ (stack_of W) (record { coroutine = h.coroutine; frames = h.frames }) (waits_stack n W h) ∙ bind_at (λ V. made V [] tt) (ends_as W d) _ (ends_is n W h d) ∙ ap (λ V. made V [] tt) g.is;
+      holds = made_so n (waiting (Some (no_top b))) (after_end b) env [] W g.world i g.grows g.solid (g.phase b m) (each_none (Valid (sizes n g.world)));
+    }
+fail_waits n x _ env W i r = absurd r.0
+
 pub take_moving_resumed : (n : ℕ) (env : List Value) (W : World) → Is n in_resumed env W → MoveGood n in_resumed env take_moving W
 take_moving_resumed n env W i =
     let V = with_moving W [] W.fuel in

@@ -1,15 +1,17 @@
 -- The rows of frames that are no Lua functions', of errors on their way, and of the primitives that move frames and coroutines are safe.
 use Rattle.std.proofs.Common.{◌≡◌, List, [], ◌∷◌, ◌++◌, Option, Some, None, refl, subst, sym, length, Bool, true, false}
-use Rattle.std.specs.Prelude.{cond}
+use Rattle.std.specs.Prelude.{ℕ, zero, suc, ℤ, pos, negsuc, cond}
 use Rattle.int_core.specs.Value.{Value, boolean, a_table, a_function, a_coroutine, Shape, is_known, is_object, shape, greatest_string}
 use Rattle.machine_core.specs.Text.{read, written, arg}
-use Rattle.machine_core.specs.Moves.{CallShape, is_entered, is_primitive, not_paid, not_entered, TopShape, lua_top, pcall_top, xpcall_top, handler_top, closing_top, no_top, ResumeShape, resumed, refused, Row, stop, act, see_top, main_returned, give_with, main_yielded, take_moving}
-use Rattle.machine_core.specs.FrameRows.{handed, hand_over, error_in_handler, gives_up, after_handler, raised_to, raised_row, caught, blames, after_entry, closing_by, closing_row, unwound, handed_to}
-use Rattle.machine_core.specs.MachineStep.{pcall_row, xpcall_row, error_row, after_resume, resumes, resume_row, yield_row, after_closing, closes_coroutine, close_row}
+use Rattle.machine_core.specs.Moves.{stack_overflow, Over, over_pcall, give, asks, main_failed, CallShape, is_entered, is_primitive, not_paid, not_entered, TopShape, lua_top, pcall_top, xpcall_top, handler_top, closing_top, no_top, ResumeShape, resumed, refused, Row, stop, act, see_top, main_returned, give_with, main_yielded, take_moving}
+use Rattle.machine_core.specs.FrameRows.{raises, handed, hand_over, error_in_handler, gives_up, raised_to, raised_row, caught, blames, over_frame, refused_under, after_asked, asked_row, closing_by, closing_row, unwound, handed_to}
+use Rattle.machine_core.specs.InstructionRows.{fails}
+use Rattle.machine_core.specs.MachineStep.{pcall_row, xpcall_row, level_in, errs_at, error_row, after_entry, after_resume, resumes, resume_row, yield_row, after_closing, closes_coroutine, close_row}
 use Rattle.machine_sound.specs.Sound.{Top, FitsIfRuns}
-use Rattle.machine_sound.specs.Safe.{Phase, waiting, handing, SeenTop, seen_lua, seen_other, ClosingEvent, takes_one, takes_none, takes_error, IsNoLua, IsOtherTop, RefusalOk, after_catcher, after_end, after_over, after_resuming, after_beginning, after_handing, see_leads, EndsWell, Safe, closing_values, closing_told}
+use Rattle.machine_sound.specs.Safe.{Phase, on_lua, waiting, handing, HeldLua, OverOk, SeenTop, seen_lua, seen_other, ClosingEvent, takes_one, takes_none, takes_error, IsNoLua, IsOtherTop, RefusalOk, after_catcher, after_end, after_over, after_resuming, after_beginning, after_handing, see_leads, EndsWell, Safe, closing_values, closing_told}
 use Rattle.machine_sound.proofs.Values.{le_of}
 use Rattle.machine_sound.proofs.Rests.{fails_safe}
+use Rattle.machine_sound.proofs.Asking.{asking_safe}
 use Rattle.std.proofs.lemmas.List.{append-nil}
 
 held_ends : (b : Bool) (t : Top) → b ≡ false → FitsIfRuns b t
@@ -55,11 +57,38 @@ entry_safe env (not_entered text) = (tt, λ _. tt)
 gives_up_safe : (s : Option TopShape) (env : List Value) → Safe (waiting s) env gives_up
 gives_up_safe s env = ((le_of _ greatest_string refl, tt), λ _. tt)
 
-handler_safe : (env : List Value) (c : CallShape) → Safe (after_over c) env (after_handler c)
-handler_safe env is_entered = tt
-handler_safe env (is_primitive n) = refl
-handler_safe env not_paid = tt
-handler_safe env (not_entered text) = gives_up_safe None env
+held_raises : (held : HeldLua) (env : List Value) (text : List ℕ) → Safe (on_lua held.top) env (raises text)
+held_raises held env text = (held.place, λ _. tt)
+
+-- what was asked for is called
+pub asked_safe : Safe (waiting None) [] asked_row
+asked_safe = (tt, λ vs. (tt, λ c. from ([] ++ vs ++ []) c))
+  where
+    other : (s : TopShape) → IsNoLua s → (env : List Value) (text : List ℕ) → Safe (waiting (Some s)) env (refused_under s text)
+    other lua_top k env text = absurd k
+    other pcall_top k env text = (tt, λ _. tt)
+    other xpcall_top k env text = (tt, λ _. tt)
+    other handler_top k env text = gives_up_safe (Some handler_top) env
+    other closing_top k env text = (tt, λ _. tt)
+    other (no_top b) k env text = (tt, λ _. tt)
+
+    seen : (e : SeenTop) (env : List Value) (text : List ℕ) → Safe (see_leads e).phase (env ++ (see_leads e).values) (refused_under (see_leads e).told text)
+    seen (seen_lua held) env text = held_raises held (env ++ []) text
+    seen (seen_other s k) env text = other s k (env ++ []) text
+
+    from : (env : List Value) (c : CallShape) → Safe (after_over c) env (after_asked c)
+    from env is_entered = tt
+    from env (is_primitive n) = refl
+    from env not_paid = tt
+    from env (not_entered text) = (tt, λ e. seen e env text)
+
+-- a frame is pushed, and what is then given asked for
+over_safe : (over : Over) (env : List Value) (r : Row) → OverOk over → ((s : Option TopShape) (env : List Value) → Safe (waiting s) env r) → Safe (waiting None) env (over_frame over r)
+over_safe over env r o k = (o, λ room. from room)
+  where
+    from : (room : Bool) → Safe (waiting None) (env ++ []) (cond room r (blames stack_overflow))
+    from true = k None (env ++ [])
+    from false = (tt, λ _. tt)
 
 -- errors
 
@@ -67,7 +96,11 @@ pub raised_safe : Safe (waiting None) [] raised_row
 raised_safe = (tt, λ e. from e.0 e.1)
   where
     from : (s : TopShape) (vs : List Value) → Safe (after_catcher s) vs (raised_to s 0)
-    from xpcall_top vs = (tt, λ es. ((tt, tt), λ c. handler_safe ((vs ++ es) ++ []) c))
+    from xpcall_top vs = (tt, λ es. (tt, λ room. called room vs es))
+      where
+        called : (room : Bool) (vs es : List Value) → Safe (waiting None) ((vs ++ es) ++ []) (cond room (Rattle.machine_core.specs.FrameRows.then (give_with (read 0 ∷ []) (length vs)) (stop asks)) gives_up)
+        called true vs es = ((tt, tt), λ _. tt)
+        called false vs es = gives_up_safe None ((vs ++ es) ++ [])
     from (no_top true) vs = tt
     from (no_top false) vs = (tt, λ es. (tt, λ _. ((tt, (tt, tt)), λ _. hand_over_safe None (((vs ++ es) ++ []) ++ []))))
     from lua_top vs = tt
@@ -82,9 +115,17 @@ closing_row_safe : (env : List Value) → Safe (waiting (Some closing_top)) env 
 closing_row_safe env = (tt, λ e. from e)
   where
     from : (e : ClosingEvent) → Safe (waiting (Some closing_top)) (env ++ closing_values e) (closing_by (closing_told e) (length env))
-    from (takes_one v x) = ((tt, tt), λ h. ((tt, tt), λ c. entry_safe _ c))
+    from (takes_one v x) = ((tt, tt), λ h. ((tt, tt), λ _. tt))
     from takes_none = (tt, λ _. ((tt, tt), λ _. hand_over_safe None _))
     from (takes_error x) = (tt, λ _. ((tt, (tt, tt)), λ _. hand_over_safe None _))
+
+main_ends : (b : Bool) → Some (no_top true) ≡ Some (no_top b) → EndsWell main_failed (after_end b)
+main_ends true e = tt
+main_ends false e = absurd (cc)
+
+other_ends : (b : Bool) (env : List Value) → Some (no_top false) ≡ Some (no_top b) → Safe (after_end b) env (Rattle.machine_core.specs.FrameRows.then (give (written (boolean false) ∷ read 0 ∷ [])) hand_over)
+other_ends true env e = absurd (cc)
+other_ends false env e = ((tt, (tt, tt)), λ _. hand_over_safe None (env ++ []))
 
 pub unwinding_safe : Safe (waiting None) [] (act see_top (λ _ top. unwound top))
 unwinding_safe = (tt, λ e. from e)
@@ -95,10 +136,11 @@ unwinding_safe = (tt, λ e. from e)
     other xpcall_top k = caught_safe xpcall_top [] tt
     other handler_top k = (tt, λ _. gives_up_safe None [])
     other closing_top k = (tt, λ es. ((tt, tt), λ _. closing_row_safe (es ++ [])))
-    other (no_top b) k = tt
+    other (no_top true) k = (tt, λ es. ((tt, tt), λ _. ((tt, tt), λ e. main_ends e.in_main e.is)))
+    other (no_top false) k = (tt, λ es. ((tt, tt), λ e. other_ends e.in_main (([] ++ es) ++ []) e.is))
 
     from : (e : SeenTop) → Safe (see_leads e).phase ([] ++ (see_leads e).values) (unwound (see_leads e).told)
-    from (seen_lua held) = (tt, λ vs. fails_safe held.top vs held.place held.pending)
+    from (seen_lua held) = (tt, λ vs. asking_safe fails (on_lua held.top) vs (fails_safe held.top vs held.place held.pending))
     from (seen_other k l) = other k l
 
 -- results
@@ -119,7 +161,7 @@ returned_safe = (tt, λ e. from e)
     other pcall_top k = (tt, λ vs. (tt, λ _. ((tt, tt), λ _. hand_over_safe None ((vs ++ []) ++ []))))
     other xpcall_top k = (tt, λ vs. (tt, λ _. ((tt, tt), λ _. hand_over_safe None ((vs ++ []) ++ []))))
     other handler_top k = (tt, λ vs. (tt, λ _. ((tt, tt), λ _. tt)))
-    other closing_top k = closing_row_safe []
+    other closing_top k = (tt, λ vs. closing_row_safe vs)
     other (no_top true) k = (tt, λ e. ended_main e.in_main e.is)
     other (no_top false) k = (tt, λ vs. (tt, λ e. ended_other e.in_main (vs ++ []) (Rattle.machine_core.specs.FrameRows.then (give_with (written (boolean true) ∷ []) 0) hand_over) e.is ((tt, tt), λ _. hand_over_safe None ((vs ++ []) ++ []))))
 
@@ -130,13 +172,19 @@ returned_safe = (tt, λ e. from e)
 -- primitives
 
 pub pcall_safe : Safe (waiting None) [] pcall_row
-pcall_safe = (tt, λ vs. ((tt, tt), λ c. entry_safe (vs ++ []) c))
+pcall_safe = (tt, λ vs. over_safe over_pcall vs _ tt (λ s env. ((tt, tt), λ _. tt)))
 
 pub xpcall_safe : Safe (waiting None) [] xpcall_row
-xpcall_safe = (tt, λ vs. ((tt, tt), λ c. entry_safe (vs ++ []) c))
+xpcall_safe = (tt, λ vs. over_safe over_pcall vs _ tt (λ s env. ((tt, tt), λ _. tt)))
 
 pub error_safe : Safe (waiting None) [] error_row
-error_safe = (tt, λ vs. ((tt, tt), λ _. tt))
+error_safe = (tt, λ vs. (tt, λ _. from (shape (arg vs (read 1))) (vs ++ []) (level_in (shape (arg vs (read 1))))))
+  where
+    from : (s : Shape) (env : List Value) (level : Option ℤ) → Safe (waiting None) env (errs_at 0 s level)
+    from s env None = (tt, λ _. tt)
+    from s env (Some (pos zero)) = ((tt, tt), λ _. tt)
+    from s env (Some (pos (suc n))) = (tt, λ v. ((tt, tt), λ _. tt))
+    from s env (Some (negsuc n)) = ((tt, tt), λ _. tt)
 
 resumed_safe : (env : List Value) (r : ResumeShape) → RefusalOk r → Safe (after_resuming r) env (after_resume r)
 resumed_safe env (resumed is_entered) k = handing_safe env

@@ -34,3 +34,4 @@ pub mod LuaSteps
 pub mod FrameRowsSafe
 pub mod Steps
 pub mod Example
+pub mod Asking

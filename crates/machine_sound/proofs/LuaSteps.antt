@@ -9,8 +9,8 @@ use Rattle.code_core.specs.Check.{CodeIsChecked, at}
 use Rattle.machine_core.specs.World.{Function, Wait, running, for_call, for_iterator, for_value, for_truth, dropped, for_concat, for_close, returning, leaving, lua, World, stack_of, Place, place_of, find_open}
 use Rattle.machine_core.specs.InstructionRows.{text_at, rest_at, told_values}
 use Rattle.int_core.specs.Ask.{values}
-use Rattle.machine_core.specs.Moves.{go, returned, calls_primitive, raised, unwinding, spent, main_yielded, main_returned, main_failed, Row, Outcome, trapped, ends, run}
-use Rattle.machine_core.specs.FrameRows.{expand}
+use Rattle.machine_core.specs.Moves.{go, returned, asks, calls_primitive, raised, unwinding, spent, main_yielded, main_returned, main_failed, Row, Outcome, trapped, ends, run}
+use Rattle.machine_core.specs.FrameRows.{expand, goes_on_by}
 use Rattle.machine_core.specs.MachineStep.{woken, lua_step, top_step, from_world, step_by, step}
 use Rattle.machine_sound.specs.Sound.{Each, sizes, Valid, WaitOk, waits_at, waiting_size, LuaWaits, Solid, Top, RunsOrWaits, TopIs, Fits, FitsIfRuns, Settled}
 use Rattle.machine_sound.specs.Safe.{on_lua, Is, Good}
@@ -22,6 +22,7 @@ use Rattle.machine_sound.proofs.Waits.{with_moving, moving_grows, moving_solid}
 use Rattle.machine_sound.proofs.Calls.{fuel_top}
 use Rattle.machine_sound.proofs.RowsOfCode.{text_safe}
 use Rattle.machine_sound.proofs.Rests.{rest_text_safe}
+use Rattle.machine_sound.proofs.Asking.{asking_safe}
 use Rattle.machine_sound.proofs.All.{all_rows_good}
 
 -- a step that costs a unit while none is left changes nothing
@@ -31,6 +32,7 @@ from_world_good n W (ends spent V) s g = (s, tt)
 from_world_good n W (ends go V) s g = g
 from_world_good n W (ends returned V) s g = g
 from_world_good n W (ends (calls_primitive k) V) s g = g
+from_world_good n W (ends asks V) s g = g
 from_world_good n W (ends raised V) s g = g
 from_world_good n W (ends unwinding V) s g = g
 from_world_good n W (ends main_yielded V) s g = g
@@ -139,7 +141,7 @@ module _ (n : ℕ) (t : Top) (W : World) (h : TopIs n t W) (s : Solid n W) where
     told_ok for_close k = s.moving
     told_ok (returning c) k = s.moving
 
-    step_is : (wait : Wait Value) (op : Opcode) (i : Instruction) → IsTrue (waits_at wait op i) → lua_step W (record { coroutine = h.coroutine; frames = h.base ++ lua h.top ∷ [] }) h.top h.function.code wait ≡ run (expand (rest_at wait h.function.code h.top.own.pc)) (told_values wait (values W.moving)) (woken W (record { coroutine = h.coroutine; frames = h.base ++ lua h.top ∷ [] }) h.top)
+    step_is : (wait : Wait Value) (op : Opcode) (i : Instruction) → IsTrue (waits_at wait op i) → lua_step W (record { coroutine = h.coroutine; frames = h.base ++ lua h.top ∷ [] }) h.top h.function.code wait ≡ run (goes_on_by (rest_at wait h.function.code h.top.own.pc)) (told_values wait (values W.moving)) (woken W (record { coroutine = h.coroutine; frames = h.base ++ lua h.top ∷ [] }) h.top)
     step_is running op i f = absurd (cc)
     step_is (leaving e) op i f = refl
     step_is for_call op i f = refl
@@ -164,9 +166,9 @@ module _ (n : ℕ) (t : Top) (W : World) (h : TopIs n t W) (s : Solid n W) where
         let ok = (top_ok n t W h s).error in
         let g = grows_then (sizes n W) (sizes n P) (sizes n V) grows_p (moving_grows n P [] P.fuel) in
         let i : Is n (on_lua woken_top) vs V = record { solid = moving_solid n P [] P.fuel solid_p (each_none (Valid (sizes n P))); phase = fuel_top n woken_top P [] P.fuel solid_p top_p (each_none (Valid (sizes n P))); valid = values_on (sizes n W) (sizes n V) g vs (told_ok wait ok) } in
-        let r = all_rows_good n (expand (rest_at wait t.code t.pc)) (on_lua woken_top) vs V i x in
-        let r' = subst (λ p. Good n (run (expand (rest_at wait p h.top.own.pc)) vs V)) (sym h.code) (subst (λ pc. Good n (run (expand (rest_at wait t.code pc)) vs V)) (sym h.pc) r) in
-        subst (λ o. Good n o) (sym (step_is wait w.opcode w.instruction w.fits)) (subst (λ V. Good n (run (expand (rest_at wait h.function.code h.top.own.pc)) vs V)) (sym woken_is) r')
+        let r = all_rows_good n (goes_on_by (rest_at wait t.code t.pc)) (on_lua woken_top) vs V i (asking_safe (rest_at wait t.code t.pc) (on_lua woken_top) vs x) in
+        let r' = subst (λ p. Good n (run (goes_on_by (rest_at wait p h.top.own.pc)) vs V)) (sym h.code) (subst (λ pc. Good n (run (goes_on_by (rest_at wait t.code pc)) vs V)) (sym h.pc) r) in
+        subst (λ o. Good n o) (sym (step_is wait w.opcode w.instruction w.fits)) (subst (λ V. Good n (run (goes_on_by (rest_at wait h.function.code h.top.own.pc)) vs V)) (sym woken_is) r')
 
 -- either
 lua_step_good : (n : ℕ) (t : Top) (W : World) (h : TopIs n t W) (s : Solid n W) (b : Bool) → t.runs ≡ b → RunsOrWaits b (sizes n W) h.top → FitsIfRuns b t → Good n (lua_step W (record { coroutine = h.coroutine; frames = h.base ++ lua h.top ∷ [] }) h.top h.function.code h.top.wait)
@@ -192,16 +194,16 @@ running_text_good n W p s k e w =
     let g = subst (λ wait. Good n (lua_step W (record { coroutine = h.coroutine; frames = h.base ++ lua h.top ∷ [] }) h.top h.function.code wait)) w' (lua_step_good n k.top W h s k.top.runs refl h.wait k.fits) in
     subst (λ (p : Place). Good n (run (expand (text_at p.function.code p.top.own.pc)) [] W)) q g
 
-pub waiting_text_good : (n : ℕ) (W : World) (p : Place) → Solid n W → Settled n W → place_of W ≡ Some p → (p.top.wait ≡ running → ⊥) → Good n (run (expand (rest_at p.top.wait p.function.code p.top.own.pc)) (told_values p.top.wait (values W.moving)) (woken W p.stack p.top))
+pub waiting_text_good : (n : ℕ) (W : World) (p : Place) → Solid n W → Settled n W → place_of W ≡ Some p → (p.top.wait ≡ running → ⊥) → Good n (run (goes_on_by (rest_at p.top.wait p.function.code p.top.own.pc)) (told_values p.top.wait (values W.moving)) (woken W p.stack p.top))
 waiting_text_good n W p s k e w =
     let h = k.is_top in
     let q = the_same n W p k e in
     let g = lua_step_good n k.top W h s k.top.runs refl h.wait k.fits in
-    subst (λ (p : Place). Good n (run (expand (rest_at p.top.wait p.function.code p.top.own.pc)) (told_values p.top.wait (values W.moving)) (woken W p.stack p.top))) q
+    subst (λ (p : Place). Good n (run (goes_on_by (rest_at p.top.wait p.function.code p.top.own.pc)) (told_values p.top.wait (values W.moving)) (woken W p.stack p.top))) q
     (from h.top.wait g (λ r. w (ap (λ (p : Place). p.top.wait) (sym q) ∙ r)))
   where
     from : (wait : Wait Value) → Good n (lua_step W (record { coroutine = k.is_top.coroutine; frames = k.is_top.base ++ lua k.is_top.top ∷ [] }) k.is_top.top k.is_top.function.code wait) → (wait ≡ running → ⊥)
-        → Good n (run (expand (rest_at wait k.is_top.function.code k.is_top.top.own.pc)) (told_values wait (values W.moving)) (woken W (record { coroutine = k.is_top.coroutine; frames = k.is_top.base ++ lua k.is_top.top ∷ [] }) k.is_top.top))
+        → Good n (run (goes_on_by (rest_at wait k.is_top.function.code k.is_top.top.own.pc)) (told_values wait (values W.moving)) (woken W (record { coroutine = k.is_top.coroutine; frames = k.is_top.base ++ lua k.is_top.top ∷ [] }) k.is_top.top))
     from running g r = absurd (r refl)
     from (leaving e) g r = g
     from for_call g r = g

@@ -1,8 +1,8 @@
 -- No step of a sound world traps.
 use Rattle.std.proofs.Common.{ℕ, zero, suc, [], None}
 use Rattle.machine_core.specs.World.{World}
-use Rattle.machine_core.specs.Moves.{Ending, go, returned, calls_primitive, raised, unwinding, spent, main_yielded, main_returned, main_failed, Row, Outcome, trapped, ends, act, see_top, run}
-use Rattle.machine_core.specs.FrameRows.{raised_row, unwound, handed_to}
+use Rattle.machine_core.specs.Moves.{Ending, go, returned, asks, calls_primitive, raised, unwinding, spent, main_yielded, main_returned, main_failed, Row, Outcome, trapped, ends, act, see_top, run}
+use Rattle.machine_core.specs.FrameRows.{asked_row, raised_row, unwound, handed_to}
 use Rattle.machine_core.specs.MachineStep.{step_by, step, steps, and_then}
 use Rattle.machine_sound.specs.Sound.{sizes, Valid, Solid, StackWaits}
 use Rattle.machine_sound.specs.Safe.{waiting, Safe, Good}
@@ -10,7 +10,7 @@ use Rattle.machine_sound.specs.Laws.{Sound, StepsGood, RunsGood}
 use Rattle.machine_sound.proofs.Lists.{each_none}
 use Rattle.machine_sound.proofs.All.{all_rows_good}
 use Rattle.machine_sound.proofs.LuaSteps.{from_world_good, go_good}
-use Rattle.machine_sound.proofs.FrameRowsSafe.{returned_safe, raised_safe, unwinding_safe}
+use Rattle.machine_sound.proofs.FrameRowsSafe.{returned_safe, asked_safe, raised_safe, unwinding_safe}
 
 -- a row that begins where all frames wait
 from_waiting : (n : ℕ) (r : Row) (W : World) → Solid n W → StackWaits n W → Safe (waiting None) [] r → Good n (run r [] W)
@@ -20,6 +20,7 @@ pub steps_good : StepsGood
 steps_good n rows p go W s = go_good n rows W s.solid s.ready
 steps_good n rows p returned W s = from_world_good n W (step_by rows returned W) s.solid (from_waiting n (act see_top (λ _ top. handed_to top)) W s.solid s.ready returned_safe)
 steps_good n rows p (calls_primitive k) W s = from_world_good n W (step_by rows (calls_primitive k) W) s.solid (from_waiting n (rows k) W s.solid s.ready.all (p k s.ready.there))
+steps_good n rows p asks W s = from_world_good n W (step_by rows asks W) s.solid (from_waiting n asked_row W s.solid s.ready asked_safe)
 steps_good n rows p raised W s = from_world_good n W (step_by rows raised W) s.solid (from_waiting n raised_row W s.solid s.ready raised_safe)
 steps_good n rows p unwinding W s = from_world_good n W (step_by rows unwinding W) s.solid (from_waiting n (act see_top (λ _ top. unwound top)) W s.solid s.ready unwinding_safe)
 steps_good n rows p spent W s = (s.solid, tt)

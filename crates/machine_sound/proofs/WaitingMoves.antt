@@ -5,7 +5,7 @@ use Rattle.int_core.specs.Value.{Value, last, without_last}
 use Rattle.int_core.specs.Operations.{Callee, callee, not_callable, callee_of, greatest_chain, handler_in, of_close}
 use Rattle.machine_core.specs.World.{closed, open_at, Frame, lua, pcall, xpcall, handler, closing, in_progress, World, lua_frame, Stack, stack_of, put_frames, put_top, push, pop}
 use Rattle.machine_core.specs.Text.{Arg, arg, args_of}
-use Rattle.machine_core.specs.Moves.{Over, over_nothing, over_pcall, over_xpcall, over_handler, frames_over, Move, take_moving, look, give, give_with, blame, find_close, enter_over, see_top, see_catcher, pop_frame, take_closing, set_error, greatest_depth, CallShape, is_entered, is_primitive, not_paid, not_entered, TopShape, closing_top, no_top, top_shape, top_now, runs_main, catcher, handler_value, next_closing, with_error, error_or_nil, push_all, has_room, called, enters_paid, enters, stack_overflow, blamed, Made, made, move, ClosingShape, one_left}
+use Rattle.machine_core.specs.Moves.{Over, over_pcall, over_xpcall, over_handler, frame_over, Move, take_moving, look, give, give_with, blame, find_close, place_text, push_frame, call_value, see_top, see_catcher, pop_frame, take_closing, set_error, greatest_depth, CallShape, is_entered, is_primitive, not_paid, not_entered, TopShape, closing_top, no_top, top_shape, top_now, runs_main, catcher, handler_value, next_closing, with_error, error_or_nil, push_all, has_room, enters_paid, enters, placed, blamed, Made, made, move, ClosingShape, one_left}
 use Rattle.machine_sound.specs.Sound.{Each, Sizes, sizes, Valid, OptionOk, FrameOk, FrameWaits, FramesOk, registers_in, Solid, StackWaits}
 use Rattle.machine_sound.specs.Safe.{on_lua, waiting, Is, IsPhase, WaitsUnder, seen_lua, seen_other, takes_one, takes_none, takes_error, IsNoLua, IsOther, OverOk, WaitingReady, after_catcher, after_over, MoveGood}
 use Rattle.machine_sound.proofs.Lists.{each_none, each_cons, each_one, each_push, each_last, each_drop, each_take, each_tail, each_append, bind_at, last_push, last_splits}
@@ -16,7 +16,7 @@ use Rattle.machine_sound.proofs.Heaps.{handler_ok, callee_ok, CalleeOk}
 use Rattle.machine_sound.proofs.Outside.{heap_of}
 use Rattle.machine_sound.proofs.Waits.{with_moving, moving_grows, moving_solid, moving_waits, waits_stack, registers_here, pushed, pushed_grows, pushed_solid, pushed_there, push_is, EnteredAs, enters_good}
 use Rattle.machine_sound.proofs.Held.{held_top, held_waits, held_is, held_place}
-use Rattle.machine_sound.proofs.Calls.{blamed_valid}
+use Rattle.machine_sound.proofs.Calls.{blamed_valid, placed_valid}
 use Rattle.machine_sound.proofs.Moves.{made_so}
 use Rattle.std.proofs.lemmas.List.{reverse-append}
 
@@ -64,6 +64,11 @@ pub blame_waits : (n : ℕ) (text : List ℕ) → WaitingGood n (blame text)
 blame_waits n text s env W i r =
     let z = sizes n W in
     record { event = tt; world = with_moving W (blamed W text ∷ []) W.fuel; is = refl; holds = moves_on n s env [] (blamed W text ∷ []) W i (each_one (Valid z) (blamed W text) (blamed_valid z W text)) (each_none (Valid z)) }
+
+pub place_text_waits : (n : ℕ) (x : Arg) (level : ℕ) → WaitingGood n (place_text x level)
+place_text_waits n x level s env W i r =
+    let z = sizes n W in
+    record { event = placed W level (arg env x); world = W; is = refl; holds = stays n s env (placed W level (arg env x) ∷ []) W i (each_one (Valid z) (placed W level (arg env x)) (placed_valid z W level (arg env x) (arg_valid z env x i.valid r))) }
 
 pub find_close_waits : (n : ℕ) (v e : Arg) → WaitingGood n (find_close v e)
 find_close_waits n v e s env W i r =
@@ -333,7 +338,7 @@ set_error_waits n a (Some closing_top) env W i r =
         }
 set_error_waits n a _ env W i r = absurd r.0
 
--- calls that push frames below them
+-- frames that are pushed, over which something is called then
 
 -- the frames are pushed: none, or one that is no Lua function's
 record Pushed (n : ℕ) (W : World) (frames : List Frame) : Type 0 where
@@ -357,11 +362,27 @@ pushed_one n W s h x ok w room =
       fuel = refl;
     }
 
-over_pushed : (n : ℕ) (W : World) (s : Solid n W) (h : StackWaits n W) (over : Over) (env : List Value) → Each (Valid (sizes n W)) env → OverOk over → length h.frames + length (frames_over over env) ≤ greatest_depth → Pushed n W (frames_over over env)
-over_pushed n W s h over_nothing env v o l = record { world = W; is = refl; grows = grows_self (sizes n W); solid = s; waits = h; fuel = refl }
+over_pushed : (n : ℕ) (W : World) (s : Solid n W) (h : StackWaits n W) (over : Over) (env : List Value) → Each (Valid (sizes n W)) env → OverOk over → length h.frames + 1 ≤ greatest_depth → Pushed n W (frame_over over env ∷ [])
 over_pushed n W s h over_pcall env v o l = pushed_one n W s h pcall tt (λ z. tt) (omega arith)
 over_pushed n W s h (over_xpcall x) env v o l = pushed_one n W s h (xpcall (arg env x)) (arg_valid (sizes n W) env x v o) (λ z. tt) (omega arith)
 over_pushed n W s h over_handler env v o l = pushed_one n W s h handler tt (λ z. tt) (omega arith)
+
+pub push_frame_waits : (n : ℕ) (over : Over) → WaitingGood n (push_frame over)
+push_frame_waits n over s env W i r = room (nat_le (length i.phase.all.frames + 1) greatest_depth) refl
+  where
+    room_is : has_room W 1 ≡ nat_le (length i.phase.all.frames + 1) greatest_depth
+    room_is = ap (λ (o : Option Stack). elim o as (λ _. Bool) [ None ↦ false | Some s ↦ nat_le (length s.frames + 1) greatest_depth ]) (waits_stack n W i.phase.all)
+
+    is : (b : Bool) → nat_le (length i.phase.all.frames + 1) greatest_depth ≡ b → move (push_frame over) env W ≡ cond b (made (push_all W (frame_over over env ∷ [])) [] true) (made W [] false)
+    is b e = ap (λ b. cond b (made (push_all W (frame_over over env ∷ [])) [] true) (made W [] false)) (room_is ∙ e)
+
+    room : (b : Bool) → nat_le (length i.phase.all.frames + 1) greatest_depth ≡ b → MoveGood n (waiting s) env (push_frame over) W
+    room false e = record { event = false; world = W; is = is false e; holds = made_so n (waiting s) (waiting None) env [] W W i (grows_self (sizes n W)) i.solid (record { all = i.phase.all; top = tt }) (each_none (Valid (sizes n W))) }
+    room true e =
+        let p = over_pushed n W i.solid i.phase.all over env i.valid r (le_of _ greatest_depth e) in
+        record { event = true; world = p.world; is = is true e ∙ ap (λ V. made V [] true) p.is; holds = made_so n (waiting s) (waiting None) env [] W p.world i p.grows p.solid (record { all = p.waits; top = tt }) (each_none (Valid (sizes n p.world))) }
+
+-- a call of what was asked for
 
 over_phase : (n : ℕ) (P V : World) (h : StackWaits n P) (c : CallShape) → EnteredAs n P V c → IsPhase n (after_over c) V
 over_phase n P V h is_entered k = k
@@ -369,45 +390,31 @@ over_phase n P V h (is_primitive m) k = k
 over_phase n P V h not_paid k = absurd k
 over_phase n P V h (not_entered text) k = rw k (record { all = h; top = tt })
 
-pub enter_over_waits : (n : ℕ) (over : Over) (f : Arg) (slot : ℕ) → WaitingGood n (enter_over over f slot)
-enter_over_waits n over f slot s env W i r = room (nat_le (length i.phase.all.frames + length (frames_over over env)) greatest_depth) refl
+pub call_value_waits : (n : ℕ) (f : Arg) (slot : ℕ) → WaitingGood n (call_value f slot)
+call_value_waits n f slot s env W i r =
+    from (callee_of greatest_chain W.heap (arg env f) (drop slot env)) refl
+    (callee_ok (sizes n W) W.heap (heap_of n W i.solid) greatest_chain (arg env f) (drop slot env) (arg_valid (sizes n W) env f i.valid r) (each_drop (Valid (sizes n W)) slot env i.valid)) W.fuel refl
   where
-    room_is : has_room W (length (frames_over over env)) ≡ nat_le (length i.phase.all.frames + length (frames_over over env)) greatest_depth
-    room_is = ap (λ (o : Option Stack). elim o as (λ _. Bool) [ None ↦ false | Some s ↦ nat_le (length s.frames + length (frames_over over env)) greatest_depth ]) (waits_stack n W i.phase.all)
+    still : (c : CallShape) → after_over c ≡ waiting None → Is n (after_over c) (env ++ []) W
+    still c e = made_so n (waiting s) (after_over c) env [] W W i (grows_self (sizes n W)) i.solid (subst (λ x. IsPhase n x W) (sym e) (record { all = i.phase.all; top = tt })) (each_none (Valid (sizes n W)))
 
-    is : (b : Bool) → nat_le (length i.phase.all.frames + length (frames_over over env)) greatest_depth ≡ b → move (enter_over over f slot) env W ≡ cond b (called W (push_all W (frames_over over env)) (arg env f) (drop slot env)) (made W [] (not_entered stack_overflow))
-    is b e = ap (λ b. cond b (called W (push_all W (frames_over over env)) (arg env f) (drop slot env)) (made W [] (not_entered stack_overflow))) (room_is ∙ e)
-
-    callee_right : CalleeOk (sizes n W) W.heap (heap_of n W i.solid) (callee_of greatest_chain W.heap (arg env f) (drop slot env))
-    callee_right = callee_ok (sizes n W) W.heap (heap_of n W i.solid) greatest_chain (arg env f) (drop slot env) (arg_valid (sizes n W) env f i.valid r.1) (each_drop (Valid (sizes n W)) slot env i.valid)
-
-    enters' : (p : Pushed n W (frames_over over env)) → nat_le (length i.phase.all.frames + length (frames_over over env)) greatest_depth ≡ true → (c : Callee) → callee_of greatest_chain W.heap (arg env f) (drop slot env) ≡ c → CalleeOk (sizes n W) W.heap (heap_of n W i.solid) c → (fuel : ℕ) → W.fuel ≡ fuel → MoveGood n (waiting s) env (enter_over over f slot) W
-    enters' p e c q k fuel u = from c q k fuel u
-      where
-        at_callee : (c : Callee) → callee_of greatest_chain W.heap (arg env f) (drop slot env) ≡ c → move (enter_over over f slot) env W ≡ enters_paid W p.world c
-        at_callee c q = is true e ∙ ap (λ P. called W P (arg env f) (drop slot env)) p.is ∙ ap (enters_paid W p.world) q
-
-        from : (c : Callee) → callee_of greatest_chain W.heap (arg env f) (drop slot env) ≡ c → CalleeOk (sizes n W) W.heap (heap_of n W i.solid) c → (fuel : ℕ) → W.fuel ≡ fuel → MoveGood n (waiting s) env (enter_over over f slot) W
-        from (not_callable text) q k fuel u = record { event = not_entered text; world = p.world; is = at_callee (not_callable text) q; holds = made_so n (waiting s) (waiting None) env [] W p.world i p.grows p.solid (record { all = p.waits; top = tt }) (each_none (Valid (sizes n p.world))) }
-        from (callee g vs) q k zero u = record {
-          event = not_paid;
-          world = W;
-          is = at_callee (callee g vs) q ∙ ap (λ (x : ℕ). elim x as (λ _. Option (Made CallShape)) [ zero ↦ made W [] not_paid | suc fuel ↦ enters (record p.world { fuel = fuel }) g vs ]) u;
-          holds = made_so n (waiting s) (waiting None) env [] W W i (grows_self (sizes n W)) i.solid (record { all = i.phase.all; top = tt }) (each_none (Valid (sizes n W)));
+    from : (c : Callee) → callee_of greatest_chain W.heap (arg env f) (drop slot env) ≡ c → CalleeOk (sizes n W) W.heap (heap_of n W i.solid) c → (fuel : ℕ) → W.fuel ≡ fuel → MoveGood n (waiting s) env (call_value f slot) W
+    from (not_callable text) q k fuel u = record { event = not_entered text; world = W; is = ap (enters_paid W W) q; holds = still (not_entered text) refl }
+    from (callee g vs) q k zero u = record {
+      event = not_paid;
+      world = W;
+      is = ap (enters_paid W W) q ∙ ap (λ (x : ℕ). elim x as (λ _. Option (Made CallShape)) [ zero ↦ made W [] not_paid | suc fuel ↦ enters (record W { fuel = fuel }) g vs ]) u;
+      holds = still not_paid refl;
+    }
+    from (callee g vs) q k (suc fuel) u =
+        let Q = with_moving W W.moving fuel in
+        let gr = moving_grows n W W.moving fuel in
+        let qs = moving_solid n W W.moving fuel i.solid i.solid.moving in
+        let qw = moving_waits n W W.moving fuel i.phase.all in
+        let x = enters_good n Q qs qw vs (values_on (sizes n W) (sizes n Q) gr vs k.2) g (valid_on (sizes n W) (sizes n Q) gr g k.0) k.1 in
+        record {
+          event = x.shape;
+          world = x.world;
+          is = ap (enters_paid W W) q ∙ ap (λ (x : ℕ). elim x as (λ _. Option (Made CallShape)) [ zero ↦ made W [] not_paid | suc fuel ↦ enters (record W { fuel = fuel }) g vs ]) u ∙ x.is;
+          holds = made_so n (waiting s) (after_over x.shape) env [] W x.world i (grows_then (sizes n W) (sizes n Q) (sizes n x.world) gr x.grows) x.solid (over_phase n Q x.world qw x.shape x.as') (each_none (Valid (sizes n x.world)));
         }
-        from (callee g vs) q k (suc fuel) u =
-            let Q = with_moving p.world p.world.moving fuel in
-            let gr = grows_then (sizes n W) (sizes n p.world) (sizes n Q) p.grows (moving_grows n p.world p.world.moving fuel) in
-            let qs = moving_solid n p.world p.world.moving fuel p.solid p.solid.moving in
-            let qw = moving_waits n p.world p.world.moving fuel p.waits in
-            let x = enters_good n Q qs qw vs (values_on (sizes n W) (sizes n Q) gr vs k.2) g (valid_on (sizes n W) (sizes n Q) gr g k.0) k.1 in
-            record {
-              event = x.shape;
-              world = x.world;
-              is = at_callee (callee g vs) q ∙ ap (λ (x : ℕ). elim x as (λ _. Option (Made CallShape)) [ zero ↦ made W [] not_paid | suc fuel ↦ enters (record p.world { fuel = fuel }) g vs ]) u ∙ x.is;
-              holds = made_so n (waiting s) (after_over x.shape) env [] W x.world i (grows_then (sizes n W) (sizes n Q) (sizes n x.world) gr x.grows) x.solid (over_phase n Q x.world qw x.shape x.as') (each_none (Valid (sizes n x.world)));
-            }
-
-    room : (b : Bool) → nat_le (length i.phase.all.frames + length (frames_over over env)) greatest_depth ≡ b → MoveGood n (waiting s) env (enter_over over f slot) W
-    room false e = record { event = not_entered stack_overflow; world = W; is = is false e; holds = made_so n (waiting s) (waiting None) env [] W W i (grows_self (sizes n W)) i.solid (record { all = i.phase.all; top = tt }) (each_none (Valid (sizes n W))) }
-    room true e = enters' (over_pushed n W i.solid i.phase.all over env i.valid r.0 (le_of _ greatest_depth e)) e (callee_of greatest_chain W.heap (arg env f) (drop slot env)) refl callee_right W.fuel refl

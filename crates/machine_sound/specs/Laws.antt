@@ -3,7 +3,7 @@ use Rattle.std.specs.Prelude.{ℕ, ◌<◌, ◌≡◌, [], Some, None}
 use Rattle.int_core.specs.Ask.{values}
 use Rattle.machine_core.specs.World.{running, World, Place, place_of}
 use Rattle.machine_core.specs.InstructionRows.{text_at, rest_at, told_values}
-use Rattle.machine_core.specs.FrameRows.{expand}
+use Rattle.machine_core.specs.FrameRows.{expand, goes_on_by}
 use Rattle.machine_core.specs.Moves.{Ending, go, Row, run}
 use Rattle.machine_core.specs.MachineStep.{woken, step, steps}
 use Rattle.machine_sound.specs.Sound.{Solid}
@@ -37,7 +37,7 @@ RunningTextsGood = (primitives : ℕ) (W : World) (p : Place) → Sound primitiv
 -- what is left of an instruction does not trap where the answer of its callee moves
 abbrev pub WaitingTextsGood : Type 0
 WaitingTextsGood = (primitives : ℕ) (W : World) (p : Place) → Sound primitives go W → place_of W ≡ Some p → (p.top.wait ≡ running → ⊥)
-    → Good primitives (run (expand (rest_at p.top.wait p.function.code p.top.own.pc)) (told_values p.top.wait (values W.moving)) (woken W p.stack p.top))
+    → Good primitives (run (goes_on_by (rest_at p.top.wait p.function.code p.top.own.pc)) (told_values p.top.wait (values W.moving)) (woken W p.stack p.top))
 
 -- there is a sound world with a running function
 abbrev pub SomeWorldSound : Type 0

@@ -10,7 +10,7 @@ use Rattle.code_core.specs.Prototype.{Prototype, list_of}
 use Rattle.code_core.specs.Check.{at, Mark, fixed, open_from, mark}
 use Rattle.machine_core.specs.World.{Wait, leaving, World}
 use Rattle.machine_core.specs.Text.{Arg, read, written, arg, constant, behind, is_there, Own, read_register, read_registers, read_list, read_constant, read_varargs, see, write_register, write_registers, write_list, write_nils, end_list, cut_from, close_cells, mark_pending, see_pending, drop_pending, keep_results, keep_pending, Quick, read_upvalue, write_upvalue, make_table, make_function, fill_table, pay, Given, results, thrown}
-use Rattle.machine_core.specs.Moves.{Over, over_xpcall, Move, on_own, move_pc, open_register, outside, settle, enter, enter_tail, find_close, is_closable, begin_leaving, leave_frame, take_moving, look, give, give_with, blame, enter_over, see_top, see_catcher, pop_frame, take_closing, set_error, end_coroutine, fail_coroutine, suspend, resume, begin_closing, ClosingShape, one_left, all_closed, closed_with_error, ResumeShape, resumed, refused, SettledShape, is_found, is_asked, is_fault, CallShape, is_entered, is_primitive, not_paid, not_entered, TopShape, lua_top, closing_top, no_top, Told, place_from, top_shape, runs_main, Ending, go, returned, calls_primitive, raised, unwinding, spent, main_yielded, main_returned, main_failed, Row, traps, stop, only, act, Outcome, trapped, ends, move, run}
+use Rattle.machine_core.specs.Moves.{Over, over_xpcall, Move, on_own, move_pc, open_register, outside, settle, enter, enter_tail, await, find_close, is_closable, begin_leaving, leave_frame, take_moving, look, give, give_with, blame, place_text, push_frame, call_value, see_top, see_catcher, pop_frame, take_closing, set_error, end_coroutine, fail_coroutine, suspend, resume, begin_closing, ClosingShape, one_left, all_closed, closed_with_error, ResumeShape, resumed, refused, SettledShape, is_found, is_asked, is_fault, CallShape, is_entered, is_primitive, not_paid, not_entered, TopShape, lua_top, closing_top, no_top, Told, place_from, top_shape, runs_main, Ending, go, returned, asks, calls_primitive, raised, unwinding, spent, main_yielded, main_returned, main_failed, Row, traps, stop, only, act, Outcome, trapped, ends, move, run}
 use Rattle.machine_sound.specs.Sound.{Each, sizes, Valid, waits_at, waiting_size, kept_below, Solid, Top, TopIs, FitsIfRuns, Settled, StackWaits}
 
 -- where a row stands: a Lua frame is on top, of which this is known, and all others wait; all frames wait, and what stands on top may be known;
@@ -289,6 +289,7 @@ TopReady t env (outside q) = QuickReady t env q
 TopReady t env (settle op xs) = ArgsOk xs
 TopReady t env (enter f slot wait prepared) = MayEnter t env f wait prepared
 TopReady t env (enter_tail f slot) = ArgOk f
+TopReady t env (await f slot wait prepared) = MayEnter t env f wait prepared
 TopReady t env (find_close v e) = ArgOk v × ArgOk e
 TopReady t env (is_closable v) = Unit {0}
 TopReady t env (begin_leaving text) = HasPlace t
@@ -309,6 +310,7 @@ TopEvent t (leave_frame given) = TopShape
 TopEvent t take_moving = List Value
 TopEvent t (open_register r) = Unit {0}
 TopEvent t (begin_leaving text) = Unit {0}
+TopEvent t (await f slot wait prepared) = Unit {0}
 TopEvent t _ = ⊥
 
 -- what came of a move
@@ -325,6 +327,7 @@ top_leads t env (outside q) e = record { values = quick_values q e; told = quick
 top_leads t env (settle op xs) e = record { values = settled_values e; told = settled_told e; phase = on_lua t }
 top_leads t env (enter f slot wait prepared) s = record { values = []; told = s; phase = after_entering s t (after_all prepared env t) }
 top_leads t env (enter_tail f slot) s = record { values = []; told = s; phase = after_tail s t }
+top_leads t env (await f slot wait prepared) e = record { values = []; told = tt; phase = waiting None }
 top_leads t env (find_close v e) h = record { values = h ∷ arg env v ∷ arg env e ∷ []; told = tt; phase = on_lua t }
 top_leads t env (is_closable v) b = record { values = []; told = b; phase = on_lua t }
 top_leads t env (begin_leaving text) e = record { values = []; told = tt; phase = waiting None }
@@ -369,11 +372,14 @@ WaitingReady s env (give xs) = ArgsOk xs
 WaitingReady s env (give_with xs slot) = ArgsOk xs
 WaitingReady s env (blame text) = Unit {0}
 WaitingReady s env (find_close v e) = ArgOk v × ArgOk e
-WaitingReady s env (enter_over over f slot) = OverOk over × ArgOk f
+WaitingReady s env (place_text x level) = ArgOk x
+WaitingReady s env (push_frame over) = OverOk over
+WaitingReady s env (call_value f slot) = ArgOk f
 WaitingReady s env pop_frame = IsOtherTop s
 WaitingReady s env take_closing = IsClosingTop s
 WaitingReady s env (set_error x) = IsClosingTop s × ArgOk x
 WaitingReady s env end_coroutine = IsNoTop s
+WaitingReady s env (fail_coroutine x) = IsNoTop s × ArgOk x
 WaitingReady s env suspend = Unit {0}
 WaitingReady s env (resume x slot) = shape (arg env x) ≡ is_object a_coroutine
 WaitingReady s env (begin_closing x) = shape (arg env x) ≡ is_object a_coroutine
@@ -421,11 +427,14 @@ WaitingEvent s (give xs) = Unit {0}
 WaitingEvent s (give_with xs slot) = Unit {0}
 WaitingEvent s (blame text) = Unit {0}
 WaitingEvent s (find_close v e) = Value
-WaitingEvent s (enter_over over f slot) = CallShape
+WaitingEvent s (place_text x level) = Value
+WaitingEvent s (push_frame over) = Bool
+WaitingEvent s (call_value f slot) = CallShape
 WaitingEvent s pop_frame = Unit {0}
 WaitingEvent s take_closing = ClosingEvent
 WaitingEvent s (set_error x) = Unit {0}
 WaitingEvent s end_coroutine = EndEvent s
+WaitingEvent s (fail_coroutine x) = EndEvent s
 WaitingEvent s suspend = Bool
 WaitingEvent s (resume x slot) = ResumeEvent
 WaitingEvent s (begin_closing x) = ResumeEvent
@@ -480,11 +489,14 @@ waiting_leads s env (give xs) e = record { values = []; told = tt; phase = waiti
 waiting_leads s env (give_with xs slot) e = record { values = []; told = tt; phase = waiting s }
 waiting_leads s env (blame text) e = record { values = []; told = tt; phase = waiting s }
 waiting_leads s env (find_close v e) h = record { values = h ∷ arg env v ∷ arg env e ∷ []; told = tt; phase = waiting s }
-waiting_leads s env (enter_over over f slot) c = record { values = []; told = c; phase = after_over c }
+waiting_leads s env (place_text x level) v = record { values = v ∷ []; told = tt; phase = waiting s }
+waiting_leads s env (push_frame over) room = record { values = []; told = room; phase = waiting None }
+waiting_leads s env (call_value f slot) c = record { values = []; told = c; phase = after_over c }
 waiting_leads s env pop_frame e = record { values = []; told = tt; phase = waiting None }
 waiting_leads s env take_closing e = record { values = closing_values e; told = closing_told e; phase = waiting s }
 waiting_leads s env (set_error x) e = record { values = []; told = tt; phase = waiting s }
 waiting_leads s env end_coroutine e = record { values = []; told = e.in_main; phase = after_end e.in_main }
+waiting_leads s env (fail_coroutine x) e = record { values = []; told = tt; phase = after_end e.in_main }
 waiting_leads s env suspend in_main = record { values = []; told = in_main; phase = after_end in_main }
 waiting_leads s env (resume x slot) e = record { values = []; told = e.outcome; phase = after_resuming e.outcome }
 waiting_leads s env (begin_closing x) e = record { values = []; told = e.outcome; phase = after_beginning e.outcome }
@@ -553,13 +565,14 @@ EndsWell go (on_lua t) = FitsIfRuns t.runs t
 EndsWell go (waiting (Some lua_top)) = Unit {0}
 EndsWell go between = Unit {0}
 EndsWell returned (waiting top) = Unit {0}
+EndsWell asks (waiting top) = Unit {0}
 EndsWell raised (waiting top) = Unit {0}
 EndsWell unwinding (waiting top) = Unit {0}
 EndsWell (calls_primitive n) (calling m) = n ≡ m
 EndsWell spent x = Unit {0}
 EndsWell main_yielded ended = Unit {0}
 EndsWell main_returned ended = Unit {0}
-EndsWell main_failed (waiting top) = Unit {0}
+EndsWell main_failed ended = Unit {0}
 EndsWell _ _ = ⊥
 
 -- a row that does not trap, and ends well
@@ -575,12 +588,13 @@ abbrev pub EndIs : ℕ → Ending → World → Type 0
 EndIs primitives go W = Settled primitives W
 EndIs primitives returned W = StackWaits primitives W
 EndIs primitives (calls_primitive n) W = Calls primitives n W
+EndIs primitives asks W = StackWaits primitives W
 EndIs primitives raised W = StackWaits primitives W
 EndIs primitives unwinding W = StackWaits primitives W
 EndIs primitives spent W = Unit {0}
 EndIs primitives main_yielded W = W.chain ≡ []
 EndIs primitives main_returned W = W.chain ≡ []
-EndIs primitives main_failed W = StackWaits primitives W
+EndIs primitives main_failed W = W.chain ≡ []
 
 -- an outcome that is no trap, in a world that is as its ending says
 abbrev pub Good : ℕ → Outcome → Type 0
