@@ -1,0 +1,7 @@
+use Rattle.std.proofs.Common.{refl}
+use Rattle.library_rows.specs.PreludeText.{prelude_text}
+use Rattle.library_rows.proofs.prelude.prelude_source.Goals as goal
+
+pub returns : goal.returns
+unfolding prelude_text
+returns c = record { text = refl }
