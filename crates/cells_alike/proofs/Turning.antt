@@ -1,5 +1,5 @@
 -- Who answers an ask answers it alike on both sides.
-use Rattle.std.proofs.Common.{◌≡◌, ⊎_elim, ℕ, zero, suc, false, List, [], ◌∷◌, ◌++◌, length, Option, Some, None, refl, sym, ◌∙◌, ap, subst}
+use Rattle.std.proofs.Common.{◌≡◌, ⊎_elim, ℕ, zero, suc, List, [], ◌∷◌, ◌++◌, length, Option, Some, None, refl, sym, ◌∙◌, ap, subst}
 use Rattle.std.proofs.lemmas.List.{length-map}
 use Rattle.std.proofs.lemmas.Option.{slice_get-map}
 use Rattle.std.specs.Prelude.{slice_get, slice_set, map, option_map, codes}
@@ -10,7 +10,7 @@ use Rattle.int_core.specs.Ask.{CellName, of_local, of_upvalue, returns, throws, 
 use Rattle.tree_core.specs.Tree.{Body}
 use Rattle.tree_activation.specs.Work.{State}
 use Rattle.lua_meaning.specs.World.{Function, spent, gives_back, unwinds, ends, World, breaks, cell_of, second, answered, answered_at_once}
-use Rattle.lua_meaning.specs.Asks.{one as one_value, none as no_values, cells_named, made_in, pays_unit, calls_for, calls_in_place, settled, handle}
+use Rattle.lua_meaning.specs.Asks.{one as one_value, none as no_values, cells_named, of_maker, made_in, gets_function, pays_unit, calls_for, calls_in_place, settled, handle}
 use Rattle.meaning_cells.specs.Alike.{Has, Pairs, SameCells, SameAsk, as_carried}
 use Rattle.cells_alike.proofs.Joint.{Made, Waiting, Layer, is_waiting, is_raising, Joint, function_one, function_two, asker_one, asker_two, frame_one, frame_two, one, two, WaitsAt, LayerAt, ArePaired, head, Base, Stable, stopped, Both}
 use Rattle.cells_alike.proofs.Moving.{more_map, get_more, either_by, now_both, breaks_both, raises_both}
@@ -73,73 +73,51 @@ outer J b f u =
 
 -- new functions
 
-abbrev cell_or : Option ℕ → ℕ
-cell_or o = elim o as (λ _. ℕ) [ None ↦ 0 | Some c ↦ c ]
+-- the cells that a new function gets
+data NamedCells (pairs : Pairs) (o p : Option (List ℕ)) : Type 0 where
+  no_cells : o ≡ None → p ≡ None → NamedCells pairs o p
+  are_pairs : (cs ds : List ℕ) → o ≡ Some cs → p ≡ Some ds → ArePaired pairs cs ds → NamedCells pairs o p
 
-cell_paired : (pairs : Pairs) (o p : Option ℕ) → Has 0 0 pairs → OuterCells pairs o p → Has (cell_or o) (cell_or p) pairs
-cell_paired pairs o p z (no_cell e d) = subst (λ x. Has (cell_or x) (cell_or p) pairs) (sym e) (subst (λ x. Has 0 (cell_or x) pairs) (sym d) z)
-cell_paired pairs o p z (a_pair c d e i h) = subst (λ x. Has (cell_or x) (cell_or p) pairs) (sym e) (subst (λ x. Has c (cell_or x) pairs) (sym i) h)
+one_more : (pairs : Pairs) (o p : Option (List ℕ)) (c d : ℕ) → Has c d pairs → NamedCells pairs o p → NamedCells pairs (option_map (λ cells. c ∷ cells) o) (option_map (λ cells. d ∷ cells) p)
+one_more pairs o p c d h (no_cells e i) = no_cells (ap (option_map (λ cells. c ∷ cells)) e) (ap (option_map (λ cells. d ∷ cells)) i)
+one_more pairs o p c d h (are_pairs cs ds e i k) = are_pairs (c ∷ cs) (d ∷ ds) (ap (option_map (λ cells. c ∷ cells)) e) (ap (option_map (λ cells. d ∷ cells)) i) (h, k)
+
+abbrev with_outer : Option (List ℕ) → Option ℕ → Option (List ℕ)
+with_outer cs o = bind o (λ c. option_map (λ cells. c ∷ cells) cs)
+
+one_outer : (pairs : Pairs) (o p : Option ℕ) (cs ds : Option (List ℕ)) → OuterCells pairs o p → NamedCells pairs cs ds → NamedCells pairs (with_outer cs o) (with_outer ds p)
+one_outer pairs o p cs ds (no_cell e i) more = no_cells (ap (with_outer cs) e) (ap (with_outer ds) i)
+one_outer pairs o p cs ds (a_pair c d e i h) more =
+    subst (λ z. NamedCells pairs (with_outer cs z) (with_outer ds p)) (sym e) (subst (λ z. NamedCells pairs (with_outer cs (Some c)) (with_outer ds z)) (sym i) (one_more pairs cs ds c d h more))
 
 named_paired : (J : Joint) → Base J.store J.functions J.coroutines J.chain → (f : ℕ) (names others : List CellName) → SameCells J.store.pairs names others
-    → ArePaired J.store.pairs (cells_named (one J) f names) (cells_named (two J) f others)
-named_paired J b f [] [] l = tt
-named_paired J b f (of_local c ∷ names) (of_local d ∷ others) l = (l.0, named_paired J b f names others l.1)
-named_paired J b f (of_upvalue u ∷ names) (of_upvalue v ∷ others) l = (
-  subst (λ z. Has (cell_or (cell_of (one J) f u)) (cell_or (cell_of (two J) f z)) J.store.pairs) l.0 (cell_paired J.store.pairs (cell_of (one J) f u) (cell_of (two J) f u) b.store.lowest (outer J b f u)),
-  named_paired J b f names others l.1,
-)
+    → NamedCells J.store.pairs (cells_named (one J) f names) (cells_named (two J) f others)
+named_paired J b f [] [] l = are_pairs [] [] refl refl tt
+named_paired J b f (of_local c ∷ names) (of_local d ∷ others) l = one_more J.store.pairs _ _ c d l.0 (named_paired J b f names others l.1)
+named_paired J b f (of_upvalue u ∷ names) (of_upvalue v ∷ others) l =
+    subst (λ z. NamedCells J.store.pairs (with_outer (cells_named (one J) f names) (cell_of (one J) f u)) (with_outer (cells_named (two J) f others) (cell_of (two J) f z))) l.0
+    (one_outer J.store.pairs (cell_of (one J) f u) (cell_of (two J) f u) (cells_named (one J) f names) (cells_named (two J) f others) (outer J b f u) (named_paired J b f names others l.1))
 named_paired J b f (of_local c ∷ names) (of_upvalue v ∷ others) l = absurd l.0
 named_paired J b f (of_upvalue u ∷ names) (of_local d ∷ others) l = absurd l.0
 named_paired J b f [] (d ∷ others) l = absurd l
 named_paired J b f (c ∷ names) [] l = absurd l
 
-abbrev made_from : Option (Function Body) → Body → List ℕ → Function Body
-made_from o body cells = elim o as (λ _. Function Body) [
-  | None ↦ record { made_of = body; source = []; has_lines = false; cells = cells }
-  | Some g ↦ record { made_of = body; source = g.source; has_lines = g.has_lines; cells = cells }
-]
-
-abbrev made_joint : Option Made → Body → (cells cells_too : List ℕ) → Made
-made_joint None body cells cells_too = record { made_of = body; source = []; has_lines = false; cells = cells; cells_too = cells_too }
-made_joint (Some g) body cells cells_too = record { made_of = body; source = g.source; has_lines = g.has_lines; cells = cells; cells_too = cells_too }
-
-made_one : (o : Option Made) (body : Body) (cells cells_too : List ℕ) → made_from (option_map function_one o) body cells ≡ function_one (made_joint o body cells cells_too)
-made_one None body cells cells_too = refl
-made_one (Some g) body cells cells_too = refl
-
-made_two : (o : Option Made) (body : Body) (cells cells_too : List ℕ) → made_from (option_map function_two o) body cells_too ≡ function_two (made_joint o body cells cells_too)
-made_two None body cells cells_too = refl
-made_two (Some g) body cells cells_too = refl
-
-made_paired : (pairs : Pairs) (o : Option Made) (body : Body) (cells cells_too : List ℕ) → ArePaired pairs cells cells_too
-    → ArePaired pairs (made_joint o body cells cells_too).cells (made_joint o body cells cells_too).cells_too
-made_paired pairs None body cells cells_too l = l
-made_paired pairs (Some g) body cells cells_too l = l
-
-makes_both : (J : Joint) (body : Body) (names others : List CellName) (w : Waiting) (below : List Layer) → RestsOn J below → WaitsOn J below w → SameCells J.store.pairs names others
-    → Both (handle first_form (makes_function body names) (one J) (asker_one w) (map frame_one below)) (handle second_form (makes_function body others) (two J) (asker_two w) (map frame_two below))
-makes_both J body names others w below q a l =
+made_both : (J : Joint) (g : Made) (body : Body) (cs ds : List ℕ) (w : Waiting) (below : List Layer) → RestsOn J below → WaitsOn J below w → ArePaired J.store.pairs cs ds
+    → Both (gets_function (one J) (asker_one w) (map frame_one below) (Some (of_maker (function_one g) body cs))) (gets_function (two J) (asker_two w) (map frame_two below) (Some (of_maker (function_two g) body ds)))
+made_both J g body cs ds w below q a l =
     let fs = J.functions in
-    let cs = cells_named (one J) w.function names in
-    let ds = cells_named (two J) w.function others in
-    let made = made_joint (slice_get fs w.function) body cs ds in
+    let made : Made = record { made_of = body; source = g.source; has_lines = g.has_lines; cells = cs; cells_too = ds } in
     let K : Joint = record J { functions = fs ++ made ∷ [] } in
     let r = one_value (object a_function (length (map function_one fs))) in
     let s = one_value (object a_function (length (map function_two fs))) in
-    let there : map function_one fs ++ made_in (one J) w.function body names ∷ [] ≡ map function_one (fs ++ made ∷ []) =
-    ap (λ o. map function_one fs ++ made_from o body cs ∷ []) (slice_get-map function_one fs w.function)
-    ∙ ap (λ f. map function_one fs ++ f ∷ []) (made_one (slice_get fs w.function) body cs ds) ∙ more_map function_one fs made in
-    let there_too : map function_two fs ++ made_in (two J) w.function body others ∷ [] ≡ map function_two (fs ++ made ∷ []) =
-    ap (λ o. map function_two fs ++ made_from o body ds ∷ []) (slice_get-map function_two fs w.function)
-    ∙ ap (λ f. map function_two fs ++ f ∷ []) (made_two (slice_get fs w.function) body cs ds) ∙ more_map function_two fs made in
-    subst (λ z. Both (answered_at_once (record (one J) { functions = z }) (asker_one w) 0 r (map frame_one below)) (handle second_form (makes_function body others) (two J) (asker_two w) (map frame_two below))) (sym there)
-    (subst (λ z. Both (answered_at_once (one K) (asker_one w) 0 r (map frame_one below)) (answered_at_once (record (two J) { functions = z }) (asker_two w) 0 s (map frame_two below))) (sym there_too)
+    subst (λ z. Both (answered_at_once (record (one J) { functions = z }) (asker_one w) 0 r (map frame_one below)) (gets_function (two J) (asker_two w) (map frame_two below) (Some (function_two made)))) (sym (more_map function_one fs made))
+    (subst (λ z. Both (answered_at_once (one K) (asker_one w) 0 r (map frame_one below)) (answered_at_once (record (two J) { functions = z }) (asker_two w) 0 s (map frame_two below))) (sym (more_map function_two fs made))
     (once_both K w 0 r s below (ap (λ n. one_value (object a_function n)) (length-map fs function_one ∙ sym (length-map fs function_two)))
     (record {
       base = record {
         store = q.base.store;
         paired = λ n f e. ⊎_elim
-            (λ is. subst (λ z. ArePaired J.store.pairs z.cells z.cells_too) (sym is) (made_paired J.store.pairs (slice_get fs w.function) body cs ds (named_paired J q.base w.function names others l)))
+            (λ is. subst (λ z. ArePaired J.store.pairs z.cells z.cells_too) (sym is) l)
             (λ old. q.base.paired n f old)
             (get_more fs made n f e);
         others = q.base.others;
@@ -149,6 +127,34 @@ makes_both J body names others w below q a l =
       layers = q.layers;
     })
     a))
+
+abbrev made_by : Option (Function Body) → Body → Option (List ℕ) → Option (Function Body)
+made_by o body cells = bind o (λ g. option_map (of_maker g body) cells)
+
+makes_both : (J : Joint) (body : Body) (names others : List CellName) (w : Waiting) (below : List Layer) → RestsOn J below → WaitsOn J below w → SameCells J.store.pairs names others
+    → Both (handle first_form (makes_function body names) (one J) (asker_one w) (map frame_one below)) (handle second_form (makes_function body others) (two J) (asker_two w) (map frame_two below))
+makes_both J body names others w below q a l =
+    subst (λ o. Both (gets_function (one J) (asker_one w) (map frame_one below) (made_by o body cs)) (gets_function (two J) (asker_two w) (map frame_two below) (made_in (two J) w.function body others))) (sym (slice_get-map function_one J.functions w.function))
+    (subst (λ o. Both (gets_function (one J) (asker_one w) (map frame_one below) (made_by (option_map function_one (slice_get J.functions w.function)) body cs)) (gets_function (two J) (asker_two w) (map frame_two below) (made_by o body ds)))
+    (sym (slice_get-map function_two J.functions w.function))
+    (by (slice_get J.functions w.function) cs ds (named_paired J q.base w.function names others l)))
+  where
+    cs : Option (List ℕ)
+    cs = cells_named (one J) w.function names
+
+    ds : Option (List ℕ)
+    ds = cells_named (two J) w.function others
+
+    by : (o : Option Made) (xs ys : Option (List ℕ)) → NamedCells J.store.pairs xs ys
+        → Both (gets_function (one J) (asker_one w) (map frame_one below) (made_by (option_map function_one o) body xs)) (gets_function (two J) (asker_two w) (map frame_two below) (made_by (option_map function_two o) body ys))
+    by None xs ys n = breaks_both J
+    by (Some g) xs ys (no_cells e d) =
+        subst (λ z. Both (gets_function (one J) (asker_one w) (map frame_one below) (made_by (Some (function_one g)) body z)) (gets_function (two J) (asker_two w) (map frame_two below) (made_by (Some (function_two g)) body ys))) (sym e)
+        (subst (λ z. Both (breaks (one J)) (gets_function (two J) (asker_two w) (map frame_two below) (made_by (Some (function_two g)) body z))) (sym d) (breaks_both J))
+    by (Some g) xs ys (are_pairs xs' ys' e d k) =
+        subst (λ z. Both (gets_function (one J) (asker_one w) (map frame_one below) (made_by (Some (function_one g)) body z)) (gets_function (two J) (asker_two w) (map frame_two below) (made_by (Some (function_two g)) body ys))) (sym e)
+        (subst (λ z. Both (gets_function (one J) (asker_one w) (map frame_one below) (Some (of_maker (function_one g) body xs'))) (gets_function (two J) (asker_two w) (map frame_two below) (made_by (Some (function_two g)) body z))) (sym d)
+        (made_both J g body xs' ys' w below q a k))
 
 -- other asks
 

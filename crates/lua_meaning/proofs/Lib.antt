@@ -8,3 +8,4 @@ pub mod Runs
 mod Limits
 mod Endless
 mod StackOverflow
+mod Room

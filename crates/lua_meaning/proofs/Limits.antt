@@ -8,7 +8,7 @@ use Rattle.int_core.specs.Operations.{Callee, callee, not_callable, callee_of, g
 use Rattle.int_core.specs.Ask.{faulted, Ask, reads_upvalue, writes_upvalue, makes_table, makes_function, fills_table, pays, opens, operates, calls, calls_last, marks, closes, raises, leaves, returns, throws, Answer, Next, goes_on, says, stuck}
 use Rattle.lua_meaning.specs.World.{System, Function, Asker, Frame, talking, waiting, raising, protected, handled_by, handling, closing, Coroutine, fresh, suspended, running, normal, dead, failed, Now, talks, gives_back, raises_error, unwinds, calls_primitive, ends, World, now_in, breaks, greatest_depth, has_room, on_frames, runs_main, raises_text, blamed, given_to, answered, answered_at_once, as_known, cell_of, shared_in}
 use Rattle.lua_meaning.specs.Calls.{error_in_handler, error_or_nil, put_coroutine, frames_in, back_to, returns_all, fails_all, enters_function, enters, pays_with, pays_for, calls_value, calls_over, closes_on, handed, raised_to, unwound, goes_along, goes_into, resumes, greatest_resumes, yields, closes_in, closes_coroutine}
-use Rattle.lua_meaning.specs.Asks.{calls_for, calls_in_place, settled, pays_unit, handle, turns, talks_on}
+use Rattle.lua_meaning.specs.Asks.{calls_for, calls_in_place, settled, pays_unit, made_in, gets_function, handle, turns, talks_on}
 use Rattle.lua_meaning.specs.Primitives.{Primitive, lua_error, lua_pcall, lua_xpcall, coroutine_close, coroutine_create, coroutine_isyieldable, coroutine_resume, coroutine_running, coroutine_status, coroutine_yield, prelude_out, Done, done, row}
 use Rattle.lua_meaning.specs.Primitives.{refused as no_result}
 use Rattle.lua_meaning.specs.Step.{error_by, level_in, creates, with_coroutine, after_row, does_primitive, runs_one, has_ended, tick_by, tick, ticks}
@@ -220,6 +220,10 @@ module _ {F S : Type 0} (system : System F S) where
   unit_keeps n (suc m) W asker below e k few =
       given_keeps n (record W { fuel = m }) asker _ below (let h = k.spends in record { spends = omega (arith, h, e); top = k.top; others = k.others }) few
 
+  gets_keeps : (n : ℕ) (W : World F S) (asker : Asker S) (below : List (Frame S)) (o : Option (Function F)) → Keeps n W → length below + 1 ≤ greatest_depth → Keeps n (gets_function W asker below o)
+  gets_keeps n W asker below None k few = now_keeps n W _ k
+  gets_keeps n W asker below (Some f) k few = record { spends = k.spends; top = omega (arith, few); others = k.others }
+
   handle_keeps : (n : ℕ) (q : Ask F) (W : World F S) (asker : Asker S) (below : List (Frame S)) → Keeps n W → length below + 1 ≤ greatest_depth → Keeps n (handle system q W asker below)
   handle_keeps n (reads_upvalue u) W asker below k few =
       if_there n (cell_of W asker.function u) _ _ (now_keeps n W _ k) (λ c. given_keeps n W asker _ below k few)
@@ -227,7 +231,7 @@ module _ {F S : Type 0} (system : System F S) where
       if_there n (cell_of W asker.function u) _ _ (now_keeps n W _ k)
       (λ c. given_keeps n (record W { cells = slice_set W.cells c v }) asker _ below (record { spends = k.spends; top = k.top; others = k.others }) few)
   handle_keeps n makes_table W asker below k few = record { spends = k.spends; top = omega (arith, few); others = k.others }
-  handle_keeps n (makes_function body names) W asker below k few = record { spends = k.spends; top = omega (arith, few); others = k.others }
+  handle_keeps n (makes_function body names) W asker below k few = gets_keeps n W asker below (made_in W asker.function body names) k few
   handle_keeps n (fills_table t last vs) W asker below k few =
       if_there n (filled_table W.heap t last vs) _ _ (now_keeps n W _ k)
       (λ H. given_keeps n (record W { heap = H }) asker _ below (record { spends = k.spends; top = k.top; others = k.others }) few)

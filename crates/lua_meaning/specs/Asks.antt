@@ -1,6 +1,6 @@
 -- Who answers each ask of an activation.
-use Rattle.std.specs.Prelude.{ℕ, zero, suc, false, cond, List, [], ◌∷◌, ◌++◌, length, Some, None, slice_get, slice_set, codes}
-use Rattle.int_core.specs.Value.{a_table, a_function, Value, object, is_nil, nth}
+use Rattle.std.specs.Prelude.{ℕ, zero, suc, cond, List, [], ◌∷◌, ◌++◌, length, Option, Some, None, option_map, slice_get, slice_set, codes}
+use Rattle.int_core.specs.Value.{a_table, a_function, Value, object, is_nil, nth, bind}
 use Rattle.int_core.specs.Heap.{filled_table, add_table}
 use Rattle.int_core.specs.Operations.{Settled, found, ask, fault, does, handler_in, of_close}
 use Rattle.int_core.specs.Ask.{CellName, of_local, of_upvalue, returns, throws, Ask, reads_upvalue, writes_upvalue, makes_table, makes_function, fills_table, pays, opens, operates, calls, calls_last, marks, closes, raises, leaves, Reply, values, faulted, Next, goes_on, says, stuck}
@@ -13,18 +13,23 @@ one v = values (v ∷ [])
 abbrev pub none : Reply
 none = values []
 
--- the cells of a new function
-abbrev pub cells_named : {F S : Type 0} → World F S → (function : ℕ) → List CellName → List ℕ
-cells_named W f [] = []
-cells_named W f (of_local c ∷ names) = c ∷ cells_named W f names
-cells_named W f (of_upvalue u ∷ names) = elim (cell_of W f u) [ None ↦ 0 | Some c ↦ c ] ∷ cells_named W f names
+-- the cells of a new function; None where one of them is not there, which stands in no placed tree
+abbrev pub cells_named : {F S : Type 0} → World F S → (function : ℕ) → List CellName → Option (List ℕ)
+cells_named W f [] = Some []
+cells_named W f (of_local c ∷ names) = option_map (λ cells. c ∷ cells) (cells_named W f names)
+cells_named W f (of_upvalue u ∷ names) = bind (cell_of W f u) (λ c. option_map (λ cells. c ∷ cells) (cells_named W f names))
 
 -- an inner function is of the same source as the function that makes it
-abbrev pub made_in : {F S : Type 0} → World F S → (maker : ℕ) → F → List CellName → Function F
-made_in W maker body names = elim (slice_get W.functions maker) [
-  | None ↦ record { made_of = body; source = []; has_lines = false; cells = cells_named W maker names }
-  | Some g ↦ record { made_of = body; source = g.source; has_lines = g.has_lines; cells = cells_named W maker names }
-]
+abbrev pub of_maker : {E F : Type 0} → Function E → F → (cells : List ℕ) → Function F
+of_maker maker body cells = record { made_of = body; source = maker.source; has_lines = maker.has_lines; cells = cells }
+
+abbrev pub made_in : {F S : Type 0} → World F S → (maker : ℕ) → F → List CellName → Option (Function F)
+made_in W maker body names = bind (slice_get W.functions maker) (λ g. option_map (of_maker g body) (cells_named W maker names))
+
+abbrev pub gets_function : {F S : Type 0} → World F S → Asker S → List (Frame S) → Option (Function F) → World F S
+gets_function W asker below None = breaks W
+gets_function W asker below (Some f) =
+    answered_at_once (record W { functions = W.functions ++ f ∷ [] }) asker 0 (one (object a_function (length W.functions))) below
 
 -- a unit is spent; where none is left, the turn has ended
 abbrev pub pays_unit : {F S : Type 0} → (fuel : ℕ) → World F S → Asker S → List (Frame S) → World F S
@@ -56,8 +61,7 @@ module _ {F S : Type 0} (system : System F S) where
     | Some c ↦ answered_at_once (record W { cells = slice_set W.cells c v }) asker 0 none below
   ]
   handle makes_table W asker below = answered_at_once (record W { heap = add_table W.heap }) asker 0 (one (object a_table (length W.heap.tables))) below
-  handle (makes_function body names) W asker below =
-      answered_at_once (record W { functions = W.functions ++ made_in W asker.function body names ∷ [] }) asker 0 (one (object a_function (length W.functions))) below
+  handle (makes_function body names) W asker below = gets_function W asker below (made_in W asker.function body names)
   handle (fills_table t last vs) W asker below = elim (filled_table W.heap t last vs) [
     | None ↦ breaks W
     | Some H ↦ answered_at_once (record W { heap = H }) asker 0 none below

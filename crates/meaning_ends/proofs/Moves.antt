@@ -10,7 +10,7 @@ use Rattle.tree_activation.specs.Work.{Celling, State}
 use Rattle.tree_activation.specs.Activation.{start, step}
 use Rattle.lua_meaning.specs.World.{System, Function, Asker, Frame, talking, waiting, raising, protected, handled_by, handling, closing, Coroutine, fresh, suspended, running, normal, dead, failed, Now, talks, gives_back, raises_error, unwinds, calls_primitive, ends, World, now_in, breaks, has_room, on_frames, runs_main, raises_text, given_to, answered, answered_at_once, as_known, cell_of, shared_in, shared_out}
 use Rattle.lua_meaning.specs.Calls.{error_in_handler, error_or_nil, put_coroutine, frames_in, back_to, returns_all, fails_all, enters_function, enters, pays_with, pays_for, calls_value, calls_over, closes_on, handed, raised_to, unwound, goes_along, resumes, greatest_resumes, yields, closes_in, closes_coroutine, all_pending, text}
-use Rattle.lua_meaning.specs.Asks.{calls_for, calls_in_place, settled, pays_unit, handle, turns, talks_on}
+use Rattle.lua_meaning.specs.Asks.{calls_for, calls_in_place, settled, pays_unit, made_in, gets_function, handle, turns, talks_on}
 use Rattle.lua_meaning.specs.Primitives.{Primitive, lua_error, lua_pcall, lua_xpcall, coroutine_close, coroutine_create, coroutine_isyieldable, coroutine_resume, coroutine_running, coroutine_status, coroutine_yield, prelude_out, Done, done, row}
 use Rattle.lua_meaning.specs.Primitives.{refused as no_result}
 use Rattle.lua_meaning.specs.Step.{error_by, level_in, creates, with_coroutine, after_row, does_primitive, has_ended, tick_by, gives_one, status_of, runs_one}
@@ -247,6 +247,11 @@ module _ (celling : Celling) where
   raises_goes b n m (suc top) W asker below why h p some room =
       gets_less h refl (4 * top + 2 + m) (over W.chain (raising asker) below W.coroutines (4 * top + 2) m (λ x counts. let l = some x counts in omega (arith, l)) p) (omega (arith, room))
 
+  gets_goes : (b n m top : ℕ) (W : Run) (asker : Asker State) (below : List (Frame State)) (o : Option (Function Body)) → W.fuel ≤ b → CanEnd W → Fits W.chain below W.coroutines m
+      → All top asker → 4 * top + 2 + m ≤ n → Goes b n (gets_function W asker below o)
+  gets_goes b n m top W asker below None h can p all room = has_end refl can
+  gets_goes b n m top W asker below (Some f) h can p all room = on_goes b n m top (record W { functions = W.functions ++ f ∷ [] }) asker _ below h p all room
+
   handle_goes : (b n m top : ℕ) (q : Ask Body) (W : Run) (asker : Asker State) (below : List (Frame State)) → W.fuel ≤ b → CanEnd W → Fits W.chain below W.coroutines m
       → ((x : Answer) → IsOnTheUnit q x.reply → measure (asker.goes x) < top) → 4 * top + 2 + m ≤ n → Goes b n (handle system q W asker below)
   handle_goes b n m top (reads_upvalue u) W asker below h can p some room =
@@ -254,7 +259,7 @@ module _ (celling : Celling) where
   handle_goes b n m top (writes_upvalue u v) W asker below h can p some room =
       if_there b n (cell_of W asker.function u) _ _ (has_end refl can) (λ c. on_goes b n m top (record W { cells = slice_set W.cells c v }) asker _ below h p (λ x. some x tt) room)
   handle_goes b n m top makes_table W asker below h can p some room = on_goes b n m top (record W { heap = _ }) asker _ below h p (λ x. some x tt) room
-  handle_goes b n m top (makes_function body names) W asker below h can p some room = on_goes b n m top (record W { functions = _ }) asker _ below h p (λ x. some x tt) room
+  handle_goes b n m top (makes_function body names) W asker below h can p some room = gets_goes b n m top W asker below (made_in W asker.function body names) h can p (λ x. some x tt) room
   handle_goes b n m top (fills_table t last vs) W asker below h can p some room =
       if_there b n (filled_table W.heap t last vs) _ _ (has_end refl can) (λ H. on_goes b n m top (record W { heap = H }) asker _ below h p (λ x. some x tt) room)
   handle_goes b n m top pays W asker below h can p some room = unit_goes b n m W.fuel W asker below h can p

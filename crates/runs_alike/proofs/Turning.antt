@@ -1,13 +1,13 @@
 -- Who answers an ask answers it alike in worlds that are dressed anew.
-use Rattle.std.proofs.Common.{◌≡◌, ℕ, zero, suc, Bool, List, [], ◌∷◌, ◌++◌, length, Option, Some, None, refl, sym, ◌∙◌, ap, subst, arith}
-use Rattle.std.specs.Prelude.{slice_set, map, codes}
-use Rattle.int_core.specs.Value.{Value, object, a_table, a_function, is_nil, nth}
+use Rattle.std.proofs.Common.{◌≡◌, ℕ, zero, suc, Bool, List, [], ◌∷◌, ◌++◌, length, Option, Some, None, refl, sym, ◌∙◌, ap, ap₂, subst, arith}
+use Rattle.std.specs.Prelude.{slice_set, map, option_map, codes}
+use Rattle.int_core.specs.Value.{Value, object, a_table, a_function, is_nil, nth, bind}
 use Rattle.int_core.specs.Heap.{Heap, filled_table, add_table}
 use Rattle.int_core.specs.Operations.{Settled, found as settled_as, ask, fault, does, handler_in, of_close}
 use Rattle.int_core.specs.Ask.{CellName, of_local, of_upvalue, returns, throws, Ask, reads_upvalue, writes_upvalue, makes_table, makes_function, fills_table, pays, opens, operates, calls, calls_last, marks, closes, raises, leaves, Reply, values, faulted, Answer, AskLike, FitsAsk, IsReplyTo, IsLeft, IsQuiet}
 use Rattle.lua_meaning.specs.World.{System, Function, Asker, Frame, waiting, raising, World, on_frames, second, cell_of, answered, answered_at_once}
-use Rattle.lua_meaning.specs.Asks.{one, none, cells_named, made_in, pays_unit, calls_for, calls_in_place, settled, handle}
-use Rattle.runs_alike.proofs.Dressed.{Part, state, goes, dressed_function, dress_functions, dressed_asker, dress, dress_world, Mid, FunctionsLike, Body, AskerLike, Any, FramesLike, Like, Out}
+use Rattle.lua_meaning.specs.Asks.{one, none, cells_named, of_maker, made_in, gets_function, pays_unit, calls_for, calls_in_place, settled, handle}
+use Rattle.runs_alike.proofs.Dressed.{Part, state, goes, dress_functions, dressed_asker, dress, dress_world, Mid, FunctionsLike, Body, AskerLike, Any, FramesLike, Like, Out}
 use Rattle.runs_alike.proofs.Moving.{either_out, frames_like, now_out, raises_out}
 use Rattle.runs_alike.proofs.Answering.{answered_out, calls_out, count_second, fuel_like}
 use Rattle.runs_alike.proofs.NewFunctions.{dress_more, functions_more, body_more, frames_more, coroutines_more}
@@ -101,16 +101,9 @@ module _ {A B S T : Type 0} (Sa : System A S) (Sb : System B T) (R : Bool → A 
   cells_same : (W : World A S) (bs : List B) (xss : List (List (Part T))) (xs : List (Part T)) (f : ℕ) (names : List CellName) → Body Sa Sb R Q W.functions bs f
       → cells_named (dress_world W bs xss xs) f names ≡ cells_named W f names
   cells_same W bs xss xs f [] body = refl
-  cells_same W bs xss xs f (of_local c ∷ names) body = ap (λ z. c ∷ z) (cells_same W bs xss xs f names body)
-  cells_same W bs xss xs f (of_upvalue u ∷ names) body = rw (cell_same W bs xss xs f u body, cells_same W bs xss xs f names body) refl
-
-  made_same : (W : World A S) (bs : List B) (xss : List (List (Part T))) (xs : List (Part T)) (f : ℕ) (a : A) (b : B) (names : List CellName) → Body Sa Sb R Q W.functions bs f
-      → made_in (dress_world W bs xss xs) f b names ≡ dressed_function (made_in W f a names) b
-  made_same W bs xss xs f a b names body = rw (made_in, body.there, body.there_too, cells_same W bs xss xs f names body) refl
-
-  made_means : (W : World A S) (bs : List B) (f : ℕ) (a : A) (b : B) (names : List CellName) (body : Body Sa Sb R Q W.functions bs f) → R body.function.has_lines a b
-      → R (made_in W f a names).has_lines (made_in W f a names).made_of b
-  made_means W bs f a b names body means = rw (made_in, body.there) means
+  cells_same W bs xss xs f (of_local c ∷ names) body = ap (option_map (λ cells. c ∷ cells)) (cells_same W bs xss xs f names body)
+  cells_same W bs xss xs f (of_upvalue u ∷ names) body =
+      ap₂ (λ o cs. bind o (λ c. option_map (λ cells. c ∷ cells) cs)) (cell_same W bs xss xs f u body) (cells_same W bs xss xs f names body)
 
   unit_out : (m : ℕ) (W : World A S) (bs : List B) (xss : List (List (Part T))) (xs : List (Part T)) (k : Asker S) (g : Answer → T) (below : List (Frame S)) (ys : List (Part T))
       → Alike W bs xss xs → Pair W.functions bs pays k g → FramesLike Sa Sb R Q W.functions bs below ys
@@ -126,18 +119,16 @@ module _ {A B S T : Type 0} (Sa : System A S) (Sb : System B T) (R : Bool → A 
   count_functions (f ∷ fs) [] like = absurd like
 
   -- a new function
-  makes_out : (W : World A S) (bs : List B) (xss : List (List (Part T))) (xs : List (Part T)) (a : A) (b : B) (names : List CellName) (k : Asker S) (g : Answer → T) (below : List (Frame S)) (ys : List (Part T))
+  made_out : (W : World A S) (bs : List B) (xss : List (List (Part T))) (xs : List (Part T)) (a : A) (b : B) (names : List CellName) (cells : List ℕ) (k : Asker S) (g : Answer → T) (below : List (Frame S)) (ys : List (Part T))
       → Alike W bs xss xs → (pair : Pair W.functions bs (makes_function a names) k g) → R pair.body.function.has_lines a b → FramesLike Sa Sb R Q W.functions bs below ys
-      → Both (handle Sa (makes_function a names) W k below) (handle Sb (makes_function b names) (dress_world W bs xss xs) (dressed_asker k g) (dress below ys))
-  makes_out W bs xss xs a b names k g below ys like pair means rest =
-      let made = made_in W k.function a names in
+      → Both (gets_function W k below (Some (of_maker pair.body.function a cells))) (gets_function (dress_world W bs xss xs) (dressed_asker k g) (dress below ys) (Some (of_maker pair.body.function b cells)))
+  made_out W bs xss xs a b names cells k g below ys like pair means rest =
+      let made = of_maker pair.body.function a cells in
       let X = record W { functions = W.functions ++ made ∷ [] } in
-      let there = functions_more Sa Sb R Q W.functions bs made b like.functions (made_means W bs k.function a b names pair.body means) in
-      let all : dress_functions W.functions bs ++ made_in (dress_world W bs xss xs) k.function b names ∷ [] ≡ dress_functions (W.functions ++ made ∷ []) (bs ++ b ∷ []) =
-      ap (λ z. dress_functions W.functions bs ++ z ∷ []) (made_same W bs xss xs k.function a b names pair.body) ∙ dress_more Sa Sb R Q W.functions bs made b like.functions in
-      subst (λ z. Both (handle Sa (makes_function a names) W k below)
-      (answered_at_once (record (dress_world W bs xss xs) { functions = z }) (dressed_asker k g) 0 (one (object a_function (length (dress_functions W.functions bs)))) (dress below ys))) (sym all)
-      (subst (λ c. Both (handle Sa (makes_function a names) W k below)
+      let there = functions_more Sa Sb R Q W.functions bs made b like.functions means in
+      subst (λ z. Both (gets_function W k below (Some made))
+      (answered_at_once (record (dress_world W bs xss xs) { functions = z }) (dressed_asker k g) 0 (one (object a_function (length (dress_functions W.functions bs)))) (dress below ys))) (sym (dress_more Sa Sb R Q W.functions bs made b like.functions))
+      (subst (λ c. Both (gets_function W k below (Some made))
       (answered_at_once (dress_world X (bs ++ b ∷ []) xss xs) (dressed_asker k g) 0 (one (object a_function c)) (dress below ys))) (sym (count_functions W.functions bs like.functions))
       (once_out X (bs ++ b ∷ []) xss xs (makes_function a names) k g 0 (one (object a_function (length W.functions))) below ys
       (record {
@@ -147,6 +138,25 @@ module _ {A B S T : Type 0} (Sa : System A S) (Sb : System B T) (R : Bool → A 
       })
       (record { body = body_more Sa Sb R Q W.functions bs made b k.function like.functions pair.body; on = pair.on; pends = pair.pends }) tt
       (frames_more Sa Sb R Q W.functions bs made b below ys like.functions rest)))
+
+  makes_out : (W : World A S) (bs : List B) (xss : List (List (Part T))) (xs : List (Part T)) (a : A) (b : B) (names : List CellName) (k : Asker S) (g : Answer → T) (below : List (Frame S)) (ys : List (Part T))
+      → Alike W bs xss xs → (pair : Pair W.functions bs (makes_function a names) k g) → R pair.body.function.has_lines a b → FramesLike Sa Sb R Q W.functions bs below ys
+      → Both (handle Sa (makes_function a names) W k below) (handle Sb (makes_function b names) (dress_world W bs xss xs) (dressed_asker k g) (dress below ys))
+  makes_out W bs xss xs a b names k g below ys like pair means rest =
+      let V = dress_world W bs xss xs in
+      let f = pair.body.function in
+      let made : made_in W k.function a names ≡ option_map (of_maker f a) (cells_named W k.function names) = ap (λ o. bind o (λ h. option_map (of_maker h a) (cells_named W k.function names))) pair.body.there in
+      let made_too : made_in V k.function b names ≡ option_map (of_maker f b) (cells_named W k.function names) =
+      ap (λ o. bind o (λ h. option_map (of_maker h b) (cells_named V k.function names))) pair.body.there_too
+      ∙ ap (λ cs. option_map (of_maker f b) cs) (cells_same W bs xss xs k.function names pair.body) in
+      subst (λ o. Both (gets_function W k below o) (gets_function V (dressed_asker k g) (dress below ys) (made_in V k.function b names))) (sym made)
+      (subst (λ o. Both (gets_function W k below (option_map (of_maker f a) (cells_named W k.function names))) (gets_function V (dressed_asker k g) (dress below ys) o)) (sym made_too)
+      (by (cells_named W k.function names)))
+    where
+      by : (o : Option (List ℕ)) → Both (gets_function W k below (option_map (of_maker pair.body.function a) o))
+          (gets_function (dress_world W bs xss xs) (dressed_asker k g) (dress below ys) (option_map (of_maker pair.body.function b) o))
+      by None = now_out Sa Sb R Q W bs xss xs _ like
+      by (Some cells) = made_out W bs xss xs a b names cells k g below ys like pair means rest
 
   pub handle_out : (W : World A S) (bs : List B) (xss : List (List (Part T))) (xs : List (Part T)) (q : Ask A) (r : Ask B) (k : Asker S) (g : Answer → T) (below : List (Frame S)) (ys : List (Part T))
       → Alike W bs xss xs → (pair : Pair W.functions bs q k g) → AskLike (R pair.body.function.has_lines) q r → FramesLike Sa Sb R Q W.functions bs below ys
