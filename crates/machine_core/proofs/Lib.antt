@@ -3,5 +3,6 @@ pub mod MachineTalk
 pub mod MachineFamilies
 pub mod MachineErrors
 pub mod BothReadings
+pub mod MachineEdges
 pub mod RowsFit
 pub mod RowsOpen

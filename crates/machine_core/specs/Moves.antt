@@ -1,6 +1,6 @@
 -- Rows over whole worlds: moves one after another, where the next one hangs on what was told so far. No move tells an object's number.
 -- A row traps exactly where a move names what is not there.
-use Rattle.std.specs.Prelude.{ℕ, zero, suc, ◌+◌, ◌-◌, ℤ, pos, negsuc, ◌+ℤ◌, Bool, true, false, cond, not, ◌&&◌, List, [], ◌∷◌, ◌++◌, length, take, drop, map, reverse, filter_map, flat_map, Option, Some, None, nat_eq, nat_lt, nat_le, slice_get, slice_set, codes, decimal}
+use Rattle.std.specs.Prelude.{ℕ, zero, suc, ◌+◌, ℤ, pos, negsuc, ◌+ℤ◌, Bool, true, false, cond, not, ◌&&◌, List, [], ◌∷◌, ◌++◌, length, take, drop, map, reverse, filter_map, flat_map, Option, Some, None, nat_eq, nat_lt, nat_le, slice_get, slice_set, codes, decimal}
 use Rattle.int_core.specs.Heap.{add_table, filled_table}
 use Rattle.code_core.specs.declared.proto.UpDesc.{UpDesc}
 use Rattle.code_core.specs.Prototype.{Prototype, list_of}

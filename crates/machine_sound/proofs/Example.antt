@@ -15,8 +15,8 @@ use Rattle.machine_core.specs.InstructionRows.{row_of}
 use Rattle.machine_core.specs.FrameRows.{expand}
 use Rattle.machine_core.specs.Moves.{Ending, go, main_returned, Outcome, trapped, ends, run, with_own, back_to_resumer, put_coroutine}
 use Rattle.machine_core.specs.MachineStep.{steps, error_row}
-use Rattle.machine_sound.specs.Sound.{sizes, Valid, TableOk, FunctionOk, LuaOk, FrameOk, FrameWaits, CoroutineOk, CellOk, runs, resumed_another}
-use Rattle.machine_sound.specs.Laws.{Sound}
+use Rattle.machine_sound.specs.Sound.{Solid, Settled, on_top, sizes, Valid, TableOk, FunctionOk, LuaOk, FrameOk, FrameWaits, CoroutineOk, CellOk, runs, resumed_another}
+use Rattle.machine_sound.specs.Laws.{SoundAfter}
 use Rattle.machine_sound.proofs.Lists.{each_none, each_one}
 use Rattle.machine_sound.proofs.Values.{both_of, each_nils}
 
@@ -108,48 +108,24 @@ first_opcode : opcode_of (abx LoadI 0 65542) ≡ Some LoadI
 unfolding opcodes number_of
 first_opcode = refl
 
-pub world_sound : Sound 6 go world
-world_sound = record {
-  solid = record {
-    tables = each_one (TableOk (sizes 6 world)) (record { rows = []; metatable = None }) (record { rows = each_none (λ (row : Value × Value). Valid (sizes 6 world) row.0 × Valid (sizes 6 world) row.1); metatable = tt });
-    functions = each_one (FunctionOk (sizes 6 world)) function (record { code = code_checked; count = refl; cells = each_none (λ c. c < 0) });
-    cells = each_none (CellOk (sizes 6 world) world.coroutines);
-    one_each = λ i j co f r a b. absurd (cc);
-    coroutines = each_one (CoroutineOk (sizes 6 world)) (in_progress (lua frame ∷ [])) (record { each = each_one (FrameOk (sizes 6 world)) (lua frame) lua_ok; depth = omega arith });
-    chain = record {
-      first = λ co e. e;
-      last_runs = last_runs;
-      before = λ i co e l. absurd (omega arith);
-      running_in = running_in;
-      normal_in = normal_in;
-      once = once;
-      bound = omega arith;
-    };
-    moving = each_none (Valid (sizes 6 world));
-    roots = record { string_metatable = tt; globals = omega arith; prelude_environment = omega arith; prelude_functions = each_none (λ f. f < 1); special_key = omega arith; main = omega arith };
+world_solid : Solid 6 world
+world_solid = record {
+  tables = each_one (TableOk (sizes 6 world)) (record { rows = []; metatable = None }) (record { rows = each_none (λ (row : Value × Value). Valid (sizes 6 world) row.0 × Valid (sizes 6 world) row.1); metatable = tt });
+  functions = each_one (FunctionOk (sizes 6 world)) function (record { code = code_checked; count = refl; cells = each_none (λ c. c < 0) });
+  cells = each_none (CellOk (sizes 6 world) world.coroutines);
+  one_each = λ i j co f r a b. absurd (cc);
+  coroutines = each_one (CoroutineOk (sizes 6 world)) (in_progress (lua frame ∷ [])) (record { each = each_one (FrameOk (sizes 6 world)) (lua frame) lua_ok; depth = omega arith });
+  chain = record {
+    first = λ co e. e;
+    last_runs = last_runs;
+    before = λ i co e l. absurd (omega arith);
+    running_in = running_in;
+    normal_in = normal_in;
+    once = once;
+    bound = omega arith;
   };
-  ready = record {
-    top = record { code = code; pc = 0; size = 2; opened = 0; pending = 0; cells = 0; captured = []; runs = true };
-    is_top = record {
-      coroutine = 0;
-      base = [];
-      top = frame;
-      function = function;
-      last = refl;
-      frames = refl;
-      there = refl;
-      below = each_none (FrameWaits (sizes 6 world));
-      code = refl;
-      pc = refl;
-      size = refl;
-      opened = refl;
-      pending = each_none (λ r. r < 0);
-      cells = λ i r e. absurd (cc);
-      captured = each_none (λ r. IsSome (find_open 0 0 r world.cells));
-      wait = refl;
-    };
-    fits = record { instruction = abx LoadI 0 65542; at_pc = refl; opcode = LoadI; is_opcode = first_opcode; no_extra = refl; fits_mark = refl; cells = omega arith };
-  };
+  moving = each_none (Valid (sizes 6 world));
+  roots = record { string_metatable = tt; globals = omega arith; prelude_environment = omega arith; prelude_functions = each_none (λ f. f < 1); special_key = omega arith; main = omega arith };
 }
   where
     last_runs : (i co : ℕ) → slice_get (0 ∷ []) i ≡ Some co → suc i ≡ 1 → slice_get (runs ∷ []) co ≡ Some runs
@@ -168,6 +144,33 @@ world_sound = record {
     once zero zero co a b = refl
     once zero (suc j) co a b = absurd (cc)
     once (suc i) j co a b = absurd (cc)
+
+world_settled : Settled 6 world
+world_settled = record {
+  top = record { code = code; pc = 0; size = 2; opened = 0; pending = 0; cells = 0; captured = []; runs = true };
+  is_top = record {
+    coroutine = 0;
+    base = [];
+    top = frame;
+    function = function;
+    last = refl;
+    frames = refl;
+    there = refl;
+    below = each_none (FrameWaits (sizes 6 world));
+    code = refl;
+    pc = refl;
+    size = refl;
+    opened = refl;
+    pending = each_none (λ r. r < 0);
+    cells = λ i r e. absurd (cc);
+    captured = each_none (λ r. IsSome (find_open 0 0 r world.cells));
+    wait = refl;
+  };
+  fits = record { instruction = abx LoadI 0 65542; at_pc = refl; opcode = LoadI; is_opcode = first_opcode; no_extra = refl; fits_mark = refl; cells = omega arith };
+}
+
+pub world_sound : SoundAfter 6 go world
+world_sound = record { sound = record { solid = world_solid; rests = on_top world_settled }; ready = world_settled }
 
 -- why a frame that runs stands at no EXTRAARG: it has no row
 extra_traps : (p : Prototype) (w : Instruction) (W : World) → run (expand (row_of p 0 ExtraArg w)) [] W ≡ trapped

@@ -1,24 +1,26 @@
 -- A step of a Lua frame on top does not trap: it runs its instruction, or what is left of one for which the answer came.
-use Rattle.std.proofs.Common.{ℕ, ◌≡◌, ◌<◌, ◌≤◌, [], ◌∷◌, ◌++◌, Option, Some, None, refl, subst, sym, ap, ◌∙◌, length, Bool, true, false, arith}
+use Rattle.std.proofs.Common.{ℕ, ◌-◌, ◌≡◌, ◌<◌, ◌≤◌, [], ◌∷◌, ◌++◌, Option, Some, None, refl, subst, sym, ap, ◌∙◌, length, Bool, true, false, arith}
 use Rattle.std.specs.Prelude.{slice_get, IsTrue, IsSome}
-use Rattle.int_core.specs.Value.{Value, last}
+use Rattle.int_core.specs.Value.{Value, bind, last}
 use Rattle.code_core.specs.declared.opcode.Opcode.{Opcode}
 use Rattle.code_core.specs.declared.instruction.Instruction.{Instruction}
 use Rattle.code_core.specs.Prototype.{Prototype}
 use Rattle.code_core.specs.Check.{CodeIsChecked, at}
-use Rattle.machine_core.specs.World.{Function, Wait, running, for_call, for_iterator, for_value, for_truth, dropped, for_concat, for_close, returning, leaving, lua, World, stack_of, Place, place_of, find_open}
+use Rattle.machine_core.specs.World.{Function, Wait, running, for_call, for_iterator, for_value, for_truth, dropped, for_concat, for_close, returning, leaving, Frame, lua, pcall, xpcall, handler, closing, World, Stack, stack_of, Place, place_of, lua_frame, running_frames, find_open}
 use Rattle.machine_core.specs.InstructionRows.{text_at, rest_at, told_values}
 use Rattle.int_core.specs.Ask.{values}
-use Rattle.machine_core.specs.Moves.{go, returned, asks, calls_primitive, raised, unwinding, spent, main_yielded, main_returned, main_failed, Row, Outcome, trapped, ends, run}
+use Rattle.machine_core.specs.Moves.{lua_top, top_shape, go, returned, asks, calls_primitive, raised, unwinding, spent, main_yielded, main_returned, main_failed, Row, Outcome, trapped, ends, run}
 use Rattle.machine_core.specs.FrameRows.{expand, goes_on_by}
 use Rattle.machine_core.specs.MachineStep.{woken, lua_step, top_step, from_world, step_by, step}
-use Rattle.machine_sound.specs.Sound.{Each, sizes, Valid, WaitOk, waits_at, waiting_size, LuaWaits, Solid, Top, RunsOrWaits, TopIs, Fits, FitsIfRuns, Settled}
+use Rattle.machine_sound.specs.Sound.{Each, sizes, Valid, WaitOk, waits_at, waiting_size, LuaWaits, Solid, Top, RunsOrWaits, TopIs, Fits, FitsIfRuns, Settled, StackWaits, Rests, idle, on_top, all_wait, Sound}
 use Rattle.machine_sound.specs.Safe.{on_lua, Is, Good}
+use Rattle.machine_sound.specs.Laws.{StepGood, GoesFromSound}
+use Rattle.machine_sound.proofs.Held.{lua_settles}
 use Rattle.machine_sound.proofs.Lists.{each_none, each_one, bind_at, last_push, some_is}
 use Rattle.machine_sound.proofs.Grow.{Grows, grows_then, values_on}
 use Rattle.machine_sound.proofs.Own.{OwnIs}
 use Rattle.machine_sound.proofs.Frames.{the_place, place_is, stack_is, top_put, top_ok, function_ok, own_known, new_grows, new_solid, new_top, new_world}
-use Rattle.machine_sound.proofs.Waits.{with_moving, moving_grows, moving_solid}
+use Rattle.machine_sound.proofs.Waits.{waits_stack, with_moving, moving_grows, moving_solid}
 use Rattle.machine_sound.proofs.Calls.{fuel_top}
 use Rattle.machine_sound.proofs.RowsOfCode.{text_safe}
 use Rattle.machine_sound.proofs.Rests.{rest_text_safe}
@@ -26,18 +28,40 @@ use Rattle.machine_sound.proofs.Asking.{asking_safe}
 use Rattle.machine_sound.proofs.All.{all_rows_good}
 
 -- a step that costs a unit while none is left changes nothing
-pub from_world_good : (n : ℕ) (W : World) (o : Outcome) → Solid n W → Good n o → Good n (from_world W o)
+pub from_world_good : (n : ℕ) (W : World) (o : Outcome) → Sound n W → Good n o → StepGood n (from_world W o)
 from_world_good n W trapped s g = absurd g
-from_world_good n W (ends spent V) s g = (s, tt)
-from_world_good n W (ends go V) s g = g
-from_world_good n W (ends returned V) s g = g
-from_world_good n W (ends (calls_primitive k) V) s g = g
-from_world_good n W (ends asks V) s g = g
-from_world_good n W (ends raised V) s g = g
-from_world_good n W (ends unwinding V) s g = g
-from_world_good n W (ends main_yielded V) s g = g
-from_world_good n W (ends main_returned V) s g = g
-from_world_good n W (ends main_failed V) s g = g
+from_world_good n W (ends spent V) s g = record { sound = s; ready = tt }
+from_world_good n W (ends go V) s g = record { sound = record { solid = g.0; rests = on_top g.1 }; ready = g.1 }
+from_world_good n W (ends returned V) s g = record { sound = record { solid = g.0; rests = all_wait g.1 }; ready = g.1 }
+from_world_good n W (ends (calls_primitive k) V) s g = record { sound = record { solid = g.0; rests = all_wait g.1.all }; ready = g.1 }
+from_world_good n W (ends asks V) s g = record { sound = record { solid = g.0; rests = all_wait g.1 }; ready = g.1 }
+from_world_good n W (ends raised V) s g = record { sound = record { solid = g.0; rests = all_wait g.1 }; ready = g.1 }
+from_world_good n W (ends unwinding V) s g = record { sound = record { solid = g.0; rests = all_wait g.1 }; ready = g.1 }
+from_world_good n W (ends main_yielded V) s g = record { sound = record { solid = g.0; rests = idle g.1 }; ready = g.1 }
+from_world_good n W (ends main_returned V) s g = record { sound = record { solid = g.0; rests = idle g.1 }; ready = g.1 }
+from_world_good n W (ends main_failed V) s g = record { sound = record { solid = g.0; rests = idle g.1 }; ready = g.1 }
+
+-- a Lua frame on top of a sound world fits its place or its wait
+pub settles : (n : ℕ) (W : World) (p : Place) → Sound n W → place_of W ≡ Some p → Settled n W
+settles n W p s e = by s.rests
+  where
+    under : (h : StackWaits n W) → (o : Option Frame) → last h.frames ≡ o → bind (bind o lua_frame) (λ top. bind (slice_get W.functions top.function) (λ f. Some (record { stack = record { coroutine = h.coroutine; frames = h.frames }; number = length h.frames - 1; top = top; function = f }))) ≡ Some p → top_shape W o ≡ lua_top
+    under h None q k = absurd (cc)
+    under h (Some (lua f)) q k = refl
+    under h (Some pcall) q k = absurd (cc)
+    under h (Some (xpcall v)) q k = absurd (cc)
+    under h (Some handler) q k = absurd (cc)
+    under h (Some (closing v vs)) q k = absurd (cc)
+
+    by : Rests n W → Settled n W
+    by (idle c) = absurd (let z : None ≡ Some p = sym (ap (λ l. bind (bind (last l) (λ co. bind (bind (slice_get W.coroutines co) running_frames) (λ frames. Some (record { coroutine = co; frames = frames })))) (λ (s : Stack). bind (bind (last s.frames) lua_frame) (λ top. bind (slice_get W.functions top.function) (λ f. Some (record { stack = s; number = length s.frames - 1; top = top; function = f }))))) c) ∙ e in cc)
+    by (on_top k) = k
+    by (all_wait h) =
+        let x = bind_at (λ (s : Stack). bind (bind (last s.frames) lua_frame) (λ top. bind (slice_get W.functions top.function) (λ f. Some (record { stack = s; number = length s.frames - 1; top = top; function = f })))) (stack_of W) (record { coroutine = h.coroutine; frames = h.frames }) (waits_stack n W h) in
+        lua_settles n W s.solid (record { all = h; top = under h (last h.frames) refl (sym x ∙ e) })
+
+pub goes_from_sound : GoesFromSound
+goes_from_sound n W p s e = record { sound = s; ready = settles n W p s e }
 
 -- the step of the frame on top
 pub top_step_is : (n : ℕ) (t : Top) (W : World) (h : TopIs n t W) → top_step W ≡ Some (lua_step W (record { coroutine = h.coroutine; frames = h.base ++ lua h.top ∷ [] }) h.top h.function.code h.top.wait)
@@ -175,10 +199,10 @@ lua_step_good : (n : ℕ) (t : Top) (W : World) (h : TopIs n t W) (s : Solid n W
 lua_step_good n t W h s true e w f = subst (λ wait. Good n (lua_step W (record { coroutine = h.coroutine; frames = h.base ++ lua h.top ∷ [] }) h.top h.function.code wait)) (sym w) (runs_good n t W h s e f)
 lua_step_good n t W h s false e w f = waited_good n t W h s w
 
-pub go_good : (n : ℕ) (primitives : ℕ → Row) (W : World) → Solid n W → Settled n W → Good n (step primitives go W)
+pub go_good : (n : ℕ) (primitives : ℕ → Row) (W : World) → Sound n W → Settled n W → StepGood n (step primitives go W)
 go_good n primitives W s k =
     let h = k.is_top in
-    let g = lua_step_good n k.top W h s k.top.runs refl h.wait k.fits in
+    let g = lua_step_good n k.top W h s.solid k.top.runs refl h.wait k.fits in
     from_world_good n W (step_by primitives go W) s (subst (λ (o : Option Outcome). Good n (elim o [ None ↦ trapped | Some o ↦ o ])) (sym (top_step_is n k.top W h)) g)
 
 -- the same for the place of the machine

@@ -7,7 +7,7 @@ use Rattle.int_core.specs.Operations.{Operation, equal, less, less_equal}
 use Rattle.code_core.specs.declared.opcode.Opcode.{Opcode}
 use Rattle.code_core.specs.declared.opcode.Opcode.TheVariants.{Jmp, Eq, Lt, Le, EqK, EqI, LtI, LeI, GtI, GeI, Test, TestSet, ForLoop, ForPrep, TForPrep, TForLoop, Tbc, Close}
 use Rattle.code_core.specs.declared.instruction.Instruction.{Instruction}
-use Rattle.code_core.specs.Instruction.{a_of, b_of, k_of, bx_of, sb_of, sj_of}
+use Rattle.code_core.specs.Instruction.{a_of, b_of, k_of, bx_of, sj_of}
 use Rattle.code_core.specs.Fields.{registers, anything, second_half, target, takes_list}
 use Rattle.machine_core.specs.World.{for_truth, for_close}
 use Rattle.machine_core.specs.Text.{Arg, read, written, constant, close_cells, take_pending, Text, go_by, arg, quick, pay, raise, mark_pending, write_register, is_there, close}

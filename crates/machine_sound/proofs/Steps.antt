@@ -6,7 +6,7 @@ use Rattle.machine_core.specs.FrameRows.{asked_row, raised_row, unwound, handed_
 use Rattle.machine_core.specs.MachineStep.{step_by, step, steps, and_then}
 use Rattle.machine_sound.specs.Sound.{sizes, Valid, Solid, StackWaits}
 use Rattle.machine_sound.specs.Safe.{waiting, Safe, Good}
-use Rattle.machine_sound.specs.Laws.{Sound, StepsGood, RunsGood}
+use Rattle.machine_sound.specs.Laws.{SoundAfter, StepGood, StepsGood, RunsGood}
 use Rattle.machine_sound.proofs.Lists.{each_none}
 use Rattle.machine_sound.proofs.All.{all_rows_good}
 use Rattle.machine_sound.proofs.LuaSteps.{from_world_good, go_good}
@@ -17,21 +17,21 @@ from_waiting : (n : ℕ) (r : Row) (W : World) → Solid n W → StackWaits n W 
 from_waiting n r W s h k = all_rows_good n r (waiting None) [] W (record { solid = s; phase = record { all = h; top = tt }; valid = each_none (Valid (sizes n W)) }) k
 
 pub steps_good : StepsGood
-steps_good n rows p go W s = go_good n rows W s.solid s.ready
-steps_good n rows p returned W s = from_world_good n W (step_by rows returned W) s.solid (from_waiting n (act see_top (λ _ top. handed_to top)) W s.solid s.ready returned_safe)
-steps_good n rows p (calls_primitive k) W s = from_world_good n W (step_by rows (calls_primitive k) W) s.solid (from_waiting n (rows k) W s.solid s.ready.all (p k s.ready.there))
-steps_good n rows p asks W s = from_world_good n W (step_by rows asks W) s.solid (from_waiting n asked_row W s.solid s.ready asked_safe)
-steps_good n rows p raised W s = from_world_good n W (step_by rows raised W) s.solid (from_waiting n raised_row W s.solid s.ready raised_safe)
-steps_good n rows p unwinding W s = from_world_good n W (step_by rows unwinding W) s.solid (from_waiting n (act see_top (λ _ top. unwound top)) W s.solid s.ready unwinding_safe)
-steps_good n rows p spent W s = (s.solid, tt)
-steps_good n rows p main_yielded W s = (s.solid, s.ready)
-steps_good n rows p main_returned W s = (s.solid, s.ready)
-steps_good n rows p main_failed W s = (s.solid, s.ready)
+steps_good n rows p go W s = go_good n rows W s.sound s.ready
+steps_good n rows p returned W s = from_world_good n W (step_by rows returned W) s.sound (from_waiting n (act see_top (λ _ top. handed_to top)) W s.sound.solid s.ready returned_safe)
+steps_good n rows p (calls_primitive k) W s = from_world_good n W (step_by rows (calls_primitive k) W) s.sound (from_waiting n (rows k) W s.sound.solid s.ready.all (p k s.ready.there))
+steps_good n rows p asks W s = from_world_good n W (step_by rows asks W) s.sound (from_waiting n asked_row W s.sound.solid s.ready asked_safe)
+steps_good n rows p raised W s = from_world_good n W (step_by rows raised W) s.sound (from_waiting n raised_row W s.sound.solid s.ready raised_safe)
+steps_good n rows p unwinding W s = from_world_good n W (step_by rows unwinding W) s.sound (from_waiting n (act see_top (λ _ top. unwound top)) W s.sound.solid s.ready unwinding_safe)
+steps_good n rows p spent W s = s
+steps_good n rows p main_yielded W s = s
+steps_good n rows p main_returned W s = s
+steps_good n rows p main_failed W s = s
 
-then_good : (n : ℕ) (o : Outcome) (f : Ending → World → Outcome) → Good n o → ((e : Ending) (W : World) → Sound n e W → Good n (f e W)) → Good n (and_then o f)
+then_good : (n : ℕ) (o : Outcome) (f : Ending → World → Outcome) → StepGood n o → ((e : Ending) (W : World) → SoundAfter n e W → StepGood n (f e W)) → StepGood n (and_then o f)
 then_good n trapped f g k = absurd g
-then_good n (ends e W) f g k = k e W (record { solid = g.0; ready = g.1 })
+then_good n (ends e W) f g k = k e W g
 
 pub runs_good : RunsGood
-runs_good n rows p zero e W s = (s.solid, s.ready)
+runs_good n rows p zero e W s = s
 runs_good n rows p (suc m) e W s = then_good n (step rows e W) (steps rows m) (steps_good n rows p e W s) (λ e W s. runs_good n rows p m e W s)

@@ -4,15 +4,20 @@ use Rattle.int_core.specs.Ask.{values}
 use Rattle.machine_core.specs.World.{running, World, Place, place_of}
 use Rattle.machine_core.specs.InstructionRows.{text_at, rest_at, told_values}
 use Rattle.machine_core.specs.FrameRows.{expand, goes_on_by}
-use Rattle.machine_core.specs.Moves.{Ending, go, Row, run}
+use Rattle.machine_core.specs.Moves.{Ending, go, Row, Outcome, trapped, ends, run}
 use Rattle.machine_core.specs.MachineStep.{woken, step, steps}
-use Rattle.machine_sound.specs.Sound.{Solid}
+use Rattle.machine_sound.specs.Sound.{Sound}
 use Rattle.machine_sound.specs.Safe.{waiting, Safe, EndIs, Good}
 
--- a world that is sound, behind a row that ended so
-pub record Sound (primitives : ℕ) (ending : Ending) (W : World) : Type 0 where
-  pub solid : Solid primitives W
+-- a sound world, and what else is known of it after a row that ended so
+pub record SoundAfter (primitives : ℕ) (ending : Ending) (W : World) : Type 0 where
+  pub sound : Sound primitives W
   pub ready : EndIs primitives ending W
+
+-- an outcome that is no trap, in a sound world
+abbrev pub StepGood : ℕ → Outcome → Type 0
+StepGood primitives trapped = ⊥
+StepGood primitives (ends ending W) = SoundAfter primitives ending W
 
 -- the row of a primitive starts where all frames wait
 abbrev pub PrimitiveSafe : Row → Type 0
@@ -22,23 +27,27 @@ PrimitiveSafe r = Safe (waiting None) [] r
 abbrev pub PrimitivesSafe : ℕ → (ℕ → Row) → Type 0
 PrimitivesSafe primitives rows = (n : ℕ) → n < primitives → PrimitiveSafe (rows n)
 
--- from a sound world no step traps, and the world is sound behind it, as its ending says
+-- from a sound world no step traps, and the world is sound after it, as its ending says; so it is where the budget is spent
 abbrev pub StepsGood : Type 0
-StepsGood = (primitives : ℕ) (rows : ℕ → Row) → PrimitivesSafe primitives rows → (ending : Ending) (W : World) → Sound primitives ending W → Good primitives (step rows ending W)
+StepsGood = (primitives : ℕ) (rows : ℕ → Row) → PrimitivesSafe primitives rows → (ending : Ending) (W : World) → SoundAfter primitives ending W → StepGood primitives (step rows ending W)
 
 -- and so any number of steps
 abbrev pub RunsGood : Type 0
-RunsGood = (primitives : ℕ) (rows : ℕ → Row) → PrimitivesSafe primitives rows → (n : ℕ) (ending : Ending) (W : World) → Sound primitives ending W → Good primitives (steps rows n ending W)
+RunsGood = (primitives : ℕ) (rows : ℕ → Row) → PrimitivesSafe primitives rows → (n : ℕ) (ending : Ending) (W : World) → SoundAfter primitives ending W → StepGood primitives (steps rows n ending W)
 
 -- the text of the instruction at which the frame on top runs does not trap
 abbrev pub RunningTextsGood : Type 0
-RunningTextsGood = (primitives : ℕ) (W : World) (p : Place) → Sound primitives go W → place_of W ≡ Some p → p.top.wait ≡ running → Good primitives (run (expand (text_at p.function.code p.top.own.pc)) [] W)
+RunningTextsGood = (primitives : ℕ) (W : World) (p : Place) → Sound primitives W → place_of W ≡ Some p → p.top.wait ≡ running → Good primitives (run (expand (text_at p.function.code p.top.own.pc)) [] W)
 
 -- what is left of an instruction does not trap where the answer of its callee moves
 abbrev pub WaitingTextsGood : Type 0
-WaitingTextsGood = (primitives : ℕ) (W : World) (p : Place) → Sound primitives go W → place_of W ≡ Some p → (p.top.wait ≡ running → ⊥)
+WaitingTextsGood = (primitives : ℕ) (W : World) (p : Place) → Sound primitives W → place_of W ≡ Some p → (p.top.wait ≡ running → ⊥)
     → Good primitives (run (goes_on_by (rest_at p.top.wait p.function.code p.top.own.pc)) (told_values p.top.wait (values W.moving)) (woken W p.stack p.top))
+
+-- a sound world with a Lua frame on top can do a step
+abbrev pub GoesFromSound : Type 0
+GoesFromSound = (primitives : ℕ) (W : World) (p : Place) → Sound primitives W → place_of W ≡ Some p → SoundAfter primitives go W
 
 -- there is a sound world with a running function
 abbrev pub SomeWorldSound : Type 0
-SomeWorldSound = (primitives : ℕ) × (W : World) × Sound primitives go W
+SomeWorldSound = (primitives : ℕ) × (W : World) × SoundAfter primitives go W

@@ -302,3 +302,14 @@ pub record StackWaits (primitives : ℕ) (W : World) : Type 0 where
   pub last : last W.chain ≡ Some coroutine
   pub running : slice_get W.coroutines coroutine ≡ Some (in_progress frames)
   pub waits : Each (FrameWaits (sizes primitives W)) frames
+
+-- how a world rests between two steps, whatever the last one ended with: no coroutine runs; the frame on top is a Lua frame, which fits its
+-- place or its wait; or all frames of the running coroutine wait
+pub data Rests (primitives : ℕ) (W : World) : Type 0 where
+  idle : W.chain ≡ [] → Rests primitives W
+  on_top : Settled primitives W → Rests primitives W
+  all_wait : StackWaits primitives W → Rests primitives W
+
+pub record Sound (primitives : ℕ) (W : World) : Type 0 where
+  pub solid : Solid primitives W
+  pub rests : Rests primitives W

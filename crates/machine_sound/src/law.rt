@@ -1,6 +1,6 @@
 // The laws, each with what it speaks of in `specs/`.
 ghost use Rattle.machine_core.specs.MachineStep.{close_row, error_row, pcall_row, resume_row, xpcall_row, yield_row};
-ghost use Rattle.machine_sound.specs.Laws.{PrimitiveSafe, RunningTextsGood, RunsGood, SomeWorldSound, StepsGood, WaitingTextsGood};
+ghost use Rattle.machine_sound.specs.Laws.{GoesFromSound, PrimitiveSafe, RunningTextsGood, RunsGood, SomeWorldSound, StepsGood, WaitingTextsGood};
 ghost use Rattle.machine_sound.specs.Safe.{MovesGood, RowsGood};
 
 /// A move that is ready in a sound world does not trap, and neither does a row that is safe; both leave a sound world.
@@ -9,11 +9,13 @@ pub fn rows_do_not_trap()
     ensures rows { RowsGood }
 {}
 
-/// From a sound world, whose code is checked, no step traps, and the world is sound behind it, as its ending says: whatever the
-/// instruction, the wait and the frame on top, where the rows of the primitives are safe. Neither does any number of steps.
+/// From a sound world, whose code is checked, no step traps, and the world is sound after it, as its ending says, also where the
+/// budget is spent: whatever the instruction, the wait and the frame on top, where the rows of the primitives are safe. Neither does
+/// any number of steps. A sound world with a Lua frame on top can do a step, whatever the last one ended with.
 pub fn steps_do_not_trap()
     ensures step { StepsGood }
     ensures runs { RunsGood }
+    ensures from_sound { GoesFromSound }
 {}
 
 /// In a sound world the text of the instruction at which the top frame runs does not trap, and neither does what is left of the one
