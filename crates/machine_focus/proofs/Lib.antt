@@ -1,0 +1,4 @@
+pub mod Places
+pub mod Local
+pub mod Here
+pub mod Calls
