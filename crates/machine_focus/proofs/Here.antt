@@ -13,7 +13,7 @@ use Rattle.int_core.specs.Value.{Value}
 use Rattle.machine_core.specs.World.{Wait, running, LuaFrame, World, Place}
 use Rattle.machine_core.specs.Moves.{go, Row, ends}
 use Rattle.machine_sound.specs.Sound.{Top, Fits, FitsIfRuns, RunsOrWaits, MarkFits, waits_at, sizes}
-use Rattle.machine_sound.specs.Safe.{Good}
+use Rattle.machine_sound.specs.Laws.{StepGood}
 use Rattle.machine_sound.proofs.Lists.{some_is}
 use Rattle.machine_sound.proofs.Frames.{the_place, place_is, function_ok, top_ok}
 use Rattle.machine_sound.proofs.Rules.{RulesAt, rules_at}
@@ -72,7 +72,7 @@ module _ (n : ℕ) (rows : ℕ → Row) (c : Context) (h : Held) (k : IsReady n 
       let pc' : t.pc ≡ h.own.pc = sym s.pc ∙ ap (λ (f : LuaFrame). f.own.pc) at_top in
       let size' : t.size ≡ length h.own.registers = sym s.size ∙ ap (λ (f : LuaFrame). length f.own.registers) at_top in
       let at_pc : at c.closure.code h.own.pc ≡ Some f.instruction = ap (λ p. at p h.own.pc) (sym code') ∙ ap (at t.code) (sym pc') ∙ f.at_pc in
-      let checked : CodeIsChecked c.closure.code = subst CodeIsChecked code (function_ok n t W s k.sound.solid).code.code in
+      let checked : CodeIsChecked c.closure.code = subst CodeIsChecked code (function_ok n t W s k.sound.sound.solid).code.code in
       let fits : t.code.own.stack ≤ t.size = stack_fits (mark t.code t.pc) t.code.own.stack t.size t.opened f.fits_mark in
       record {
         word = f.instruction;
@@ -95,8 +95,8 @@ module _ (n : ℕ) (rows : ℕ → Row) (c : Context) (h : Held) (k : IsReady n 
 
   valid_frame : IsValidFrame n c h
   valid_frame =
-      let o = top_ok n k.sound.ready.top (world c h) k.sound.ready.is_top k.sound.solid in
-      let f = function_ok n k.sound.ready.top (world c h) k.sound.ready.is_top k.sound.solid in
+      let o = top_ok n k.sound.ready.top (world c h) k.sound.ready.is_top k.sound.sound.solid in
+      let f = function_ok n k.sound.ready.top (world c h) k.sound.ready.is_top k.sound.sound.solid in
       record {
         registers = λ i v e. o.registers i v (ap (λ (p : Place). slice_get p.top.own.registers i) same_place ∙ e);
         cells = λ i m e. f.cells i m (ap (λ (p : Place). slice_get p.function.cells i) same_place ∙ e);
@@ -108,5 +108,4 @@ ready_frames_stand n rows c h k = (at_instruction n rows c h k, valid_frame n ro
 pub held_is_step : HeldIsStep
 held_is_step n rows c h k r e =
     let stepped = step_held c r.stands h k rows e in
-    let q : Good n (ends go (world c k)) = subst (Good n) stepped (steps_good n rows r.safe go (world c h) r.sound) in
-    (stepped, record { stands = r.stands; safe = r.safe; sound = record { solid = q.0; ready = q.1 } })
+    (stepped, record { stands = r.stands; safe = r.safe; sound = subst (StepGood n) stepped (steps_good n rows r.safe go (world c h) r.sound) })

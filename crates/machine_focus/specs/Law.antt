@@ -13,14 +13,14 @@ use Rattle.machine_core.specs.FrameRows.{When, expand_by}
 use Rattle.machine_core.specs.Moves.{go, Row, ends, run}
 use Rattle.machine_core.specs.MachineStep.{step}
 use Rattle.machine_sound.specs.Sound.{Each, sizes, Valid}
-use Rattle.machine_sound.specs.Laws.{Sound, PrimitivesSafe}
+use Rattle.machine_sound.specs.Laws.{SoundAfter, PrimitivesSafe}
 use Rattle.machine_focus.specs.Focus.{Context, Held, world, Stands, local}
 
 -- the frame on top runs in a sound world
 pub record IsReady (primitives : ℕ) (rows : ℕ → Row) (c : Context) (h : Held) : Type 0 where
   pub stands : Stands c
   pub safe : PrimitivesSafe primitives rows
-  pub sound : Sound primitives go (world c h)
+  pub sound : SoundAfter primitives go (world c h)
 
 -- then it is at an instruction of its code, and all registers that this names are there
 pub record IsAtInstruction (c : Context) (h : Held) : Type 0 where
