@@ -8,8 +8,8 @@ use Rattle.code_of.specs.Coded.{words}
 use Rattle.code_of.specs.Constants.{of_block}
 use Rattle.code_of.specs.Statements.{whole_code}
 use Rattle.code_of.specs.CodeOf.{back_field, opening, body_code, room}
-use Rattle.code_bounds.specs.InScope.{BlockInScope}
-use Rattle.code_bounds.specs.Limits.{BlockKeepsLimits}
+use Rattle.scope_laws.specs.Finding.{BlockFinds}
+use Rattle.scope_laws.specs.Keeping.{BlockKeeps}
 use Rattle.code_bounds.specs.Registers.{BlockHasRoom, RegistersAreEnough}
 use Rattle.code_bounds.proofs.Tops.{top, room_max, abc_is}
 use Rattle.code_bounds.proofs.Room.{HasRoom, room_append, room_as, room_of_top}
@@ -19,22 +19,22 @@ opening_top : (vararg : Bool) (params line : ℕ) → top (opening vararg params
 opening_top true params line = let e = abc_is VarArgPrep params 0 0 false [] refl in omega (arith, e)
 opening_top false params line = omega arith
 
-body_room : (stack : ℕ) (params : List Name) (vararg : Bool) (inner : Block) (ups : List UpName) (line : ℕ) → BlockInScope inner (length params) → length params ≤ 200 → BlockKeepsLimits inner (length params) →
+body_room : (stack : ℕ) (params : List Name) (vararg : Bool) (inner : Block) (ups : List UpName) (line : ℕ) → BlockFinds inner [] (length params) (length ups) → length params ≤ 200 → BlockKeeps inner true vararg (length params) [] false →
     HasRoom stack (body_code (BodyOf params vararg inner ups line)) (length params ≤ stack → BlockHasRoom (of_block inner []) stack inner (length params))
 body_room stack params vararg inner ups line known few keeps =
     let begin = opening vararg (length params) line in
     let back = back_field vararg (length params) in
     room_as
     (room_append begin (whole_code (of_block inner []) back inner (length params) (length begin)) (room_of_top begin (opening_top vararg (length params) line))
-    (whole_room (of_block inner []) stack back inner (length params) (length begin) known few keeps))
+    (whole_room (of_block inner []) stack back (length ups) vararg inner (length params) (length begin) known few keeps))
     (λ all within. all.1 within)
 
 pub enough : RegistersAreEnough
 enough source (BodyOf params vararg inner ups line) known keeps =
     let code = body_code (BodyOf params vararg inner ups line) in
     let stack = room (words code) (length params) in
-    let h = body_room stack params vararg inner ups line known keeps.0 keeps.1 in
+    let h = body_room stack params vararg inner ups line known keeps.1.0 keeps.1.1 in
     let below = h.below in
     let most = room_max (words code) (length params) in
-    let few = keeps.0 in
+    let few = keeps.1.0 in
     (omega (arith, most, below, few), h.gives (omega (arith, most)) (omega (arith, most)))

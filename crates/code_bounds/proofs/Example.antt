@@ -7,8 +7,8 @@ use Rattle.tree_core.specs.Tree.{Body, BodyOf, Exp}
 use Rattle.code_core.specs.Opcode.{opcodes, number_of}
 use Rattle.tree_terms.proofs.Forms.{name, loc, int, call, bin, returning, loc_is, assign, when, fun}
 use Rattle.code_of.specs.CodeOf.{code_of}
-use Rattle.code_bounds.specs.InScope.{ExpInScope, BodyInScope}
-use Rattle.code_bounds.specs.Limits.{BodyKeepsLimits}
+use Rattle.scope_laws.specs.Finding.{ExpFinds, BodyFinds}
+use Rattle.scope_laws.specs.Keeping.{ExpKeeps, BodyKeeps}
 use Rattle.code_bounds.specs.Registers.{BodyHasRoom}
 use Rattle.code_bounds.proofs.Body.{enough}
 
@@ -18,14 +18,23 @@ chooses = fun ("f" ∷ []) [] (returning (
     loc_is "x" 1 (call (loc "f" 0) (int 1 ∷ int 2 ∷ [])) ∷ when (loc "x" 1) (assign (loc "x" 1) (loc "f" 0) ∷ []) ∷ [])
     (call (loc "f" 0) (loc "x" 1 ∷ []) ∷ []))
 
-its_names : BodyInScope chooses
+its_names : BodyFinds chooses
 its_names = (
-  (((lit< tt, (tt, (tt, tt))), tt), ((lit< tt, ((((lit< tt, tt), (lit< tt, tt)), tt), tt)), tt)),
-  ((lit< tt, (lit< tt, tt)), tt),
+  ((((lit< tt, tt), (tt, (tt, tt))), tt), (((lit< tt, tt), (((((lit< tt, tt), tt), ((lit< tt, tt), tt)), tt), tt)), tt)),
+  (((lit< tt, tt), ((lit< tt, tt), tt)), tt),
 )
 
-its_limits : BodyKeepsLimits chooses
-its_limits = (lit≤ tt, ((lit≤ tt, (lit≤ tt, (tt, (lit≤ tt, (lit≤ tt, (((lit≤ tt, (lit≤ tt, (tt, tt))), tt), tt)))))), lit≤ tt))
+its_limits : BodyKeeps chooses
+its_limits = (
+  lit≤ tt,
+  (
+    lit≤ tt,
+    (
+      (lit≤ tt, ((((tt, (tt, (tt, tt))), tt), lit≤ tt), (lit≤ tt, ((tt, ((lit≤ tt, (((tt, tt), (tt, tt)), tt)), tt)), tt)))),
+      (lit≤ tt, ((tt, (tt, tt)), tt)),
+    ),
+  ),
+)
 
 it_has_room : BodyHasRoom (code_of None chooses) chooses
 it_has_room = (enough None chooses its_names its_limits).1
@@ -47,10 +56,14 @@ sum_of (suc n) = bin Plus (int 0) (sum_of n)
 abbrev greatest : Body
 greatest = BodyOf (params 200) false (returning [] (sum_of 49 ∷ [])) [] 1
 
-greatest_limits : BodyKeepsLimits greatest
-greatest_limits = (lit≤ tt, (tt, lit≤ tt))
+sum_keeps : (n : ℕ) → ExpKeeps (sum_of n) false
+sum_keeps zero = tt
+sum_keeps (suc n) = (tt, sum_keeps n)
 
-sum_known : (n size : ℕ) → ExpInScope (sum_of n) size
+greatest_limits : BodyKeeps greatest
+greatest_limits = (lit≤ tt, (lit≤ tt, (tt, (lit≤ tt, (sum_keeps 49, tt)))))
+
+sum_known : (n size : ℕ) → ExpFinds (sum_of n) [] size 0
 sum_known zero size = tt
 sum_known (suc n) size = (tt, sum_known n size)
 

@@ -12,7 +12,7 @@ use Rattle.code_of.specs.Operators.{prefix_code, operator_code}
 use Rattle.code_of.specs.Expressions.{made_by, count, is_open, is_last_open, ends_open, list_field, Wanted, results_field, one_less, field_of, wanted_after, is_last_item, set_list, exp_code, exps_code, fields_code}
 use Rattle.code_of.specs.Rooms.{room_of_values, room_of_nils, room_of, room_of_list, room_of_fields}
 use Rattle.code_of.proofs.Rooms.{name_room}
-use Rattle.code_bounds.specs.InScope.{ExpInScope, ExpsInScope, FieldsInScope}
+use Rattle.scope_laws.specs.Finding.{ExpFinds, ExpsFind, FieldsFind}
 use Rattle.code_bounds.proofs.Tops.{top, top_more, top_append, ax_is, one_a, one_abc, one_ax, one_nil, one_store, one_self, one_call, rest_below, rest_above}
 use Rattle.code_bounds.proofs.Pieces.{Takes, ListTakes, takes_one, loads_top, integer_top, name_takes, prefix_top, operator_top, two_take, one_takes, either_takes, nils_take, more_take, call_takes, method_takes, set_top}
 
@@ -113,126 +113,127 @@ module _ (cs : List Const) where
       n ≤ t + (1 + r) → t + (1 + r) ≤ max (t + 1) n → (all ≤ t + (1 + max (max x (1 + y)) r)) × (t + (1 + max (max x (1 + y)) r) ≤ max (t + 1) all)
   keyed_join t x y r m o n all is some p q u v g h = (omega arith, omega arith)
 
-  abbrev ExpTakes : Exp → Type 0
-  ExpTakes e = (size t j field : ℕ) → ExpInScope e size → size ≤ t → field < 2 ^ 8 → t + room_of cs e field ≤ 255 → Takes t (room_of cs e field) (exp_code cs e t j field)
+  module _ (hidden : List ℕ) (ups : ℕ) where
+    abbrev ExpTakes : Exp → Type 0
+    ExpTakes e = (size t j field : ℕ) → ExpFinds e hidden size ups → size ≤ t → field < 2 ^ 8 → t + room_of cs e field ≤ 255 → Takes t (room_of cs e field) (exp_code cs e t j field)
 
-  abbrev ExpsTake : Exps → Type 0
-  ExpsTake es = (wanted : Wanted) (above t p size j line : ℕ) → p ≡ t + above → ExpsInScope es size → size ≤ p → results_field wanted < 2 ^ 8 → t + room_of_list cs above es wanted ≤ 255 →
-      ListTakes t p (room_of_list cs above es wanted) (exps_code cs es wanted p j line)
+    abbrev ExpsTake : Exps → Type 0
+    ExpsTake es = (wanted : Wanted) (above t p size j line : ℕ) → p ≡ t + above → ExpsFind es hidden size ups → size ≤ p → results_field wanted < 2 ^ 8 → t + room_of_list cs above es wanted ≤ 255 →
+        ListTakes t p (room_of_list cs above es wanted) (exps_code cs es wanted p j line)
 
-  abbrev FieldsTake : Fields → Type 0
-  FieldsTake fs = (items t size j line : ℕ) → FieldsInScope fs size → size ≤ t → t + (1 + room_of_fields cs fs) ≤ 255 → ListTakes t (t + 1) (1 + room_of_fields cs fs) (fields_code cs fs items t j line)
+    abbrev FieldsTake : Fields → Type 0
+    FieldsTake fs = (items t size j line : ℕ) → FieldsFind fs hidden size ups → size ≤ t → t + (1 + room_of_fields cs fs) ≤ 255 → ListTakes t (t + 1) (1 + room_of_fields cs fs) (fields_code cs fs items t j line)
 
-  mutual
-    pub exp_takes : (e : Exp) → ExpTakes e
-    exp_takes (Nil line) size t j field known above fits small = takes_one t _ line (let e = one_nil t 0 line (omega arith) (lit< tt) in omega (arith, e))
-    exp_takes (True line) size t j field known above fits small = takes_one t _ line (one_a LoadTrue t 0 0 false refl (omega arith))
-    exp_takes (False line) size t j field known above fits small = takes_one t _ line (one_a LoadFalse t 0 0 false refl (omega arith))
-    exp_takes (Int line z) size t j field known above fits small =
-        let e = integer_top cs t line (is_small z) (small_field z) (IntConst z) (omega arith) in
-        (omega (arith, e), omega (arith, e))
-    exp_takes (Str line bytes) size t j field known above fits small =
-        let e = loads_top cs (StrConst bytes) t line (omega arith) in
-        (omega (arith, e), omega (arith, e))
-    exp_takes (Vararg line) size t j field known above fits small = (rest_below t field (omega arith) fits, rest_above t field (omega arith) fits)
-    exp_takes (Function line body) size t j field known above fits small = takes_one t _ (line_of_body body) (one_ax Closure t j refl (omega arith))
-    exp_takes (Var line name) size t j field known above fits small = name_takes cs name.text name.place size t line known above small
-    exp_takes (Index line object key) size t j field known above fits small =
-        let some = own_room key in
-        two_take t (room_of cs object 2) (room_of cs key 2) (exp_code cs object t j 2) (exp_code cs key (t + 1) (j + made_by object) 2) (with_abc GetTable t t (t + 1) line ∷ []) some
-        (exp_takes object size t j 2 known.0 above (lit< tt) (omega arith))
-        (exp_takes key size (t + 1) (j + made_by object) 2 known.1 (omega arith) (lit< tt) (omega arith))
-        (let e = one_abc GetTable t t (t + 1) false refl (omega arith) (omega arith) (omega arith) in omega (arith, e))
-    exp_takes (Call line f es) size t j field known above fits small =
-        let some = own_room f in
-        let l = room_of_list cs 1 es None in
-        let b = list_field 0 es in
-        let few = field_room es 0 in
-        let counted = count_room es 1 in
-        call_takes t (room_of cs f 2) l b field (room_of_values field) (exp_code cs f t j 2) (exps_code cs es None (t + 1) (j + made_by f) line) (with_abc CallCode t b field line ∷ []) some
-        (exp_takes f size t j 2 known.0 above (lit< tt) (omega arith))
-        (exps_take es None 1 t (t + 1) size (j + made_by f) line refl known.1 (omega arith) (lit< tt) (omega arith))
-        (one_call t b field (omega arith) (omega (arith, few, counted, some)) fits) (omega (arith, few, counted, some)) (values_low field) (values_high field)
-    exp_takes (Method line object name es) size t j field known above fits small =
-        let some = own_room object in
-        let l = room_of_list cs 2 es None in
-        let b = list_field 1 es in
-        let few = field_room es 1 in
-        let counted = count_room es 2 in
-        method_takes t (room_of cs object 2) l b field (room_of_values field) (exp_code cs object t j 2) (loads cs (StrConst name.text) (t + 1) line)
-        (exps_code cs es None (t + 2) (j + made_by object) line) (with_abc CallCode t b field line ∷ []) (with_abc OpSelf t t (t + 1) line) some
-        (exp_takes object size t j 2 known.0 above (lit< tt) (omega arith))
-        (let e = loads_top cs (StrConst name.text) (t + 1) line (omega arith) in omega (arith, e))
-        (one_self t (omega arith))
-        (exps_take es None 2 t (t + 2) size (j + made_by object) line refl known.1 (omega arith) (lit< tt) (omega arith))
-        (one_call t b field (omega arith) (omega (arith, few, counted, some)) fits) (omega (arith, few, counted, some)) (values_low field) (values_high field)
-    exp_takes (Unary line op e) size t j field known above fits small =
-        let some = own_room e in
-        one_takes t (room_of cs e 2) (exp_code cs e t j 2) (prefix_code op t line) some (exp_takes e size t j 2 known above (lit< tt) small)
-        (let p = prefix_top op t line (omega (arith, some)) in omega (arith, p))
-    exp_takes (Binary line op e d) size t j field known above fits small =
-        let some = own_room d in
-        two_take t (room_of cs e 2) (room_of cs d 2) (exp_code cs e t j 2) (exp_code cs d (t + 1) (j + made_by e) 2) (operator_code op t line) some
-        (exp_takes e size t j 2 known.0 above (lit< tt) (omega arith))
-        (exp_takes d size (t + 1) (j + made_by e) 2 known.1 (omega arith) (lit< tt) (omega arith))
-        (let o = operator_top op t line (omega (arith, some)) in omega (arith, o))
-    exp_takes (And line e d) size t j field known above fits small =
-        let some = own_room e in
-        either_takes t (room_of cs e 2) (room_of cs d 2) false (exp_code cs e t j 2) (exp_code cs d t (j + made_by e) 2) line (omega arith) some
-        (exp_takes e size t j 2 known.0 above (lit< tt) (omega arith)) (exp_takes d size t (j + made_by e) 2 known.1 above (lit< tt) (omega arith))
-    exp_takes (Or line e d) size t j field known above fits small =
-        let some = own_room e in
-        either_takes t (room_of cs e 2) (room_of cs d 2) true (exp_code cs e t j 2) (exp_code cs d t (j + made_by e) 2) line (omega arith) some
-        (exp_takes e size t j 2 known.0 above (lit< tt) (omega arith)) (exp_takes d size t (j + made_by e) 2 known.1 above (lit< tt) (omega arith))
-    exp_takes (Paren line e) size t j field known above fits small = exp_takes e size t j 2 known above (lit< tt) small
-    exp_takes (Table line fs) size t j field known above fits small =
-        let extra : Coded = (op_ax ExtraArg 0, line) in
-        let code = fields_code cs fs 0 t j line in
-        let h = fields_take fs 0 t size j line known above (omega arith) in
-        let a = top_more (with_abc NewTable t 0 0 line) (extra ∷ code) in
-        let b = top_more extra code in
-        let c = one_a NewTable t 0 0 false refl (omega arith) in
-        let d = ax_is ExtraArg 0 refl in
-        (omega (arith, a, b, c, d, h.0), omega (arith, a, b, c, d, h.0, h.1))
+    mutual
+      pub exp_takes : (e : Exp) → ExpTakes e
+      exp_takes (Nil line) size t j field known above fits small = takes_one t _ line (let e = one_nil t 0 line (omega arith) (lit< tt) in omega (arith, e))
+      exp_takes (True line) size t j field known above fits small = takes_one t _ line (one_a LoadTrue t 0 0 false refl (omega arith))
+      exp_takes (False line) size t j field known above fits small = takes_one t _ line (one_a LoadFalse t 0 0 false refl (omega arith))
+      exp_takes (Int line z) size t j field known above fits small =
+          let e = integer_top cs t line (is_small z) (small_field z) (IntConst z) (omega arith) in
+          (omega (arith, e), omega (arith, e))
+      exp_takes (Str line bytes) size t j field known above fits small =
+          let e = loads_top cs (StrConst bytes) t line (omega arith) in
+          (omega (arith, e), omega (arith, e))
+      exp_takes (Vararg line) size t j field known above fits small = (rest_below t field (omega arith) fits, rest_above t field (omega arith) fits)
+      exp_takes (Function line body) size t j field known above fits small = takes_one t _ (line_of_body body) (one_ax Closure t j refl (omega arith))
+      exp_takes (Var line name) size t j field known above fits small = name_takes cs name.text name.place hidden ups size t line known above small
+      exp_takes (Index line object key) size t j field known above fits small =
+          let some = own_room key in
+          two_take t (room_of cs object 2) (room_of cs key 2) (exp_code cs object t j 2) (exp_code cs key (t + 1) (j + made_by object) 2) (with_abc GetTable t t (t + 1) line ∷ []) some
+          (exp_takes object size t j 2 known.0 above (lit< tt) (omega arith))
+          (exp_takes key size (t + 1) (j + made_by object) 2 known.1 (omega arith) (lit< tt) (omega arith))
+          (let e = one_abc GetTable t t (t + 1) false refl (omega arith) (omega arith) (omega arith) in omega (arith, e))
+      exp_takes (Call line f es) size t j field known above fits small =
+          let some = own_room f in
+          let l = room_of_list cs 1 es None in
+          let b = list_field 0 es in
+          let few = field_room es 0 in
+          let counted = count_room es 1 in
+          call_takes t (room_of cs f 2) l b field (room_of_values field) (exp_code cs f t j 2) (exps_code cs es None (t + 1) (j + made_by f) line) (with_abc CallCode t b field line ∷ []) some
+          (exp_takes f size t j 2 known.0 above (lit< tt) (omega arith))
+          (exps_take es None 1 t (t + 1) size (j + made_by f) line refl known.1 (omega arith) (lit< tt) (omega arith))
+          (one_call t b field (omega arith) (omega (arith, few, counted, some)) fits) (omega (arith, few, counted, some)) (values_low field) (values_high field)
+      exp_takes (Method line object name es) size t j field known above fits small =
+          let some = own_room object in
+          let l = room_of_list cs 2 es None in
+          let b = list_field 1 es in
+          let few = field_room es 1 in
+          let counted = count_room es 2 in
+          method_takes t (room_of cs object 2) l b field (room_of_values field) (exp_code cs object t j 2) (loads cs (StrConst name.text) (t + 1) line)
+          (exps_code cs es None (t + 2) (j + made_by object) line) (with_abc CallCode t b field line ∷ []) (with_abc OpSelf t t (t + 1) line) some
+          (exp_takes object size t j 2 known.0 above (lit< tt) (omega arith))
+          (let e = loads_top cs (StrConst name.text) (t + 1) line (omega arith) in omega (arith, e))
+          (one_self t (omega arith))
+          (exps_take es None 2 t (t + 2) size (j + made_by object) line refl known.1 (omega arith) (lit< tt) (omega arith))
+          (one_call t b field (omega arith) (omega (arith, few, counted, some)) fits) (omega (arith, few, counted, some)) (values_low field) (values_high field)
+      exp_takes (Unary line op e) size t j field known above fits small =
+          let some = own_room e in
+          one_takes t (room_of cs e 2) (exp_code cs e t j 2) (prefix_code op t line) some (exp_takes e size t j 2 known above (lit< tt) small)
+          (let p = prefix_top op t line (omega (arith, some)) in omega (arith, p))
+      exp_takes (Binary line op e d) size t j field known above fits small =
+          let some = own_room d in
+          two_take t (room_of cs e 2) (room_of cs d 2) (exp_code cs e t j 2) (exp_code cs d (t + 1) (j + made_by e) 2) (operator_code op t line) some
+          (exp_takes e size t j 2 known.0 above (lit< tt) (omega arith))
+          (exp_takes d size (t + 1) (j + made_by e) 2 known.1 (omega arith) (lit< tt) (omega arith))
+          (let o = operator_top op t line (omega (arith, some)) in omega (arith, o))
+      exp_takes (And line e d) size t j field known above fits small =
+          let some = own_room e in
+          either_takes t (room_of cs e 2) (room_of cs d 2) false (exp_code cs e t j 2) (exp_code cs d t (j + made_by e) 2) line (omega arith) some
+          (exp_takes e size t j 2 known.0 above (lit< tt) (omega arith)) (exp_takes d size t (j + made_by e) 2 known.1 above (lit< tt) (omega arith))
+      exp_takes (Or line e d) size t j field known above fits small =
+          let some = own_room e in
+          either_takes t (room_of cs e 2) (room_of cs d 2) true (exp_code cs e t j 2) (exp_code cs d t (j + made_by e) 2) line (omega arith) some
+          (exp_takes e size t j 2 known.0 above (lit< tt) (omega arith)) (exp_takes d size t (j + made_by e) 2 known.1 above (lit< tt) (omega arith))
+      exp_takes (Paren line e) size t j field known above fits small = exp_takes e size t j 2 known above (lit< tt) small
+      exp_takes (Table line fs) size t j field known above fits small =
+          let extra : Coded = (op_ax ExtraArg 0, line) in
+          let code = fields_code cs fs 0 t j line in
+          let h = fields_take fs 0 t size j line known above (omega arith) in
+          let a = top_more (with_abc NewTable t 0 0 line) (extra ∷ code) in
+          let b = top_more extra code in
+          let c = one_a NewTable t 0 0 false refl (omega arith) in
+          let d = ax_is ExtraArg 0 refl in
+          (omega (arith, a, b, c, d, h.0), omega (arith, a, b, c, d, h.0, h.1))
 
-    pub exps_take : (es : Exps) → ExpsTake es
-    exps_take EndExps wanted above t p size j line is known in_scope fits small = nils_take wanted above t p line is small
-    exps_take (MoreExps e es) wanted above t p size j line is known in_scope fits small =
-        let field = field_of e es wanted in
-        let after = wanted_after e es wanted in
-        more_take t above p (room_of cs e field) (room_of_list cs (above + 1) es after) (exp_code cs e p j field) (exps_code cs es after (p + 1) (j + made_by e) line) is
-        (room_or_end e es wanted (above + 1))
-        (exp_takes e size p j field known.0 in_scope (either_fits (is_last_open e es) (results_field wanted) fits) (omega arith))
-        (exps_take es after (above + 1) t (p + 1) size (j + made_by e) line (omega arith) known.1 (omega arith) (after_by (is_last_open e es) wanted fits) (omega arith))
+      pub exps_take : (es : Exps) → ExpsTake es
+      exps_take EndExps wanted above t p size j line is known in_scope fits small = nils_take wanted above t p line is small
+      exps_take (MoreExps e es) wanted above t p size j line is known in_scope fits small =
+          let field = field_of e es wanted in
+          let after = wanted_after e es wanted in
+          more_take t above p (room_of cs e field) (room_of_list cs (above + 1) es after) (exp_code cs e p j field) (exps_code cs es after (p + 1) (j + made_by e) line) is
+          (room_or_end e es wanted (above + 1))
+          (exp_takes e size p j field known.0 in_scope (either_fits (is_last_open e es) (results_field wanted) fits) (omega arith))
+          (exps_take es after (above + 1) t (p + 1) size (j + made_by e) line (omega arith) known.1 (omega arith) (after_by (is_last_open e es) wanted fits) (omega arith))
 
-    fields_take : (fs : Fields) → FieldsTake fs
-    fields_take EndFields items t size j line known above small = (omega arith, omega arith)
-    fields_take (MoreFields (Item e) fs) items t size j line known above small =
-        let field : ℕ = cond (is_last_item e fs) 0 2 in
-        let b : ℕ = cond (is_last_item e fs) 0 1 in
-        let first = exp_code cs e (t + 1) j field in
-        let rest = fields_code cs fs (items + 1) t (j + made_by e) line in
-        let x = room_of cs e field in
-        let r = room_of_fields cs fs in
-        let some = some_room e field (field_either (is_last_item e fs)) in
-        let few = one_or_none (is_last_item e fs) in
-        let h = exp_takes e size (t + 1) j field known.0 (omega arith) (either_fits (is_last_item e fs) 0 (lit< tt)) (omega arith) in
-        let k = fields_take fs (items + 1) t size (j + made_by e) line known.1 above (omega arith) in
-        let a = top_append first (set_list t b items line ++ rest) in
-        let c = top_append (set_list t b items line) rest in
-        let d = set_top t b items line (omega arith) (omega (arith, few)) in
-        item_join t x r b (top first) (top rest) (top (first ++ (set_list t b items line ++ rest))) (omega (arith, a, c, d)) some few h.0 h.1 k.0 k.1
-    fields_take (MoreFields (Keyed field_line e g) fs) items t size j line known above small =
-        let first = exp_code cs e (t + 1) j 2 in
-        let second = exp_code cs g (t + 2) (j + made_by e) 2 in
-        let store = with_abc SetTable t (t + 1) (t + 2) field_line in
-        let rest = fields_code cs fs items t (j + made_by e + made_by g) line in
-        let some = own_room g in
-        let h = exp_takes e size (t + 1) j 2 known.0.0 (omega arith) (lit< tt) (omega arith) in
-        let i = exp_takes g size (t + 2) (j + made_by e) 2 known.0.1 (omega arith) (lit< tt) (omega arith) in
-        let k = fields_take fs items t size (j + made_by e + made_by g) line known.1 above (omega arith) in
-        let a = top_append first (second ++ (store ∷ rest)) in
-        let b = top_append second (store ∷ rest) in
-        let c = top_more store rest in
-        let d = one_store t (t + 1) (t + 2) (omega arith) (omega arith) (omega (arith, some)) in
-        keyed_join t (room_of cs e 2) (room_of cs g 2) (room_of_fields cs fs) (top first) (top second) (top rest) (top (first ++ (second ++ (store ∷ rest)))) (omega (arith, a, b, c, d)) some h.0 h.1 i.0 i.1 k.0 k.1
+      fields_take : (fs : Fields) → FieldsTake fs
+      fields_take EndFields items t size j line known above small = (omega arith, omega arith)
+      fields_take (MoreFields (Item e) fs) items t size j line known above small =
+          let field : ℕ = cond (is_last_item e fs) 0 2 in
+          let b : ℕ = cond (is_last_item e fs) 0 1 in
+          let first = exp_code cs e (t + 1) j field in
+          let rest = fields_code cs fs (items + 1) t (j + made_by e) line in
+          let x = room_of cs e field in
+          let r = room_of_fields cs fs in
+          let some = some_room e field (field_either (is_last_item e fs)) in
+          let few = one_or_none (is_last_item e fs) in
+          let h = exp_takes e size (t + 1) j field known.0 (omega arith) (either_fits (is_last_item e fs) 0 (lit< tt)) (omega arith) in
+          let k = fields_take fs (items + 1) t size (j + made_by e) line known.1 above (omega arith) in
+          let a = top_append first (set_list t b items line ++ rest) in
+          let c = top_append (set_list t b items line) rest in
+          let d = set_top t b items line (omega arith) (omega (arith, few)) in
+          item_join t x r b (top first) (top rest) (top (first ++ (set_list t b items line ++ rest))) (omega (arith, a, c, d)) some few h.0 h.1 k.0 k.1
+      fields_take (MoreFields (Keyed field_line e g) fs) items t size j line known above small =
+          let first = exp_code cs e (t + 1) j 2 in
+          let second = exp_code cs g (t + 2) (j + made_by e) 2 in
+          let store = with_abc SetTable t (t + 1) (t + 2) field_line in
+          let rest = fields_code cs fs items t (j + made_by e + made_by g) line in
+          let some = own_room g in
+          let h = exp_takes e size (t + 1) j 2 known.0.0 (omega arith) (lit< tt) (omega arith) in
+          let i = exp_takes g size (t + 2) (j + made_by e) 2 known.0.1 (omega arith) (lit< tt) (omega arith) in
+          let k = fields_take fs items t size (j + made_by e + made_by g) line known.1 above (omega arith) in
+          let a = top_append first (second ++ (store ∷ rest)) in
+          let b = top_append second (store ∷ rest) in
+          let c = top_more store rest in
+          let d = one_store t (t + 1) (t + 2) (omega arith) (omega arith) (omega (arith, some)) in
+          keyed_join t (room_of cs e 2) (room_of cs g 2) (room_of_fields cs fs) (top first) (top second) (top rest) (top (first ++ (second ++ (store ∷ rest)))) (omega (arith, a, b, c, d)) some h.0 h.1 i.0 i.1 k.0 k.1

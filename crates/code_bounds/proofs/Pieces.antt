@@ -18,7 +18,7 @@ use Rattle.code_of.specs.Constants.{number_in, loads}
 use Rattle.code_of.specs.Operators.{name_code, prefix_code, arithmetic_code, truth_code, operator_code}
 use Rattle.code_of.specs.Expressions.{Wanted, nils_code, either_code, set_list}
 use Rattle.code_of.specs.Rooms.{room_of_name, room_of_nils}
-use Rattle.code_bounds.specs.InScope.{NameInScope}
+use Rattle.scope_laws.specs.Finding.{PlaceIsThere}
 use Rattle.code_bounds.proofs.Tops.{top, one, top_more, top_append, ax_is, one_a, one_ab, one_abc, one_ax, one_sum, one_nil, one_join}
 
 abbrev pub Takes : (t n : ℕ) → List Coded → Type 0
@@ -65,19 +65,19 @@ module _ (cs : List Const) (text : List ℕ) where
       let e = one_abc GetTable t t (t + 1) false refl (omega arith) (omega arith) (omega arith) in
       (omega (arith, a, b, c, d, e), omega (arith, a, b, c, d, e))
 
-  pub name_takes : (p : Place) (size t line : ℕ) → NameInScope p size → size ≤ t → t + room_of_name cs p text ≤ 255 → Takes t (room_of_name cs p text) (name_code cs p text t line)
-  name_takes Unset size t line known above small = absurd known
-  name_takes (LocalPlace n) size t line known above small =
-      let e = one_ab Move t n 0 false refl (omega arith) (omega arith) in
+  pub name_takes : (p : Place) (hidden : List ℕ) (ups size t line : ℕ) → PlaceIsThere hidden size ups p → size ≤ t → t + room_of_name cs p text ≤ 255 → Takes t (room_of_name cs p text) (name_code cs p text t line)
+  name_takes Unset hidden ups size t line known above small = absurd known
+  name_takes (LocalPlace n) hidden ups size t line known above small =
+      let e = one_ab Move t n 0 false refl (omega arith) (omega (arith, known.0)) in
       (omega (arith, e), omega (arith, e))
-  name_takes (Upvalue u) size t line known above small = takes_one t _ line (one_a GetUpval t u 0 false refl (omega arith))
-  name_takes (GlobalIn n) size t line known above small =
+  name_takes (Upvalue u) hidden ups size t line known above small = takes_one t _ line (one_a GetUpval t u 0 false refl (omega arith))
+  name_takes (GlobalIn n) hidden ups size t line known above small =
       let read = with_abc GetTable t n t line ∷ [] in
       let a = top_append (loads cs (StrConst text) t line) read in
       let b = loads_top cs (StrConst text) t line (omega arith) in
-      let c = one_abc GetTable t n t false refl (omega arith) (omega arith) (omega arith) in
+      let c = one_abc GetTable t n t false refl (omega arith) (omega (arith, known.0)) (omega arith) in
       (omega (arith, a, b, c), omega (arith, a, b, c))
-  name_takes (GlobalOf u) size t line known above small = global_takes u (number_in cs (StrConst text)) t line (nat_lt (number_in cs (StrConst text)) 256) small
+  name_takes (GlobalOf u) hidden ups size t line known above small = global_takes u (number_in cs (StrConst text)) t line (nat_lt (number_in cs (StrConst text)) 256) small
 
 -- operators
 

@@ -14,7 +14,7 @@ use Rattle.code_of.specs.Expressions.{made_by, is_open, list_field, Wanted, resu
 use Rattle.code_of.specs.Parts.{marks_code, close_code, call_last, method_last, values_last, return_code}
 use Rattle.scope_core.specs.Held.{held, held_behind}
 use Rattle.code_of.specs.Rooms.{room_of_values, room_of_nils, room_of, room_of_list}
-use Rattle.code_bounds.specs.InScope.{ExpInScope, ExpsInScope}
+use Rattle.scope_laws.specs.Finding.{ExpFinds, ExpsFind}
 use Rattle.code_bounds.proofs.Tops.{top, one, top_more, top_append, one_a, one_self, one_tail, one_return}
 use Rattle.code_bounds.proofs.Pieces.{Takes, ListTakes, loads_top, call_takes, method_takes}
 use Rattle.code_bounds.proofs.Expressions.{own_room, count_room, field_room, exp_takes, exps_take}
@@ -44,18 +44,18 @@ close_top before after line few = by (nat_eq before after)
 module _ (cs : List Const) where
   -- expressions within the limit
 
-  pub exp_room : (stack : ℕ) (e : Exp) (size t j field : ℕ) → ExpInScope e size → size ≤ t → t + held e ≤ 250 → t + room_of_values field ≤ 250 → field ≤ 250 →
+  pub exp_room : (hidden : List ℕ) (ups stack : ℕ) (e : Exp) (size t j field : ℕ) → ExpFinds e hidden size ups → size ≤ t → t + held e ≤ 250 → t + room_of_values field ≤ 250 → field ≤ 250 →
       HasRoom stack (exp_code cs e t j field) (t + room_of cs e field ≤ max t stack)
-  exp_room stack e size t j field known above few values fits =
+  exp_room hidden ups stack e size t j field known above few values fits =
       let h = exp_held cs e field in
-      let all = exp_takes cs e size t j field known above (omega arith) (omega (arith, h)) in
+      let all = exp_takes cs hidden ups e size t j field known above (omega arith) (omega (arith, h)) in
       record { below = omega (arith, h, all.0); gives = λ small. omega (arith, all.1) }
 
-  pub exps_room : (stack : ℕ) (es : Exps) (wanted : Wanted) (size p j line : ℕ) → ExpsInScope es size → size ≤ p → results_field wanted ≤ 251 → p + held_behind 0 es ≤ 250 → p + wanted_count cs wanted ≤ 250 →
+  pub exps_room : (hidden : List ℕ) (ups stack : ℕ) (es : Exps) (wanted : Wanted) (size p j line : ℕ) → ExpsFind es hidden size ups → size ≤ p → results_field wanted ≤ 251 → p + held_behind 0 es ≤ 250 → p + wanted_count cs wanted ≤ 250 →
       HasRoom stack (exps_code cs es wanted p j line) (p + room_of_list cs 0 es wanted ≤ max p stack)
-  exps_room stack es wanted size p j line known above fits few many =
+  exps_room hidden ups stack es wanted size p j line known above fits few many =
       let h = exps_held cs es wanted 0 in
-      let all = exps_take cs es wanted 0 p p size j line (omega arith) known above (omega arith) (omega (arith, h)) in
+      let all = exps_take cs hidden ups es wanted 0 p p size j line (omega arith) known above (omega arith) (omega (arith, h)) in
       record { below = omega (arith, h, all.0); gives = λ small. omega (arith, all.1) }
 
   -- a list has registers for the values that are wanted of it
@@ -95,23 +95,23 @@ module _ (cs : List Const) where
       let g = one_return t 0 back t_fits (lit< tt) in
       omega (arith, e, f, g)
 
-  call_last_takes : (f : Exp) (es : Exps) (size t j line back : ℕ) → ExpInScope f size → ExpsInScope es size → size ≤ t → t + max (room_of cs f 2) (max (room_of_list cs 1 es None) 1) ≤ 255 →
+  call_last_takes : (hidden : List ℕ) (ups : ℕ) (f : Exp) (es : Exps) (size t j line back : ℕ) → ExpFinds f hidden size ups → ExpsFind es hidden size ups → size ≤ t → t + max (room_of cs f 2) (max (room_of_list cs 1 es None) 1) ≤ 255 →
       Takes t (max (room_of cs f 2) (max (room_of_list cs 1 es None) 1)) (call_last cs f es t j line back)
-  call_last_takes f es size t j line back known all_known above small =
+  call_last_takes hidden ups f es size t j line back known all_known above small =
       let some = own_room cs f in
       let l = room_of_list cs 1 es None in
       let b = list_field 0 es in
       let few = field_room cs es 0 in
       let counted = count_room cs es 1 in
       call_takes t (room_of cs f 2) l b 0 1 (exp_code cs f t j 2) (exps_code cs es None (t + 1) (j + made_by f) line) (with_abc TailCall t b 0 line ∷ with_abc Return t 0 back line ∷ []) some
-      (exp_takes cs f size t j 2 known above (lit< tt) (omega arith))
-      (exps_take cs es None 1 t (t + 1) size (j + made_by f) line refl all_known (omega arith) (lit< tt) (omega arith))
+      (exp_takes cs hidden ups f size t j 2 known above (lit< tt) (omega arith))
+      (exps_take cs hidden ups es None 1 t (t + 1) size (j + made_by f) line refl all_known (omega arith) (lit< tt) (omega arith))
       (ends_call t b line back (omega arith) (omega (arith, few, counted, some))) (omega (arith, few, counted, some)) (omega arith) (omega arith)
 
-  method_last_takes : (object : Exp) (name : List ℕ) (es : Exps) (size t j line back : ℕ) → ExpInScope object size → ExpsInScope es size → size ≤ t →
+  method_last_takes : (hidden : List ℕ) (ups : ℕ) (object : Exp) (name : List ℕ) (es : Exps) (size t j line back : ℕ) → ExpFinds object hidden size ups → ExpsFind es hidden size ups → size ≤ t →
       t + max (room_of cs object 2) (max (max 2 (room_of_list cs 2 es None)) 1) ≤ 255 →
       Takes t (max (room_of cs object 2) (max (max 2 (room_of_list cs 2 es None)) 1)) (method_last cs object name es t j line back)
-  method_last_takes object name es size t j line back known all_known above small =
+  method_last_takes hidden ups object name es size t j line back known all_known above small =
       let some = own_room cs object in
       let l = room_of_list cs 2 es None in
       let b = list_field 1 es in
@@ -119,22 +119,22 @@ module _ (cs : List Const) where
       let counted = count_room cs es 2 in
       method_takes t (room_of cs object 2) l b 0 1 (exp_code cs object t j 2) (loads cs (StrConst name) (t + 1) line) (exps_code cs es None (t + 2) (j + made_by object) line)
       (with_abc TailCall t b 0 line ∷ with_abc Return t 0 back line ∷ []) (with_abc OpSelf t t (t + 1) line) some
-      (exp_takes cs object size t j 2 known above (lit< tt) (omega arith))
+      (exp_takes cs hidden ups object size t j 2 known above (lit< tt) (omega arith))
       (let e = loads_top cs (StrConst name) (t + 1) line (omega arith) in omega (arith, e))
       (one_self t (omega arith))
-      (exps_take cs es None 2 t (t + 2) size (j + made_by object) line refl all_known (omega arith) (lit< tt) (omega arith))
+      (exps_take cs hidden ups es None 2 t (t + 2) size (j + made_by object) line refl all_known (omega arith) (lit< tt) (omega arith))
       (ends_call t b line back (omega arith) (omega (arith, few, counted, some))) (omega (arith, few, counted, some)) (omega arith) (omega arith)
 
   abbrev ReturnTakes : Bool → Exps → Type 0
-  ReturnTakes closing es = (size t j line back : ℕ) → ExpsInScope es size → size ≤ t → t + room_of_list cs 0 es None ≤ 254 → ListTakes t t (room_of_list cs 0 es None) (return_code cs closing es t j line back)
+  ReturnTakes closing es = (hidden : List ℕ) (ups size t j line back : ℕ) → ExpsFind es hidden size ups → size ≤ t → t + room_of_list cs 0 es None ≤ 254 → ListTakes t t (room_of_list cs 0 es None) (return_code cs closing es t j line back)
 
-  values_last_take : (es : Exps) (size t j line back : ℕ) → ExpsInScope es size → size ≤ t → t + room_of_list cs 0 es None ≤ 254 → ListTakes t t (room_of_list cs 0 es None) (values_last cs es t j line back)
-  values_last_take es size t j line back known above small =
+  values_last_take : (hidden : List ℕ) (ups : ℕ) (es : Exps) (size t j line back : ℕ) → ExpsFind es hidden size ups → size ≤ t → t + room_of_list cs 0 es None ≤ 254 → ListTakes t t (room_of_list cs 0 es None) (values_last cs es t j line back)
+  values_last_take hidden ups es size t j line back known above small =
       let few = field_room cs es 0 in
       let counted = count_room cs es 0 in
       let b = list_field 0 es in
       let code = exps_code cs es None t j line in
-      let h = exps_take cs es None 0 t t size j line (omega arith) known above (lit< tt) (omega arith) in
+      let h = exps_take cs hidden ups es None 0 t t size j line (omega arith) known above (lit< tt) (omega arith) in
       let e = top_append code (with_abc Return t b back line ∷ []) in
       let f = one_return t b back (omega arith) (omega (arith, few, counted)) in
       by (room_of_list cs 0 es None) (top code) (one (abc Return t b back false)) (top (code ++ with_abc Return t b back line ∷ [])) e h.0 h.1 (omega (arith, f, few, counted))
@@ -143,18 +143,18 @@ module _ (cs : List Const) where
       by r m o all e p q s = (omega arith, omega arith)
 
   pub return_takes : (closing : Bool) (es : Exps) → ReturnTakes closing es
-  return_takes true es size t j line back known above small = values_last_take es size t j line back known above small
-  return_takes false (MoreExps (Call call_line f es) EndExps) size t j line back known above small =
-      let h = call_last_takes f es size t j call_line back known.0.0 known.0.1 above (omega arith) in
+  return_takes true es hidden ups size t j line back known above small = values_last_take hidden ups es size t j line back known above small
+  return_takes false (MoreExps (Call call_line f es) EndExps) hidden ups size t j line back known above small =
+      let h = call_last_takes hidden ups f es size t j call_line back known.0.0 known.0.1 above (omega arith) in
       (omega (arith, h.0), omega (arith, h.1))
-  return_takes false (MoreExps (Method call_line object name es) EndExps) size t j line back known above small =
-      let h = method_last_takes object name.text es size t j call_line back known.0.0 known.0.1 above (omega arith) in
+  return_takes false (MoreExps (Method call_line object name es) EndExps) hidden ups size t j line back known above small =
+      let h = method_last_takes hidden ups object name.text es size t j call_line back known.0.0 known.0.1 above (omega arith) in
       (omega (arith, h.0), omega (arith, h.1))
-  return_takes false es size t j line back known above small = values_last_take es size t j line back known above small
+  return_takes false es hidden ups size t j line back known above small = values_last_take hidden ups es size t j line back known above small
 
-  pub return_room : (stack : ℕ) (closing : Bool) (es : Exps) (t j line back : ℕ) → ExpsInScope es t → t + held_behind 0 es ≤ 250 →
+  pub return_room : (hidden : List ℕ) (ups stack : ℕ) (closing : Bool) (es : Exps) (t j line back : ℕ) → ExpsFind es hidden t ups → t + held_behind 0 es ≤ 250 →
       HasRoom stack (return_code cs closing es t j line back) (t + room_of_list cs 0 es None ≤ max t stack)
-  return_room stack closing es t j line back known few =
+  return_room hidden ups stack closing es t j line back known few =
       let h = all_held cs es 0 in
-      let all = return_takes closing es t t j line back known (omega arith) (omega (arith, h)) in
+      let all = return_takes closing es hidden ups t t j line back known (omega arith) (omega (arith, h)) in
       record { below = omega (arith, h, all.0); gives = λ small. omega (arith, all.1) }

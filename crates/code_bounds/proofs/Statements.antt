@@ -17,8 +17,9 @@ use Rattle.code_of.specs.Sizes.{stat_size, arms_size, block_size}
 use Rattle.code_of.specs.Statements.{in_loop, passed_after, labels_ahead, stat_code, arms_code, stats_code, block_code, open_code, whole_code}
 use Rattle.scope_core.specs.Held.{held, held_behind, held_stat, held_tests}
 use Rattle.code_of.specs.Rooms.{room_of, room_of_list}
-use Rattle.code_bounds.specs.InScope.{ExpInScope, ExpsInScope, StatInScope, ArmsInScope, StatsInScope, BlockInScope}
-use Rattle.code_bounds.specs.Limits.{StatKeepsLimits, ArmsKeepLimits, StatsKeepLimits, BlockKeepsLimits}
+use Rattle.tree_terms.specs.Labels.{Named, names_ahead, names_passed}
+use Rattle.scope_laws.specs.Finding.{three_hidden, four_hidden, ExpFinds, ExpsFind, StatFinds, ArmsFind, StatsFind, BlockFinds}
+use Rattle.scope_laws.specs.Keeping.{StatKeeps, ArmsKeep, StatsKeep, BlockKeeps}
 use Rattle.code_bounds.specs.Registers.{StatHasRoom, ArmsHaveRoom, StatsHaveRoom, BlockHasRoom}
 use Rattle.code_bounds.proofs.Tops.{top, ax_is, one_a, one_nil, one_ax, one_behind, one_iterate, one_return}
 use Rattle.code_bounds.proofs.Expressions.{own_room}
@@ -26,7 +27,7 @@ use Rattle.code_bounds.proofs.Holding.{same_count, some_held}
 use Rattle.code_bounds.proofs.Room.{HasRoom, room_end, room_as, room_append, room_more, room_of_top}
 use Rattle.code_bounds.proofs.Simple.{marks_top, close_top, exp_room, exps_room, filled, return_room}
 use Rattle.code_bounds.proofs.Assigning.{assign_room}
-use Rattle.code_bounds.proofs.Jumping.{LabelsLow, ReachLow, labels_append, label_low, leads_top, passed_low, ahead_low}
+use Rattle.code_bounds.proofs.Jumping.{LabelsLow, ReachLow, labels_append, label_low, leads_top, passed_low, ahead_low, level_low}
 
 -- the forms of statements that have blocks, where their parts have room
 
@@ -97,23 +98,23 @@ module _ {stack : ℕ} where
 module _ (cs : List Const) (stack : ℕ) where
   -- the values of a numeric `for`
 
-  pair_room : (from limit : Exp) (t j : ℕ) → ExpInScope from t → ExpInScope limit t → t + held from ≤ 250 → t + (0 + 1 + held limit) ≤ 250 → t + 4 ≤ 200 →
+  pair_room : (hidden : List ℕ) (ups : ℕ) (from limit : Exp) (t j : ℕ) → ExpFinds from hidden t ups → ExpFinds limit hidden t ups → t + held from ≤ 250 → t + (0 + 1 + held limit) ≤ 250 → t + 4 ≤ 200 →
       HasRoom stack (pair_code cs from limit t j) ((t + room_of cs from 2 ≤ max t stack) × (t + 1 + room_of cs limit 2 ≤ max (t + 1) stack))
-  pair_room from limit t j a b few many fits =
+  pair_room hidden ups from limit t j a b few many fits =
       room_append (exp_code cs from t j 2) (exp_code cs limit (t + 1) (j + made_by from) 2)
-      (exp_room cs stack from t t j 2 a (omega arith) few (omega arith) (lit≤ tt)) (exp_room cs stack limit t (t + 1) (j + made_by from) 2 b (omega arith) (omega arith) (omega arith) (lit≤ tt))
+      (exp_room cs hidden ups stack from t t j 2 a (omega arith) few (omega arith) (lit≤ tt)) (exp_room cs hidden ups stack limit t (t + 1) (j + made_by from) 2 b (omega arith) (omega arith) (omega arith) (lit≤ tt))
 
-  bounds_room : (from limit : Exp) (t j line : ℕ) → ExpInScope from t → ExpInScope limit t → t + held from ≤ 250 → t + (0 + 1 + held limit) ≤ 250 → t + 4 ≤ 200 →
+  bounds_room : (hidden : List ℕ) (ups : ℕ) (from limit : Exp) (t j line : ℕ) → ExpFinds from hidden t ups → ExpFinds limit hidden t ups → t + held from ≤ 250 → t + (0 + 1 + held limit) ≤ 250 → t + 4 ≤ 200 →
       HasRoom stack (bounds_code cs from limit t j line) ((t + room_of cs from 2 ≤ max t stack) × (t + 1 + room_of cs limit 2 ≤ max (t + 1) stack))
-  bounds_room from limit t j line a b few many fits =
+  bounds_room hidden ups from limit t j line a b few many fits =
       let e = one_ax LoadI (t + 2) 65536 refl (omega arith) in
-      room_as (room_append (pair_code cs from limit t j) (default_step (t + 2) line) (pair_room from limit t j a b few many fits) (room_of_top (default_step (t + 2) line) (omega (arith, e)))) (λ all. all.0)
+      room_as (room_append (pair_code cs from limit t j) (default_step (t + 2) line) (pair_room hidden ups from limit t j a b few many fits) (room_of_top (default_step (t + 2) line) (omega (arith, e)))) (λ all. all.0)
 
-  pub steps_room : (from limit step : Exp) (t j : ℕ) → ExpInScope from t → ExpInScope limit t → ExpInScope step t → t + held from ≤ 250 → t + (0 + 1 + held limit) ≤ 250 → t + (0 + 1 + 1 + held step) ≤ 250 → t + 4 ≤ 200 →
+  pub steps_room : (hidden : List ℕ) (ups : ℕ) (from limit step : Exp) (t j : ℕ) → ExpFinds from hidden t ups → ExpFinds limit hidden t ups → ExpFinds step hidden t ups → t + held from ≤ 250 → t + (0 + 1 + held limit) ≤ 250 → t + (0 + 1 + 1 + held step) ≤ 250 → t + 4 ≤ 200 →
       HasRoom stack (steps_code cs from limit step t j) (((t + room_of cs from 2 ≤ max t stack) × (t + 1 + room_of cs limit 2 ≤ max (t + 1) stack)) × (t + 2 + room_of cs step 2 ≤ max (t + 2) stack))
-  steps_room from limit step t j a b c few many most fits =
-      room_append (pair_code cs from limit t j) (exp_code cs step (t + 2) (j + made_by from + made_by limit) 2) (pair_room from limit t j a b few many fits)
-      (exp_room cs stack step t (t + 2) (j + made_by from + made_by limit) 2 c (omega arith) (omega arith) (omega arith) (lit≤ tt))
+  steps_room hidden ups from limit step t j a b c few many most fits =
+      room_append (pair_code cs from limit t j) (exp_code cs step (t + 2) (j + made_by from + made_by limit) 2) (pair_room hidden ups from limit t j a b few many fits)
+      (exp_room cs hidden ups stack step t (t + 2) (j + made_by from + made_by limit) 2 c (omega arith) (omega arith) (omega arith) (lit≤ tt))
 
   -- what is in scope behind statements has registers
 
@@ -126,198 +127,201 @@ module _ (cs : List Const) (stack : ℕ) where
   levels_room EndStats t h = h
   levels_room (MoreStats s ss) t h = levels_room ss (level_after s t) h.1.1
 
-  pub levels_low : (ss : Stats) (t : ℕ) → t ≤ 200 → StatsKeepLimits ss t → levels_after ss t ≤ 200
-  levels_low EndStats t few h = few
-  levels_low (MoreStats s ss) t few h = levels_low ss (level_after s t) h.1.0 h.1.1.1
+  pub levels_low : (ss : Stats) (falls vararg : Bool) (t : ℕ) (names named : List Named) (loops : Bool) → t ≤ 200 → StatsKeep ss falls vararg t names named loops → levels_after ss t ≤ 200
+  levels_low EndStats falls vararg t names named loops few h = few
+  levels_low (MoreStats s ss) falls vararg t names named loops few h =
+      levels_low ss falls vararg (level_after s t) (names_passed s names) named loops (level_low s vararg t (names_ahead ss falls t (level_after s t) ++ (names ++ named)) loops few h.1.0) h.1.1
 
-  local_room : (names : List Declared) (es : Exps) (t j line : ℕ) → ExpsInScope es t → t + held_behind 0 es ≤ 250 → t + length names ≤ 200 →
+  local_room : (hidden : List ℕ) (ups : ℕ) (names : List Declared) (es : Exps) (t j line : ℕ) → ExpsFind es hidden t ups → t + held_behind 0 es ≤ 250 → t + length names ≤ 200 →
       HasRoom stack (exps_code cs es (Some (length names)) t j line ++ marks_code names t) (t ≤ stack → (t + room_of_list cs 0 es (Some (length names)) ≤ stack) × (t + length names ≤ stack))
-  local_room names es t j line known few many =
+  local_room hidden ups names es t j line known few many =
       let values = exps_code cs es (Some (length names)) t j line in
       let full = filled cs es (length names) 0 in
       room_as
-      (room_append values (marks_code names t) (exps_room cs stack es (Some (length names)) t t j line known (omega arith) (omega arith) few (omega arith))
+      (room_append values (marks_code names t) (exps_room cs hidden ups stack es (Some (length names)) t t j line known (omega arith) (omega arith) few (omega arith))
       (room_of_top (marks_code names t) (marks_top names t many)))
       (λ all within. let e = all.0 in (omega (arith, e, within), omega (arith, e, within, full)))
 
-  assigned_room : (targets es : Exps) (t j line : ℕ) → ExpsInScope targets t → ExpsInScope es t → t + held_stat (Assign line targets es) ≤ 250 →
+  assigned_room : (hidden : List ℕ) (ups : ℕ) (targets es : Exps) (t j line : ℕ) → ExpsFind targets hidden t ups → ExpsFind es hidden t ups → t + held_stat (Assign line targets es) ≤ 250 →
       HasRoom stack (assign_code cs targets es t j line) (t ≤ stack → StatHasRoom cs stack (Assign line targets es) t)
-  assigned_room targets es t j line known_targets known few =
+  assigned_room hidden ups targets es t j line known_targets known few =
       let same = same_count targets in
       let values = ap (λ n. held_behind (2 * n) es) same in
-      assign_room cs stack targets es t j line known_targets known (omega arith) (omega (arith, values)) (omega (arith, same))
+      assign_room cs hidden ups stack targets es t j line known_targets known (omega arith) (omega (arith, values)) (omega (arith, same))
 
-  module _ (back : ℕ) where
+  module _ (back ups : ℕ) (vararg : Bool) where
     abbrev StatRoom : Stat → Type 0
-    StatRoom s = (closing : Bool) (t j pc : ℕ) (reach : Reach) → StatInScope s t → t ≤ 200 → t + held_stat s ≤ 250 → level_after s t ≤ 200 → StatKeepsLimits s t → ReachLow reach →
+    StatRoom s = (hidden : List ℕ) (named : List Named) (loops closing : Bool) (t j pc : ℕ) (reach : Reach) → StatFinds s hidden t ups → t ≤ 200 → t + held_stat s ≤ 250 → level_after s t ≤ 200 → StatKeeps s vararg t named loops → ReachLow reach →
         HasRoom stack (stat_code cs back s closing t j pc reach) (t ≤ stack → StatHasRoom cs stack s t)
 
     abbrev ArmsRoom : Arms → Type 0
-    ArmsRoom arms = (otherwise : List Coded) (closing : Bool) (t j pc line : ℕ) (reach : Reach) → ArmsInScope arms t → t ≤ 200 → t + held_tests arms ≤ 250 → ArmsKeepLimits arms t → ReachLow reach →
+    ArmsRoom arms = (hidden : List ℕ) (named : List Named) (loops : Bool) (otherwise : List Coded) (closing : Bool) (t j pc line : ℕ) (reach : Reach) → ArmsFind arms hidden t ups → t ≤ 200 → t + held_tests arms ≤ 250 → ArmsKeep arms vararg t named loops → ReachLow reach →
         top otherwise ≤ 250 → HasRoom stack (arms_code cs back arms otherwise closing t j pc line reach) ((t ≤ stack → ArmsHaveRoom cs stack arms t) × (top otherwise ≤ stack))
 
     abbrev StatsRoom : Stats → Type 0
-    StatsRoom ss = (falls closing : Bool) (outer t j pc : ℕ) (passed : List Visible) (reach : Reach) → StatsInScope ss t → outer ≤ 200 → t ≤ 200 → StatsKeepLimits ss t → LabelsLow passed → ReachLow reach →
+    StatsRoom ss = (hidden : List ℕ) (names named : List Named) (loops falls closing : Bool) (outer t j pc : ℕ) (passed : List Visible) (reach : Reach) → StatsFind ss hidden t ups → outer ≤ 200 → t ≤ 200 → StatsKeep ss falls vararg t names named loops → LabelsLow passed → ReachLow reach →
         HasRoom stack (stats_code cs back ss falls closing outer t j pc passed reach) (t ≤ stack → StatsHaveRoom cs stack ss t)
 
     abbrev BlockRoom : Block → Type 0
-    BlockRoom b = (closing : Bool) (outer t j pc : ℕ) (reach : Reach) → BlockInScope b t → outer ≤ 200 → t ≤ 200 → BlockKeepsLimits b t → ReachLow reach →
+    BlockRoom b = (hidden : List ℕ) (named : List Named) (loops closing : Bool) (outer t j pc : ℕ) (reach : Reach) → BlockFinds b hidden t ups → outer ≤ 200 → t ≤ 200 → BlockKeeps b true vararg t named loops → ReachLow reach →
         HasRoom stack (block_code cs back b closing outer t j pc reach) (t ≤ stack → BlockHasRoom cs stack b t)
 
     abbrev OpenRoom : Block → Type 0
-    OpenRoom b = (closing : Bool) (t j pc : ℕ) (reach : Reach) → BlockInScope b t → t ≤ 200 → BlockKeepsLimits b t → ReachLow reach →
+    OpenRoom b = (hidden : List ℕ) (named : List Named) (loops closing : Bool) (t j pc : ℕ) (reach : Reach) → BlockFinds b hidden t ups → t ≤ 200 → BlockKeeps b false vararg t named loops → ReachLow reach →
         HasRoom stack (open_code cs back b closing t j pc reach) (t ≤ stack → BlockHasRoom cs stack b t)
 
     loop_low : (reach : Reach) (place level : ℕ) → level ≤ 200 → ReachLow reach → ReachLow (in_loop reach place level)
     loop_low reach place level few h = record { labels = h.labels; exit = few }
 
-    returned : (stats : List Coded) (ss : Stats) (closing : Bool) (es : Exps) (t j line : ℕ) → ExpsInScope es (levels_after ss t) → levels_after ss t + held_behind 0 es ≤ 250 →
+    returned : (hidden : List ℕ) (stats : List Coded) (ss : Stats) (closing : Bool) (es : Exps) (t j line : ℕ) → ExpsFind es hidden (levels_after ss t) ups → levels_after ss t + held_behind 0 es ≤ 250 →
         HasRoom stack stats (t ≤ stack → StatsHaveRoom cs stack ss t) →
         HasRoom stack (stats ++ return_code cs closing es (levels_after ss t) j line back)
         (t ≤ stack → StatsHaveRoom cs stack ss t × (levels_after ss t + room_of_list cs 0 es None ≤ stack))
-    returned stats ss closing es t j line known few h =
-        room_as (room_append stats (return_code cs closing es (levels_after ss t) j line back) h (return_room cs stack closing es (levels_after ss t) j line back known few))
+    returned hidden stats ss closing es t j line known few h =
+        room_as (room_append stats (return_code cs closing es (levels_after ss t) j line back) h (return_room cs hidden ups stack closing es (levels_after ss t) j line back known few))
         (λ all within. let mine = all.0 within in let level = levels_room ss t mine in let room = all.1 in (mine, omega (arith, level, room)))
 
     mutual
       stat_room : (s : Stat) → StatRoom s
-      stat_room (Empty line) closing t j pc reach known few holds level keeps low = room_as room_end (λ h within. tt)
-      stat_room (Local line names es) closing t j pc reach known few holds level keeps low = local_room names es t j line known holds level
-      stat_room (LocalFunction line name body) closing t j pc reach known few holds level keeps low = room_as (function_room body t j (omega arith)) (λ h within. h)
-      stat_room (Assign line targets es) closing t j pc reach known few holds level keeps low = assigned_room targets es t j line known.0 known.1 holds
-      stat_room (CallStat line e) closing t j pc reach known few holds level keeps low =
-          room_as (exp_room cs stack e t t j 1 known (omega arith) holds (omega arith) (lit≤ tt)) (λ room within. omega (arith, room, within))
-      stat_room (Do line block) closing t j pc reach known few holds level keeps low = block_room block closing t t j pc reach known few few keeps low
-      stat_room (While line e block) closing t j pc reach known few holds level keeps low =
+      stat_room (Empty line) hidden named loops closing t j pc reach known few holds level keeps low = room_as room_end (λ h within. tt)
+      stat_room (Local line names es) hidden named loops closing t j pc reach known few holds level keeps low = local_room hidden ups names es t j line known holds level
+      stat_room (LocalFunction line name body) hidden named loops closing t j pc reach known few holds level keeps low = room_as (function_room body t j (omega arith)) (λ h within. h)
+      stat_room (Assign line targets es) hidden named loops closing t j pc reach known few holds level keeps low = assigned_room hidden ups targets es t j line known.0 known.1 holds
+      stat_room (CallStat line e) hidden named loops closing t j pc reach known few holds level keeps low =
+          room_as (exp_room cs hidden ups stack e t t j 1 known (omega arith) holds (omega arith) (lit≤ tt)) (λ room within. omega (arith, room, within))
+      stat_room (Do line block) hidden named loops closing t j pc reach known few holds level keeps low = block_room block hidden named loops closing t t j pc reach known few few keeps low
+      stat_room (While line e block) hidden named loops closing t j pc reach known few holds level keeps low =
           let test = exp_code cs e t j 2 in
           let after = in_loop reach (pc + stat_size cs back (While line e block) closing t j) t in
           room_as
           (while_room test (block_code cs back block closing t t (j + made_by e) (pc + length test + 2) after) t line (omega arith)
-          (exp_room cs stack e t t j 2 known.0 (omega arith) holds (omega arith) (lit≤ tt))
-          (block_room block closing t t (j + made_by e) (pc + length test + 2) after known.1 few few keeps (loop_low reach _ t few low)))
+          (exp_room cs hidden ups stack e t t j 2 known.0 (omega arith) holds (omega arith) (lit≤ tt))
+          (block_room block hidden named true closing t t (j + made_by e) (pc + length test + 2) after known.1 few few keeps.1 (loop_low reach _ t few low)))
           (λ all within. let room = all.0 in (omega (arith, room, within), all.1 within))
-      stat_room (Repeat line block e) closing t j pc reach known few holds level keeps low =
+      stat_room (Repeat line block e) hidden named loops closing t j pc reach known few holds level keeps low =
           let inner = levels_in block t in
           let test = exp_code cs e inner (j + made_in_block block) 2 in
           let after = in_loop reach (pc + stat_size cs back (Repeat line block e) closing t j) t in
           let held_there = some_held e in
           let some = own_room cs e in
           room_as
-          (repeat_room (open_code cs back block closing t j pc after) test (close_code t inner (line_of_end block)) inner line (omega (arith, keeps.1, held_there))
-          (open_room block closing t j pc after known.0 few keeps.0 (loop_low reach _ t few low))
-          (exp_room cs stack e inner inner (j + made_in_block block) 2 known.1 (omega arith) keeps.1 (omega (arith, keeps.1, held_there)) (lit≤ tt))
+          (repeat_room (open_code cs back block closing t j pc after) test (close_code t inner (line_of_end block)) inner line (omega (arith, keeps.1.0, held_there))
+          (open_room block hidden named true closing t j pc after known.0 few keeps.0 (loop_low reach _ t few low))
+          (exp_room cs hidden ups stack e inner inner (j + made_in_block block) 2 known.1 (omega arith) keeps.1.0 (omega (arith, keeps.1.0, held_there)) (lit≤ tt))
           (close_top t inner (line_of_end block) few))
           (λ all within. let room = all.1 in (all.0 within, omega (arith, room, some)))
-      stat_room (If line arms) closing t j pc reach known few holds level keeps low =
-          room_as (arms_room arms [] closing t j pc line reach known few holds keeps low (omega arith)) (λ all within. all.0 within)
-      stat_room (IfElse line arms block) closing t j pc reach known few holds level keeps low =
+      stat_room (If line arms) hidden named loops closing t j pc reach known few holds level keeps low =
+          room_as (arms_room arms hidden named loops [] closing t j pc line reach known few holds keeps low (omega arith)) (λ all within. all.0 within)
+      stat_room (IfElse line arms block) hidden named loops closing t j pc reach known few holds level keeps low =
           let k = j + made_in_arms arms in
           let place = pc + arms_size cs back arms (block_size cs back block closing t t k) closing t j in
-          let h = block_room block closing t t k place reach known.1 few few keeps.1 low in
-          room_as (arms_room arms (block_code cs back block closing t t k place reach) closing t j pc line reach known.0 few holds keeps.0 low h.below)
+          let h = block_room block hidden named loops closing t t k place reach known.1 few few keeps.1 low in
+          room_as (arms_room arms hidden named loops (block_code cs back block closing t t k place reach) closing t j pc line reach known.0 few holds keeps.0 low h.below)
           (λ all within. (all.0 within, h.gives all.1 within))
-      stat_room (NumFor line name from limit block) closing t j pc reach known few holds level keeps low =
+      stat_room (NumFor line name from limit block) hidden named loops closing t j pc reach known few holds level keeps low =
           let start = bounds_code cs from limit t j line in
           let k = j + made_by from + made_by limit in
           let after = in_loop reach (pc + stat_size cs back (NumFor line name from limit block) closing t j) t in
           room_as
-          (counting_room start (block_code cs back block closing (t + 3) (t + 4) k (pc + length start + 1) after) t line (omega (arith, keeps.0))
-          (bounds_room from limit t j line known.0 known.1.0 (omega (arith, holds)) (omega (arith, holds)) keeps.0)
-          (block_room block closing (t + 3) (t + 4) k (pc + length start + 1) after known.1.1 (omega (arith, keeps.0)) keeps.0 keeps.1 (loop_low reach _ t few low)))
+          (counting_room start (block_code cs back block closing (t + 3) (t + 4) k (pc + length start + 1) after) t line (omega (arith, keeps.1.1.0))
+          (bounds_room hidden ups from limit t j line known.0 known.1.0 (omega (arith, holds)) (omega (arith, holds)) keeps.1.1.0)
+          (block_room block (three_hidden t hidden) named true closing (t + 3) (t + 4) k (pc + length start + 1) after known.1.1 (omega (arith, keeps.1.1.0)) keeps.1.1.0 keeps.1.1.1.1 (loop_low reach _ t few low)))
           (λ all within.
           let one = all.0.0 in
           let two = all.0.1 in
           let four = all.1.0 in
           (omega (arith, one, within), (omega (arith, two, four), (four, all.1.1 four))))
-      stat_room (NumForStep line name from limit step block) closing t j pc reach known few holds level keeps low =
+      stat_room (NumForStep line name from limit step block) hidden named loops closing t j pc reach known few holds level keeps low =
           let start = steps_code cs from limit step t j in
           let k = j + made_by from + made_by limit + made_by step in
           let after = in_loop reach (pc + stat_size cs back (NumForStep line name from limit step block) closing t j) t in
           room_as
-          (counting_room start (block_code cs back block closing (t + 3) (t + 4) k (pc + length start + 1) after) t line (omega (arith, keeps.0))
-          (steps_room from limit step t j known.0 known.1.0 known.1.1.0 (omega (arith, holds)) (omega (arith, holds)) (omega (arith, holds)) keeps.0)
-          (block_room block closing (t + 3) (t + 4) k (pc + length start + 1) after known.1.1.1 (omega (arith, keeps.0)) keeps.0 keeps.1 (loop_low reach _ t few low)))
+          (counting_room start (block_code cs back block closing (t + 3) (t + 4) k (pc + length start + 1) after) t line (omega (arith, keeps.1.1.1.0))
+          (steps_room hidden ups from limit step t j known.0 known.1.0 known.1.1.0 (omega (arith, holds)) (omega (arith, holds)) (omega (arith, holds)) keeps.1.1.1.0)
+          (block_room block (three_hidden t hidden) named true closing (t + 3) (t + 4) k (pc + length start + 1) after known.1.1.1 (omega (arith, keeps.1.1.1.0)) keeps.1.1.1.0 keeps.1.1.1.1.1 (loop_low reach _ t few low)))
           (λ all within.
           let one = all.0.0.0 in
           let two = all.0.0.1 in
           let three = all.0.1 in
           let four = all.1.0 in
           (omega (arith, one, within), (omega (arith, two, four), (omega (arith, three, four), (four, all.1.1 four)))))
-      stat_room (GenFor line names es block) closing t j pc reach known few holds level keeps low =
+      stat_room (GenFor line names es block) hidden named loops closing t j pc reach known few holds level keeps low =
           let n = length names in
           let start = exps_code cs es (Some 4) t j line in
           let after = in_loop reach (pc + stat_size cs back (GenFor line names es block) closing t j) t in
           room_as
-          (iterating_room start (block_code cs back block true (t + 4) (t + 4 + n) (j + made_in es) (pc + length start + 1) after) t n line (omega (arith, keeps.0)) (omega (arith, holds))
-          (exps_room cs stack es (Some 4) t t j line known.0 (omega arith) (lit≤ tt) (omega (arith, holds)) (omega (arith, few)))
-          (block_room block true (t + 4) (t + 4 + n) (j + made_in es) (pc + length start + 1) after known.1 (omega (arith, keeps.0)) keeps.0 keeps.1 (loop_low reach _ t few low)))
+          (iterating_room start (block_code cs back block true (t + 4) (t + 4 + n) (j + made_in es) (pc + length start + 1) after) t n line (omega (arith, keeps.1.0)) (omega (arith, holds))
+          (exps_room cs hidden ups stack es (Some 4) t t j line known.0 (omega arith) (lit≤ tt) (omega (arith, holds)) (omega (arith, few)))
+          (block_room block (four_hidden t hidden) named true true (t + 4) (t + 4 + n) (j + made_in es) (pc + length start + 1) after known.1 (omega (arith, keeps.1.0)) keeps.1.0 keeps.1.1.1 (loop_low reach _ t few low)))
           (λ all within.
           let one = all.0 in
           (omega (arith, one, within), (all.1.0, (all.1.1.0, all.1.1.1 all.1.1.0))))
-      stat_room (Label line name) closing t j pc reach known few holds level keeps low = room_as room_end (λ h within. tt)
-      stat_room (Goto line name) closing t j pc reach known few holds level keeps low =
+      stat_room (Label line name) hidden named loops closing t j pc reach known few holds level keeps low = room_as room_end (λ h within. tt)
+      stat_room (Goto line name) hidden named loops closing t j pc reach known few holds level keeps low =
           room_as (room_of_top (leads (label_in name.text reach.labels) pc line) (leads_top (label_in name.text reach.labels) pc line (label_low name.text reach.labels low.labels))) (λ h within. tt)
-      stat_room (Break line) closing t j pc reach known few holds level keeps low = room_as (room_of_top (leads reach.exit pc line) (leads_top reach.exit pc line low.exit)) (λ h within. tt)
+      stat_room (Break line) hidden named loops closing t j pc reach known few holds level keeps low = room_as (room_of_top (leads reach.exit pc line) (leads_top reach.exit pc line low.exit)) (λ h within. tt)
 
       arms_room : (arms : Arms) → ArmsRoom arms
-      arms_room EndArms otherwise closing t j pc line reach known few holds keeps low h = room_as (room_of_top otherwise h) (λ p. ((λ within. tt), p))
-      arms_room (MoreArms e block arms) otherwise closing t j pc line reach known few holds keeps low h =
+      arms_room EndArms hidden named loops otherwise closing t j pc line reach known few holds keeps low h = room_as (room_of_top otherwise h) (λ p. ((λ within. tt), p))
+      arms_room (MoreArms e block arms) hidden named loops otherwise closing t j pc line reach known few holds keeps low h =
           let test = exp_code cs e t j 2 in
           let k = j + made_by e + made_in_block block in
           let inner = pc + length test + 2 in
           let behind = inner + block_size cs back block closing t t (j + made_by e) + past_size (arms_size cs back arms (length otherwise) closing t k + length otherwise) in
           room_as
           (arm_room test (block_code cs back block closing t t (j + made_by e) inner reach) (arms_code cs back arms otherwise closing t k behind line reach) t line (omega (arith, few))
-          (exp_room cs stack e t t j 2 known.0 (omega arith) (omega (arith, holds)) (omega (arith, few)) (lit≤ tt))
-          (block_room block closing t t (j + made_by e) inner reach known.1.0 few few keeps.0 low)
-          (arms_room arms otherwise closing t k behind line reach known.1.1 few (omega (arith, holds)) keeps.1 low h))
+          (exp_room cs hidden ups stack e t t j 2 known.0 (omega arith) (omega (arith, holds)) (omega (arith, few)) (lit≤ tt))
+          (block_room block hidden named loops closing t t (j + made_by e) inner reach known.1.0 few few keeps.1.0 low)
+          (arms_room arms hidden named loops otherwise closing t k behind line reach known.1.1 few (omega (arith, holds)) keeps.1.1 low h))
           (λ all. ((λ within. let room = all.0 in (omega (arith, room, within), (all.1.0 within, all.1.1.0 within))), all.1.1.1))
 
       stats_room : (ss : Stats) → StatsRoom ss
-      stats_room EndStats falls closing outer t j pc passed reach known out few keeps passing low = room_as room_end (λ h within. within)
-      stats_room (MoreStats s ss) falls closing outer t j pc passed reach known out few keeps passing low =
+      stats_room EndStats hidden names named loops falls closing outer t j pc passed reach known out few keeps passing low = room_as room_end (λ h within. within)
+      stats_room (MoreStats s ss) hidden names named loops falls closing outer t j pc passed reach known out few keeps passing low =
+          let around = names_ahead ss falls t (level_after s t) ++ (names ++ named) in
+          let level = level_low s vararg t around loops few keeps.1.0 in
           let k = j + made_by_stat s in
           let place = pc + stat_size cs back s closing t j in
           let ahead = labels_ahead cs back ss falls (closing_after s closing) outer (level_after s t) k place in
           let labels = ahead ++ (passed ++ reach.labels) in
-          let all_low = labels_append ahead (passed ++ reach.labels) (ahead_low cs back ss falls (closing_after s closing) outer (level_after s t) k place out keeps.1.0 keeps.1.1.1) (labels_append passed reach.labels passing low.labels) in
+          let all_low = labels_append ahead (passed ++ reach.labels) (ahead_low cs back ss falls (closing_after s closing) outer (level_after s t) k place vararg (names_passed s names) named loops out level keeps.1.1) (labels_append passed reach.labels passing low.labels) in
           room_as
           (room_append (stat_code cs back s closing t j pc (record { labels = labels; exit = reach.exit }))
           (stats_code cs back ss falls (closing_after s closing) outer (level_after s t) k place (passed_after s t pc passed) reach)
-          (stat_room s closing t j pc (record { labels = labels; exit = reach.exit }) known.0 few keeps.0 keeps.1.0 keeps.1.1.0 (record { labels = all_low; exit = low.exit }))
-          (stats_room ss falls (closing_after s closing) outer (level_after s t) k place (passed_after s t pc passed) reach known.1 out keeps.1.0 keeps.1.1.1 (passed_low s t pc passed few passing) low))
+          (stat_room s hidden around loops closing t j pc (record { labels = labels; exit = reach.exit }) known.0 few keeps.0 level keeps.1.0 (record { labels = all_low; exit = low.exit }))
+          (stats_room ss hidden (names_passed s names) named loops falls (closing_after s closing) outer (level_after s t) k place (passed_after s t pc passed) reach known.1 out level keeps.1.1 (passed_low s t pc passed few passing) low))
           (λ all within. let mine = all.0 within in (within, (mine, all.1 (level_room s t within mine))))
 
       block_room : (b : Block) → BlockRoom b
-      block_room (Falls ss tokens line) closing outer t j pc reach known out few keeps low =
+      block_room (Falls ss tokens line) hidden named loops closing outer t j pc reach known out few keeps low =
           room_as
           (room_append (stats_code cs back ss true closing outer t j pc [] reach) (close_code outer (levels_after ss t) line)
-          (stats_room ss true closing outer t j pc [] reach known out few keeps tt low)
+          (stats_room ss hidden [] named loops true closing outer t j pc [] reach known out few keeps tt low)
           (room_of_top (close_code outer (levels_after ss t) line) (close_top outer (levels_after ss t) line out)))
           (λ all within. all.0 within)
-      block_room (Returns ss es tokens line) closing outer t j pc reach known out few keeps low =
-          returned (stats_code cs back ss false closing outer t j pc [] reach) ss (closings_after ss closing) es t (j + made_in_stats ss) line known.1 keeps.1
-          (stats_room ss false closing outer t j pc [] reach known.0 out few keeps.0 tt low)
+      block_room (Returns ss es tokens line) hidden named loops closing outer t j pc reach known out few keeps low =
+          returned hidden (stats_code cs back ss false closing outer t j pc [] reach) ss (closings_after ss closing) es t (j + made_in_stats ss) line known.1 keeps.1.0
+          (stats_room ss hidden [] named loops false closing outer t j pc [] reach known.0 out few keeps.0 tt low)
 
       open_room : (b : Block) → OpenRoom b
-      open_room (Falls ss tokens line) closing t j pc reach known few keeps low = stats_room ss false closing t t j pc [] reach known few few keeps tt low
-      open_room (Returns ss es tokens line) closing t j pc reach known few keeps low =
-          returned (stats_code cs back ss false closing t t j pc [] reach) ss (closings_after ss closing) es t (j + made_in_stats ss) line known.1 keeps.1
-          (stats_room ss false closing t t j pc [] reach known.0 few few keeps.0 tt low)
+      open_room (Falls ss tokens line) hidden named loops closing t j pc reach known few keeps low = stats_room ss hidden [] named loops false closing t t j pc [] reach known few few keeps tt low
+      open_room (Returns ss es tokens line) hidden named loops closing t j pc reach known few keeps low =
+          returned hidden (stats_code cs back ss false closing t t j pc [] reach) ss (closings_after ss closing) es t (j + made_in_stats ss) line known.1 keeps.1.0
+          (stats_room ss hidden [] named loops false closing t t j pc [] reach known.0 few few keeps.0 tt low)
 
     -- the block of a function
 
     start_low : ReachLow (record { labels = []; exit = None })
     start_low = record { labels = tt; exit = tt }
 
-    pub whole_room : (b : Block) (params pc : ℕ) → BlockInScope b params → params ≤ 200 → BlockKeepsLimits b params → HasRoom stack (whole_code cs back b params pc) (params ≤ stack → BlockHasRoom cs stack b params)
+    pub whole_room : (b : Block) (params pc : ℕ) → BlockFinds b [] params ups → params ≤ 200 → BlockKeeps b true vararg params [] false → HasRoom stack (whole_code cs back b params pc) (params ≤ stack → BlockHasRoom cs stack b params)
     whole_room (Falls ss tokens line) params pc known few keeps =
-        let level = levels_low ss params few keeps in
+        let level = levels_low ss true vararg params [] [] false few keeps in
         let last = one_return (levels_after ss params) 1 back (omega (arith, level)) (lit< tt) in
         room_as
         (room_append (stats_code cs back ss true false 0 params 0 pc [] (record { labels = []; exit = None })) (with_abc Return (levels_after ss params) 1 back line ∷ [])
-        (stats_room ss true false 0 params 0 pc [] (record { labels = []; exit = None }) known (lit≤ tt) few keeps tt start_low)
+        (stats_room ss [] [] [] false true false 0 params 0 pc [] (record { labels = []; exit = None }) known (lit≤ tt) few keeps tt start_low)
         (room_of_top (with_abc Return (levels_after ss params) 1 back line ∷ []) (omega (arith, last, level))))
         (λ all within. all.0 within)
     whole_room (Returns ss es tokens line) params pc known few keeps =
-        block_room (Returns ss es tokens line) false 0 params 0 pc (record { labels = []; exit = None }) known (lit≤ tt) few keeps start_low
+        block_room (Returns ss es tokens line) [] [] false false 0 params 0 pc (record { labels = []; exit = None }) known (lit≤ tt) few keeps start_low

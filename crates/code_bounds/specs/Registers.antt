@@ -10,8 +10,8 @@ use Rattle.code_of.specs.Expressions.{count}
 use Rattle.tree_terms.specs.Levels.{level_after, levels_after, levels_in}
 use Rattle.code_of.specs.CodeOf.{named_by, code_of}
 use Rattle.code_of.specs.Rooms.{room_of, room_of_list}
-use Rattle.code_bounds.specs.InScope.{BodyInScope}
-use Rattle.code_bounds.specs.Limits.{BodyKeepsLimits}
+use Rattle.scope_laws.specs.Finding.{BodyFinds}
+use Rattle.scope_laws.specs.Keeping.{BodyKeeps}
 
 module _ (constants : List Const) (stack : ℕ) where
   -- targets whose tables and keys go to the registers from r on
@@ -67,10 +67,10 @@ module _ (constants : List Const) (stack : ℕ) where
 abbrev pub BodyHasRoom : Prototype → Body → Type 0
 BodyHasRoom p (BodyOf params vararg inner ups line) = BlockHasRoom p.own.constants p.own.stack inner (length params)
 
--- a body that keeps the limits has code with registers enough, and their numbers have 8 bits
+-- a body whose names are in scope and that keeps the limits has code with registers enough, and their numbers have 8 bits
 abbrev pub RegistersAreEnough : Type 0
 RegistersAreEnough =
-    (source : Option (List ℕ)) (body : Body) → BodyInScope body → BodyKeepsLimits body →
+    (source : Option (List ℕ)) (body : Body) → BodyFinds body → BodyKeeps body →
     ((code_of source body).own.stack ≤ 250) × BodyHasRoom (code_of source body) body
 
 -- every register that an instruction names is there

@@ -37,8 +37,8 @@ pub fn registers_are_counted()
     ensures { RegistersAreCounted }
 {}
 
-/// A body that keeps the limits on locals and held values has code with at most 250 registers, and
-/// these are all that its statements need.
+/// A body whose names are in scope and that keeps the static rules, among them the limits on locals and
+/// held values, has code with at most 250 registers, and these are all that its statements need.
 pub fn registers_are_enough()
     ensures { RegistersAreEnough }
 {}

@@ -24,7 +24,6 @@ use Rattle.code_bounds.proofs.ShortBodies.{body_short}
 use Rattle.grammar_laws.specs.Formed.{BlockIsFormed}
 use Rattle.grammar_laws.specs.Counted.{BlockIsCounted}
 use Rattle.source_laws.proofs.Around.{Around, constants_of, functions_of, stack_of}
-use Rattle.source_laws.proofs.Limited.{body_known, body_limited}
 use Rattle.source_laws.proofs.Statements.{stats_placed, return_placed}
 
 -- the locals before the first statement and behind the last one have registers
@@ -59,7 +58,7 @@ pub alone :
 alone source params vararg inner ups line k f o c w b =
     let body = BodyOf params vararg inner ups line in
     let p = code_of source body in
-    let room = enough source body (body_known body f) (body_limited body k) in
+    let room = enough source body f k in
     let stack = room.0 in
     let small : p.own.stack < 2 ^ 8 = omega (arith, stack) in
     let words = length-map (body_code body) (λ x. x.0) in

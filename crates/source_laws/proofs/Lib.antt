@@ -1,5 +1,4 @@
 mod Around
-mod Limited
 mod Expressions
 mod Statements
 mod Alone
