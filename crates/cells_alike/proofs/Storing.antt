@@ -8,12 +8,10 @@ use Rattle.tree_activation.specs.Work.{State}
 use Rattle.lua_meaning.specs.World.{shared_in}
 use Rattle.meaning_cells.specs.Alike.{Has, Member, Pairs, IsUnpaired, Cells, AreCells, AreEven, CarriesOwn, opened}
 use Rattle.meaning_cells.proofs.Relation.{Rel, same, early}
-use Rattle.list_laws.proofs.Values.{nth_set_same, nth_set_other}
-use Rattle.meaning_cells.proofs.Lists.{set_size, nth_more, in_size, in_other}
+use Rattle.list_laws.proofs.Values.{nth_set_same, nth_set_other, nth_old}
+use Rattle.meaning_cells.proofs.Lists.{set_size, in_size, in_other}
 use Rattle.cells_alike.proofs.Joint.{Made, Waiting, Layer, is_talking, is_waiting, is_raising, is_protected, is_handled, is_handling, is_closing, Thread, Place, Store, cells_for, OwnedAt, IsStore, WaitsAt, LayerAt, LayersAt, layers_in, ArePaired, head, Base}
-
-some_same : {A : Type 0} → (x y : A) → Some x ≡ Some y → x ≡ y
-some_same x y e = ap (λ o. unwrap_or o x) e
+use Rattle.list_laws.proofs.Items.{some_same}
 
 -- cells of owners in P that have no partner stay so, and keep their values
 pub record Passes (S T : Store) (P : Place → Type 0) : Type 0 where
@@ -206,7 +204,7 @@ opened_keeps S p o own shared v c s owned carries at other =
     let l = slice_get_within S.owners c o at in
     let n = s.count in
     let size = in_size shared S.cells in
-    nth_more (shared_in shared S.cells) (v ∷ []) c (omega (arith, l, n, size)) ∙ in_other shared S.cells c (not_carried S p o own shared c owned carries at other)
+    nth_old (shared_in shared S.cells) (v ∷ []) c (omega (arith, l, n, size)) ∙ in_other shared S.cells c (not_carried S p o own shared c owned carries at other)
 
 opened_count : (S : Store) (p : Place) (shared : List (ℕ × Value)) (v : Value) → IsStore S → length (S.owners ++ p ∷ []) ≡ length (opened shared v S.cells)
 opened_count S p shared v s =

@@ -1,7 +1,7 @@
 -- Constants that are collected stay at their numbers, whatever is collected later.
 use Rattle.std.proofs.Common.{◌≡◌, ℕ, ◌≤◌, ◌^◌, suc, Bool, true, false, cond, ℤ, pos, negsuc, List, [], ◌∷◌, length, Some, slice_get, refl, sym, ap, subst, arith}
 use Rattle.std.proofs.lemmas.Slice.Eq.{bytes_eq-Decides}
-use Rattle.std.proofs.lemmas.Bool.{eq-eqb, eqb-true}
+use Rattle.std.proofs.lemmas.Bool.{eqb-true}
 use Rattle.std.proofs.lemmas.Option.{slice_get_within}
 use Rattle.int_core.specs.Value.{same_integer}
 use Rattle.tree_core.specs.declared.name.Place.{Place}
@@ -11,6 +11,7 @@ use Rattle.code_core.specs.declared.proto.Const.{Const}
 use Rattle.code_core.specs.declared.proto.Const.TheVariants.{Int as IntConst, Str as StrConst}
 use Rattle.code_of.specs.Constants.{same_constant, number_in, with_constant, is_small, of_name, of_exp, of_exps, of_fields, of_field, of_stat, of_arms, of_stats, of_block, Found}
 use Rattle.code_bounds.specs.Constants.{Has, NameHas, ExpHas, ExpsHave, FieldsHave, FieldHas, StatHas, ArmsHave, StatsHave, BlockHas, ConstantsAreNumbered}
+use Rattle.code_of.proofs.Constants.{same_int, same_text}
 
 -- the test of constants is equality
 
@@ -20,22 +21,12 @@ same_integer_is (negsuc m) (negsuc n) h = ap negsuc (eqb-true m n h)
 same_integer_is (pos m) (negsuc n) h = absurd (cc)
 same_integer_is (negsuc m) (pos n) h = absurd (cc)
 
-same_integer_self : (m : ℤ) → same_integer m m ≡ true
-same_integer_self (pos m) = eq-eqb m m refl
-same_integer_self (negsuc m) = eq-eqb m m refl
-
 same_is : (c x : Const) → same_constant c x ≡ true → c ≡ x
 same_is (IntConst m) (IntConst n) h = ap IntConst (same_integer_is m n h)
 same_is (StrConst s) (StrConst t) h = ap StrConst ((bytes_eq-Decides s t).0 h)
 same_is _ _ h = absurd (cc)
 
 -- of the kinds that trees have
-
-same_int : (z : ℤ) → same_constant (IntConst z) (IntConst z) ≡ true
-same_int z = same_integer_self z
-
-same_text : (s : List ℕ) → same_constant (StrConst s) (StrConst s) ≡ true
-same_text s = (bytes_eq-Decides s s).1 refl
 
 -- a constant in a list with another one in front
 

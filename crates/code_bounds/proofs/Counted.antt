@@ -1,5 +1,5 @@
 -- A frame has each register that an instruction names.
-use Rattle.std.proofs.Common.{◌≡◌, ℕ, zero, suc, ◌+◌, ◌≤◌, max, Bool, true, false, ◌&&◌, List, [], ◌∷◌, length, Some, nat_lt, slice_get, refl, ap, arith}
+use Rattle.std.proofs.Common.{◌≡◌, ℕ, zero, suc, ◌+◌, ◌≤◌, max, true, List, [], ◌∷◌, length, Some, nat_lt, slice_get, refl, ap, arith}
 use Rattle.std.specs.List.{list_all}
 use Rattle.std.proofs.lemmas.Bool.{lt-ltb}
 use Rattle.tree_core.specs.Tree.{BodyOf}
@@ -8,16 +8,13 @@ use Rattle.code_of.specs.Coded.{words}
 use Rattle.code_of.specs.CodeOf.{body_code, named_by, room_for, room}
 use Rattle.code_bounds.specs.Registers.{RegistersAreCounted}
 use Rattle.code_bounds.proofs.Tops.{one, room_for_max, room_max}
-
-both_hold : (a b : Bool) → a ≡ true → b ≡ true → (a && b) ≡ true
-both_hold true b h k = k
-both_hold false b h k = absurd (cc)
+use Rattle.list_laws.proofs.Tests.{both_true}
 
 all_below : (rs : List ℕ) (n m : ℕ) → room_for rs n ≤ m → list_all (λ r. nat_lt r m) rs ≡ true
 all_below [] n m h = refl
 all_below (r ∷ rs) n m h =
     let most = room_for_max rs (max n (r + 1)) in
-    both_hold (nat_lt r m) (list_all (λ r. nat_lt r m) rs) (lt-ltb r m (omega (arith, most, h))) (all_below rs (max n (r + 1)) m h)
+    both_true (nat_lt r m) (list_all (λ r. nat_lt r m) rs) (lt-ltb r m (omega (arith, most, h))) (all_below rs (max n (r + 1)) m h)
 
 place_below : (ws : List Instruction) (n m pc : ℕ) (w : Instruction) → slice_get ws pc ≡ Some w → room ws n ≤ m → one w ≤ m
 place_below [] n m pc w h small = absurd (cc)

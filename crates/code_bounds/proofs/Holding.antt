@@ -16,7 +16,7 @@ pub same_count : (es : Exps) → held_specs.count es ≡ count es
 same_count EndExps = refl
 same_count (MoreExps e es) = let rest = same_count es in omega (arith, rest)
 
-some_name : (p : Place) → 1 ≤ held_name p
+pub some_name : (p : Place) → 1 ≤ held_name p
 some_name Unset = omega arith
 some_name (LocalPlace n) = omega arith
 some_name (Upvalue u) = omega arith

@@ -1,6 +1,6 @@
 -- Jumps close the locals behind the level that they lead to; all levels are those of a block around.
 use Rattle.std.proofs.Common.{◌≡◌, ℕ, ◌+◌, ◌-◌, ◌≤◌, Bool, true, false, cond, ◌&&◌, List, [], ◌∷◌, ◌++◌, Option, Some, None, nat_le, bytes_eq, refl, arith}
-use Rattle.tree_core.specs.Tree.{Stats, EndStats, MoreStats, Stat, Local, LocalFunction, Label}
+use Rattle.tree_core.specs.Tree.{Stats, EndStats, MoreStats, Stat, Label}
 use Rattle.code_core.specs.declared.opcode.Opcode.TheVariants.{Close, Jmp}
 use Rattle.code_core.specs.declared.proto.Const.{Const}
 use Rattle.code_of.specs.Coded.{with_abc, jump_over, jump_back}
@@ -10,8 +10,9 @@ use Rattle.tree_terms.specs.Levels.{level_after}
 use Rattle.code_of.specs.Sizes.{stat_size}
 use Rattle.code_of.specs.Statements.{passed_after, labels_ahead}
 use Rattle.tree_terms.specs.Labels.{are_void, Named, names_ahead, names_passed}
-use Rattle.scope_laws.specs.Keeping.{StatKeeps, StatsKeep}
+use Rattle.scope_laws.specs.Keeping.{StatsKeep}
 use Rattle.code_bounds.proofs.Tops.{top, top_more, ax_is, one_a}
+use Rattle.scope_laws.proofs.Rules.{few_after}
 
 abbrev pub LandsLow : Option Landing → Type 0
 LandsLow None = Unit {0}
@@ -61,17 +62,11 @@ either_level : (b : Bool) (m n : ℕ) → m ≤ 200 → n ≤ 200 → cond b m n
 either_level true m n h k = h
 either_level false m n h k = k
 
--- a statement that keeps the limit on locals has no more of them after it
-pub level_low : (s : Stat) (vararg : Bool) (t : ℕ) (named : List Named) (loops : Bool) → t ≤ 200 → StatKeeps s vararg t named loops → level_after s t ≤ 200
-level_low (Local line names es) vararg t named loops few k = k.1
-level_low (LocalFunction line name body) vararg t named loops few k = k.1
-level_low _ vararg t named loops few k = few
-
 module _ (cs : List Const) (back : ℕ) where
   pub ahead_low : (ss : Stats) (falls closing : Bool) (outer t j pc : ℕ) (vararg : Bool) (names named : List Named) (loops : Bool) → outer ≤ 200 → t ≤ 200 → StatsKeep ss falls vararg t names named loops → LabelsLow (labels_ahead cs back ss falls closing outer t j pc)
   ahead_low EndStats falls closing outer t j pc vararg names named loops a b h = tt
   ahead_low (MoreStats (Label line name) ss) falls closing outer t j pc vararg names named loops a b h =
       (either_level (falls && are_void ss) outer t a b, ahead_low ss falls closing outer t j pc vararg (names_passed (Label line name) names) named loops a b h.1.1)
   ahead_low (MoreStats s ss) falls closing outer t j pc vararg names named loops a b h =
-      let level = level_low s vararg t (names_ahead ss falls t (level_after s t) ++ (names ++ named)) loops b h.1.0 in
+      let level = few_after s vararg t (names_ahead ss falls t (level_after s t) ++ (names ++ named)) loops b h.1.0 in
       ahead_low ss falls (closing_after s closing) outer (level_after s t) (j + made_by_stat s) (pc + stat_size cs back s closing t j) vararg (names_passed s names) named loops a level h.1.1

@@ -7,7 +7,7 @@ pub mod Functions
 mod Tops
 mod Pieces
 mod Expressions
-mod Holding
+pub mod Holding
 mod Room
 mod Simple
 mod Assigning

@@ -1,12 +1,11 @@
 -- The code of statements and of blocks is short.
 use Rattle.std.proofs.Common.{ℕ, zero, suc, ◌+◌, ◌*◌, ◌≤◌, Bool, true, false, cond, List, [], ◌∷◌, ◌++◌, length, Some, None, arith, length-append}
-use Rattle.std.specs.Prelude.{nat_eq}
 use Rattle.tree_core.specs.declared.name.Declared.{Declared}
 use Rattle.tree_core.specs.declared.name.Place.{Place}
 use Rattle.tree_core.specs.declared.name.Place.TheVariants.{Unset, Upvalue, GlobalIn, GlobalOf, Local as LocalPlace}
 use Rattle.tree_core.specs.Tree.{Block, Falls, Returns, Stats, EndStats, MoreStats, Stat, Empty, Local, LocalFunction, Assign, CallStat, Do, While, Repeat, If, IfElse, NumFor, NumForStep, GenFor, Label, Goto, Break, Arms, EndArms, MoreArms, Exp, Var, Index, Call, Method, Exps, EndExps, MoreExps}
 use Rattle.tree_activation.specs.Statements.{is_closed}
-use Rattle.code_core.specs.declared.opcode.Opcode.TheVariants.{Close, Tbc, OpSelf, TailCall, Return}
+use Rattle.code_core.specs.declared.opcode.Opcode.TheVariants.{Tbc, OpSelf, TailCall, Return}
 use Rattle.code_core.specs.declared.proto.Const.{Const}
 use Rattle.code_core.specs.declared.proto.Const.TheVariants.{Str as StrConst}
 use Rattle.code_of.specs.Coded.{with_abc}
@@ -14,10 +13,11 @@ use Rattle.code_of.specs.Constants.{loads}
 use Rattle.code_of.specs.Expressions.{made_by, made_in, count, list_field, exp_code, exps_code}
 use Rattle.code_of.specs.Levels.{made_by_stat, made_in_arms, made_in_stats, made_in_block, closing_after, closings_after}
 use Rattle.tree_terms.specs.Levels.{level_after, levels_after, levels_in}
-use Rattle.code_of.specs.Parts.{marks_code, close_code, past_size, default_step, name_target, target_code, targets_code, name_store, store_code, stores_code, assign_code, call_last, method_last, values_last, return_code, pair_code, bounds_code, steps_code}
+use Rattle.code_of.specs.Parts.{marks_code, past_size, default_step, name_target, target_code, targets_code, name_store, store_code, stores_code, assign_code, call_last, method_last, values_last, return_code, pair_code, bounds_code, steps_code}
 use Rattle.code_of.specs.Sizes.{stat_size, arms_size, stats_size, block_size, open_size}
 use Rattle.tree_terms.specs.Weight.{weight, weight_of_arguments, weight_of_exps, weight_of_stat, weight_of_arms, weight_of_stats, weight_of_block}
 use Rattle.code_bounds.proofs.ShortExpressions.{loads_short, exp_short, arguments_short, exps_short}
+use Rattle.code_of.proofs.Sizes.{close_short}
 
 marks_short : (names : List Declared) (t : ℕ) → length (marks_code names t) ≤ length names
 marks_short [] t = omega arith
@@ -26,13 +26,6 @@ marks_short (d ∷ names) t = by (marks_short names (t + 1)) (is_closed d.attrib
     by : length (marks_code names (t + 1)) ≤ length names → (b : Bool) → length (cond b (with_abc Tbc t 0 0 d.name.line ∷ marks_code names (t + 1)) (marks_code names (t + 1))) ≤ length (d ∷ names)
     by rest true = omega (arith, rest)
     by rest false = omega (arith, rest)
-
-close_short : (before after line : ℕ) → length (close_code before after line) ≤ 1
-close_short before after line = by (nat_eq before after)
-  where
-    by : (b : Bool) → length (cond b [] (with_abc Close before 0 0 line ∷ [])) ≤ 1
-    by true = omega arith
-    by false = omega arith
 
 past_short : (rest : ℕ) → past_size rest ≤ 1
 past_short zero = omega arith

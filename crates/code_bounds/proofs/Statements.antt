@@ -27,7 +27,8 @@ use Rattle.code_bounds.proofs.Holding.{same_count, some_held}
 use Rattle.code_bounds.proofs.Room.{HasRoom, room_end, room_as, room_append, room_more, room_of_top}
 use Rattle.code_bounds.proofs.Simple.{marks_top, close_top, exp_room, exps_room, filled, return_room}
 use Rattle.code_bounds.proofs.Assigning.{assign_room}
-use Rattle.code_bounds.proofs.Jumping.{LabelsLow, ReachLow, labels_append, label_low, leads_top, passed_low, ahead_low, level_low}
+use Rattle.code_bounds.proofs.Jumping.{LabelsLow, ReachLow, labels_append, label_low, leads_top, passed_low, ahead_low}
+use Rattle.scope_laws.proofs.Rules.{few_after}
 
 -- the forms of statements that have blocks, where their parts have room
 
@@ -130,7 +131,7 @@ module _ (cs : List Const) (stack : ℕ) where
   pub levels_low : (ss : Stats) (falls vararg : Bool) (t : ℕ) (names named : List Named) (loops : Bool) → t ≤ 200 → StatsKeep ss falls vararg t names named loops → levels_after ss t ≤ 200
   levels_low EndStats falls vararg t names named loops few h = few
   levels_low (MoreStats s ss) falls vararg t names named loops few h =
-      levels_low ss falls vararg (level_after s t) (names_passed s names) named loops (level_low s vararg t (names_ahead ss falls t (level_after s t) ++ (names ++ named)) loops few h.1.0) h.1.1
+      levels_low ss falls vararg (level_after s t) (names_passed s names) named loops (few_after s vararg t (names_ahead ss falls t (level_after s t) ++ (names ++ named)) loops few h.1.0) h.1.1
 
   local_room : (hidden : List ℕ) (ups : ℕ) (names : List Declared) (es : Exps) (t j line : ℕ) → ExpsFind es hidden t ups → t + held_behind 0 es ≤ 250 → t + length names ≤ 200 →
       HasRoom stack (exps_code cs es (Some (length names)) t j line ++ marks_code names t) (t ≤ stack → (t + room_of_list cs 0 es (Some (length names)) ≤ stack) × (t + length names ≤ stack))
@@ -279,7 +280,7 @@ module _ (cs : List Const) (stack : ℕ) where
       stats_room EndStats hidden names named loops falls closing outer t j pc passed reach known out few keeps passing low = room_as room_end (λ h within. within)
       stats_room (MoreStats s ss) hidden names named loops falls closing outer t j pc passed reach known out few keeps passing low =
           let around = names_ahead ss falls t (level_after s t) ++ (names ++ named) in
-          let level = level_low s vararg t around loops few keeps.1.0 in
+          let level = few_after s vararg t around loops few keeps.1.0 in
           let k = j + made_by_stat s in
           let place = pc + stat_size cs back s closing t j in
           let ahead = labels_ahead cs back ss falls (closing_after s closing) outer (level_after s t) k place in

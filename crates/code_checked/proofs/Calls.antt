@@ -11,7 +11,9 @@ use Rattle.code_of.specs.Coded.{with_abc}
 use Rattle.code_of.specs.Expressions.{set_list}
 use Rattle.code_checked.proofs.Pieces.{Seam, closed, listed, returned, Piece}
 use Rattle.code_checked.proofs.Units.{starts_by, leaves_none, begins_none, Takes, Gives, Plain, StillCouple, one, two}
-use Rattle.code_checked.proofs.Words.{abc_fits, ax_fits, k_of-abc, pair, first_new_table, last_extra}
+use Rattle.code_checked.proofs.Words.{abc_fits, ax_fits, pair, first_new_table, last_extra}
+use Rattle.code_of.proofs.Fields.{k_of-abc}
+use Rattle.list_laws.proofs.Tests.{is_zero}
 
 -- a field that says how many values there are, one more than their number, or 0 for an open list
 
@@ -27,9 +29,6 @@ GivesField returned t c = ⊥
 
 not_zero : (n : ℕ) → 0 < n → (n == 0) ≡ false
 not_zero n h = ne_eqb n 0 (λ e. absurd (omega (arith, h, e)))
-
-is_zero : (n : ℕ) → n ≡ 0 → (n == 0) ≡ true
-is_zero n e = ap (λ n. n == 0) e
 
 in_front_of : (a v : Bool) → v ≡ true → not (a && v) ≡ true → (not a && v) ≡ true
 in_front_of true true h k = k

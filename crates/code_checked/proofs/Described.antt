@@ -19,7 +19,8 @@ use Rattle.code_checked.proofs.LocalsFit.{body_locals}
 use Rattle.code_checked.specs.Near.{BlockIsNear, FunctionIsNear}
 use Rattle.code_checked.proofs.Bodies.{function, whole_room}
 use Rattle.code_checked.proofs.Places.{places_hold, code_there, code_fits, length_words}
-use Rattle.code_checked.proofs.LinesBack.{lines_back, lines_are_lines, changes_fit, length_changes, length_far, far_fit}
+use Rattle.code_of.proofs.Lines.{lines_back, lines_are_lines, changes_fit, length_changes, length_far, far_fit}
+use Rattle.list_laws.proofs.Tests.{or_right}
 
 -- all rules but for those on the functions within
 pub record Keeps (source : Option (List ℕ)) (p : Prototype) : Type 0 where
@@ -34,10 +35,6 @@ pub record Keeps (source : Option (List ℕ)) (p : Prototype) : Type 0 where
 pub both_true : {a b : Bool} → a ≡ true → b ≡ true → (a && b) ≡ true
 both_true {a} {b} h e = ap₂ (λ a b. a && b) h e
 
-either : (a b : Bool) → b ≡ true → (a || b) ≡ true
-either true b h = refl
-either false b h = h
-
 length_lines : (xs : List Coded) → length (lines xs) ≡ length xs
 length_lines [] = refl
 length_lines (x ∷ xs) = ap suc (length_lines xs)
@@ -49,9 +46,9 @@ same_length f g (x ∷ xs) = ap suc (same_length f g xs)
 -- what is kept where the source has a name, and what is not else
 known_length : {A B : Type 0} (source : Option (List ℕ)) (xs : List A) (ys : List B) → length xs ≡ length ys → none_or_one_per (length (where_known source xs)) (length ys) ≡ true
 known_length None xs ys h = refl
-known_length (Some name) xs ys h = either (length xs == 0) (length xs == length ys) (eq-eqb (length xs) (length ys) h)
+known_length (Some name) xs ys h = or_right (length xs == 0) (length xs == length ys) (eq-eqb (length xs) (length ys) h)
 
-known_below : {A : Type 0} (source : Option (List ℕ)) (xs : List A) (n : ℕ) → length xs < n → length (where_known source xs) < n
+pub known_below : {A : Type 0} (source : Option (List ℕ)) (xs : List A) (n : ℕ) → length xs < n → length (where_known source xs) < n
 known_below None xs n h = omega (arith, h)
 known_below (Some name) xs n h = h
 

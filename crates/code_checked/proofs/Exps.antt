@@ -15,7 +15,8 @@ use Rattle.code_of.specs.Expressions.{made_by, exp_code, either_code, fields_cod
 use Rattle.code_of.specs.CodeOf.{from_exp}
 use Rattle.code_checked.proofs.Pieces.{closed, Land, Piece, both}
 use Rattle.code_checked.proofs.Words.{simple, simple_load_nil, simple_load_true, simple_load_false}
-use Rattle.code_checked.proofs.Found.{Grows, grows_then, is_in, same_strings, same_integers}
+use Rattle.code_checked.proofs.Found.{Grows, grows_then, is_in}
+use Rattle.code_of.proofs.Constants.{same_text, same_int}
 use Rattle.code_checked.proofs.Loads.{Whole, Functions, loads_piece, integer_piece, name_piece}
 use Rattle.code_checked.proofs.Calls.{vararg_piece, table_piece}
 use Rattle.code_checked.proofs.Jumping.{shortly, either_piece}
@@ -57,12 +58,12 @@ module _ (p : Prototype) (W : Whole p) (source : Option (List ℕ)) where
   integer_form : (line : ℕ) (z : ℤ) → AllExp (Int line z)
   integer_form line z H t j c pc size cs rest near le cf g fs =
       let r = near.0 in
-      integer_piece p W z t line (omega (arith, r)) (λ e. is_in (IntConst z) (same_integers z) cs p.own.constants (subst (λ b. Grows (cond b cs (with_constant (IntConst z) cs)) p.own.constants) e g))
+      integer_piece p W z t line (omega (arith, r)) (λ e. is_in (IntConst z) (same_int z) cs p.own.constants (subst (λ b. Grows (cond b cs (with_constant (IntConst z) cs)) p.own.constants) e g))
 
   string_form : (line : ℕ) (bytes : List ℕ) → AllExp (Str line bytes)
   string_form line bytes H t j c pc size cs rest near le cf g fs =
       let r = near.0 in
-      loads_piece p W (StrConst bytes) t line (omega (arith, r)) (is_in (StrConst bytes) (same_strings bytes) cs p.own.constants g)
+      loads_piece p W (StrConst bytes) t line (omega (arith, r)) (is_in (StrConst bytes) (same_text bytes) cs p.own.constants g)
 
   vararg_form : (line : ℕ) → AllExp (Vararg line)
   vararg_form line H t j c pc size cs rest near le cf g fs = let r = near.0 in vararg_piece p (list_at c t) t c line (omega (arith, r)) cf near.1 (gives_at c t)

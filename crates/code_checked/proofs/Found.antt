@@ -1,6 +1,5 @@
 -- The constants of a tree are in the table of its function, each at its number.
-use Rattle.std.proofs.Common.{◌≡◌, ℕ, suc, ◌<◌, Bool, true, false, cond, List, [], ◌∷◌, ◌++◌, ◌&&◌, length, Some, slice_get, bytes_eq, refl, sym, ap, subst, ◌∙◌, arith, append_assoc, eq-eqb}
-use Rattle.std.specs.Prelude.{ℤ, pos, negsuc}
+use Rattle.std.proofs.Common.{◌≡◌, ℕ, suc, ◌<◌, Bool, true, false, cond, List, [], ◌∷◌, ◌++◌, length, Some, slice_get, refl, sym, ap, subst, ◌∙◌, arith, append_assoc}
 use Rattle.code_core.specs.declared.proto.Const.{Const}
 use Rattle.code_core.specs.declared.proto.Const.TheVariants.{Int as IntConst, Str as StrConst}
 use Rattle.code_core.specs.Fields.{name}
@@ -29,14 +28,6 @@ grows_with x (c ∷ cs) = by (same_constant c x) (grows_with x cs)
     by : (b : Bool) → Grows cs (with_constant x cs) → Grows (c ∷ cs) (cond b (c ∷ cs) (c ∷ with_constant x cs))
     by true rest = grows_none (c ∷ cs)
     by false rest = record { others = rest.others; is = ap (λ l. c ∷ l) rest.is }
-
-pub same_integers : (z : ℤ) → same_constant (IntConst z) (IntConst z) ≡ true
-same_integers (pos n) = eq-eqb n n refl
-same_integers (negsuc n) = eq-eqb n n refl
-
-pub same_strings : (s : List ℕ) → same_constant (StrConst s) (StrConst s) ≡ true
-same_strings [] = refl
-same_strings (b ∷ s) = ap (λ t. t && bytes_eq s s) (eq-eqb b b refl) ∙ same_strings s
 
 below_with : (x : Const) → same_constant x x ≡ true → (cs : List Const) → number_in (with_constant x cs) x < length (with_constant x cs)
 below_with x same [] = let e : number_in (x ∷ []) x ≡ 0 = ap (λ b. cond b 0 (suc (number_in [] x))) same in omega (arith, e)

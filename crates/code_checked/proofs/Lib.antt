@@ -18,8 +18,7 @@ mod Stats
 mod Sequences
 mod Bodies
 mod Places
-mod LinesBack
-mod Described
+pub mod Described
 pub mod Keeping
 mod Example
 mod ConstantsFit

@@ -1,6 +1,6 @@
 -- Pieces that name constants, upvalues and inner functions.
-use Rattle.std.proofs.Common.{◌≡◌, ℕ, zero, suc, ◌+◌, ◌<◌, ◌≤◌, ◌^◌, lit<, Bool, true, false, cond, if◌then◌else◌, ◌&&◌, List, [], ◌∷◌, ◌++◌, length, drop, map, Some, None, slice_get, refl, sym, ap, ap₂, subst, ◌∙◌, arith, lt-ltb, ltb-true, leb-true}
-use Rattle.std.specs.Prelude.{nat_lt, ℤ, pos, negsuc}
+use Rattle.std.proofs.Common.{◌≡◌, ℕ, zero, suc, ◌+◌, ◌<◌, ◌≤◌, ◌^◌, lit<, Bool, true, false, cond, if◌then◌else◌, ◌&&◌, List, [], ◌∷◌, ◌++◌, length, drop, map, Some, None, slice_get, refl, sym, ap, ap₂, subst, ◌∙◌, arith, lt-ltb, ltb-true}
+use Rattle.std.specs.Prelude.{nat_lt, ℤ}
 use Rattle.std.specs.List.{list_all}
 use Rattle.code_core.specs.declared.opcode.Opcode.{Opcode}
 use Rattle.code_core.specs.declared.opcode.Opcode.TheVariants.{LoadI, LoadK, LoadKx, GetUpval, SetUpval, GetTabUp, GetTable, SetTable, OpSelf, Closure, ExtraArg, Move}
@@ -14,8 +14,7 @@ use Rattle.code_core.specs.Check.{at, there, is_same, constant_is, upvalue_there
 use Rattle.code_core.proofs.FieldLemmas.{opcode_of-abc, b_of-abc, c_of-abc, opcode_of-abx, a_of-abx, bx_of-abx, opcode_of-ax, ax_of-ax}
 use Rattle.tree_core.specs.declared.name.UpName.{UpName}
 use Rattle.tree_core.specs.declared.name.Place.{Place}
-use Rattle.tree_core.specs.declared.name.Place.TheVariants.{Unset, Upvalue, GlobalIn, GlobalOf}
-use Rattle.tree_core.specs.declared.name.Place.TheVariants.{Local as LocalPlace}
+use Rattle.tree_core.specs.declared.name.Place.TheVariants.{Unset, Upvalue, GlobalIn, GlobalOf, Local as LocalPlace}
 use Rattle.code_of.specs.Coded.{with_abc, with_abx}
 use Rattle.code_of.specs.Constants.{is_small, small_field, number_in, loads, loads_integer, of_name}
 use Rattle.code_of.specs.Operators.{global_code, name_code}
@@ -23,8 +22,10 @@ use Rattle.code_of.specs.CodeOf.{back_field, upvalue}
 use Rattle.code_checked.specs.Near.{IsRegister, NameIsNear, AreCaptured}
 use Rattle.code_checked.proofs.Pieces.{closed, Piece, both, nothing}
 use Rattle.code_checked.proofs.Units.{Plain, StillCouple, one, two, extra_of}
-use Rattle.code_checked.proofs.Words.{abc_fits, abx_fits, ax_fits, k_of-abc, simple, simple_wide, simple_move, simple_load_i, simple_get_table}
-use Rattle.code_checked.proofs.Found.{Grows, IsIn, is_in, is_name, same_strings}
+use Rattle.code_checked.proofs.Words.{abc_fits, abx_fits, ax_fits, simple, simple_wide, simple_move, simple_load_i, simple_get_table}
+use Rattle.code_of.proofs.Fields.{k_of-abc, field_fits}
+use Rattle.code_checked.proofs.Found.{Grows, IsIn, is_in, is_name}
+use Rattle.code_of.proofs.Constants.{same_text}
 
 -- what holds of a function as a whole
 pub record Whole (p : Prototype) : Type 0 where
@@ -37,10 +38,6 @@ pub record Whole (p : Prototype) : Type 0 where
 
 one_of : (b : Bool) → b ≡ true → (b && true) ≡ true
 one_of b h = ap (λ b. b && true) h
-
-field_fits : (z : ℤ) → is_small z ≡ true → small_field z < 2 ^ 17
-field_fits (pos n) e = let h = leb-true n 65536 e in omega (arith, h)
-field_fits (negsuc n) e = omega arith
 
 -- the functions from number j on
 abbrev pub Functions : Prototype → ℕ → Prototypes → Type 0
@@ -287,9 +284,9 @@ module _ (p : Prototype) where
     name_piece (LocalPlace n) text t line cs r h g = simple p Move (simple_move p) t n 0 line (omega (arith, r)) h (lit< tt)
     name_piece (Upvalue u) text t line cs r h g = upvalue_piece t u line (omega (arith, r)) h
     name_piece (GlobalIn n) text t line cs r h g =
-        both p (loads_piece (StrConst text) t line (omega (arith, r)) (is_in (StrConst text) (same_strings text) cs p.own.constants g))
+        both p (loads_piece (StrConst text) t line (omega (arith, r)) (is_in (StrConst text) (same_text text) cs p.own.constants g))
         (simple p GetTable (simple_get_table p) t n t line (omega (arith, r)) h (omega (arith, r)))
-    name_piece (GlobalOf u) text t line cs r h g = global_piece u t line text r h (is_in (StrConst text) (same_strings text) cs p.own.constants g)
+    name_piece (GlobalOf u) text t line cs r h g = global_piece u t line text r h (is_in (StrConst text) (same_text text) cs p.own.constants g)
 
     -- a closure of the function of number j, in a register above what it captures
 

@@ -20,7 +20,8 @@ use Rattle.code_of.specs.CodeOf.{parts_of, from_exp, from_exps, from_body}
 use Rattle.code_checked.specs.Near.{IsRegister, NameIsNear, AreCaptured, ExpsAreNear, TargetIsNear, TargetsAreNear, ResultIsNear}
 use Rattle.code_checked.proofs.Pieces.{closed, listed, returned, Ends, Piece, both, nothing}
 use Rattle.code_checked.proofs.Words.{simple, simple_move, simple_load_nil, simple_close, simple_tbc}
-use Rattle.code_checked.proofs.Found.{Grows, grows_then, grows_with, is_in, same_strings}
+use Rattle.code_checked.proofs.Found.{Grows, grows_then, grows_with, is_in}
+use Rattle.code_of.proofs.Constants.{same_text}
 use Rattle.code_checked.proofs.Loads.{Whole, Functions, loads_piece, upvalue_piece, set_upvalue_piece, set_table_piece, self_piece, closure_piece}
 use Rattle.code_checked.proofs.Calls.{return_piece, tail_piece}
 use Rattle.code_checked.proofs.Lists.{open_mark, takes_list_field, field_below, HaveRoom}
@@ -86,9 +87,9 @@ module _ (p : Prototype) where
     name_target_piece (LocalPlace n) text r line cs h rf g = nothing p
     name_target_piece (Upvalue u) text r line cs h rf g = nothing p
     name_target_piece (GlobalIn n) text r line cs h rf g =
-        both p (simple p Move (simple_move p) r n 0 line (omega (arith, rf)) h (lit< tt)) (loads_piece p W (StrConst text) (r + 1) line rf (is_in (StrConst text) (same_strings text) cs p.own.constants g))
+        both p (simple p Move (simple_move p) r n 0 line (omega (arith, rf)) h (lit< tt)) (loads_piece p W (StrConst text) (r + 1) line rf (is_in (StrConst text) (same_text text) cs p.own.constants g))
     name_target_piece (GlobalOf u) text r line cs h rf g =
-        both p (upvalue_piece p W r u line (omega (arith, rf)) h) (loads_piece p W (StrConst text) (r + 1) line rf (is_in (StrConst text) (same_strings text) cs p.own.constants g))
+        both p (upvalue_piece p W r u line (omega (arith, rf)) h) (loads_piece p W (StrConst text) (r + 1) line rf (is_in (StrConst text) (same_text text) cs p.own.constants g))
 
     target_piece : (e : Exp) (r j pc size : ℕ) (cs : List Const) (rest : Prototypes) → TargetIsNear source p e size r → size ≤ r → r + 1 < 2 ^ 8 → Grows (of_exp e cs) p.own.constants → Functions p j (from_exp source e rest)
         → Piece p H closed closed pc (target_code p.own.constants e r j)
@@ -152,7 +153,7 @@ module _ (p : Prototype) where
         let named = with_constant (StrConst name.text) made in
         let known = grows_then named (of_exps es named) p.own.constants (grows_exps es named) g in
         both p (one_law p W source o H t j pc t cs (from_exps source es rest) n.1.0 (omega arith) (grows_then made named p.own.constants (grows_with (StrConst name.text) made) known) fs)
-        (both p (loads_piece p W (StrConst name.text) (t + 1) call_line (omega (arith, r)) (is_in (StrConst name.text) (same_strings name.text) made p.own.constants known))
+        (both p (loads_piece p W (StrConst name.text) (t + 1) call_line (omega (arith, r)) (is_in (StrConst name.text) (same_text name.text) made p.own.constants known))
         (both p (self_piece p t t (t + 1) call_line (omega (arith, r)) (omega (arith, r)) (omega (arith, r)))
         (both p (list_law p W source es H (t + 2) (j + made_by o) call_line _ t named rest n.1.1 (omega arith) g (after_exp source p o j (from_exps source es rest) fs))
         (both p (tail_piece p (open_mark es (t + 2)) t (list_field 1 es) call_line (omega (arith, r)) (field_below (ends_open es) (1 + count es + 1) (omega (arith, r))) (takes_list_field es (1 + count es + 1) t (t + 2) (omega arith) (omega arith)))

@@ -1,5 +1,5 @@
 -- Pieces of one instruction and of a pair.
-use Rattle.std.proofs.Common.{◌≡◌, ℕ, suc, ◌+◌, ◌≤◌, ℤ, pos, negsuc, Bool, true, false, not, cond, ◌&&◌, ◌||◌, ◌==◌, List, [], ◌∷◌, length, Option, Some, None, option_and_then, slice_get, refl, sym, ap, ap₂, subst, ◌∙◌, arith, eq-eqb, le-leb}
+use Rattle.std.proofs.Common.{◌≡◌, ℕ, suc, ◌+◌, ◌≤◌, ℤ, pos, negsuc, Bool, true, false, not, cond, ◌&&◌, ◌||◌, ◌==◌, List, [], ◌∷◌, length, Option, Some, None, option_and_then, slice_get, refl, sym, ap, subst, ◌∙◌, arith, eq-eqb, le-leb}
 use Rattle.std.specs.Prelude.{nat_lt, nat_le}
 use Rattle.std.specs.List.{list_all}
 use Rattle.code_core.specs.declared.opcode.Opcode.{Opcode}
@@ -13,6 +13,7 @@ use Rattle.code_core.specs.Writable.{word_fits}
 use Rattle.code_core.specs.Check.{at, in_front, there, is_same, fixed, open_from, opened, leaves, left_by, mark, is_fixed, begins_with, agrees, goes_on, is_second, extra_at, constant_is, function_there, lands, is_landing, lands_fixed, takes_from, is_taken, varargs_fit}
 use Rattle.code_of.specs.Coded.{Coded}
 use Rattle.code_checked.proofs.Pieces.{Seam, closed, listed, returned, Leaves, Front, Starts, Behind, Land, Lands, Has, AllKept, Piece}
+use Rattle.list_laws.proofs.Tests.{both_true}
 
 -- seams and fields
 
@@ -55,9 +56,6 @@ or_true false c h = refl
 
 not_first : (b c : Bool) → b ≡ false → (not b || c) ≡ true
 not_first b c h = ap (λ b. not b || c) h
-
-both_true : (a b : Bool) → a ≡ true → b ≡ true → (a && b) ≡ true
-both_true a b h k = ap₂ (λ a b. a && b) h k
 
 module _ (p : Prototype) where
   not_second : (op : Opcode) (q : ℕ) → stands_second op ≡ false → there (begins_with Jmp) (in_front p q) ≡ false → is_second p q op ≡ false

@@ -1,10 +1,10 @@
 -- The words that code is made of, one by one.
-use Rattle.std.proofs.Common.{◌≡◌, ℕ, ◌<◌, ◌^◌, Bool, true, false, not, cond, ◌&&◌, ◌==◌, lit<, List, [], ◌∷◌, Option, Some, None, refl, ap, ◌∙◌, arith, lt-ltb}
+use Rattle.std.proofs.Common.{◌≡◌, ℕ, ◌<◌, ◌^◌, Bool, true, false, not, ◌&&◌, ◌==◌, List, [], ◌∷◌, Option, Some, None, refl, ap, ◌∙◌, arith, lt-ltb}
 use Rattle.std.specs.List.{list_any}
 use Rattle.code_core.specs.declared.opcode.Opcode.{Opcode}
 use Rattle.code_core.specs.declared.opcode.Opcode.TheVariants.{Move, LoadI, LoadFalse, LoadTrue, LoadNil, GetTable, Unm, BNot, Not, Len, Concat, Close, Tbc, Add, Sub, Mul, Mod, IDiv, BAnd, BOr, BXor, Shl, Shr, Eq, Lt, Le, Test, NewTable, TForCall, TForLoop, MmBin, ExtraArg, Jmp}
 use Rattle.code_core.specs.declared.instruction.Instruction.{Instruction}
-use Rattle.code_core.specs.Instruction.{abc, abx, op_ax, opcode_of, bits_from, k_of}
+use Rattle.code_core.specs.Instruction.{abc, abx, op_ax, opcode_of}
 use Rattle.code_core.specs.Fields.{is_whole, constants, upvalues, target, second_half, stands_second, takes_list, opens}
 use Rattle.code_core.specs.Prototype.{Prototype}
 use Rattle.code_core.specs.Writable.{word_fits}
@@ -14,12 +14,9 @@ use Rattle.code_core.proofs.FieldLemmas.{opcode_of-abc, opcode_of-abx}
 use Rattle.code_of.specs.Coded.{with_abc, with_abx}
 use Rattle.code_checked.proofs.Pieces.{closed, Piece}
 use Rattle.code_checked.proofs.Units.{Plain, Couple, one, extra_of}
+use Rattle.code_of.proofs.Fields.{flag_below}
 
 -- fields that fit make a word that fits
-
-flag_below : (k : Bool) → cond k 1 0 < 2
-flag_below true = lit< tt
-flag_below false = lit< tt
 
 pub abc_fits : (op : Opcode) (a b c : ℕ) (k : Bool) → a < 2 ^ 8 → b < 2 ^ 8 → c < 2 ^ 8 → word_fits (abc op a b c k) ≡ true
 abc_fits op a b c k af bf cf = let small = number_below op in let flag = flag_below k in lt-ltb _ _ (omega (arith, small, flag, af, bf, cf))
@@ -29,13 +26,6 @@ abx_fits op a bx af bf = let small = number_below op in lt-ltb _ _ (omega (arith
 
 pub ax_fits : (op : Opcode) (ax : ℕ) → ax < 2 ^ 25 → word_fits (op_ax op ax) ≡ true
 ax_fits op ax af = let small = number_below op in lt-ltb _ _ (omega (arith, small, af))
-
-flag_bit : (op : Opcode) (a b c : ℕ) (k : Bool) → a < 2 ^ 8 → bits_from 15 1 (abc op a b c k) ≡ cond k 1 0
-flag_bit op a b c k fits = let below = number_below op in let flag = flag_below k in omega arith
-
-pub k_of-abc : (op : Opcode) (a b c : ℕ) (k : Bool) → a < 2 ^ 8 → k_of (abc op a b c k) ≡ k
-k_of-abc op a b c true fits = ap (λ n. n == 1) (flag_bit op a b c true fits)
-k_of-abc op a b c false fits = ap (λ n. n == 1) (flag_bit op a b c false fits)
 
 module _ (p : Prototype) where
   -- an opcode without constants, upvalues, pairs, lists and jumps

@@ -1,5 +1,5 @@
 -- The code of a statement has as many instructions as its size says, wherever it stands and its jumps lead.
-use Rattle.std.proofs.Common.{◌≡◌, ℕ, ◌+◌, Bool, true, false, List, [], ◌∷◌, ◌++◌, length, Option, Some, None, refl, ap, ◌∙◌, arith, length-append}
+use Rattle.std.proofs.Common.{◌≡◌, ℕ, ◌+◌, Bool, true, false, List, [], ◌∷◌, ◌++◌, length, Option, Some, None, refl, ap, ◌∙◌, arith, length-append, ◌≤◌, cond}
 use Rattle.tree_core.specs.Tree.{Block, Falls, Returns, Stats, EndStats, MoreStats, Stat, Empty, Local, LocalFunction, Assign, CallStat, Do, While, Repeat, If, IfElse, NumFor, NumForStep, GenFor, Label, Goto, Break, Arms, EndArms, MoreArms}
 use Rattle.tree_activation.specs.Activation.{line_of_end}
 use Rattle.code_core.specs.declared.opcode.Opcode.TheVariants.{Close, Test, ForLoop, ForPrep, TForPrep, TForCall, TForLoop}
@@ -158,3 +158,10 @@ module _ (cs : List Const) (back : ℕ) where
         let last = return_code cs (closings_after ss closing) es (levels_after ss t) (j + made_in_stats ss) line back in
         length-append (stats_code cs back ss false closing t t j pc [] reach) last
         ∙ ap (λ n. n + length last) (stats_sized ss false closing t t j pc [] reach)
+
+pub close_short : (before after line : ℕ) → length (close_code before after line) ≤ 1
+close_short before after line = by (nat_eq before after)
+  where
+    by : (b : Bool) → length (cond b [] (with_abc Close before 0 0 line ∷ [])) ≤ 1
+    by true = omega arith
+    by false = omega arith

@@ -20,7 +20,7 @@ use Rattle.machine_core.specs.Talk.{before, amid, talk, talk_step, says_so, hear
 use Rattle.exp_laws.proofs.Lists.{Holds, range_held}
 use Rattle.exp_laws.proofs.Steps.{row_step, own_step, go_step}
 use Rattle.exp_laws.proofs.Arithmetic.{front_of}
-use Rattle.exp_laws.proofs.Tests.{k_of-abc}
+use Rattle.code_of.proofs.Fields.{k_of-abc}
 use Rattle.code_of.specs.Rooms.{room_of_values}
 
 -- values that an instruction with this field B or C leaves in registers, and how long the open list then is

@@ -23,7 +23,7 @@ use Rattle.machine_core.specs.InstructionRows.{row_of, rest_at, rest_by, compare
 use Rattle.machine_core.specs.Talk.{before, talk, talk_step, says_so, heard}
 use Rattle.code_of.specs.Operators.{operator_code, truth_code}
 use Rattle.exp_laws.proofs.Steps.{row_step, own_step, put_on, put_step}
-use Rattle.exp_laws.proofs.Tests.{k_of-abc}
+use Rattle.code_of.proofs.Fields.{k_of-abc}
 
 abbrev pub pick : {A : Type 0} → (second : Bool) → A → A → A
 pick true x y = y

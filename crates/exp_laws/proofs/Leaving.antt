@@ -19,7 +19,7 @@ use Rattle.machine_core.specs.Talk as code
 use Rattle.machine_core.specs.Talk.{talk, talk_step, says_so, heard, before, amid, captured_done}
 use Rattle.list_laws.proofs.Ends.{last_is, without_last_is}
 use Rattle.list_laws.proofs.Items.{get_new, length_more}
-use Rattle.list_laws.proofs.Tests.{eq_refl, eq_true, lt_not}
+use Rattle.list_laws.proofs.Tests.{eq_refl, eq_true, lt_not, or_right}
 use Rattle.exp_laws.proofs.Registers.{Rel, marked_in, Ascends, held_same}
 use Rattle.exp_laws.specs.Setting.{Setting}
 use Rattle.exp_laws.proofs.Talking.{Here, Agree, go_left, both_ask, of_tree, of_code}
@@ -90,17 +90,13 @@ last_marked ms q =
     ap (λ o. elim o as (λ _. Option ℕ) [ None ↦ None | Some r ↦ cond (nat_le 0 r) (Some r) None ]) (ap (slice_get (ms ++ q ∷ [])) e ∙ get_new ms q)
     ∙ ap (λ b. cond b (Some q) None) (le-leb 0 q (omega arith))
 
-or_true : (b c : Bool) → c ≡ true → (b || c) ≡ true
-or_true true c e = refl
-or_true false c e = e
-
 or_more : (b c d : Bool) → (c ≡ true → d ≡ true) → (b || c) ≡ true → (b || d) ≡ true
 or_more true c d f e = refl
 or_more false c d f e = f e
 
 pub is_pending_last : (ms : List ℕ) (q : ℕ) → is_pending (ms ++ q ∷ []) q ≡ true
 is_pending_last [] q = ap (λ b. b || false) (eq_refl q)
-is_pending_last (m ∷ ms) q = or_true (nat_eq q m) (is_pending (ms ++ q ∷ []) q) (is_pending_last ms q)
+is_pending_last (m ∷ ms) q = or_right (nat_eq q m) (is_pending (ms ++ q ∷ []) q) (is_pending_last ms q)
 
 pub is_pending_more : (ms : List ℕ) (q r : ℕ) → is_pending ms r ≡ true → is_pending (ms ++ q ∷ []) r ≡ true
 is_pending_more [] q r e = absurd (cc)

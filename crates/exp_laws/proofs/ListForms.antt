@@ -9,7 +9,8 @@ use Rattle.machine_core.specs.Text.{list_end, nils}
 use Rattle.machine_core.specs.Talk.{before}
 use Rattle.list_laws.proofs.Values.{nth_old}
 use Rattle.code_of.specs.Expressions.{Wanted, one_less, nils_code}
-use Rattle.exp_laws.proofs.Registers.{split, Rel, After, after_none, after_then, after_above}
+use Rattle.list_laws.proofs.Tests.{split}
+use Rattle.exp_laws.proofs.Registers.{Rel, After, after_none, after_then, after_above}
 use Rattle.exp_laws.specs.Setting.{Setting}
 use Rattle.exp_laws.proofs.Talking.{Agree, go_right, of_tree, of_code}
 use Rattle.exp_laws.proofs.Placing.{HasAt}

@@ -1,6 +1,6 @@
 -- Instructions that load constants, as one equation each.
 use Rattle.std.proofs.Common.{◌≡◌, ℕ, ◌+◌, ◌<◌, ◌^◌, lit<, true, false, cond, ℤ, pos, negsuc, ◌-ℤ◌, List, [], ◌∷◌, length, Some, None, ap, ap₂, ◌∙◌, arith}
-use borrow.Author.Tests.{lt-ltb, ltb-true, le-leb, leb-true}
+use borrow.Author.Tests.{lt-ltb, ltb-true, le-leb}
 use Rattle.int_core.specs.Value.{Value, known, nil, integer, write}
 use Rattle.int_core.specs.Ask.{Captured, goes_on}
 use Rattle.code_core.specs.declared.opcode.Opcode.TheVariants.{LoadI, LoadK, LoadKx, LoadNil, ExtraArg}
@@ -19,12 +19,9 @@ use Rattle.code_of.specs.Constants.{is_small, small_field, number_in, Found}
 use Rattle.exp_laws.proofs.Steps.{found_below, row_step, own_step, go_step, put_on, put_step, to_register_step}
 use Rattle.code_core.specs.Opcode.{number_of}
 use Rattle.list_laws.proofs.Tests.{eq_refl}
+use Rattle.code_of.proofs.Fields.{field_fits}
 
 -- a small integer is the field of its LOADI
-
-pub field_fits : (z : ℤ) → is_small z ≡ true → small_field z < 2 ^ 17
-field_fits (pos n) e = let h = leb-true n 65536 e in omega (arith, h)
-field_fits (negsuc n) e = omega arith
 
 pub field_value : (z : ℤ) → is_small z ≡ true → pos (small_field z) -ℤ pos 65535 ≡ z
 field_value (pos n) e = grind arith

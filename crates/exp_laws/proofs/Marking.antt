@@ -40,7 +40,7 @@ mark_step p t a c here fits room =
     ∙ own_step p (read_register t) (λ v s. cond (holds s) (closable (read v) (variable_name p a.pc t) (then (mark_pending t) next)) next) [] a c (lt-ltb t (length a.registers) room)
 
 -- a further variable, behind the others
-ascends_more : (from : ℕ) (ps : List Pending) (t to : ℕ) (needed : Bool) → Ascends from ps t → from ≤ t → t < to → Ascends from (ps ++ record { number = t; needed = needed } ∷ []) to
+pub ascends_more : (from : ℕ) (ps : List Pending) (t to : ℕ) (needed : Bool) → Ascends from ps t → from ≤ t → t < to → Ascends from (ps ++ record { number = t; needed = needed } ∷ []) to
 ascends_more from [] t to needed h le lt = (le, (lt, tt))
 ascends_more from (p ∷ ps) t to needed h le lt =
     let below = h.1.0 in

@@ -1,10 +1,11 @@
 -- Locals and registers side by side: what holds of both while an expression is evaluated.
-use Rattle.std.proofs.Common.{◌⊎◌, inl, inr, ⊎_elim, length-append, ◌≡◌, ℕ, zero, suc, ◌<◌, ◌≤◌, ℤ, cond, List, [], ◌∷◌, ◌++◌, length, refl, sym, ap, subst, ◌∙◌, arith}
+use Rattle.std.proofs.Common.{◌⊎◌, ⊎_elim, length-append, ◌≡◌, ℕ, zero, suc, ◌<◌, ◌≤◌, ℤ, cond, List, [], ◌∷◌, ◌++◌, length, refl, sym, ap, subst, ◌∙◌, arith}
 use Rattle.int_core.specs.Value.{Value, known, integer, nth, write}
 use Rattle.int_core.specs.Ask.{Captured, shared_by, brought}
 use Rattle.tree_activation.specs.Work.{Pending}
-use Rattle.list_laws.proofs.Values.{nth_old, nth_write_same, nth_write_other, length_write, write_more}
+use Rattle.list_laws.proofs.Values.{nth_old, nth_write_same, nth_write_other, length_write, write_more, last_nth}
 use Rattle.tree_terms.specs.Hidden.{IsNoneOf}
+use Rattle.list_laws.proofs.Tests.{split}
 
 write_alike : (s : ℕ) (v : Value) (xs ys : List Value) (r : ℕ) → nth xs r ≡ nth ys r → nth (write s v xs) r ≡ nth (write s v ys) r
 write_alike zero v [] [] zero e = refl
@@ -117,16 +118,6 @@ module _ (hidden : List ℕ) (stack : ℕ) (pending : List Pending) where
   after_put env regs c t v le h =
       let more = write_more t v regs in
       after_above env regs (write t v regs) c t le h (λ r lr. nth_write_other t v regs r (λ e. absurd (omega arith))) (omega (arith, more, h.room))
-
-pub last_nth : (xs : List Value) (v : Value) → nth (xs ++ v ∷ []) (length xs) ≡ v
-last_nth [] v = refl
-last_nth (x ∷ xs) v = last_nth xs v
-
-pub split : (i count : ℕ) → (i < count) ⊎ (count ≤ i)
-split zero zero = inr (omega arith)
-split zero (suc count) = inl (omega arith)
-split (suc i) zero = inr (omega arith)
-split (suc i) (suc count) = ⊎_elim (λ h. inl (omega arith)) (λ h. inr (omega arith)) (split i count)
 
 held_length : (held : List (ℕ × ℕ)) (m n : ℕ) → m ≡ n → HeldBelow held m → HeldBelow held n
 held_length held m n e h = subst (HeldBelow held) e h

@@ -20,30 +20,15 @@ use Rattle.machine_core.specs.Talk as code
 use Rattle.machine_core.specs.Talk.{talk, talk_step, says_so, heard, amid}
 use Rattle.list_laws.proofs.Items.{append_nil, length_more}
 use Rattle.list_laws.proofs.Ends.{without_last_is}
-use Rattle.list_laws.proofs.Tests.{lt_true}
-use Rattle.exp_laws.proofs.Registers.{Rel, marked_in, last_nth}
+use Rattle.list_laws.proofs.Tests.{lt_true, or_left, or_right, both_true}
+use Rattle.exp_laws.proofs.Registers.{Rel, marked_in}
+use Rattle.list_laws.proofs.Values.{last_nth, drop_front}
 use Rattle.exp_laws.specs.Setting.{Setting}
 use Rattle.exp_laws.proofs.Talking.{Here, Agree, go_left, both_ask, of_tree, of_code}
 use Rattle.exp_laws.proofs.Lists.{Holds, range_held}
 use Rattle.exp_laws.proofs.Steps.{own_step}
 use Rattle.exp_laws.proofs.Leaving.{none_below, gone_all, brought_none, length_blanked, blanked_keeps, Snoc, empty, snoc, marked_more, marked_fewer, last_marked, is_pending_last, is_pending_more, Left, left_from, cut, cut_same, leave_one, leaves_so, faults_so}
 use Rattle.exp_laws.proofs.Leaving as leaving
-
-drop_front : (xs ys : List Value) → drop (length xs) (xs ++ ys) ≡ ys
-drop_front [] ys = refl
-drop_front (x ∷ xs) ys = drop_front xs ys
-
-or_left : (b c : Bool) → b ≡ true → (b || c) ≡ true
-or_left true c e = refl
-or_left false c e = absurd (cc)
-
-or_right : (b c : Bool) → c ≡ true → (b || c) ≡ true
-or_right true c e = refl
-or_right false c e = e
-
-and_both : (b c : Bool) → b ≡ true → c ≡ true → (b && c) ≡ true
-and_both true c e d = d
-and_both false c e d = absurd (cc)
 
 behind_most : (from count i : ℕ) → i < count → from + i < behind from count
 behind_most from zero i h = absurd (omega arith)
@@ -70,7 +55,7 @@ module _ (S : Setting) (from : ℕ) (vs : List Value) where
   kept_results ms regs h i lt =
       let below = behind_most from count i lt in
       blanked_keeps (keeps ms) size regs (from + i) (omega (arith, below))
-      (or_right (is_pending ms (from + i)) (nat_le from (from + i) && nat_lt (from + i) (from + count)) (and_both (nat_le from (from + i)) (nat_lt (from + i) (from + count)) (le-leb from (from + i) (omega arith)) (lt_true (from + i) (from + count) (omega (arith, lt)))))
+      (or_right (is_pending ms (from + i)) (nat_le from (from + i) && nat_lt (from + i) (from + count)) (both_true (nat_le from (from + i)) (nat_lt (from + i) (from + count)) (le-leb from (from + i) (omega arith)) (lt_true (from + i) (from + count) (omega (arith, lt)))))
       ∙ h i lt
 
   kept_left : (pending rest : List Pending) (env : List Value) (c : Captured) (regs shared : List Value) → Left S pending env c regs

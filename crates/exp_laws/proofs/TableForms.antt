@@ -1,5 +1,5 @@
 -- Tables: made, filled with items and written by keys.
-use Rattle.std.proofs.Common.{◌≡◌, ℕ, zero, suc, ◌+◌, ◌*◌, ◌/◌, ◌%◌, ◌<◌, ◌≤◌, ◌^◌, Bool, true, false, cond, pos, List, [], ◌∷◌, ◌++◌, length, take, refl, sym, ap, ap₂, ◌∙◌, arith}
+use Rattle.std.proofs.Common.{◌≡◌, ℕ, ◌+◌, ◌*◌, ◌/◌, ◌%◌, ◌<◌, ◌≤◌, ◌^◌, Bool, true, false, cond, pos, List, [], ◌∷◌, ◌++◌, length, take, refl, sym, ap, ap₂, ◌∙◌, arith}
 use Rattle.std.specs.Prelude.{nat_lt}
 use borrow.Author.Tests.{ltb-true}
 use Rattle.int_core.specs.Value.{Value, known, a_table, a_function, a_coroutine, object, nth, write}
@@ -16,7 +16,7 @@ use Rattle.machine_core.specs.World.{for_value, dropped}
 use Rattle.machine_core.specs.Text.{read, write_register}
 use Rattle.machine_core.specs.InstructionRows.{skip, then, told_values}
 use Rattle.machine_core.specs.Talk.{before, amid, talk, says_so, heard}
-use Rattle.list_laws.proofs.Values.{nth_write_same}
+use Rattle.list_laws.proofs.Values.{nth_write_same, nth_take, length_take}
 use Rattle.code_of.specs.Coded.{Coded, with_abc}
 use Rattle.code_of.specs.Expressions.{set_list}
 use Rattle.exp_laws.specs.Setting.{Setting}
@@ -28,17 +28,6 @@ use Rattle.exp_laws.proofs.Going.{next_there}
 use Rattle.exp_laws.proofs.Steps.{go_step, put_step}
 use Rattle.exp_laws.proofs.Calls.{Passed}
 use Rattle.exp_laws.proofs.Tables.{items_count, items_field, filled_text, new_step, fill_near, fill_far, filled_step, set_step, set_rest}
-
-nth_take : (n : ℕ) (xs : List Value) (r : ℕ) → r < n → nth (take n xs) r ≡ nth xs r
-nth_take zero xs r lt = absurd (omega arith)
-nth_take (suc n) [] r lt = refl
-nth_take (suc n) (x ∷ xs) zero lt = refl
-nth_take (suc n) (x ∷ xs) (suc r) lt = nth_take n xs r (omega arith)
-
-length_take : (n : ℕ) (xs : List Value) → n ≤ length xs → length (take n xs) ≡ n
-length_take zero xs h = refl
-length_take (suc n) [] h = absurd (omega arith)
-length_take (suc n) (x ∷ xs) h = ap suc (length_take n xs (omega arith))
 
 told_dropped : (reply : Reply) → told_values dropped reply ≡ told_values for_value reply
 told_dropped (values vs) = refl

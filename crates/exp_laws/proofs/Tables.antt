@@ -17,7 +17,7 @@ use Rattle.machine_core.specs.InstructionRows.{next, skip, then, sets, fills, fi
 use Rattle.machine_core.specs.Talk.{before, amid, talk, talk_step, says_so, heard}
 use Rattle.exp_laws.proofs.Steps.{row_step, own_step, go_step}
 use Rattle.exp_laws.proofs.Loads.{extra_is}
-use Rattle.exp_laws.proofs.Tests.{k_of-abc}
+use Rattle.code_of.proofs.Fields.{k_of-abc}
 use Rattle.exp_laws.proofs.Calls.{Passed, read_values_step}
 
 -- how a row that fills a table ends, once the table is filled

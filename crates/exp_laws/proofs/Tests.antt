@@ -1,32 +1,20 @@
 -- TEST and the jump behind it.
-use Rattle.std.proofs.Common.{◌≡◌, ℕ, ◌+◌, ◌<◌, ◌^◌, Bool, true, false, cond, ◌==◌, lit<, pos, ◌-ℤ◌, [], ◌∷◌, length, Some, ap, ap₂, ◌∙◌, arith}
+use Rattle.std.proofs.Common.{◌≡◌, ℕ, ◌+◌, ◌<◌, ◌^◌, Bool, true, false, cond, pos, ◌-ℤ◌, [], ◌∷◌, length, Some, ap, ap₂, ◌∙◌, arith}
 use borrow.Author.Tests.{lt-ltb}
 use Rattle.int_core.specs.Value.{nth, shape, holds, same_truth}
 use Rattle.int_core.specs.Ask.{Captured, goes_on}
 use Rattle.code_core.specs.declared.opcode.Opcode.TheVariants.{Jmp, Test}
-use Rattle.code_core.specs.declared.opcode.Opcode.{Opcode}
 use Rattle.code_core.specs.declared.instruction.Instruction.{Instruction}
-use Rattle.code_core.specs.Instruction.{abc, op_ax, bits_from, k_of}
+use Rattle.code_core.specs.Instruction.{abc, op_ax}
 use Rattle.code_core.specs.Prototype.{Prototype}
 use Rattle.code_core.specs.Check.{at}
 use Rattle.code_core.proofs.FieldLemmas.{opcode_of-abc, a_of-abc, opcode_of-ax, ax_of-ax}
-use Rattle.code_core.proofs.Opcodes.{number_below}
 use Rattle.machine_core.specs.World.{Activation}
 use Rattle.machine_core.specs.Text.{read_register, own, go_by}
 use Rattle.machine_core.specs.InstructionRows.{tested, jumps}
 use Rattle.machine_core.specs.Talk.{before, talk, talk_step}
 use Rattle.exp_laws.proofs.Steps.{row_step, own_step, go_step}
-
-flag_below : (k : Bool) → cond k 1 0 < 2
-flag_below true = lit< tt
-flag_below false = lit< tt
-
-flag_bit : (op : Opcode) (a b c : ℕ) (k : Bool) → a < 2 ^ 8 → bits_from 15 1 (abc op a b c k) ≡ cond k 1 0
-flag_bit op a b c k fits = let below = number_below op in let flag = flag_below k in omega arith
-
-pub k_of-abc : (op : Opcode) (a b c : ℕ) (k : Bool) → a < 2 ^ 8 → k_of (abc op a b c k) ≡ k
-k_of-abc op a b c true fits = ap (λ n. n == 1) (flag_bit op a b c true fits)
-k_of-abc op a b c false fits = ap (λ n. n == 1) (flag_bit op a b c false fits)
+use Rattle.code_of.proofs.Fields.{k_of-abc}
 
 module _ (p : Prototype) (a : Activation) (c : Captured) where
   test_text : (t : ℕ) (k : Bool) → at p a.pc ≡ Some (abc Test t 0 0 k) → t < 2 ^ 8 → t < length a.registers

@@ -29,7 +29,7 @@ use Rattle.lua_lex.specs.Lexical.{kind_of, begins_numeral, begins_comment, comme
 
 -- what is dropped leaves no more
 
-dropped : (n : ℕ) (text : List ℕ) {rest : List ℕ} → rest ≡ drop n text → length rest ≤ length text - n
+pub dropped : (n : ℕ) (text : List ℕ) {rest : List ℕ} → rest ≡ drop n text → length rest ≤ length text - n
 dropped n text e = omega (arith, ap length e, length-drop n text)
 
 -- a long bracket's two ends have two bytes at least
@@ -42,7 +42,7 @@ bracket_takes text content rest b =
 
 -- strings between quotes
 
-escape_takes : (kind : Escape) (text : List ℕ) (meaning : Meaning) (rest : List ℕ) → IsEscapeOf kind text meaning rest → length rest ≤ length text
+pub escape_takes : (kind : Escape) (text : List ℕ) (meaning : Meaning) (rest : List ℕ) → IsEscapeOf kind text meaning rest → length rest ≤ length text
 escape_takes (escape.Letter value) text meaning rest h = omega (arith, dropped 1 text h.1)
 escape_takes escape.LineEnd text meaning rest h = omega (arith, dropped (end_len text) text h.1)
 escape_takes escape.Space text meaning rest h = omega (arith, dropped (1 + prefix_len is_space (drop 1 text)) text h.1)
@@ -62,7 +62,7 @@ quoted_takes {quote = quote} {text = text} (strings.goes_on between bytes e h) =
 
 -- what is skipped
 
-skip_takes : (kind : Kind) (text rest : List ℕ) → SkipsOf kind text rest → length rest ≤ length text
+pub skip_takes : (kind : Kind) (text rest : List ℕ) → SkipsOf kind text rest → length rest ≤ length text
 skip_takes Space text rest h = omega (arith, dropped 1 text h)
 skip_takes Comment text rest h = omega (arith, dropped (2 + position_or_len is_line_end (drop 2 text)) text h)
 skip_takes LongComment text rest h = omega (arith, bracket_takes (drop 2 text) h.0 rest h.1, length-drop 2 text)

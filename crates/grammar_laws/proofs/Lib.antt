@@ -10,7 +10,7 @@ mod Expressions
 mod Blocks
 mod Statements
 mod SizeReadings
-mod Bytes
+pub mod Bytes
 mod LineKeeping
 mod LineParts
 mod LineReadings

@@ -1,5 +1,5 @@
 -- The last item of a list, and a stack from the top.
-use Rattle.std.proofs.Common.{ℕ, suc, ◌-◌, ◌≡◌, List, [], ◌∷◌, ◌++◌, length, Some, refl, ap, ◌∙◌, arith}
+use Rattle.std.proofs.Common.{suc, ◌-◌, ◌≡◌, List, [], ◌∷◌, ◌++◌, length, Some, refl, ap, ◌∙◌, arith}
 use Rattle.std.specs.Prelude.{slice_get, take}
 use Rattle.int_core.specs.Value.{last, without_last}
 use Rattle.list_laws.proofs.Items.{get_new, length_more}

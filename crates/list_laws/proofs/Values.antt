@@ -1,5 +1,5 @@
 -- Values by their numbers, as registers and locals are read and written.
-use Rattle.std.proofs.Common.{ℕ, zero, suc, ◌<◌, ◌≤◌, ◌≡◌, ◌≢◌, List, [], ◌∷◌, ◌++◌, length, Some, None, refl, ap, arith}
+use Rattle.std.proofs.Common.{ℕ, zero, suc, ◌<◌, ◌≤◌, ◌≡◌, ◌≢◌, List, [], ◌∷◌, ◌++◌, length, Some, None, refl, ap, arith, take, drop}
 use Rattle.std.specs.Prelude.{slice_get, slice_set}
 use Rattle.int_core.specs.Value.{Value, nth, write}
 
@@ -65,3 +65,22 @@ same_list (x ∷ xs) (y ∷ ys) e h =
     let a : x ≡ y = h 0 in
     let b : xs ≡ ys = same_list xs ys (omega (arith, e)) (λ r. h (suc r)) in
     cc
+
+pub nth_take : (n : ℕ) (xs : List Value) (r : ℕ) → r < n → nth (take n xs) r ≡ nth xs r
+nth_take zero xs r lt = absurd (omega arith)
+nth_take (suc n) [] r lt = refl
+nth_take (suc n) (x ∷ xs) zero lt = refl
+nth_take (suc n) (x ∷ xs) (suc r) lt = nth_take n xs r (omega arith)
+
+pub length_take : (n : ℕ) (xs : List Value) → n ≤ length xs → length (take n xs) ≡ n
+length_take zero xs h = refl
+length_take (suc n) [] h = absurd (omega arith)
+length_take (suc n) (x ∷ xs) h = ap suc (length_take n xs (omega arith))
+
+pub last_nth : (xs : List Value) (v : Value) → nth (xs ++ v ∷ []) (length xs) ≡ v
+last_nth [] v = refl
+last_nth (x ∷ xs) v = last_nth xs v
+
+pub drop_front : (xs ys : List Value) → drop (length xs) (xs ++ ys) ≡ ys
+drop_front [] ys = refl
+drop_front (x ∷ xs) ys = drop_front xs ys

@@ -5,9 +5,7 @@ use Rattle.lua_meaning.specs.World.{System, World, yielded, returned, failed_wit
 use Rattle.lua_meaning.specs.Primitives.{Primitive}
 use Rattle.lua_meaning.specs.Step.{has_ended, tick, ticks}
 use Rattle.lua_meaning.specs.Meaning.{Meaning, Outcome, is_suspended, behind, at_end, suspends, handed_line, run_from, onward, begun, Script, IsMeaning, IsOnward}
-
-same_given : {A : Type 0} → (x y : A) → Some x ≡ Some y → x ≡ y
-same_given x y e = ap (λ o. unwrap_or o x) e
+use Rattle.list_laws.proofs.Items.{some_same}
 
 module _ {F S : Type 0} (system : System F S) (primitives : ℕ → Option Primitive) where
   by_ended : (b : Bool) (W V U : World F S) → has_ended (elim b as (λ _. World F S) [ true ↦ W | false ↦ V ]).now ≡ true → (has_ended V.now ≡ true → U ≡ V)
@@ -81,7 +79,7 @@ module _ {F S : Type 0} (system : System F S) (primitives : ℕ → Option Primi
   -- a turn that ended otherwise than at a yield is not suspended
   not_suspended : (m x : Meaning F S) (W : World F S) → is_suspension m.outcome ≡ false → Some m ≡ Some x → x.outcome ≡ is_suspended W → ⊥
   not_suspended m x W other given suspended =
-      let e = same_given m x given in
+      let e = some_same m x given in
       let a : false ≡ is_suspension x.outcome = sym other ∙ ap (λ (z : Meaning F S). is_suspension z.outcome) e in
       let b : is_suspension x.outcome ≡ true = ap is_suspension suspended in
       absurd (cc)
@@ -94,7 +92,7 @@ module _ {F S : Type 0} (system : System F S) (primitives : ℕ → Option Primi
       → ((z : Meaning F S) → o ≡ Some z → z.outcome ≡ is_suspended W → p ≡ Some (behind z.printed y)) → option_map (behind text) p ≡ Some (behind x.printed y)
   map_cut text None p x y W given suspended more = absurd (cc)
   map_cut text (Some z) p x y W given suspended more =
-      let e : behind text z ≡ x = same_given (behind text z) x given in
+      let e : behind text z ≡ x = some_same (behind text z) x given in
       let same : z.outcome ≡ x.outcome = ap (λ (m : Meaning F S). m.outcome) e in
       let printed : text ++ z.printed ≡ x.printed = ap (λ (m : Meaning F S). m.printed) e in
       rw (more z refl (same ∙ suspended)) (ap Some (twice text z.printed y ∙ ap (λ t. behind t y) printed))
@@ -117,7 +115,7 @@ module _ {F S : Type 0} (system : System F S) (primitives : ℕ → Option Primi
   suspended_here : (n : ℕ) (V W : World F S) (more : List (List ℕ)) (budget : ℕ) (z y : Meaning F S)
       → suspends V ≡ Some z → z.outcome ≡ is_suspended W → onward system primitives n W more budget ≡ Some y → onward system primitives n V more budget ≡ Some (behind z.printed y)
   suspended_here n V W more budget z y here suspended later =
-      let e = same_given (record { printed = []; outcome = is_suspended V }) z here in
+      let e = some_same (record { printed = []; outcome = is_suspended V }) z here in
       let same : V ≡ W = ap (λ (m : Meaning F S). world_in V m.outcome) e ∙ ap (world_in V) suspended in
       let printed : [] ≡ z.printed = ap (λ (m : Meaning F S). m.printed) e in
       ap (λ U. onward system primitives n U more budget) same ∙ later ∙ ap (λ t. Some (behind t y)) printed
@@ -151,7 +149,7 @@ module _ {F S : Type 0} (system : System F S) (primitives : ℕ → Option Primi
       let U = begun system primitives opening script budget in
       let first = given_within a.steps (a.steps + b.steps) U input budget x a.gives (omega arith) in
       let second = given_within b.steps (a.steps + b.steps) U input budget y b.gives (omega arith) in
-      same_given x y (sym first ∙ second)
+      some_same x y (sym first ∙ second)
 
   pub meaning_cut : (opening : World F S) (script : Script F) (input more : List (List ℕ)) (budget : ℕ) (x y : Meaning F S) (W : World F S)
       → IsMeaning system primitives opening script input budget x → x.outcome ≡ is_suspended W → IsOnward system primitives W more budget y

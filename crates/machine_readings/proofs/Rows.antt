@@ -25,7 +25,8 @@ use Rattle.machine_readings.proofs.Opening.{both_none, both_some, open_work, ope
 use Rattle.machine_readings.proofs.Worlds.{mk, frame, place, shape_of}
 use Rattle.machine_readings.proofs.Moves.{own_move, pc_move, open_move, settle_move, enter_move, await_move, tail_move, leave_move, popped_is}
 use Rattle.machine_readings.proofs.Both.{mk_talks, handing, both_run, both_hand, both_unwind, both_spent, Leads, go_on, by_move}
-use Rattle.machine_readings.proofs.Texts.{Reaches, WaitReach, least_read, named_front, effect_front, reads_nothing, done_front, cells_front, named_waits, plain_waits, plain_reach, plain_told, rest_named, nth_mid, drop_front, drop_mid}
+use Rattle.machine_readings.proofs.Texts.{Reaches, WaitReach, least_read, named_front, effect_front, reads_nothing, done_front, cells_front, named_waits, plain_waits, plain_reach, plain_told, rest_named, nth_mid, drop_mid}
+use Rattle.list_laws.proofs.Values.{drop_front}
 use Rattle.machine_readings.proofs.Local.{fits_alike, reads_alike, tells_alike, effect_alike, done_alike, effect_pc, done_pc, own_keeps, done_keeps}
 use Rattle.machine_readings.proofs.Calls.{call_out, enter_leads}
 use Rattle.machine_readings.proofs.Answered.{share, flushed, RowLeads, again, reply_leads, hears, raise_leads, refused_leads, call_at, waits_leads}

@@ -1,6 +1,6 @@
 -- What is asked of a text, so that both readings of it lead to the same: it names what it has read, waits where it calls, and goes on as its
 -- wait says.
-use Rattle.std.proofs.Common.{ℕ, zero, suc, ◌+◌, ◌<◌, ◌≤◌, ◌≡◌, List, [], ◌∷◌, ◌++◌, length, drop, refl, ap, ◌∙◌, arith}
+use Rattle.std.proofs.Common.{ℕ, suc, ◌+◌, ◌<◌, ◌≤◌, ◌≡◌, List, [], ◌∷◌, ◌++◌, length, drop, refl, ap, ◌∙◌, arith}
 use Rattle.code_core.specs.Prototype.{Prototype}
 use Rattle.int_core.specs.Value.{Value, nth, bind, Shape, range}
 use Rattle.machine_core.specs.World.{Cell, Wait, running, for_call, for_iterator, for_value, for_truth, dropped, for_concat, for_close, returning, leaving, Activation}
@@ -9,6 +9,7 @@ use Rattle.machine_core.specs.InstructionRows.{rest_at, told_values}
 use Rattle.int_core.specs.Ask.{values}
 use Rattle.machine_core.specs.RowFits.{IsWaiting}
 use Rattle.machine_core.specs.Moves.{named, cells_after, cells_done}
+use Rattle.list_laws.proofs.Values.{nth_old}
 
 -- a value that is named is among the first ones read
 abbrev pub Reach : ℕ → Arg → Type 0
@@ -66,13 +67,8 @@ Good p pc w len trap = Unit {0}
 
 -- what is read behind does not change what is named
 
-nth_front : (env vs : List Value) (n : ℕ) → n < length env → nth (env ++ vs) n ≡ nth env n
-nth_front [] vs n l = absurd (omega arith)
-nth_front (x ∷ env) vs zero l = refl
-nth_front (x ∷ env) vs (suc n) l = nth_front env vs n (omega arith)
-
 arg_front : (env vs : List Value) (x : Arg) → Reach (length env) x → arg (env ++ vs) x ≡ arg env x
-arg_front env vs (read n) l = nth_front env vs n l
+arg_front env vs (read n) l = nth_old env vs n l
 arg_front env vs (written p) l = refl
 
 pub named_front : (env vs : List Value) (wait : Wait Arg) → WaitReach (length env) wait → named (env ++ vs) wait ≡ named env wait
@@ -225,10 +221,6 @@ rest_named env (leaving x) p pc = refl
 pub nth_mid : (env vs : List Value) (v : Value) → nth (env ++ v ∷ vs) (length env) ≡ v
 nth_mid [] vs v = refl
 nth_mid (x ∷ env) vs v = nth_mid env vs v
-
-pub drop_front : (env vs : List Value) → drop (length env) (env ++ vs) ≡ vs
-drop_front [] vs = refl
-drop_front (x ∷ env) vs = drop_front env vs
 
 pub drop_mid : (env vs : List Value) (v : Value) → drop (suc (length env)) (env ++ v ∷ vs) ≡ vs
 drop_mid [] vs v = refl

@@ -119,15 +119,6 @@ set_size c v [] = refl
 set_size zero v (x ∷ xs) = refl
 set_size (suc c) v (x ∷ xs) = ap suc (set_size c v xs)
 
-pub nth_more : (xs ys : List Value) (r : ℕ) → r < length xs → nth (xs ++ ys) r ≡ nth xs r
-nth_more [] ys r h = absurd (omega arith)
-nth_more (x ∷ xs) ys zero h = refl
-nth_more (x ∷ xs) ys (suc r) h = nth_more xs ys r (omega arith)
-
-pub nth_last : (xs : List Value) (v : Value) → nth (xs ++ v ∷ []) (length xs) ≡ v
-nth_last [] v = refl
-nth_last (x ∷ xs) v = nth_last xs v
-
 pub in_size : (shared : List (ℕ × Value)) (xs : List Value) → length (shared_in shared xs) ≡ length xs
 in_size [] xs = refl
 in_size (s ∷ shared) xs = set_size s.0 s.1 (shared_in shared xs) ∙ in_size shared xs

@@ -10,8 +10,8 @@ use Rattle.tree_activation.specs.Work.{End, until, Passed, Point, Purpose, for_c
 use Rattle.tree_activation.specs.Asking.{captured_locals}
 use Rattle.tree_terms.specs.Bodies.{upvalues_of}
 use Rattle.meaning_cells.specs.Alike.{Has, Member, IsUnpaired, Cells, AreCells, AreEven, after_asks, CarriesOwn, Onward, Brings, as_carried, as_stored, opened, new_cell}
-use Rattle.meaning_cells.proofs.Lists.{bring_at, bring_size, bring_own, below_has, below_was, find_has, has_find, held_from, gone_is, from_has, from_was, place_of, nth_more, in_size, in_held, in_off, shared_was, out_is}
-use Rattle.list_laws.proofs.Values.{same_list}
+use Rattle.meaning_cells.proofs.Lists.{bring_at, bring_size, bring_own, below_has, below_was, find_has, has_find, held_from, gone_is, from_has, from_was, place_of, in_size, in_held, in_off, shared_was, out_is}
+use Rattle.list_laws.proofs.Values.{nth_old, same_list}
 
 -- what the two share, and their cells
 pub record View : Type 0 where
@@ -201,7 +201,7 @@ held_first ps size n ls v hd gd hc gc c h l none number =
       gone = λ x w k. absurd k;
       settled = λ x d p off.
           let within = h.cells.there x d p in
-          nth_more (shared_in shared ps.stored) (v ∷ []) x (omega (arith, within, same)) ∙ in_off hd gd ls ps.stored x (λ m k. off m (inr k))
+          nth_old (shared_in shared ps.stored) (v ∷ []) x (omega (arith, within, same)) ∙ in_off hd gd ls ps.stored x (λ m k. off m (inr k))
           ∙ h.settled x d p (λ m k. off m (inr k));
     }
 
@@ -238,7 +238,7 @@ held_second ps size n c ls v hd gd hc gc d h has alone none number =
           (λ i.
           let within = h.cells.there_too x y i in
           h.settled x y i off ∙ sym (in_off hc gc ls ps.stored_too y (off_too ps size hd gd hc gc h x y i off))
-          ∙ sym (nth_more (shared_in also ps.stored_too) (v ∷ []) y (omega (arith, within, same)))) p;
+          ∙ sym (nth_old (shared_in also ps.stored_too) (v ∷ []) y (omega (arith, within, same)))) p;
     }
 
 -- both have opened a cell for a local

@@ -11,13 +11,11 @@ use Rattle.code_means.specs.Runs.{RunAlike}
 use Rattle.runs_alike.proofs.Dressed.{Part, dress_world, Mid, Like}
 use Rattle.runs_alike.proofs.Ticking.{sum_of, stay, ticks_sum, PendAlike}
 use Rattle.runs_alike.proofs.Ticks.{ticks_out}
+use Rattle.list_laws.proofs.Items.{some_same}
 
 sum_is : (m k : ℕ) → sum_of m k ≡ m + k
 sum_is zero k = omega arith
 sum_is (suc m) k = let h = sum_is m k in omega (arith, h)
-
-same_given : {C : Type 0} → (x y : C) → Some x ≡ Some y → x ≡ y
-same_given x y e = ap (λ o. unwrap_or o x) e
 
 pub gives_ended : {F S : Type 0} → (now : Now) (W : World F S) (goes : World F S → Option (Meaning F S)) (m : Meaning F S) → at_end now W goes ≡ Some m → has_ended now ≡ true
 gives_ended (ends ending) W goes m given = refl
@@ -36,7 +34,7 @@ pub record Later {A B S T : Type 0} (m : Meaning A S) (gives_by : ℕ → Option
 
 module _ {A B S T : Type 0} where
   like_of : (x m : Meaning A S) (y : Meaning B T) → Some x ≡ Some m → RunAlike x y → RunAlike m y
-  like_of x m y given alike = subst (λ z. RunAlike z y) (same_given x m given) alike
+  like_of x m y given alike = subst (λ z. RunAlike z y) (some_same x m given) alike
 
   last_out : (x m : Meaning A S) (y : Meaning B T) → Some x ≡ Some m → RunAlike x y → Later m (λ z. Some y)
   last_out x m y given alike = record { count = zero; other = y; gives = λ z within. refl; alike = like_of x m y given alike }

@@ -13,6 +13,7 @@ use Rattle.scope_core.specs.Parts.{Located, with_variables, with_block, stat_par
 use Rattle.scope_core.specs.Rules.{Found, Missing, Fine, Entering, is_label, declares_variable, only_labels, find_behind, or_further, find_label, goto_violations, stands_before, stat_violations, held_violations, breach}
 use Rattle.tree_terms.specs.Levels.{level_after}
 use Rattle.scope_laws.proofs.Parts.{Kept, none_of, back, unbroken}
+use Rattle.list_laws.proofs.Tests.{or_right}
 
 -- labels in sight of blocks
 abbrev pub Legal : List Around → List Named → Type 0
@@ -22,13 +23,6 @@ Legal blocks named = (text : List ℕ) → find_label text blocks ≡ Fine → l
 abbrev pub passed_all : List Stat → List Named
 passed_all [] = []
 passed_all (s ∷ before) = names_passed s (passed_all before)
-
-or_right : (b c : Bool) → c ≡ true → (b || c) ≡ true
-or_right true c e = refl
-or_right false c e = e
-
-or_left : (b c : Bool) → b ≡ true → (b || c) ≡ true
-or_left b c e = ap (λ x. x || c) e
 
 neither_left : (b c : Bool) → (b || c) ≡ false → b ≡ false
 neither_left true c e = absurd (search rules)

@@ -1,7 +1,7 @@
 -- What the names of a piece of a tree are, where t locals are in scope, some of them hidden, in a function with so many upvalues: each name is that
 -- of a local in scope that is not hidden, or of an upvalue; so is the `_ENV` of a global name; and so are the variables that an inner function
 -- has from the function around it.
-use Rattle.std.specs.Prelude.{◌≡◌, ℕ, ◌+◌, ◌<◌, Bool, true, false, List, [], ◌∷◌, length}
+use Rattle.std.specs.Prelude.{ℕ, ◌+◌, ◌<◌, Bool, true, false, List, [], ◌∷◌, length}
 use Rattle.tree_core.specs.declared.name.Place.{Place}
 use Rattle.tree_core.specs.declared.name.Place.TheVariants.{Unset, Upvalue, GlobalIn, GlobalOf, Local as LocalPlace}
 use Rattle.tree_core.specs.declared.name.UpName.{UpName}

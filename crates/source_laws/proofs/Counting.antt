@@ -1,33 +1,27 @@
 -- Values that are held, and locals, are few.
-use Rattle.std.proofs.Common.{◌≡◌, ℕ, zero, suc, ◌+◌, ◌<◌, ◌≤◌, ◌^◌, Bool, true, false, List, [], ◌∷◌, ◌++◌, length, Option, Some, None, refl, ap, arith, length-append}
+use Rattle.std.proofs.Common.{◌≡◌, ℕ, zero, suc, ◌+◌, ◌<◌, ◌≤◌, ◌^◌, Bool, true, false, List, [], ◌∷◌, ◌++◌, length, Option, Some, refl, ap, arith, length-append}
 use Rattle.tree_core.specs.declared.name.Name.{Name}
 use Rattle.tree_core.specs.declared.name.Declared.{Declared}
 use Rattle.tree_core.specs.declared.name.UpName.{UpName}
-use Rattle.tree_core.specs.declared.name.Place.{Place}
-use Rattle.tree_core.specs.declared.name.Place.TheVariants.{Unset, Upvalue, GlobalIn, GlobalOf, Local as LocalPlace}
 use Rattle.tree_core.specs.Tree.{Block, Falls, Returns, BodyOf, Stats, EndStats, MoreStats, Stat, Empty, Local, LocalFunction, Assign, CallStat, Do, While, Repeat, If, IfElse, NumFor, NumForStep, GenFor, Label, Goto, Break, Arms, EndArms, MoreArms, Exp, Nil, True, False, Int, Str, Vararg, Function, Var, Index, Call, Method, Unary, Binary, And, Or, Paren, Table, Exps, EndExps, MoreExps}
 use Rattle.code_core.specs.declared.proto.Const.{Const}
 use Rattle.code_of.specs.Constants.{of_block}
-use Rattle.code_of.specs.CodeOf.{back_field, body_code, where_known, variables_of, code_of}
+use Rattle.code_of.specs.CodeOf.{back_field, body_code, variables_of, code_of}
 use Rattle.code_of.specs.Expressions.{count, made_by, made_in, exp_code, exps_code}
 use Rattle.tree_terms.specs.Levels.{level_after, levels_after}
 use Rattle.code_of.specs.Levels.{made_by_stat, made_in_arms, made_in_block, closing_after}
 use Rattle.code_of.specs.Parts.{past_size, bounds_code, steps_code}
 use Rattle.code_of.specs.Sizes.{stat_size, arms_size, block_size}
 use Rattle.code_of.specs.Variables.{variables, names_of, hidden, declared_by, looped, within_stat, within_arms, within_stats, within_block, within_open}
-use Rattle.scope_core.specs.Held.{held_name, held, held_behind, count as held_count}
+use Rattle.scope_core.specs.Held.{held, held_behind, count as held_count}
 use Rattle.tree_terms.specs.Labels.{Named, names_ahead, names_passed}
-use Rattle.scope_laws.specs.Keeping.{StatKeeps, StatsKeep}
-use Rattle.tree_terms.specs.Weight.{weight_of_arguments, weight_of_exps, weight_of_stat, weight_of_arms, weight_of_stats, weight_of_block, weight_of_body}
+use Rattle.scope_laws.specs.Keeping.{StatsKeep}
+use Rattle.tree_terms.specs.Weight.{weight_of_stat, weight_of_arms, weight_of_stats, weight_of_block, weight_of_body}
+use Rattle.code_bounds.proofs.Holding.{some_name}
+use Rattle.scope_laws.proofs.Rules.{few_after}
+use Rattle.code_checked.proofs.Described.{known_below}
 
 -- an expression holds a value at least
-
-name_some : (place : Place) → 1 ≤ held_name place
-name_some Unset = omega arith
-name_some (LocalPlace n) = omega arith
-name_some (Upvalue u) = omega arith
-name_some (GlobalIn n) = omega arith
-name_some (GlobalOf u) = omega arith
 
 pub held_some : (e : Exp) → 1 ≤ held e
 held_some (Nil line) = omega arith
@@ -37,7 +31,7 @@ held_some (Int line z) = omega arith
 held_some (Str line bytes) = omega arith
 held_some (Vararg line) = omega arith
 held_some (Function line body) = omega arith
-held_some (Var line name) = name_some name.place
+held_some (Var line name) = some_name name.place
 held_some (Index line o k) = omega arith
 held_some (Call line f es) = omega arith
 held_some (Method line o name es) = omega arith
@@ -59,21 +53,12 @@ values_below (MoreExps e es) base before le room =
     let rest = values_below es base (before + 1) (omega (arith, room, some)) (omega (arith, room)) in
     omega (arith, rest)
 
-pub arguments_weigh : (es : Exps) → weight_of_exps es ≤ weight_of_arguments es
-arguments_weigh EndExps = omega arith
-arguments_weigh (MoreExps e es) = omega arith
-
 -- locals in scope
-
-pub level_few : (s : Stat) (vararg : Bool) (t : ℕ) (named : List Named) (loops : Bool) → t ≤ 200 → StatKeeps s vararg t named loops → level_after s t ≤ 200
-level_few (Local line names es) vararg t named loops le k = k.1
-level_few (LocalFunction line name body) vararg t named loops le k = k.1
-level_few _ vararg t named loops le k = le
 
 pub levels_few : (ss : Stats) (falls vararg : Bool) (t : ℕ) (names named : List Named) (loops : Bool) → t ≤ 200 → StatsKeep ss falls vararg t names named loops → levels_after ss t ≤ 200
 levels_few EndStats falls vararg t names named loops le k = le
 levels_few (MoreStats s ss) falls vararg t names named loops le k =
-    levels_few ss falls vararg (level_after s t) (names_passed s names) named loops (level_few s vararg t (names_ahead ss falls t (level_after s t) ++ (names ++ named)) loops le k.1.0) k.1.1
+    levels_few ss falls vararg (level_after s t) (names_passed s names) named loops (few_after s vararg t (names_ahead ss falls t (level_after s t) ++ (names ++ named)) loops le k.1.0) k.1.1
 
 -- variables of a function
 
@@ -181,10 +166,6 @@ module _ (cs : List Const) (back : ℕ) where
     open_few (Falls ss tokens line) closing t j pc end = stats_few ss closing t j pc end
     open_few (Returns ss es tokens line) closing t j pc end = let a = stats_few ss closing t j pc end in omega (arith, a)
 
-known_few : {A : Type 0} (source : Option (List ℕ)) (xs : List A) (n : ℕ) → length xs < n → length (where_known source xs) < n
-known_few None xs n h = omega (arith, h)
-known_few (Some name) xs n h = h
-
 pub locals_few : (source : Option (List ℕ)) (params : List Name) (vararg : Bool) (inner : Block) (ups : List UpName) (line : ℕ) → length params ≤ 200 → weight_of_body (BodyOf params vararg inner ups line) ≤ 2 ^ 21
     → length (code_of source (BodyOf params vararg inner ups line)).own.locals < 2 ^ 31
 locals_few source params vararg inner ups line few w =
@@ -195,4 +176,4 @@ locals_few source params vararg inner ups line few w =
     let a = length_variables params 0 n in
     let b = block_few cs back inner false 0 (length params) 0 first in
     let c = length-append (variables params 0 n) (within_block cs back inner false 0 (length params) 0 first) in
-    known_few source (variables_of (BodyOf params vararg inner ups line)) (2 ^ 31) (omega (arith, a, b, c, few, w))
+    known_below source (variables_of (BodyOf params vararg inner ups line)) (2 ^ 31) (omega (arith, a, b, c, few, w))

@@ -1,5 +1,5 @@
 -- An expression is placed where its names are found, its constants and functions have their numbers, and it is not too great.
-use Rattle.std.proofs.Common.{◌≡◌, ℕ, ◌+◌, ◌<◌, ◌≤◌, Bool, true, false, List, [], ◌∷◌, map, Option, refl, subst, rules, arith}
+use Rattle.std.proofs.Common.{◌≡◌, ℕ, ◌+◌, ◌<◌, ◌≤◌, Bool, true, false, List, [], ◌∷◌, subst, rules, arith}
 use Rattle.tree_core.specs.declared.name.Place.{Place}
 use Rattle.tree_core.specs.declared.name.Place.TheVariants.{Unset, Upvalue, GlobalIn, GlobalOf, Local as LocalPlace}
 use Rattle.tree_core.specs.declared.name.UpName.{UpName}
@@ -8,7 +8,7 @@ use Rattle.tree_terms.specs.Bodies.{upvalues_of}
 use Rattle.code_core.specs.declared.proto.Const.{Const}
 use Rattle.code_core.specs.declared.proto.Const.TheVariants.{Int as IntConst, Str as StrConst}
 use Rattle.code_of.specs.Expressions.{made_by, made_in, made_in_fields}
-use Rattle.code_of.specs.CodeOf.{upvalue, code_of}
+use Rattle.code_of.specs.CodeOf.{code_of}
 use Rattle.code_of.specs.Constants.{Found}
 use Rattle.exp_laws.specs.Placed.{Inner, Captures, NameIsPlaced, IsPlaced, ArePlaced, FieldsArePlaced}
 use Rattle.tree_terms.specs.Hidden.{IsNoneOf}
@@ -19,6 +19,7 @@ use Rattle.code_bounds.proofs.Constants.{found}
 use Rattle.tree_terms.specs.Weight.{weight, weight_of_exps, weight_of_fields}
 use Rattle.code_bounds.proofs.Counts.{arguments_weigh}
 use Rattle.source_laws.proofs.Around.{Around, constants_of, functions_of}
+use Rattle.stat_laws.proofs.Raised.{upvalues_same}
 
 -- every expression weighs something
 some_weight : (e : Exp) → 1 ≤ weight e
@@ -40,9 +41,6 @@ some_weight (Or line e d) = omega arith
 some_weight (Paren line e) = omega arith
 some_weight (Table line fs) = omega arith
 
-own_upvalues : (source : Option (List ℕ)) (body : Body) → (code_of source body).own.upvalues ≡ map upvalue (upvalues_of body)
-own_upvalues source (BodyOf params vararg inner ups line) = refl
-
 module _ (x : Around) where
   pub constant_found : (c : Const) → Has (constants_of x) c → Found (constants_of x) c
   constant_found c h = found (constants_of x) c x.constants_few h
@@ -53,7 +51,7 @@ module _ (x : Around) where
         prototype = code_of x.source body;
         there = m;
         near = let few = x.made in omega (arith, b, few);
-        upvalues = own_upvalues x.source body;
+        upvalues = upvalues_same x.source body;
         alike = λ n lt. let none_asked = x.none_asked in absurd (omega (arith, lt, none_asked));
       }
 

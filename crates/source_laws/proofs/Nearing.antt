@@ -21,7 +21,9 @@ use Rattle.source_laws.specs.Fields.{FunctionFits, LoopFits}
 use Rattle.tree_terms.specs.Weight.{weight, weight_of_exps, weight_of_fields, weight_of_stat, weight_of_arms, weight_of_stats, weight_of_block, weight_of_body}
 use Rattle.code_bounds.proofs.Functions.{body_made}
 use Rattle.code_checked.specs.Near.{NameIsNear, AreCaptured, ExpIsNear, ExpsAreNear, FieldsAreNear, TargetIsNear, TargetsAreNear, StatIsNear, ArmsAreNear, StatsAreNear, BlockIsNear, AreNear}
-use Rattle.source_laws.proofs.Counting.{held_some, count_same, values_below, arguments_weigh, level_few, levels_few, locals_few}
+use Rattle.source_laws.proofs.Counting.{held_some, count_same, values_below, levels_few, locals_few}
+use Rattle.code_bounds.proofs.Counts.{arguments_weigh}
+use Rattle.scope_laws.proofs.Rules.{few_after}
 
 -- a function under way: its code has the function's `...` and upvalues
 record Around : Type 0 where
@@ -174,7 +176,7 @@ module _ (source : Option (List ℕ)) where
     near_stats x EndStats falls hidden names named loops closing t j le k n f i s w = tt
     near_stats x (MoreStats st ss) falls hidden names named loops closing t j le k n f i s w = (
       near_stat x st hidden (names_ahead ss falls t (level_after st t) ++ (names ++ named)) loops closing t j le k.0 k.1.0 n.0 f.0 i.0 s.0 (omega (arith, w)),
-      near_stats x ss falls hidden (names_passed st names) named loops (closing_after st closing) (level_after st t) (j + made_by_stat st) (level_few st x.vararg t _ loops le k.1.0) k.1.1 n.1 f.1 i.1 s.1 (omega (arith, w)),
+      near_stats x ss falls hidden (names_passed st names) named loops (closing_after st closing) (level_after st t) (j + made_by_stat st) (few_after st x.vararg t _ loops le k.1.0) k.1.1 n.1 f.1 i.1 s.1 (omega (arith, w)),
     )
 
     near_block : (x : Around) (block : Block) (falls : Bool) (hidden : List ℕ) (named : List Named) (loops closing : Bool) (t j : ℕ) → t ≤ 200 → BlockKeeps block falls x.vararg t named loops → BlockFinds block hidden t x.ups → BlockIsFormed block → BlockFits source x.code block j

@@ -1,21 +1,19 @@
 -- The texts of a source's tokens are no longer than six times the source, so they fit, and their integers have 64 bits.
-use Rattle.std.proofs.Common.{◌≡◌, ℕ, ◌+◌, ◌-◌, ◌*◌, ◌≤◌, Bool, true, false, List, [], ◌∷◌, ◌++◌, length, drop, Option, Some, None, sym, ap, arith, length-append, length-drop, lt-ltb, le-leb, ◌⊎◌, inl, inr, subst, IsTrue}
+use Rattle.std.proofs.Common.{ℕ, ◌+◌, ◌*◌, ◌≤◌, Bool, true, false, List, [], ◌∷◌, ◌++◌, length, drop, Option, Some, None, sym, ap, arith, length-append, length-drop, lt-ltb, le-leb, ◌⊎◌, inl, inr, subst, IsTrue}
 use Rattle.std.specs.Prelude.{ℤ, pos, negsuc, slice_index, take_while, nat_lt, if◌then◌else◌, FitsSigned}
 use Rattle.std.specs.Int.{w64}
-use Rattle.std.specs.List.{prefix_len, position_or_len}
+use Rattle.std.specs.List.{prefix_len}
 use Rattle.std.proofs.lemmas.Int.{SFits-int_wrap}
 use Rattle.std.proofs.lemmas.List.Folds.{length-prefix_len}
 use Rattle.std.proofs.lemmas.List.Sums.{prefix_len-le-length}
-use Rattle.int_core.specs.Numeral.{is_space, digits_value, signed, IsDecimal, IsHexadecimal}
+use Rattle.int_core.specs.Numeral.{digits_value, signed, IsDecimal, IsHexadecimal}
 use Rattle.int_core.specs.Value.{greatest_string}
 use Rattle.code_core.specs.Writable.{signed_fits}
 use Rattle.code_checked.specs.Written.{TextFits}
 use Rattle.token_cursor.specs.Words.{Lexeme}
 use Rattle.lua_lex.specs.declared.token.Token.{Token}
 use Rattle.lua_lex.specs.declared.kind.Kind.{Kind}
-use Rattle.lua_lex.specs.declared.kind.Kind.TheVariants.{Space, Comment, LongComment, Word, Numeral, ShortString, LongString, Symbol}
-use Rattle.lua_lex.specs.declared.escape.Escape.{Escape}
-use Rattle.lua_lex.specs.declared.escape.Escape.TheVariants as escape
+use Rattle.lua_lex.specs.declared.kind.Kind.TheVariants.{Word, Numeral, ShortString, LongString, Symbol}
 use Rattle.lua_lex.specs.declared.escape.Meaning.{Meaning}
 use Rattle.lua_lex.specs.declared.escape.Meaning.TheVariants as meant
 use Rattle.lua_lex.specs.declared.quoted.Element.{Element}
@@ -26,14 +24,12 @@ use Rattle.lua_lex.specs.Brackets.{level_of, closer, LongBracket}
 use Rattle.lua_lex.specs.Utf8.{sequence, extended_utf8}
 use Rattle.lua_lex.specs.Strings.{decimal_len, unicode_len, escape_of, element_of, meaning_bytes, IsEscapeOf, IsElementOf, Quoted}
 use Rattle.lua_lex.specs.Strings as strings
-use Rattle.lua_lex.specs.Lexical.{kind_of, SkipsOf, Gap, nothing, piece, word_token, IsTokenOf, TokensFrom, ends, goes_on}
+use Rattle.lua_lex.specs.Lexical.{kind_of, word_token, IsTokenOf, TokensFrom, ends, goes_on}
 use Rattle.grammar_laws.proofs.Walk.{AreKnown}
 use Rattle.source_laws.proofs.TextParts.{TokenFits, LexemeFits}
+use Rattle.grammar_laws.proofs.Bytes.{escape_takes, gap_takes, dropped}
 
 -- what is dropped leaves no more
-
-dropped : (n : ℕ) (text : List ℕ) {rest : List ℕ} → rest ≡ drop n text → length rest ≤ length text - n
-dropped n text e = omega (arith, ap length e, length-drop n text)
 
 -- long brackets
 
@@ -91,19 +87,10 @@ meaning_short (meant.Character value) = utf8_short value
 
 -- strings between quotes
 
-escape_passes : (kind : Escape) (text : List ℕ) (meaning : Meaning) (rest : List ℕ) → IsEscapeOf kind text meaning rest → length rest ≤ length text
-escape_passes (escape.Letter value) text meaning rest h = omega (arith, dropped 1 text h.1)
-escape_passes escape.LineEnd text meaning rest h = omega (arith, dropped (end_len text) text h.1)
-escape_passes escape.Space text meaning rest h = omega (arith, dropped (1 + prefix_len is_space (drop 1 text)) text h.1)
-escape_passes escape.Hexadecimal text meaning rest h = omega (arith, dropped 3 text h.3)
-escape_passes escape.Decimal text meaning rest h = omega (arith, dropped (decimal_len text) text h.2)
-escape_passes escape.Unicode text meaning rest h = omega (arith, dropped (3 + unicode_len text) text h.2)
-escape_passes escape.Unknown text meaning rest h = absurd h
-
 element_grows : (kind : Element) (first : ℕ) (text bytes rest : List ℕ) → IsElementOf kind (first ∷ text) bytes rest → length bytes + 6 * length rest ≤ 6 * length (first ∷ text)
 element_grows element.Plain first text bytes rest h = omega (arith, ap length h.0, dropped 1 (first ∷ text) h.1)
 element_grows element.Backslash first text bytes rest h =
-    omega (arith, ap length h.2, meaning_short h.0, escape_passes (escape_of (slice_index (drop 1 (first ∷ text)) 0)) (drop 1 (first ∷ text)) h.0 rest h.1, length-drop 1 (first ∷ text))
+    omega (arith, ap length h.2, meaning_short h.0, escape_takes (escape_of (slice_index (drop 1 (first ∷ text)) 0)) (drop 1 (first ∷ text)) h.0 rest h.1, length-drop 1 (first ∷ text))
 element_grows _ first text bytes rest h = absurd h
 
 no_element : (quote : ℕ) (bytes rest : List ℕ) → IsElementOf (element_of quote []) [] bytes rest → ⊥
@@ -120,16 +107,6 @@ quoted_grows {quote = quote} {text = text} (strings.goes_on {content = content} 
     omega (arith, element_of_some quote text bytes between e, quoted_grows h, length-append bytes content)
 
 -- what is skipped
-
-skip_passes : (kind : Kind) (text rest : List ℕ) → SkipsOf kind text rest → length rest ≤ length text
-skip_passes Space text rest h = omega (arith, dropped 1 text h)
-skip_passes Comment text rest h = omega (arith, dropped (2 + position_or_len is_line_end (drop 2 text)) text h)
-skip_passes LongComment text rest h = let b = (bracketed (drop 2 text) h.0 rest h.1).rest_fits in omega (arith, b, length-drop 2 text)
-skip_passes _ text rest h = absurd h
-
-gap_passes : {text rest : List ℕ} → Gap text rest → length rest ≤ length text
-gap_passes nothing = omega arith
-gap_passes (piece {text = text} {between = between} h gap) = omega (arith, skip_passes (kind_of text) text between h, gap_passes gap)
 
 -- tokens
 
@@ -189,7 +166,7 @@ taken _ text token rest small h = absurd h
 pub tokens_fit : {line : ℕ} {text : List ℕ} {list : List Lexeme} → 6 * length text ≤ greatest_string → TokensFrom line text list → AreKnown LexemeFits list
 tokens_fit small (ends gap) = (tt, tt)
 tokens_fit small (goes_on start rest token list gap h more) =
-    let before = gap_passes gap in
+    let before = gap_takes gap in
     let one = taken (kind_of start) start token rest (omega (arith, small, before)) h in
     let leaves = one.leaves in
     (one.fits, tokens_fit (omega (arith, small, before, leaves)) more)

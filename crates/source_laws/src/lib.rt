@@ -4,4 +4,7 @@
 
 mod law;
 
-pub use law::{bodies_are_near, bodies_fit, code_fits_its_fields, code_means_source, code_of_sources_is_checked};
+pub use law::{
+    bodies_are_near, bodies_fit, code_fits_its_fields, code_means_source,
+    code_of_sources_is_checked,
+};

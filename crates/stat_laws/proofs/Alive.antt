@@ -8,7 +8,7 @@ use Rattle.tree_activation.specs.Statements.{is_closed}
 use Rattle.code_core.specs.declared.proto.LocVar.{LocVar}
 use Rattle.code_core.specs.Prototype.{Prototype}
 use Rattle.machine_core.specs.InstructionRows.{is_alive, variable_name}
-use Rattle.list_laws.proofs.Tests.{lt_not}
+use Rattle.list_laws.proofs.Tests.{lt_not, both_true}
 use Rattle.code_core.specs.declared.opcode.Opcode.TheVariants.{Tbc}
 use Rattle.code_of.specs.Coded.{with_abc}
 use Rattle.code_of.specs.Parts.{marks_code}
@@ -23,12 +23,8 @@ and_false : (b c : Bool) → c ≡ false → (b && c) ≡ false
 and_false true c e = e
 and_false false c e = refl
 
-and_true : (b c : Bool) → b ≡ true → c ≡ true → (b && c) ≡ true
-and_true true c e d = d
-and_true false c e d = absurd (cc)
-
 pub is_in : (q : ℕ) (v : LocVar) → v.start ≤ q → q < v.end → is_alive q v ≡ true
-is_in q v from to = and_true (nat_le v.start q) (nat_lt q v.end) (le-leb v.start q from) (lt-ltb q v.end to)
+is_in q v from to = both_true (nat_le v.start q) (nat_lt q v.end) (le-leb v.start q from) (lt-ltb q v.end to)
 
 is_out : (q : ℕ) (v : LocVar) → v.end ≤ q → is_alive q v ≡ false
 is_out q v to = and_false (nat_le v.start q) (nat_lt q v.end) (lt_not q v.end (λ l. absurd (omega (arith, l, to))))

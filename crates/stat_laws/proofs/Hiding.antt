@@ -13,7 +13,7 @@ use Rattle.exp_laws.proofs.Registers.{Among, AllUnder, IsFree, IsInteger, HeldBe
 use Rattle.exp_laws.proofs.Placing.{HasAt}
 use Rattle.tree_terms.specs.Labels.{Named}
 use Rattle.stat_laws.proofs.Standing.{Standing, GoesOn}
-use Rattle.stat_laws.proofs.Values.{split_at}
+use Rattle.list_laws.proofs.Tests.{split}
 use Rattle.stat_laws.proofs.Labels.{JumpGoes, Jumps}
 
 -- captured locals
@@ -26,9 +26,9 @@ none_between : (m t : ℕ) → m < t + 3 → (t ≡ m → ⊥) → (t + 1 ≡ m 
 none_between m t lt a b c =
     ⊎_elim (λ h. h)
     (λ h. ⊎_elim (λ g. absurd (a (omega arith)))
-    (λ g. ⊎_elim (λ f. absurd (b (omega arith))) (λ f. absurd (c (omega arith))) (split_at m (t + 2)))
-    (split_at m (t + 1)))
-    (split_at m t)
+    (λ g. ⊎_elim (λ f. absurd (b (omega arith))) (λ f. absurd (c (omega arith))) (split m (t + 2)))
+    (split m (t + 1)))
+    (split m t)
 
 -- where no local behind the hidden ones is captured, and none of these, all captured ones are in front of them
 pub held_down : (held : List (ℕ × ℕ)) (t : ℕ) → HeldBelow held (t + 3) → IsFree t held → IsFree (t + 1) held → IsFree (t + 2) held → HeldBelow held t

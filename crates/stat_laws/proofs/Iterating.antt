@@ -40,7 +40,7 @@ use Rattle.exp_laws.proofs.Going.{next_there, at_place}
 use Rattle.exp_laws.proofs.Asking.{asks_alike}
 use Rattle.exp_laws.proofs.Steps.{own_step, go_step}
 use Rattle.exp_laws.proofs.Calls.{filled, values_step}
-use Rattle.exp_laws.proofs.Marking.{with_one, GoesMarked}
+use Rattle.exp_laws.proofs.Marking.{with_one, GoesMarked, ascends_more}
 use Rattle.exp_laws.proofs.Exps.{exps_same}
 use Rattle.code_of.proofs.Sizes.{block_sized}
 use Rattle.stat_laws.proofs.Closing.{AllBelow, close_goes}
@@ -68,12 +68,6 @@ named_so : (b : Bool) (name unknown : List ℕ) → name ≡ unknown → name �
 named_so true name unknown e = e
 named_so false name unknown e = e
 
-ascends_one : (from : ℕ) (ps : List Pending) (t to : ℕ) (needed : Bool) → Ascends from ps t → from ≤ t → t < to → Ascends from (ps ++ record { number = t; needed = needed } ∷ []) to
-ascends_one from [] t to needed h le lt = (le, (lt, tt))
-ascends_one from (p ∷ ps) t to needed h le lt =
-    let below = h.1.0 in
-    (h.0, (omega (arith, below, lt), ascends_one (suc p.number) ps t to needed h.1.1 (omega (arith, below)) lt))
-
 pub back_to : (q bx target : ℕ) → target + bx ≡ q + 1 → pos q +ℤ (pos 1 -ℤ pos bx) ≡ pos target
 back_to q bx target e = grind (arith, e)
 
@@ -81,7 +75,7 @@ back_to q bx target e = grind (arith, e)
 module _ (S : Setting) (pending : List Pending) where
   rel_one : (t : ℕ) (needed : Bool) (env : List Value) (c : Captured) (regs : List Value) → Ascends 0 pending t → t < length env → Rel S.hidden S.code.own.stack pending env c regs → Rel S.hidden S.code.own.stack (with_one S pending t needed) env c regs
   rel_one t needed env c regs above lt rel =
-      record { agree = rel.agree; held = rel.held; hides = rel.hides; ascends = ascends_one 0 pending t (length env) needed above (omega arith) lt; fits = rel.fits; room = rel.room }
+      record { agree = rel.agree; held = rel.held; hides = rel.hides; ascends = ascends_more 0 pending t (length env) needed above (omega arith) lt; fits = rel.fits; room = rel.room }
 
   prepares_goes : (n line t bx pc opened : ℕ) (next_of : Control) (env regs : List Value) (c : Captured) (k : List Work) → HasAt S pc (with_abx TForPrep t bx line ∷ []) → pc + (bx + 1) < length S.code.own.code → bx < 2 ^ 17
       → variable_name S.code pc (t + 3) ≡ codes "?" → Ascends 0 pending (t + 3) → t + 3 < length env → Rel S.hidden S.code.own.stack pending env c regs → GoesMarked S pending n (length env) (t + 3) (pc + (bx + 1)) opened next_of k

@@ -20,6 +20,6 @@ mod Numeric
 mod Bounds
 mod Statements
 mod Lines
-mod Raised
+pub mod Raised
 pub mod Whole
 mod Example

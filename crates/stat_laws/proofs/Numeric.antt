@@ -20,7 +20,7 @@ use Rattle.machine_core.specs.InstructionRows.{next, back, integer_of_shape, pre
 use Rattle.machine_core.specs.Talk as code
 use Rattle.machine_core.specs.Talk.{before, amid, talk, talk_step, says_so}
 use Rattle.list_laws.proofs.Items.{append_nil}
-use Rattle.list_laws.proofs.Values.{nth_write_same, nth_write_other, write_more}
+use Rattle.list_laws.proofs.Values.{nth_write_same, nth_write_other, write_more, length_take}
 use Rattle.list_laws.proofs.Tests.{eq_true}
 use Rattle.code_of.specs.Coded.{Coded, with_abx}
 use Rattle.code_of.specs.Jumps.{Reach}
@@ -39,7 +39,7 @@ use Rattle.tree_terms.specs.Labels.{Named}
 use Rattle.stat_laws.specs.Scoped.{IsNear, BlockIsPlaced}
 use Rattle.code_of.proofs.Sizes.{block_sized}
 use Rattle.stat_laws.proofs.Naming.{BlockIsNamed}
-use Rattle.stat_laws.proofs.Closing.{AllBelow, cut, cut_none, length_take, rel_left, leave_done}
+use Rattle.stat_laws.proofs.Closing.{AllBelow, cut, cut_none, rel_left, leave_done}
 use Rattle.stat_laws.proofs.Standing.{strong, numbers, ascends_under, below_higher, Standing, GoesOn, goes_fewer}
 use Rattle.stat_laws.proofs.Labels.{Jumps, jumps_within}
 use Rattle.stat_laws.proofs.Blocks.{has_some}

@@ -15,7 +15,7 @@ use Rattle.tree_terms.specs.Labels.{Named, names_ahead, names_passed}
 use Rattle.stat_laws.specs.Scoped.{TargetsArePlaced, LastIsPlaced, ReturnIsPlaced, BoundsArePlaced, StatIsPlaced, ArmsArePlaced, StatsArePlaced, BlockIsPlaced, OpenIsPlaced}
 use Rattle.stat_laws.specs.Fits.{is_known, setting, BodyFits, InExp, InExps, InFields, InStat, InArms, InStats, InBlock}
 
-upvalues_same : (source : Option (List ℕ)) (body : Body) → (code_of source body).own.upvalues ≡ map upvalue (upvalues_of body)
+pub upvalues_same : (source : Option (List ℕ)) (body : Body) → (code_of source body).own.upvalues ≡ map upvalue (upvalues_of body)
 upvalues_same source (BodyOf params vararg inner ups line) = refl
 
 module _ (source : Option (List ℕ)) (p : Prototype) (bound : ℕ) (varargs : List Value) (small : p.own.stack < 2 ^ 8) (short : length p.own.code ≤ 2 ^ 24)

@@ -1,7 +1,6 @@
 -- A function's list of variables gives each variable to be closed its name at its mark.
 use Rattle.std.proofs.Common.{◌≡◌, ℕ, ◌+◌, ◌<◌, ◌≤◌, Bool, true, false, cond, List, [], ◌∷◌, ◌++◌, length, Option, Some, None, refl, sym, ap, subst, ◌∙◌, arith, length-append, append_assoc}
 use Rattle.std.proofs.lemmas.List.{length-map}
-use Rattle.std.specs.Prelude.{nat_eq}
 use Rattle.tree_core.specs.declared.name.Name.{Name}
 use Rattle.tree_core.specs.Tree.{Block, Falls, Returns, BodyOf, Stats, EndStats, MoreStats, Stat, Empty, Local, LocalFunction, Assign, CallStat, Do, While, Repeat, If, IfElse, NumFor, NumForStep, GenFor, Label, Goto, Break, Arms, EndArms, MoreArms}
 use Rattle.code_core.specs.declared.proto.Const.{Const}
@@ -10,16 +9,16 @@ use Rattle.code_core.specs.Prototype.{Prototype}
 use Rattle.code_of.specs.Expressions.{made_by, made_in, exp_code, exps_code}
 use Rattle.code_of.specs.Levels.{made_by_stat, made_in_arms, made_in_block, closing_after}
 use Rattle.tree_terms.specs.Levels.{level_after, levels_after}
-use Rattle.code_of.specs.Parts.{past_size, bounds_code, steps_code, close_code}
+use Rattle.code_of.specs.Parts.{past_size, bounds_code, steps_code}
 use Rattle.list_laws.proofs.Items.{append_nil}
-use Rattle.code_core.specs.declared.opcode.Opcode.TheVariants.{Close, Return}
+use Rattle.code_core.specs.declared.opcode.Opcode.TheVariants.{Return}
 use Rattle.tree_core.specs.declared.name.UpName.{UpName}
 use Rattle.code_of.specs.Coded.{Coded, with_abc}
 use Rattle.code_of.specs.CodeOf.{back_field, opening, body_code, code_of}
 use Rattle.code_of.specs.Constants.{of_block}
 use Rattle.code_of.specs.Statements.{stats_code, whole_code}
 use Rattle.stat_laws.specs.Fits.{is_known}
-use Rattle.code_of.proofs.Sizes.{stats_sized, block_sized}
+use Rattle.code_of.proofs.Sizes.{stats_sized, block_sized, close_short}
 use Rattle.code_of.specs.Sizes.{stat_size, arms_size, stats_size, block_size, open_size}
 use Rattle.code_of.specs.Variables.{names_of, variables, hidden, looped, declared_by, within_stat, within_arms, within_stats, within_block, within_open}
 use Rattle.stat_laws.proofs.Naming.{StatIsNamed, ArmsAreNamed, StatsAreNamed, BlockIsNamed, OpenIsNamed}
@@ -278,13 +277,6 @@ module _ (lines : Bool) (p : Prototype) (back : ℕ) where
 begin_size : (vararg : Bool) (params line : ℕ) → length (opening vararg params line) ≡ cond vararg 1 0
 begin_size true params line = refl
 begin_size false params line = refl
-
-close_short : (before after line : ℕ) → length (close_code before after line) ≤ 1
-close_short before after line = by (nat_eq before after)
-  where
-    by : (b : Bool) → length (cond b [] (with_abc Close before 0 0 line ∷ [])) ≤ 1
-    by true = omega arith
-    by false = omega arith
 
 whole_wide : (cs : List Const) (back : ℕ) (inner : Block) (params pc : ℕ) → block_size cs back inner false 0 params 0 ≤ length (whole_code cs back inner params pc)
 whole_wide cs back (Falls ss tokens line) params pc =

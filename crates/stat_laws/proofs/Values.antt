@@ -1,5 +1,5 @@
 -- Declarations of locals, to be closed or not, and calls that are statements.
-use Rattle.std.proofs.Common.{◌≡◌, ℕ, zero, suc, ◌+◌, ◌-◌, ◌<◌, ◌≤◌, lit<, Bool, true, false, cond, List, [], ◌∷◌, ◌++◌, length, Some, ⊎_elim, ◌⊎◌, refl, sym, ap, subst, ◌∙◌, arith, append_assoc, length-append}
+use Rattle.std.proofs.Common.{◌≡◌, ℕ, zero, suc, ◌+◌, ◌-◌, ◌<◌, ◌≤◌, lit<, Bool, true, false, cond, List, [], ◌∷◌, ◌++◌, length, Some, ⊎_elim, refl, sym, ap, subst, ◌∙◌, arith, append_assoc, length-append}
 use Rattle.int_core.specs.Value.{Value, nth}
 use Rattle.int_core.specs.Ask.{Captured}
 use Rattle.tree_core.specs.declared.name.Declared.{Declared}
@@ -34,6 +34,7 @@ use Rattle.stat_laws.proofs.Naming.{past_mark, AreNamed}
 use Rattle.stat_laws.proofs.Closing.{AllBelow}
 use Rattle.stat_laws.proofs.Standing.{numbers, below_higher, ascends_under}
 use Rattle.stat_laws.proofs.Blocks.{StatLaw, below_more}
+use Rattle.list_laws.proofs.Tests.{split}
 
 pub length_fitted : (n : ℕ) (vs : List Value) → length (fitted n vs) ≡ n
 length_fitted zero vs = refl
@@ -47,9 +48,6 @@ nth_fitted (suc n) [] (suc i) h = nth_fitted n [] i (omega arith)
 nth_fitted (suc n) (v ∷ vs) zero h = refl
 nth_fitted (suc n) (v ∷ vs) (suc i) h = nth_fitted n vs i (omega arith)
 
-pub split_at : (r n : ℕ) → (r < n) ⊎ (n ≤ r)
-split_at r n = grind arith
-
 -- locals are declared whose values stand in the registers behind those in scope
 pub rel_declared : (hidden : List ℕ) (stack t m : ℕ) (ps : List Pending) (env regs vs : List Value) (c : Captured) → length env ≡ t → t + m ≤ stack → AllUnder hidden t → Holds t m vs regs → Rel hidden stack ps env c regs
     → Rel hidden stack ps (env ++ fitted m vs) c regs
@@ -57,7 +55,7 @@ rel_declared hidden stack t m ps env regs vs c size room under held rel =
     let sum = length-append env (fitted m vs) in
     let wide = length_fitted m vs in
     record {
-      agree = λ r lr. ⊎_elim (λ h. nth_old env (fitted m vs) r h ∙ rel.agree r h) (λ h. new r (omega (arith, sum, wide, size, lr)) h) (split_at r (length env));
+      agree = λ r lr. ⊎_elim (λ h. nth_old env (fitted m vs) r h ∙ rel.agree r h) (λ h. new r (omega (arith, sum, wide, size, lr)) h) (split r (length env));
       held = held_higher c.held (length env) (length (env ++ fitted m vs)) (omega (arith, sum)) rel.held;
       hides = hides_more hidden env (fitted m vs) c.held (subst (AllUnder hidden) (sym size) under) rel.hides;
       ascends = ascends_higher 0 (length env) (length (env ++ fitted m vs)) ps (omega (arith, sum)) rel.ascends;

@@ -48,7 +48,8 @@ use Rattle.stat_laws.proofs.Values.{length_fitted, nth_fitted}
 use Rattle.stat_laws.proofs.Naming.{BlockIsNamed}
 use Rattle.stat_laws.proofs.Scopes.{body_named}
 use Rattle.stat_laws.proofs.Statements.{stats_goes}
-use Rattle.stat_laws.proofs.Lines.{lines_back, has_all}
+use Rattle.code_of.proofs.Lines.{lines_back}
+use Rattle.stat_laws.proofs.Lines.{has_all}
 use Rattle.stat_laws.specs.Fits.{is_known, setting, BlockFits, BodyFits, InBlock}
 use Rattle.stat_laws.proofs.Raised.{stats_up, return_up}
 
