@@ -1,3 +1,6 @@
 pub mod TableLemmas
 pub mod ValueLemmas
 pub mod BorderLemmas
+pub mod PlaceLemmas
+pub mod NumberedLemmas
+pub mod SplitLemmas

@@ -1,8 +1,7 @@
 -- What a write, a new row and the dropping of cleared rows do to what a table keeps.
-use Rattle.std.proofs.Common.{◌≡◌, ℕ, zero, suc, ◌+◌, ◌-◌, ◌<◌, ◌≤◌, ◌^◌, Bool, true, false, cond, nat_lt, List, [], ◌∷◌, ◌++◌, length, drop, filter, refl, sym, ◌∙◌, ap, subst, arith, add-one, length-append, rules}
+use Rattle.std.proofs.Common.{◌≡◌, ℕ, zero, suc, ◌+◌, ◌-◌, ◌<◌, ◌≤◌, ◌^◌, Bool, true, false, cond, nat_lt, List, [], ◌∷◌, ◌++◌, length, drop, take, filter, refl, sym, ◌∙◌, ap, subst, arith, add-one, rules}
 use Rattle.std.proofs.lemmas.Bool.Decides.{nat_tests}
-use Rattle.std.proofs.lemmas.List.{map-append}
-use Rattle.std.proofs.lemmas.List.Elements.{filter-append}
+use Rattle.std.proofs.lemmas.List.{append-nil, map-append}
 use Rattle.std.proofs.lemmas.List.Filters.{length-filter_both}
 use Rattle.std.proofs.lemmas.List.Folds.{list_any-append}
 use Rattle.std.proofs.lemmas.List.Sums.{count_by-le-length, length-filter, sum_by-append, sum_by-cons}
@@ -16,6 +15,7 @@ use Rattle.table_core.specs.declared.value.Value.{Value}
 use Rattle.table_core.specs.declared.value.Value.TheVariants.{Nil, Int}
 use Rattle.table_core.specs.Table.{IsKept}
 use Rattle.table_core.specs.Value.{is_nil, lua_values, value_eq}
+use Rattle.table_core.proofs.NumberedLemmas.{filter-taken}
 use Rattle.table_core.proofs.ValueLemmas.{nil-other}
 
 abbrev Rows : Type 0
@@ -111,34 +111,18 @@ IsKept-filter rows cleared is distinct = record {
   few = omega (arith, is.few, length-filter (is_filled lua_values) rows, count_by-le-length (is_filled lua_values) rows);
 }
 
--- the rows that stay, by the number of the rows with the new one
-pub kept-crowded : (rows : Rows) (cleared n : ℕ) → IsKept rows cleared → n ≡ length rows + 1 → n - cleared ≤ cleared → kept lua_values rows ≡ filter (is_filled lua_values) rows
-kept-crowded rows cleared n is len crowded =
+-- the rows that stay
+pub kept-crowded : (rows : Rows) (cleared : ℕ) → IsKept rows cleared → length rows - cleared < cleared → kept lua_values rows ≡ filter (is_filled lua_values) rows
+kept-crowded rows cleared is crowded =
     let fewer : nat_lt (count_by (is_filled lua_values) rows) (count_by (is_cleared lua_values) rows) ≡ true =
     let below : count_by (is_filled lua_values) rows < count_by (is_cleared lua_values) rows = omega (arith, both-length rows, is.counted) in grind (arith, nat_tests) in
     rw fewer refl
 
-pub kept-roomy : (rows : Rows) (cleared n : ℕ) → IsKept rows cleared → n ≡ length rows + 1 → cleared < n - cleared → kept lua_values rows ≡ rows
-kept-roomy rows cleared n is len roomy =
+pub kept-roomy : (rows : Rows) (cleared : ℕ) → IsKept rows cleared → cleared ≤ length rows - cleared → kept lua_values rows ≡ rows
+kept-roomy rows cleared is roomy =
     let enough : nat_lt (count_by (is_filled lua_values) rows) (count_by (is_cleared lua_values) rows) ≡ false =
     let above : count_by (is_cleared lua_values) rows ≤ count_by (is_filled lua_values) rows = omega (arith, both-length rows, is.counted) in grind (arith, nat_tests) in
     rw enough refl
-
-pub filter-new : (rows : Rows) (key w : Value) → is_nil w ≡ false → filter (is_filled lua_values) (rows ++ (key, w) ∷ []) ≡ filter (is_filled lua_values) rows ++ (key, w) ∷ []
-filter-new rows key w filled = filter-append (is_filled lua_values) rows ((key, w) ∷ []) ∙ rw filled refl
-
-length-grown : (rows grown : Rows) (row : Value × Value) → grown ≡ rows ++ row ∷ [] → length grown ≡ length rows + 1
-length-grown rows grown row added = rw added (length-append rows (row ∷ []))
-
-pub grown-dropped : (rows grown : Rows) (cleared n : ℕ) (key w : Value) → IsKept rows cleared → grown ≡ rows ++ (key, w) ∷ [] → is_nil w ≡ false → n ≡ length grown → n - cleared ≤ cleared → filter (is_filled lua_values) grown ≡ kept lua_values rows ++ (key, w) ∷ []
-grown-dropped rows grown cleared n key w is added filled len crowded =
-    let more : n ≡ length rows + 1 = len ∙ length-grown rows grown (key, w) added in
-    rw (added, kept-crowded rows cleared n is more crowded) (filter-new rows key w filled)
-
-pub grown-whole : (rows grown : Rows) (cleared n : ℕ) (key w : Value) → IsKept rows cleared → grown ≡ rows ++ (key, w) ∷ [] → n ≡ length grown → cleared < n - cleared → grown ≡ kept lua_values rows ++ (key, w) ∷ []
-grown-whole rows grown cleared n key w is added len roomy =
-    let more : n ≡ length rows + 1 = len ∙ length-grown rows grown (key, w) added in
-    rw (kept-roomy rows cleared n is more roomy) added
 
 -- ---- rows by their places
 
@@ -173,3 +157,11 @@ set-nil rows key w none nil = rw (absent-by_lookup rows key none, nil) refl
 
 pub set-new : (rows : Rows) (key w : Value) → lookup (value_eq key) rows ≡ None → is_nil w ≡ false → set lua_values rows key w ≡ kept lua_values rows ++ (key, w) ∷ []
 set-new rows key w none filled = rw (absent-by_lookup rows key none, filled) refl
+
+-- ---- the filled rows among the first ones
+
+pub filled-skipped : (rows : Rows) (at : ℕ) (row : Value × Value) → slice_get rows at ≡ Some row → is_nil row.1 ≡ true → filter (is_filled lua_values) (take (at + 1) rows) ≡ filter (is_filled lua_values) (take at rows)
+filled-skipped rows at row found cleared = filter-taken (is_filled lua_values) rows at row found ∙ rw cleared (append-nil (filter (is_filled lua_values) (take at rows)))
+
+pub filled-kept : (rows : Rows) (at : ℕ) (row : Value × Value) → slice_get rows at ≡ Some row → is_nil row.1 ≡ false → filter (is_filled lua_values) (take (at + 1) rows) ≡ filter (is_filled lua_values) (take at rows) ++ row ∷ []
+filled-kept rows at row found filled = filter-taken (is_filled lua_values) rows at row found ∙ rw filled refl

@@ -1,2 +1,4 @@
 pub mod Value
+pub mod Places
+pub mod Indexed
 pub mod Table

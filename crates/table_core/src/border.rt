@@ -4,21 +4,15 @@ ghost use Rattle.int_core.specs.Rows.{IsBorder, behind, get};
 ghost use Rattle.table_core.specs.Table.{IsBorderBeside};
 ghost use Rattle.table_core.specs.Value.{is_nil, lua_values};
 
-use crate::rows::value_at;
+use crate::rows::Rows;
 use crate::value::Value;
-use indexmap::IndexMap;
 
 /// The border after a write, from the one before it.
-pub(crate) fn mended(
-    rows: &IndexMap<Value, Value>,
-    border: usize,
-    key: Value,
-    value: Value,
-) -> usize
-    requires beside { IsBorderBeside rows.now.entries key border }
+pub(crate) fn mended(rows: &Rows, border: usize, key: Value, value: Value) -> usize
+    requires beside { IsBorderBeside rows.now key border }
     requires small { border < 2 ^ 63 }
-    requires written { get lua_values rows.now.entries key ≡ value }
-    ensures { IsBorder lua_values rows.now.entries result }
+    requires written { get lua_values rows.now key ≡ value }
+    ensures { IsBorder lua_values rows.now result }
 {
     match place_of(key) {
         Some(place) if value == Value::Nil => border.min(place),
@@ -28,9 +22,9 @@ pub(crate) fn mended(
 }
 
 /// The border of rows in which each integer up to `from` has a value.
-fn climbed(rows: &IndexMap<Value, Value>, from: usize) -> usize
-    requires { (m : ℕ) → m < from → is_nil (behind lua_values rows.now.entries m) ≡ false }
-    ensures { IsBorder lua_values rows.now.entries result }
+fn climbed(rows: &Rows, from: usize) -> usize
+    requires { (m : ℕ) → m < from → is_nil (behind lua_values rows.now m) ≡ false }
+    ensures { IsBorder lua_values rows.now result }
 {
     let most = rows.len();
     for n in from..most {
@@ -52,9 +46,9 @@ fn place_of(key: Value) -> Option<usize>
 }
 
 /// The value at the integer behind `n`.
-fn behind(rows: &IndexMap<Value, Value>, n: usize) -> Value
+fn behind(rows: &Rows, n: usize) -> Value
     requires { n < 2 ^ 63 - 1 }
-    ensures { result ≡ behind lua_values rows.now.entries n }
+    ensures { result ≡ behind lua_values rows.now n }
 {
-    value_at(rows, Value::Int(n as i64 + 1))
+    rows.get(Value::Int(n as i64 + 1))
 }

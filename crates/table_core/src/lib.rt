@@ -2,6 +2,8 @@
 #![tactic(auto)]
 
 mod border;
+mod indexed;
+mod keyed;
 mod rows;
 mod table;
 #[cfg(test)]

@@ -1,13 +1,13 @@
 // A table: rows in the order of insertion, found by their keys, and a metatable.
-ghost use Rattle.std.specs.Prelude.{◌≡◌, ◌≢◌, ◌↔◌, ◌<◌, ◌≤◌, ◌^◌, ℕ, true, false, Ok, drop, find, if◌then◌else◌, pos, [], ◌∷◌, ◌++◌, length, IsTrue, IsOk, OnOk, OnErr, Some, None, slice_get};
+ghost use Rattle.std.specs.Prelude.{◌≡◌, ◌≢◌, ◌↔◌, ◌<◌, ◌≤◌, ◌^◌, ℕ, true, false, Ok, drop, find, filter, if◌then◌else◌, pos, [], ◌∷◌, ◌++◌, length, IsTrue, IsOk, OnOk, OnErr, Some, None, slice_get};
 ghost use Rattle.std.specs.Result.{result_ok};
 ghost use Rattle.int_core.specs.Rows.{AreRows, IsBorder, is_filled, get, has_row, kept, set, next, border};
+ghost use Rattle.table_core.specs.Places.{IsNumberedPrefix};
 ghost use Rattle.table_core.specs.Value.{is_nil, lua_values};
 
 use crate::border::mended;
-use crate::rows::{holds, insert_last, replace, value_at};
-use crate::value::{Key, TableId, Value};
-use indexmap::IndexMap;
+use crate::rows::Rows;
+use crate::value::{Key, StrId, TableId, Value};
 use std::alloc::{AllocError, Global};
 use std::marker::Model;
 
@@ -19,7 +19,7 @@ pub struct NoSuchKey;
 /// A row whose value is nil is cleared, and keeps its place until a new key comes while cleared rows outnumber the others.
 #[derive(Debug, Drop)]
 pub struct Table {
-    rows: IndexMap<Value, Value>,
+    rows: Rows,
     /// How many rows are cleared.
     cleared: usize,
     /// The border, which each write mends.
@@ -34,9 +34,9 @@ impl Model for Table {
 
     ghost Value = { Contents };
 
-    ghost view = { λ table. record { rows = table.rows.entries; metatable = table.metatable } };
+    ghost view = { λ table. record { rows = table.rows; metatable = table.metatable } };
 
-    ghost invariant = { λ table. IsKept table.rows.entries table.cleared × IsBorder lua_values table.rows.entries table.border };
+    ghost invariant = { λ table. IsKept table.rows table.cleared × IsBorder lua_values table.rows table.border };
 }
 
 impl Table {
@@ -46,7 +46,7 @@ impl Table {
         ensures metatable { result.metatable ≡ None }
     {
         Table {
-            rows: IndexMap::new(alloc),
+            rows: Rows::new(alloc),
             cleared: 0,
             border: 0,
             metatable: None,
@@ -57,7 +57,21 @@ impl Table {
     pub fn get(&self, key: Value) -> Value
         ensures { result ≡ get lua_values self.now.rows key }
     {
-        value_at(&self.rows, key)
+        self.rows.get(key)
+    }
+
+    /// The value at an integer, or nil.
+    pub fn get_integer(&self, n: i64) -> Value
+        ensures { result ≡ get lua_values self.now.rows (Value.Int n) }
+    {
+        self.rows.get(Value::Int(n))
+    }
+
+    /// The value at a string, or nil.
+    pub fn get_string(&self, id: StrId) -> Value
+        ensures { result ≡ get lua_values self.now.rows (Value.Str id) }
+    {
+        self.rows.get(Value::Str(id))
     }
 
     /// Puts a value at a key. A key that has a row keeps its place, also where the row was cleared; a new key goes last,
@@ -70,14 +84,49 @@ impl Table {
         ensures present { IsTrue (has_row lua_values self.old.rows key) → IsOk result }
     {
         let key = key.value();
-        match replace(&mut self.rows, key, value) {
+        if self.put(key, value) {
+            return Ok(());
+        }
+        if value == Value::Nil {
+            return Ok(());
+        }
+        self.append(key, value)
+    }
+
+    /// Puts a value at an integer that has a row, and answers whether it has one. It takes no memory.
+    pub fn set_integer(&mut self, n: i64, value: Value) -> bool
+        ensures there { result ≡ has_row lua_values self.old.rows (Value.Int n) }
+        ensures set { IsTrue result → self.new.rows ≡ set lua_values self.old.rows (Value.Int n) value }
+        ensures absent { result ≡ false → self.new ≡ self.old }
+        ensures metatable { self.new.metatable ≡ self.old.metatable }
+    {
+        self.put(Value::Int(n), value)
+    }
+
+    /// Puts a value at a string that has a row, and answers whether it has one. It takes no memory.
+    pub fn set_string(&mut self, id: StrId, value: Value) -> bool
+        ensures there { result ≡ has_row lua_values self.old.rows (Value.Str id) }
+        ensures set { IsTrue result → self.new.rows ≡ set lua_values self.old.rows (Value.Str id) value }
+        ensures absent { result ≡ false → self.new ≡ self.old }
+        ensures metatable { self.new.metatable ≡ self.old.metatable }
+    {
+        self.put(Value::Str(id), value)
+    }
+
+    /// Puts a value at a key that has a row, and answers whether it has one.
+    fn put(&mut self, key: Value, value: Value) -> bool
+        ensures there { result ≡ has_row lua_values self.old.rows key }
+        ensures set { IsTrue result → self.new.rows ≡ set lua_values self.old.rows key value }
+        ensures absent { result ≡ false → self.new ≡ self.old }
+        ensures metatable { self.new.metatable ≡ self.old.metatable }
+    {
+        match self.rows.replace(key, value) {
             Some(was) => {
                 self.cleared = self.cleared - nil_count(was) + nil_count(value);
                 self.border = mended(&self.rows, self.border, key, value);
-                Ok(())
+                true
             }
-            None if value == Value::Nil => Ok(()),
-            None => self.append(key, value),
+            None => false,
         }
     }
 
@@ -90,12 +139,27 @@ impl Table {
         ensures metatable { self.new.metatable ≡ self.old.metatable }
         ensures err { OnErr result (self.new ≡ self.old) }
     {
-        let rows = insert_last(&mut self.rows, key, value)?;
-        self.border = mended(&self.rows, self.border, key, value);
-        if rows - self.cleared <= self.cleared {
-            self.rows.retain(|_, value| *value != Value::Nil);
-            self.cleared = 0;
+        if self.rows.len() - self.cleared < self.cleared {
+            return self.append_anew(key, value);
         }
+        self.rows.insert_last(key, value)?;
+        self.border = mended(&self.rows, self.border, key, value);
+        Ok(())
+    }
+
+    /// Makes the rows anew without those that are cleared, and puts a new key last.
+    fn append_anew(&mut self, key: Value, value: Value) -> Result<(), AllocError>
+        requires not_nil { key ≢ Value.Nil }
+        requires absent { has_row lua_values self.old.rows key ≡ false }
+        ensures ok { OnOk result (self.new.rows ≡ filter (is_filled lua_values) self.old.rows ++ (key, value) ∷ []) }
+        ensures metatable { self.new.metatable ≡ self.old.metatable }
+        ensures err { OnErr result (self.new ≡ self.old) }
+    {
+        let mut rows = self.rows.filled()?;
+        rows.insert_last(key, value)?;
+        self.border = mended(&rows, self.border, key, value);
+        self.cleared = nil_count(value);
+        self.rows = rows;
         Ok(())
     }
 
@@ -106,7 +170,7 @@ impl Table {
         if key == Value::Nil {
             return Ok(self.first_filled(0));
         }
-        let at = self.rows.get_index_of(&key).ok_or(NoSuchKey)?;
+        let at = self.rows.find(key).ok_or(NoSuchKey)?;
         Ok(self.first_filled(at + 1))
     }
 
@@ -140,13 +204,20 @@ impl Table {
         self.rows.len()
     }
 
+    /// How many rows have the keys 1, 2, 3 and so on, from the first row on.
+    pub fn array_len(&self) -> usize
+        ensures { IsNumberedPrefix self.now.rows result }
+    {
+        self.rows.array_len()
+    }
+
     /// The row at a place, as it is.
     pub fn row(&self, at: usize) -> (Key, Value)
         requires { at < length self.now.rows }
         ensures { slice_get self.now.rows at ≡ Some result }
     {
-        let (key, value) = self.rows.get_index(at).unwrap();
-        (Key::of(*key).unwrap(), *value)
+        let (key, value) = self.rows.row(at);
+        (Key::of(key).unwrap(), value)
     }
 
     /// Puts a row last, as it is, and answers false where the key has a row already. A refusal changes nothing.
@@ -157,10 +228,10 @@ impl Table {
         ensures metatable { self.new.metatable ≡ self.old.metatable }
     {
         let key = key.value();
-        if holds(&self.rows, key) {
+        if self.rows.holds(key) {
             return Ok(false);
         }
-        insert_last(&mut self.rows, key, value)?;
+        self.rows.insert_last(key, value)?;
         self.cleared += nil_count(value);
         self.border = mended(&self.rows, self.border, key, value);
         Ok(true)

@@ -94,3 +94,77 @@ fn borders_rows_and_metatables(rt: HostRuntime) -> Result<(), Fail> {
     assert_eq!(rt; table.metatable(), Some(TableId(4)));
     Ok(())
 }
+
+/// Sets 1, 2, 3 and so on to the values, from the first on.
+fn list(alloc: Global, values: &[Value]) -> Result<Table, Fail> {
+    let mut table = Table::new(alloc);
+    for value in values {
+        let next = table.border().wrapping_add(1);
+        put(&mut table, Value::Int(next), *value)?;
+    }
+    Ok(table)
+}
+
+#[test]
+fn a_list_grows_by_its_border(rt: HostRuntime) -> Result<(), Fail> {
+    let mut table = Table::new(rt.alloc());
+    for number in 0..200000 {
+        let next = table.border().wrapping_add(1);
+        put(&mut table, Value::Int(next), Value::Int(number))?;
+    }
+    assert_eq!(rt; table.border(), 200000);
+    assert_eq!(rt; table.array_len(), 200000);
+    assert_eq!(rt; table.get_integer(200000), Value::Int(199999));
+    Ok(())
+}
+
+#[test]
+fn a_hole_in_a_list_is_filled_again(rt: HostRuntime) -> Result<(), Fail> {
+    let values = [Value::Int(1), Value::Int(2), Value::Int(3)];
+    let mut table = list(rt.alloc(), &values)?;
+    assert_eq!(rt; table.set_integer(2, Value::Nil), true);
+    assert_eq!(rt; table.border(), 1);
+    assert_eq!(rt; table.set_integer(2, Value::Int(5)), true);
+    assert_eq!(rt; table.border(), 3);
+    assert_eq!(rt; table.set_integer(4, Value::Int(4)), false);
+    for (key, next) in [(Value::Nil, 1), (Value::Int(1), 2), (Value::Int(2), 3)] {
+        assert_eq!(rt; key_after(&table, key), Ok(Value::Int(next)));
+    }
+    assert_eq!(rt; key_after(&table, Value::Int(3)), Ok(Value::Nil));
+    Ok(())
+}
+
+#[test]
+fn a_list_whose_first_values_are_dropped_is_found_by_its_keys(rt: HostRuntime) -> Result<(), Fail> {
+    let values = [Value::Int(1), Value::Int(2), Value::Int(3), Value::Int(4)];
+    let mut table = list(rt.alloc(), &values)?;
+    for number in [1, 2, 3] {
+        put(&mut table, Value::Int(number), Value::Nil)?;
+    }
+    assert_eq!(rt; table.array_len(), 4);
+    put(&mut table, name(0), Value::Bool(true))?;
+    assert_eq!(rt; table.array_len(), 0);
+    assert_eq!(rt; table.rows(), 2);
+    assert_eq!(rt; table.get_integer(4), Value::Int(4));
+    assert_eq!(rt; table.get_integer(1), Value::Nil);
+    assert_eq!(rt; key_after(&table, Value::Nil), Ok(Value::Int(4)));
+    Ok(())
+}
+
+#[test]
+fn many_strings_are_found_and_changed(rt: HostRuntime) -> Result<(), Fail> {
+    let mut table = Table::new(rt.alloc());
+    for number in 0..40 {
+        put(&mut table, name(number), Value::Bool(false))?;
+        put(&mut table, name(number + 1024), Value::Bool(true))?;
+    }
+    for number in 0..40 {
+        assert_eq!(rt; table.get_string(StrId(number)), Value::Bool(false));
+        assert_eq!(rt; table.get_string(StrId(number + 1024)), Value::Bool(true));
+        assert_eq!(rt; table.set_string(StrId(number), Value::Nil), true);
+        assert_eq!(rt; table.get(name(number)), Value::Nil);
+    }
+    assert_eq!(rt; table.set_string(StrId(40), Value::Nil), false);
+    assert_eq!(rt; table.rows(), 80);
+    Ok(())
+}

@@ -7,6 +7,6 @@ use Rattle.table_core.proofs.border.climbed.Goals as goal
 
 pub returns : goal.returns
 returns c =
-    let rows = c.args.rows.now.entries in
+    let rows = c.args.rows.now in
     subst (IsBorder lua_values rows) (sym c.len-most.ensures.len)
     (border-length lua_values lua_values-AreValues rows (λ m below. let under : m < c.loop-n.n = omega arith in c.loop-n.invariant m under))

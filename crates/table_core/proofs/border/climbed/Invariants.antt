@@ -4,4 +4,4 @@ use Rattle.table_core.specs.Value.{is_nil, lua_values}
 use Rattle.table_core.proofs.border.climbed.Given as goal
 
 abbrev pub invariant-loop-n : goal.invariant-loop-n
-invariant-loop-n l = (m : ℕ) → m < l.n → is_nil (behind lua_values l.rows.entries m) ≡ false
+invariant-loop-n l = (m : ℕ) → m < l.n → is_nil (behind lua_values l.rows m) ≡ false
