@@ -73,25 +73,23 @@ module _ (p : Prototype) where
   pub front_of : (pc : ℕ) → in_front p (pc + 1) ≡ at p pc
   front_of pc = let e : pc + 1 ≡ suc pc = omega arith in ap (in_front p) e
 
-  -- MMBIN on the registers t and t + 1 asks
-  pub event_step : (t number : ℕ) (event : Event) (a : world.Activation) (c : Captured) → at p a.pc ≡ Some (abc MmBin t (t + 1) number false)
-      → event_numbered number ≡ Some event → number < 2 ^ 8 → t + 1 < 2 ^ 8 → t + 1 < length a.registers
-      → talk_step p (before a c) ≡ says_so (operates (arithmetic event) (nth a.registers t ∷ nth a.registers (t + 1) ∷ [])) p a c (λ x b d. heard for_value p x b d)
-  event_step t number event a c here is small fits room =
-      let t_fits : t < 2 ^ 8 = omega arith in
-      let w = abc MmBin t (t + 1) number false in
-      let asks_now = handled p a.pc w (Some event) (read 0 ∷ read 1 ∷ []) in
-      row_step p w MmBin (own (read_register t) (λ x _. own (read_register (t + 1)) (λ y _. handled p a.pc w (Some event) (read x ∷ read y ∷ [])))) a c here (opcode_of-abc MmBin t (t + 1) number false)
-      (ap₂ (λ b d. own (read_register b) (λ x _. own (read_register d) (λ y _. handled p a.pc w (event_numbered (c_of w)) (read x ∷ read y ∷ [])))) (a_of-abc MmBin t (t + 1) number false t_fits) (b_of-abc MmBin t (t + 1) number false t_fits fits)
-      ∙ ap (λ o. own (read_register t) (λ x _. own (read_register (t + 1)) (λ y _. handled p a.pc w o (read x ∷ read y ∷ [])))) (ap event_numbered (c_of-abc MmBin t (t + 1) number false t_fits fits small) ∙ is))
-      ∙ own_step p (read_register t) (λ x _. own (read_register (t + 1)) (λ y _. handled p a.pc w (Some event) (read x ∷ read y ∷ []))) [] a c (lt-ltb t (length a.registers) (omega arith))
-      ∙ own_step p (read_register (t + 1)) (λ y _. handled p a.pc w (Some event) (read 0 ∷ read y ∷ [])) (nth a.registers t ∷ []) a c (lt-ltb (t + 1) (length a.registers) room)
+  -- MMBIN on the registers x and y asks
+  pub event_step : (x y number : ℕ) (event : Event) (a : world.Activation) (c : Captured) → at p a.pc ≡ Some (abc MmBin x y number false)
+      → event_numbered number ≡ Some event → number < 2 ^ 8 → x < 2 ^ 8 → y < 2 ^ 8 → x < length a.registers → y < length a.registers
+      → talk_step p (before a c) ≡ says_so (operates (arithmetic event) (nth a.registers x ∷ nth a.registers y ∷ [])) p a c (λ x b d. heard for_value p x b d)
+  event_step x y number event a c here is small x_fits y_fits x_room y_room =
+      let w = abc MmBin x y number false in
+      row_step p w MmBin (own (read_register x) (λ u _. own (read_register y) (λ v _. handled p a.pc w (Some event) (read u ∷ read v ∷ [])))) a c here (opcode_of-abc MmBin x y number false)
+      (ap₂ (λ b d. own (read_register b) (λ u _. own (read_register d) (λ v _. handled p a.pc w (event_numbered (c_of w)) (read u ∷ read v ∷ [])))) (a_of-abc MmBin x y number false x_fits) (b_of-abc MmBin x y number false x_fits y_fits)
+      ∙ ap (λ o. own (read_register x) (λ u _. own (read_register y) (λ v _. handled p a.pc w o (read u ∷ read v ∷ [])))) (ap event_numbered (c_of-abc MmBin x y number false x_fits y_fits small) ∙ is))
+      ∙ own_step p (read_register x) (λ u _. own (read_register y) (λ v _. handled p a.pc w (Some event) (read u ∷ read v ∷ []))) [] a c (lt-ltb x (length a.registers) x_room)
+      ∙ own_step p (read_register y) (λ v _. handled p a.pc w (Some event) (read 0 ∷ read v ∷ [])) (nth a.registers x ∷ []) a c (lt-ltb y (length a.registers) y_room)
 
   -- and its answer goes to the register of the instruction in front of it
-  pub event_rest : (t number pc : ℕ) (op : Opcode) → at p pc ≡ Some (abc op t t (t + 1) false) → at p (pc + 1) ≡ Some (abc MmBin t (t + 1) number false) → t < 2 ^ 8
+  pub event_rest : (t x y number pc : ℕ) (op : Opcode) → at p pc ≡ Some (abc op t x y false) → at p (pc + 1) ≡ Some (abc MmBin x y number false) → t < 2 ^ 8
       → rest_at {V = Value} for_value p (pc + 1) ≡ to_register t (read 0)
-  event_rest t number pc op front here fits =
+  event_rest t x y number pc op front here fits =
       ap (λ o. elim o as (λ _. Text) [ None ↦ trap | Some w ↦ rest_by {V = Value} for_value p (pc + 1) w (opcode_of w) ]) here
-      ∙ ap (rest_by {V = Value} for_value p (pc + 1) (abc MmBin t (t + 1) number false)) (opcode_of-abc MmBin t (t + 1) number false)
+      ∙ ap (rest_by {V = Value} for_value p (pc + 1) (abc MmBin x y number false)) (opcode_of-abc MmBin x y number false)
       ∙ ap (λ o. elim o as (λ _. Text) [ None ↦ trap | Some w ↦ to_register (a_of w) (read 0) ]) (front_of pc ∙ front)
-      ∙ ap (λ r. to_register r (read 0)) (a_of-abc op t t (t + 1) false fits)
+      ∙ ap (λ r. to_register r (read 0)) (a_of-abc op t x y false fits)

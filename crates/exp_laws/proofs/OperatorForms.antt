@@ -81,7 +81,7 @@ module _ (S : Setting) (pending : List Pending) where
       let v = known (boolean (not (holds (shape (first vs))))) in
       go_left S n _ (tree.at (give (v ∷ [])) (of_tree S pending env c) k) _ refl
       (go_right S n _ _ (before (of_code S pending (pc + 1) (write t v regs) opened) c)
-      (not_step S.code (of_code S pending pc regs opened) c there.0 there.1 t has.0 (omega (arith, S.small)) (omega (arith, rel.room))
+      (not_step S.code (of_code S pending pc regs opened) c there.0 there.1 t t has.0 (omega (arith, S.small)) (omega (arith, S.small)) (omega (arith, rel.room)) (omega (arith, rel.room))
       ∙ ap (λ x. goes_on (before (of_code S pending (pc + 1) (write t (known (boolean (not (holds (shape x))))) regs) opened) c)) eq)
       (put_goes S pending n many t (pc + 1) opened v env regs c k le rel goes))
   unary_goes Neg n many line t pc opened vs env regs c k has inside le room rel eq goes = prefix_goes Neg (prefix_by Neg tt) n many line t pc opened vs env regs c k has inside le room rel eq goes
@@ -108,7 +108,7 @@ module _ (S : Setting) (pending : List Pending) where
     -- the first instruction has read both
     read_both : talk_step S.code (before (of_code S pending pc regs opened) c) ≡ talk S.code (fast f.event t (integer_in (shape v)) (integer_in (shape w))) (v ∷ w ∷ []) (of_code S pending pc regs opened) c
     read_both =
-        operands_step S.code f.opcode f.event t (of_code S pending pc regs opened) c has.0 (f.row S.code pc) fits width
+        operands_step S.code f.opcode f.event t t (t + 1) (of_code S pending pc regs opened) c has.0 (f.row S.code pc) (omega (arith, fits)) (omega (arith, fits)) fits (omega (arith, width)) width
         ∙ ap₂ (λ x y. talk S.code (fast f.event t (integer_of_shape (shape x)) (integer_of_shape (shape y))) (x ∷ y ∷ []) (of_code S pending pc regs opened) c) left_is right_is
         ∙ ap₂ (λ x y. talk S.code (fast f.event t x y) (v ∷ w ∷ []) (of_code S pending pc regs opened) c) (integer_same (shape v)) (integer_same (shape w))
 
@@ -120,9 +120,9 @@ module _ (S : Setting) (pending : List Pending) where
     asked n many goes e d =
         go_right S n s _ (before (of_code S pending (pc + 1) regs opened) c) d
         (operation_goes S pending for_value (λ reply. refl) (arithmetic f.event) (v ∷ w ∷ []) n many line t (pc + 1) opened s _ env regs c k e
-        (event_step S.code t f.number f.event (of_code S pending (pc + 1) regs opened) c has.1.1.0 f.numbered f.small fits width
+        (event_step S.code t (t + 1) f.number f.event (of_code S pending (pc + 1) regs opened) c has.1.1.0 f.numbered f.small (omega (arith, fits)) fits (omega (arith, width)) width
         ∙ ap₂ (λ x y. says_so (operates (arithmetic f.event) (x ∷ y ∷ [])) S.code (of_code S pending (pc + 1) regs opened) c (λ x b d. heard for_value S.code x b d)) left_is right_is)
-        (event_rest S.code t f.number pc f.opcode has.0 has.1.1.0 (omega (arith, fits))) (here_abc S MmBin t (t + 1) f.number false line (pc + 1) [] has.1.1) (omega (arith, inside)) le (omega (arith, room)) rel
+        (event_rest S.code t t (t + 1) f.number pc f.opcode has.0 has.1.1.0 (omega (arith, fits))) (here_abc S MmBin t (t + 1) f.number false line (pc + 1) [] has.1.1) (omega (arith, inside)) le (omega (arith, room)) rel
         (goes_at S pending n many t (pc + 1 + 1) (pc + 2) env regs k two goes))
 
     pub arithmetic_goes : (n : ℕ) (many : Bool) → Goes S pending n many t env regs (pc + 2) k → Agree S n s (before (of_code S pending pc regs opened) c)

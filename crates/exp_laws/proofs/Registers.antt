@@ -89,21 +89,23 @@ pub record After (hidden : List ℕ) (stack : ℕ) (pending : List Pending) (env
   pub size : length env' ≡ length env
   pub rel : Rel hidden stack pending env' c' regs'
   pub keeps : (r : ℕ) → length env ≤ r → r < t → nth regs' r ≡ nth regs r
+  pub same : (r : ℕ) → Among r hidden → nth env' r ≡ nth env r
 
 module _ (hidden : List ℕ) (stack : ℕ) (pending : List Pending) where
   pub after_none : (env regs : List Value) (c : Captured) (t : ℕ) → Rel hidden stack pending env c regs → After hidden stack pending env regs t env regs c
-  after_none env regs c t h = record { size = refl; rel = h; keeps = λ r lo hi. refl }
+  after_none env regs c t h = record { size = refl; rel = h; keeps = λ r lo hi. refl; same = λ r m. refl }
 
   pub after_then : (env regs env1 regs1 env2 regs2 : List Value) (c1 c2 : Captured) (t t1 : ℕ) → t ≤ t1 → After hidden stack pending env regs t env1 regs1 c1 → After hidden stack pending env1 regs1 t1 env2 regs2 c2 → After hidden stack pending env regs t env2 regs2 c2
   after_then env regs env1 regs1 env2 regs2 c1 c2 t t1 le a b = record {
     size = b.size ∙ a.size;
     rel = b.rel;
     keeps = λ r lo hi. b.keeps r (omega (arith, a.size)) (omega arith) ∙ a.keeps r lo hi;
+    same = λ r m. b.same r m ∙ a.same r m;
   }
 
   -- what stands up to a register stands up to a lower one
   pub lower : (env regs env' regs' : List Value) (c : Captured) (t r : ℕ) → r ≤ t → After hidden stack pending env regs t env' regs' c → After hidden stack pending env regs r env' regs' c
-  lower env regs env' regs' c t r le a = record { size = a.size; rel = a.rel; keeps = λ q lo hi. a.keeps q lo (omega arith) }
+  lower env regs env' regs' c t r le a = record { size = a.size; rel = a.rel; keeps = λ q lo hi. a.keeps q lo (omega arith); same = a.same }
 
   -- registers that agree with the old ones below t, and are enough
   pub after_above : (env regs regs' : List Value) (c : Captured) (t : ℕ) → length env ≤ t → Rel hidden stack pending env c regs → ((r : ℕ) → r < t → nth regs' r ≡ nth regs r) → stack ≤ length regs' → After hidden stack pending env regs t env regs' c
@@ -111,6 +113,7 @@ module _ (hidden : List ℕ) (stack : ℕ) (pending : List Pending) where
     size = refl;
     rel = record { agree = λ r lr. h.agree r lr ∙ sym (same r (omega arith)); held = h.held; hides = h.hides; ascends = h.ascends; fits = h.fits; room = room };
     keeps = λ r lo hi. same r hi;
+    same = λ r m. refl;
   }
 
   -- a write above the locals
@@ -214,6 +217,7 @@ module _ (hidden : List ℕ) (stack : ℕ) (pending : List Pending) where
           room = omega (arith, more, h.room);
         };
         keeps = λ r lo hi. brought_keeps c.held vs (length env) regs h.held r lo;
+        same = λ r m. brought_free c.held vs env r (h.hides.free r m);
       }
 
   -- and a local gets a cell besides
@@ -226,6 +230,7 @@ module _ (hidden : List ℕ) (stack : ℕ) (pending : List Pending) where
         size = a.size;
         rel = record { agree = a.rel.agree; held = (omega (arith, e), a.rel.held); hides = hides_one_more hidden (brought c.held vs env) c.held place cell other a.rel.hides; ascends = a.rel.ascends; fits = a.rel.fits; room = a.rel.room };
         keeps = a.keeps;
+        same = a.same;
       }
 
   -- a local is declared, whose value goes to the register behind those of the others

@@ -84,28 +84,27 @@ module _ (p : Prototype) where
         (ap (λ d. to_register d (written (boolean false))) (a_of-abc LoadFalse t 0 0 false t_fits))
         ∙ to_register_step t (written (boolean false)) w [] a c t_room there
 
-    pub not_step : (t : ℕ) → at p a.pc ≡ Some (abc Not t t 0 false) → t < 2 ^ 8 → t < length a.registers
-        → talk_step p (before a c) ≡ goes_on (before (put_on a t (known (boolean (not (holds (shape (nth a.registers t)))))) 1) c)
-    not_step t here t_fits t_room =
-        row_step (abc Not t t 0 false) Not (own (read_register t) (λ _ s. to_register t (written (boolean (not (holds s)))))) a c here (opcode_of-abc Not t t 0 false)
-        (ap₂ (λ b d. own (read_register b) (λ _ s. to_register d (written (boolean (not (holds s)))))) (b_of-abc Not t t 0 false t_fits t_fits) (a_of-abc Not t t 0 false t_fits))
-        ∙ own_step (read_register t) (λ _ s. to_register t (written (boolean (not (holds s))))) [] a c (lt-ltb t (length a.registers) t_room)
-        ∙ to_register_step t (written (boolean (not (holds (shape (nth a.registers t)))))) w (nth a.registers t ∷ []) a c t_room there
+    pub not_step : (t x : ℕ) → at p a.pc ≡ Some (abc Not t x 0 false) → t < 2 ^ 8 → x < 2 ^ 8 → x < length a.registers → t < length a.registers
+        → talk_step p (before a c) ≡ goes_on (before (put_on a t (known (boolean (not (holds (shape (nth a.registers x)))))) 1) c)
+    not_step t x here t_fits x_fits x_room t_room =
+        row_step (abc Not t x 0 false) Not (own (read_register x) (λ _ s. to_register t (written (boolean (not (holds s)))))) a c here (opcode_of-abc Not t x 0 false)
+        (ap₂ (λ b d. own (read_register b) (λ _ s. to_register d (written (boolean (not (holds s)))))) (b_of-abc Not t x 0 false t_fits x_fits) (a_of-abc Not t x 0 false t_fits))
+        ∙ own_step (read_register x) (λ _ s. to_register t (written (boolean (not (holds s))))) [] a c (lt-ltb x (length a.registers) x_room)
+        ∙ to_register_step t (written (boolean (not (holds (shape (nth a.registers x)))))) w (nth a.registers x ∷ []) a c t_room there
 
-  -- arithmetic on the registers t and t + 1 has read both
-  pub operands_step : (op : Opcode) (event : Event) (t : ℕ) (a : Activation) (c : Captured) → at p a.pc ≡ Some (abc op t t (t + 1) false)
-      → ((w : Instruction) → row_of p a.pc op w ≡ with_register event w) → t + 1 < 2 ^ 8 → t + 1 < length a.registers
-      → talk_step p (before a c) ≡ talk p (fast event t (integer_of_shape (shape (nth a.registers t))) (integer_of_shape (shape (nth a.registers (t + 1))))) (nth a.registers t ∷ nth a.registers (t + 1) ∷ []) a c
-  operands_step op event t a c here row fits room =
-      let t_fits : t < 2 ^ 8 = omega arith in
-      let w = abc op t t (t + 1) false in
-      let second = λ (s : Shape). own (read_register (t + 1)) (λ _ u. fast event t (integer_of_shape s) (integer_of_shape u)) in
-      row_step w op (own (read_register t) (λ _ s. own (read_register (t + 1)) (λ _ u. fast event t (integer_of_shape s) (integer_of_shape u)))) a c here (opcode_of-abc op t t (t + 1) false)
+  -- arithmetic on the registers x and y has read both
+  pub operands_step : (op : Opcode) (event : Event) (t x y : ℕ) (a : Activation) (c : Captured) → at p a.pc ≡ Some (abc op t x y false)
+      → ((w : Instruction) → row_of p a.pc op w ≡ with_register event w) → t < 2 ^ 8 → x < 2 ^ 8 → y < 2 ^ 8 → x < length a.registers → y < length a.registers
+      → talk_step p (before a c) ≡ talk p (fast event t (integer_of_shape (shape (nth a.registers x))) (integer_of_shape (shape (nth a.registers y)))) (nth a.registers x ∷ nth a.registers y ∷ []) a c
+  operands_step op event t x y a c here row t_fits x_fits y_fits x_room y_room =
+      let w = abc op t x y false in
+      let second = λ (s : Shape). own (read_register y) (λ _ u. fast event t (integer_of_shape s) (integer_of_shape u)) in
+      row_step w op (own (read_register x) (λ _ s. own (read_register y) (λ _ u. fast event t (integer_of_shape s) (integer_of_shape u)))) a c here (opcode_of-abc op t x y false)
       (row w
-      ∙ ap₂ (λ b d. own (read_register b) (λ _ s. own (read_register d) (λ _ u. fast event (a_of w) (integer_of_shape s) (integer_of_shape u)))) (b_of-abc op t t (t + 1) false t_fits t_fits) (c_of-abc op t t (t + 1) false t_fits t_fits fits)
-      ∙ ap (λ d. own (read_register t) (λ _ s. own (read_register (t + 1)) (λ _ u. fast event d (integer_of_shape s) (integer_of_shape u)))) (a_of-abc op t t (t + 1) false t_fits))
-      ∙ own_step (read_register t) (λ _ s. second s) [] a c (lt-ltb t (length a.registers) (omega arith))
-      ∙ own_step (read_register (t + 1)) (λ _ u. fast event t (integer_of_shape (shape (nth a.registers t))) (integer_of_shape u)) (nth a.registers t ∷ []) a c (lt-ltb (t + 1) (length a.registers) room)
+      ∙ ap₂ (λ b d. own (read_register b) (λ _ s. own (read_register d) (λ _ u. fast event (a_of w) (integer_of_shape s) (integer_of_shape u)))) (b_of-abc op t x y false t_fits x_fits) (c_of-abc op t x y false t_fits x_fits y_fits)
+      ∙ ap (λ d. own (read_register x) (λ _ s. own (read_register y) (λ _ u. fast event d (integer_of_shape s) (integer_of_shape u)))) (a_of-abc op t x y false t_fits))
+      ∙ own_step (read_register x) (λ _ s. second s) [] a c (lt-ltb x (length a.registers) x_room)
+      ∙ own_step (read_register y) (λ _ u. fast event t (integer_of_shape (shape (nth a.registers x))) (integer_of_shape u)) (nth a.registers x ∷ []) a c (lt-ltb y (length a.registers) y_room)
 
   -- reading a field of a table: the operation is asked for
   pub get_step : (t x y : ℕ) (a : Activation) (c : Captured) → at p a.pc ≡ Some (abc GetTable t x y false) → t < 2 ^ 8 → x < 2 ^ 8 → y < 2 ^ 8 → x < length a.registers → y < length a.registers
