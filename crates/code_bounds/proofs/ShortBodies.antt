@@ -4,7 +4,7 @@ use Rattle.tree_core.specs.Tree.{Block, Falls, Returns, Body, BodyOf}
 use Rattle.code_core.specs.declared.opcode.Opcode.TheVariants.{Return}
 use Rattle.code_core.specs.declared.proto.Const.{Const}
 use Rattle.code_of.specs.CodeOf.{back_field, opening, body_code}
-use Rattle.code_of.specs.Coded.{with_abc}
+use Rattle.code_of.specs.Coded.{leaving_by}
 use Rattle.code_of.specs.Constants.{of_block}
 use Rattle.code_of.specs.Jumps.{Reach}
 use Rattle.tree_terms.specs.Levels.{levels_after}
@@ -21,7 +21,7 @@ whole_short : (cs : List Const) (back : ℕ) (block : Block) (params pc : ℕ) �
 whole_short cs back (Falls ss tokens line) params pc =
     let nowhere : Reach = record { labels = []; exit = None } in
     let code = stats_code cs back ss true false 0 params 0 pc [] nowhere in
-    let last = with_abc Return (levels_after ss params) 1 back line ∷ [] in
+    let last = leaving_by Return (levels_after ss params) 1 back line ∷ [] in
     omega (arith, stats_sized cs back ss true false 0 params 0 pc [] nowhere, stats_short cs back ss false params 0, length-append code last)
 whole_short cs back (Returns ss es tokens line) params pc =
     let nowhere : Reach = record { labels = []; exit = None } in

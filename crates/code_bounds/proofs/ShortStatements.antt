@@ -8,7 +8,7 @@ use Rattle.tree_activation.specs.Statements.{is_closed}
 use Rattle.code_core.specs.declared.opcode.Opcode.TheVariants.{Tbc, OpSelf, TailCall, Return}
 use Rattle.code_core.specs.declared.proto.Const.{Const}
 use Rattle.code_core.specs.declared.proto.Const.TheVariants.{Str as StrConst}
-use Rattle.code_of.specs.Coded.{with_abc}
+use Rattle.code_of.specs.Coded.{with_abc, leaving_by}
 use Rattle.code_of.specs.Constants.{loads}
 use Rattle.code_of.specs.Expressions.{made_by, made_in, count, list_field, exp_code, exps_code}
 use Rattle.code_of.specs.Levels.{made_by_stat, made_in_arms, made_in_stats, made_in_block, closing_after, closings_after}
@@ -83,19 +83,19 @@ module _ (cs : List Const) where
 
   values_short : (es : Exps) (t j line back : ℕ) → length (values_last cs es t j line back) ≤ 6 * weight_of_exps es + 6
   values_short es t j line back =
-      omega (arith, exps_short cs es None t j line, length-append (exps_code cs es None t j line) (with_abc Return t (list_field 0 es) back line ∷ []))
+      omega (arith, exps_short cs es None t j line, length-append (exps_code cs es None t j line) (leaving_by Return t (list_field 0 es) back line ∷ []))
 
   call_last_short : (f : Exp) (es : Exps) (t j line back : ℕ) → length (call_last cs f es t j line back) ≤ 6 * weight f + 6 * weight_of_arguments es + 6
   call_last_short f es t j line back =
       let arguments = exps_code cs es None (t + 1) (j + made_by f) line in
-      let last = with_abc TailCall t (list_field 0 es) 0 line ∷ with_abc Return t 0 back line ∷ [] in
+      let last = leaving_by TailCall t (list_field 0 es) back line ∷ leaving_by Return t 0 back line ∷ [] in
       omega (arith, exp_short cs f t j 2, arguments_short cs es (t + 1) (j + made_by f) line, length-append (exp_code cs f t j 2) (arguments ++ last), length-append arguments last)
 
   method_last_short : (object : Exp) (name : List ℕ) (es : Exps) (t j line back : ℕ) → length (method_last cs object name es t j line back) ≤ 6 * weight object + 6 * weight_of_arguments es + 6
   method_last_short object name es t j line back =
       let key = loads cs (StrConst name) (t + 1) line in
       let arguments = exps_code cs es None (t + 2) (j + made_by object) line in
-      let last = with_abc TailCall t (list_field 1 es) 0 line ∷ with_abc Return t 0 back line ∷ [] in
+      let last = leaving_by TailCall t (list_field 1 es) back line ∷ leaving_by Return t 0 back line ∷ [] in
       let after = with_abc OpSelf t t (t + 1) line ∷ (arguments ++ last) in
       omega (
         arith,

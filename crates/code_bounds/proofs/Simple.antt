@@ -1,6 +1,6 @@
 -- The code of statements that have no block takes the registers that are counted for it.
 use Rattle.std.proofs.Common.{◌≡◌, ℕ, zero, suc, ◌+◌, ◌-◌, ◌<◌, ◌≤◌, ◌^◌, max, Bool, true, false, cond, List, [], ◌∷◌, ◌++◌, length, Some, None, refl, ap, lit<, arith}
-use Rattle.std.specs.Prelude.{nat_eq}
+use Rattle.std.specs.Prelude.{nat_lt, nat_eq}
 use Rattle.tree_core.specs.declared.name.Declared.{Declared}
 use Rattle.tree_core.specs.Tree.{Exp, Vararg, Call, Method, Exps, EndExps, MoreExps}
 use Rattle.tree_activation.specs.Statements.{is_closed}
@@ -8,7 +8,7 @@ use Rattle.code_core.specs.declared.opcode.Opcode.TheVariants.{OpSelf, Close, Tb
 use Rattle.code_core.specs.declared.proto.Const.{Const}
 use Rattle.code_core.specs.declared.proto.Const.TheVariants.{Str as StrConst}
 use Rattle.code_core.specs.Instruction.{abc}
-use Rattle.code_of.specs.Coded.{with_abc}
+use Rattle.code_of.specs.Coded.{with_abc, leaving_by}
 use Rattle.code_of.specs.Constants.{loads}
 use Rattle.code_of.specs.Expressions.{made_by, is_open, list_field, Wanted, results_field, exp_code, exps_code}
 use Rattle.code_of.specs.Parts.{marks_code, close_code, call_last, method_last, values_last, return_code}
@@ -88,10 +88,10 @@ module _ (cs : List Const) where
 
   -- what `return` gives
 
-  ends_call : (t b line back : ℕ) → t < 2 ^ 8 → b < 2 ^ 8 → top (with_abc TailCall t b 0 line ∷ with_abc Return t 0 back line ∷ []) ≡ max (t + 1) (max (t + b) (t + (0 - 1)))
+  ends_call : (t b line back : ℕ) → t < 2 ^ 8 → b < 2 ^ 8 → top (leaving_by TailCall t b back line ∷ leaving_by Return t 0 back line ∷ []) ≡ max (t + 1) (max (t + b) (t + (0 - 1)))
   ends_call t b line back t_fits b_fits =
-      let e = top_more (with_abc TailCall t b 0 line) (with_abc Return t 0 back line ∷ []) in
-      let f = one_tail t b t_fits b_fits in
+      let e = top_more (leaving_by TailCall t b back line) (leaving_by Return t 0 back line ∷ []) in
+      let f = one_tail t b back t_fits b_fits in
       let g = one_return t 0 back t_fits (lit< tt) in
       omega (arith, e, f, g)
 
@@ -103,7 +103,7 @@ module _ (cs : List Const) where
       let b = list_field 0 es in
       let few = field_room cs es 0 in
       let counted = count_room cs es 1 in
-      call_takes t (room_of cs f 2) l b 0 1 (exp_code cs f t j 2) (exps_code cs es None (t + 1) (j + made_by f) line) (with_abc TailCall t b 0 line ∷ with_abc Return t 0 back line ∷ []) some
+      call_takes t (room_of cs f 2) l b 0 1 (exp_code cs f t j 2) (exps_code cs es None (t + 1) (j + made_by f) line) (leaving_by TailCall t b back line ∷ leaving_by Return t 0 back line ∷ []) some
       (exp_takes cs hidden ups f size t j 2 known above (lit< tt) (omega arith))
       (exps_take cs hidden ups es None 1 t (t + 1) size (j + made_by f) line refl all_known (omega arith) (lit< tt) (omega arith))
       (ends_call t b line back (omega arith) (omega (arith, few, counted, some))) (omega (arith, few, counted, some)) (omega arith) (omega arith)
@@ -118,7 +118,7 @@ module _ (cs : List Const) where
       let few = field_room cs es 1 in
       let counted = count_room cs es 2 in
       method_takes t (room_of cs object 2) l b 0 1 (exp_code cs object t j 2) (loads cs (StrConst name) (t + 1) line) (exps_code cs es None (t + 2) (j + made_by object) line)
-      (with_abc TailCall t b 0 line ∷ with_abc Return t 0 back line ∷ []) (with_abc OpSelf t t (t + 1) line) some
+      (leaving_by TailCall t b back line ∷ leaving_by Return t 0 back line ∷ []) (with_abc OpSelf t t (t + 1) line) some
       (exp_takes cs hidden ups object size t j 2 known above (lit< tt) (omega arith))
       (let e = loads_top cs (StrConst name) (t + 1) line (omega arith) in omega (arith, e))
       (one_self t (omega arith))
@@ -135,9 +135,9 @@ module _ (cs : List Const) where
       let b = list_field 0 es in
       let code = exps_code cs es None t j line in
       let h = exps_take cs hidden ups es None 0 t t size j line (omega arith) known above (lit< tt) (omega arith) in
-      let e = top_append code (with_abc Return t b back line ∷ []) in
+      let e = top_append code (leaving_by Return t b back line ∷ []) in
       let f = one_return t b back (omega arith) (omega (arith, few, counted)) in
-      by (room_of_list cs 0 es None) (top code) (one (abc Return t b back false)) (top (code ++ with_abc Return t b back line ∷ [])) e h.0 h.1 (omega (arith, f, few, counted))
+      by (room_of_list cs 0 es None) (top code) (one (abc Return t b back (nat_lt 0 t))) (top (code ++ leaving_by Return t b back line ∷ [])) e h.0 h.1 (omega (arith, f, few, counted))
     where
       by : (r m o all : ℕ) → all ≡ max m o → m ≤ t + r → t + r ≤ max t m → o ≤ t + r → (all ≤ t + r) × (t + r ≤ max t all)
       by r m o all e p q s = (omega arith, omega arith)

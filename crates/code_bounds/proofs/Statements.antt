@@ -7,7 +7,7 @@ use Rattle.tree_terms.specs.Bodies.{line_of_body}
 use Rattle.code_core.specs.declared.opcode.Opcode.TheVariants.{LoadI, LoadNil, Close, Test, Jmp, ForLoop, ForPrep, TForPrep, TForCall, TForLoop, Return, Closure}
 use Rattle.code_core.specs.declared.proto.Const.{Const}
 use Rattle.code_core.specs.Instruction.{abc}
-use Rattle.code_of.specs.Coded.{Coded, with_abc, with_abx, jump_over, jump_back}
+use Rattle.code_of.specs.Coded.{Coded, with_abc, with_abx, jump_over, jump_back, leaving_by}
 use Rattle.code_of.specs.Expressions.{made_by, made_in, exp_code, exps_code}
 use Rattle.code_of.specs.Jumps.{Reach, Visible, label_in, leads}
 use Rattle.code_of.specs.Levels.{made_by_stat, made_in_arms, made_in_stats, made_in_block, closing_after, closings_after}
@@ -320,9 +320,9 @@ module _ (cs : List Const) (stack : ℕ) where
         let level = levels_low ss true vararg params [] [] false few keeps in
         let last = one_return (levels_after ss params) 1 back (omega (arith, level)) (lit< tt) in
         room_as
-        (room_append (stats_code cs back ss true false 0 params 0 pc [] (record { labels = []; exit = None })) (with_abc Return (levels_after ss params) 1 back line ∷ [])
+        (room_append (stats_code cs back ss true false 0 params 0 pc [] (record { labels = []; exit = None })) (leaving_by Return (levels_after ss params) 1 back line ∷ [])
         (stats_room ss [] [] [] false true false 0 params 0 pc [] (record { labels = []; exit = None }) known (lit≤ tt) few keeps tt start_low)
-        (room_of_top (with_abc Return (levels_after ss params) 1 back line ∷ []) (omega (arith, last, level))))
+        (room_of_top (leaving_by Return (levels_after ss params) 1 back line ∷ []) (omega (arith, last, level))))
         (λ all within. all.0 within)
     whole_room (Returns ss es tokens line) params pc known few keeps =
         block_room (Returns ss es tokens line) [] [] false false 0 params 0 pc (record { labels = []; exit = None }) known (lit≤ tt) few keeps start_low

@@ -1,5 +1,6 @@
 -- One more than the last register that code names, and how it comes together of pieces.
 use Rattle.std.proofs.Common.{◌≡◌, ℕ, zero, suc, ◌+◌, ◌-◌, ◌<◌, ◌≤◌, ◌^◌, max, Bool, true, false, if◌then◌else◌, ◌==◌, List, [], ◌∷◌, ◌++◌, Option, Some, None, refl, ap, ◌∙◌, sym, subst, lit<, arith}
+use Rattle.std.specs.Prelude.{nat_lt}
 use Rattle.code_core.specs.declared.opcode.Opcode.{Opcode}
 use Rattle.code_core.specs.declared.opcode.Opcode.TheVariants.{LoadNil, SetTable, OpSelf, Concat, Call, TailCall, Return, TForCall, VarArg}
 use Rattle.code_core.specs.declared.instruction.Instruction.{Instruction}
@@ -204,27 +205,27 @@ row_room a b =
     omega (arith, e, below, above)
 
 -- A and the registers behind it up to a number of B
-one_row : (op : Opcode) (t b c : ℕ) → registers op (abc op t b c false) ≡ a_of (abc op t b c false) ∷ last_of (a_of (abc op t b c false)) (b_of (abc op t b c false)) →
-    t < 2 ^ 8 → b < 2 ^ 8 → one (abc op t b c false) ≡ max (t + 1) (t + b)
-one_row op t b c shape t_fits b_fits =
-    let w = abc op t b c false in
-    by (a_of w) (b_of w) (abc_is op t b c false (a_of w ∷ last_of (a_of w) (b_of w)) shape ∙ row_room (a_of w) (b_of w)) (a_of-abc op t b c false t_fits) (b_of-abc op t b c false t_fits b_fits)
+one_row : (op : Opcode) (t b c : ℕ) (k : Bool) → registers op (abc op t b c k) ≡ a_of (abc op t b c k) ∷ last_of (a_of (abc op t b c k)) (b_of (abc op t b c k)) →
+    t < 2 ^ 8 → b < 2 ^ 8 → one (abc op t b c k) ≡ max (t + 1) (t + b)
+one_row op t b c k shape t_fits b_fits =
+    let w = abc op t b c k in
+    by (a_of w) (b_of w) (abc_is op t b c k (a_of w ∷ last_of (a_of w) (b_of w)) shape ∙ row_room (a_of w) (b_of w)) (a_of-abc op t b c k t_fits) (b_of-abc op t b c k t_fits b_fits)
   where
-    by : (x y : ℕ) → one (abc op t b c false) ≡ max (x + 1) (x + y) → x ≡ t → y ≡ b → one (abc op t b c false) ≡ max (t + 1) (t + b)
+    by : (x y : ℕ) → one (abc op t b c k) ≡ max (x + 1) (x + y) → x ≡ t → y ≡ b → one (abc op t b c k) ≡ max (t + 1) (t + b)
     by x y e f g = omega arith
 
-pub one_tail : (t b : ℕ) → t < 2 ^ 8 → b < 2 ^ 8 → one (abc TailCall t b 0 false) ≡ max (t + 1) (t + b)
-one_tail t b t_fits b_fits = one_row TailCall t b 0 refl t_fits b_fits
+pub one_tail : (t b back : ℕ) → t < 2 ^ 8 → b < 2 ^ 8 → one (abc TailCall t b back (nat_lt 0 t)) ≡ max (t + 1) (t + b)
+one_tail t b back t_fits b_fits = one_row TailCall t b back (nat_lt 0 t) refl t_fits b_fits
 
 pub one_join : (t : ℕ) → t < 2 ^ 8 → one (abc Concat t 2 0 false) ≡ t + 2
-one_join t t_fits = let e = one_row Concat t 2 0 refl t_fits (lit< tt) in omega (arith, e)
+one_join t t_fits = let e = one_row Concat t 2 0 false refl t_fits (lit< tt) in omega (arith, e)
 
-pub one_return : (t b c : ℕ) → t < 2 ^ 8 → b < 2 ^ 8 → one (abc Return t b c false) ≤ t + (b - 1)
+pub one_return : (t b c : ℕ) → t < 2 ^ 8 → b < 2 ^ 8 → one (abc Return t b c (nat_lt 0 t)) ≤ t + (b - 1)
 one_return t b c t_fits b_fits =
-    let w = abc Return t b c false in
-    by (a_of w) (b_of w) (abc_is Return t b c false (last_of (a_of w) (b_of w - 1)) refl) (last_below (a_of w) (b_of w - 1)) (a_of-abc Return t b c false t_fits) (b_of-abc Return t b c false t_fits b_fits)
+    let w = abc Return t b c (nat_lt 0 t) in
+    by (a_of w) (b_of w) (abc_is Return t b c (nat_lt 0 t) (last_of (a_of w) (b_of w - 1)) refl) (last_below (a_of w) (b_of w - 1)) (a_of-abc Return t b c (nat_lt 0 t) t_fits) (b_of-abc Return t b c (nat_lt 0 t) t_fits b_fits)
   where
-    by : (x y : ℕ) → one (abc Return t b c false) ≡ room_for (last_of x (y - 1)) 0 → room_for (last_of x (y - 1)) 0 ≤ x + (y - 1) → x ≡ t → y ≡ b → one (abc Return t b c false) ≤ t + (b - 1)
+    by : (x y : ℕ) → one (abc Return t b c (nat_lt 0 t)) ≡ room_for (last_of x (y - 1)) 0 → room_for (last_of x (y - 1)) 0 ≤ x + (y - 1) → x ≡ t → y ≡ b → one (abc Return t b c (nat_lt 0 t)) ≤ t + (b - 1)
     by x y e below f g = omega arith
 
 pub one_iterate : (t n : ℕ) → t < 2 ^ 8 → n < 2 ^ 8 → one (abc TForCall t 0 n false) ≡ max (t + 7) (t + 4 + n)

@@ -138,6 +138,16 @@ fn lines_are_kept_by_their_distances(rt: HostRuntime) -> Result<(), Fail> {
     Ok(())
 }
 
+// the 128th and the 256th of 300 instructions on line 1
+#[test]
+fn each_128th_line_is_kept_in_full(rt: HostRuntime) -> Result<(), Fail> {
+    let alloc = rt.alloc();
+    let steps = steps(alloc, &[0; 300], &[1; 300])?;
+    let far = [AbsLine { pc: 127, line: 1 }, AbsLine { pc: 255, line: 1 }];
+    assert_eq!(rt; far_lines(alloc, 1, &steps)?.as_slice(), far.as_slice());
+    Ok(())
+}
+
 // a local of the function around, and an upvalue of it
 #[test]
 fn upvalues_are_found_around(rt: HostRuntime) -> Result<(), Fail> {
@@ -197,10 +207,17 @@ fn functions_with_more_arguments_begin_by_varargprep(rt: HostRuntime) -> Result<
     let mut emitter = Emitter::new(alloc, Constants::new(alloc));
     put_opening(&mut emitter, true, 2, 7)?;
     put_opening(&mut emitter, false, 2, 8)?;
-    let expected = [Step {
-        instruction: Instruction(0x0151),
-        line: 7,
-    }];
+    put_opening(&mut emitter, true, 0, 0)?;
+    let expected = [
+        Step {
+            instruction: Instruction(0x0151),
+            line: 7,
+        },
+        Step {
+            instruction: Instruction(0x0051),
+            line: 1,
+        },
+    ];
     assert_eq!(rt; emitter.steps().as_slice(), expected.as_slice());
     assert_eq!(rt; back_field(true, 2)?, 3);
     assert_eq!(rt; back_field(false, 2)?, 0);

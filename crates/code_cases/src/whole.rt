@@ -40,7 +40,7 @@ static WHOLE: [(&[u8], &[usize]); 3] = [
             0x4f,
             0x80,
             0x814f,
-            0x0103_00c6,
+            0x0103_80c6,
             1,
             0,
             2,
@@ -48,7 +48,7 @@ static WHOLE: [(&[u8], &[usize]); 3] = [
             0,
             0,
             0x80,
-            0x0002_00c6,
+            0x0002_80c6,
             0,
             0,
             0,
@@ -70,7 +70,7 @@ static WHOLE: [(&[u8], &[usize]); 3] = [
             0x51,
             0x03,
             0xcf,
-            0x0102_00c6,
+            0x0102_80c6,
             1,
             0,
             4,
@@ -80,7 +80,7 @@ static WHOLE: [(&[u8], &[usize]); 3] = [
             0x0180,
             0x018a,
             0xcf,
-            0x0002_00c6,
+            0x0002_80c6,
         ],
     ),
 ];
@@ -126,7 +126,7 @@ fn sources_have_their_prototypes(rt: HostRuntime) -> Result<(), Fail> {
     Ok(())
 }
 
-// VARARGPREP without a line, LOADI on line 1, LOADNIL and RETURN on line 2
+// VARARGPREP and LOADI on line 1, LOADNIL and RETURN on line 2
 #[test]
 fn a_named_source_keeps_lines_and_variables(rt: HostRuntime) -> Result<(), Fail> {
     let alloc = rt.alloc();
@@ -141,7 +141,7 @@ fn a_named_source_keeps_lines_and_variables(rt: HostRuntime) -> Result<(), Fail>
         places.push(local.start)?;
         places.push(local.end)?;
     }
-    assert_eq!(rt; proto.line_info.as_slice(), [0, 1, 1, 0].as_slice());
+    assert_eq!(rt; proto.line_info.as_slice(), [1, 0, 1, 0].as_slice());
     assert_eq!(rt; text.as_slice(), b"xy".as_slice());
     assert_eq!(rt; places.as_slice(), [2, 4, 3, 4].as_slice());
     Ok(())

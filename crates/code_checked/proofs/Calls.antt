@@ -7,7 +7,7 @@ use Rattle.code_core.specs.Instruction.{abc, op_ax, a_of, b_of, c_of}
 use Rattle.code_core.specs.Fields.{takes_list, opens}
 use Rattle.code_core.specs.Prototype.{Prototype}
 use Rattle.code_core.proofs.FieldLemmas.{opcode_of-abc, a_of-abc, b_of-abc, c_of-abc, opcode_of-ax}
-use Rattle.code_of.specs.Coded.{with_abc}
+use Rattle.code_of.specs.Coded.{with_abc, leaving_by}
 use Rattle.code_of.specs.Expressions.{set_list}
 use Rattle.code_checked.proofs.Pieces.{Seam, closed, listed, returned, Piece}
 use Rattle.code_checked.proofs.Units.{starts_by, leaves_none, begins_none, Takes, Gives, Plain, StillCouple, one, two}
@@ -91,39 +91,39 @@ module _ (p : Prototype) where
     still = λ pc. refl;
   })
 
-  pub return_piece : {H : Type 0} {pc : ℕ} (f : Seam) (t b back line : ℕ) → t < 2 ^ 8 → b < 2 ^ 8 → back < 2 ^ 8 → TakesField f t b → Piece p H f returned pc (with_abc Return t b back line ∷ [])
-  return_piece {H} {pc} f t b back line tf bf cf takes = one p f returned (abc Return t b back false) line (record {
+  pub return_piece : {H : Type 0} {pc : ℕ} (f : Seam) (t b back line : ℕ) → t < 2 ^ 8 → b < 2 ^ 8 → back < 2 ^ 8 → TakesField f t b → Piece p H f returned pc (leaving_by Return t b back line ∷ [])
+  return_piece {H} {pc} f t b back line tf bf cf takes = one p f returned (abc Return t b back (nat_lt 0 t)) line (record {
     single = record {
       opcode = Return;
-      is = opcode_of-abc Return t b back false;
+      is = opcode_of-abc Return t b back (nat_lt 0 t);
       whole = refl;
-      fits = abc_fits Return t b back false tf bf cf;
+      fits = abc_fits Return t b back (nat_lt 0 t) tf bf cf;
       alone = refl;
       constant = λ extra. refl;
       upvalue = refl;
       inner = λ pc here. refl;
       half = refl;
       gives = (refl, refl);
-      takes = takes_by f Return t b back false tf bf refl takes;
+      takes = takes_by f Return t b back (nat_lt 0 t) tf bf refl takes;
       varargs = λ pc h. h;
     };
     still = λ pc. refl;
   })
 
-  pub tail_piece : {H : Type 0} {pc : ℕ} (f : Seam) (t b line : ℕ) → t < 2 ^ 8 → b < 2 ^ 8 → TakesField f t b → Piece p H f (listed t) pc (with_abc TailCall t b 0 line ∷ [])
-  tail_piece {H} {pc} f t b line tf bf takes = one p f (listed t) (abc TailCall t b 0 false) line (record {
+  pub tail_piece : {H : Type 0} {pc : ℕ} (f : Seam) (t b back line : ℕ) → t < 2 ^ 8 → b < 2 ^ 8 → back < 2 ^ 8 → TakesField f t b → Piece p H f (listed t) pc (leaving_by TailCall t b back line ∷ [])
+  tail_piece {H} {pc} f t b back line tf bf cf takes = one p f (listed t) (abc TailCall t b back (nat_lt 0 t)) line (record {
     single = record {
       opcode = TailCall;
-      is = opcode_of-abc TailCall t b 0 false;
+      is = opcode_of-abc TailCall t b back (nat_lt 0 t);
       whole = refl;
-      fits = abc_fits TailCall t b 0 false tf bf (lit< tt);
+      fits = abc_fits TailCall t b back (nat_lt 0 t) tf bf cf;
       alone = refl;
       constant = λ extra. refl;
       upvalue = refl;
       inner = λ pc here. refl;
       half = refl;
-      gives = ap Some (a_of-abc TailCall t b 0 false tf);
-      takes = takes_by f TailCall t b 0 false tf bf refl takes;
+      gives = ap Some (a_of-abc TailCall t b back (nat_lt 0 t) tf);
+      takes = takes_by f TailCall t b back (nat_lt 0 t) tf bf refl takes;
       varargs = λ pc h. h;
     };
     still = λ pc. refl;

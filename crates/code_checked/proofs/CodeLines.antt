@@ -24,7 +24,7 @@ use Rattle.tree_terms.specs.Levels.{level_after, levels_after, levels_in}
 use Rattle.code_of.specs.Parts.{marks_code, close_code, past, past_size, name_target, target_code, targets_code, name_store, store_code, stores_code, assign_code, values_last, return_code, bounds_code, steps_code}
 use Rattle.code_of.specs.Sizes.{stat_size, arms_size, block_size}
 use Rattle.code_of.specs.Statements.{in_loop, passed_after, labels_ahead, stat_code, arms_code, stats_code, block_code, open_code, whole_code}
-use Rattle.code_of.specs.CodeOf.{back_field, body_code}
+use Rattle.code_of.specs.CodeOf.{back_field, first_line, body_code}
 use Rattle.code_checked.specs.Written.{LineFits, DeclaredFit, ExpIsWritten, ExpsAreWritten, FieldsAreWritten, StatIsWritten, ArmsAreWritten, StatsAreWritten, BlockIsWritten, BodyIsWritten}
 
 abbrev pub LinesFit : List Coded → Type 0
@@ -289,6 +289,13 @@ module _ (cs : List Const) where
         lines_both (stats_code cs back ss true false 0 params 0 pc [] (record { labels = []; exit = None })) _ (stats_lines ss true false 0 params 0 pc [] (record { labels = []; exit = None }) w.1) (w.0, tt)
     whole_lines (Returns ss es tokens line) params pc w = block_lines (Returns ss es tokens line) false 0 params 0 pc (record { labels = []; exit = None }) w
 
+begins : (line : ℕ) → LineFits line → LineFits (first_line line)
+begins line h = by (nat_eq line 0)
+  where
+    by : (b : Bool) → LineFits (cond b 1 line)
+    by true = refl
+    by false = h
+
 pub body_lines : (body : Body) → BodyIsWritten body → LinesFit (body_code body)
 body_lines (BodyOf params false inner ups line) w = whole_lines (of_block inner []) (back_field false (length params)) inner (length params) 0 w.1.1.1
-body_lines (BodyOf params true inner ups line) w = (w.0, whole_lines (of_block inner []) (back_field true (length params)) inner (length params) 1 w.1.1.1)
+body_lines (BodyOf params true inner ups line) w = (begins line w.0, whole_lines (of_block inner []) (back_field true (length params)) inner (length params) 1 w.1.1.1)

@@ -8,7 +8,7 @@ use Rattle.code_core.specs.declared.opcode.Opcode.TheVariants.{Return}
 use Rattle.code_core.specs.declared.proto.Const.{Const}
 use Rattle.code_core.specs.declared.proto.LocVar.{LocVar}
 use Rattle.code_core.specs.Writable.{name_fits, local_fits}
-use Rattle.code_of.specs.Coded.{with_abc}
+use Rattle.code_of.specs.Coded.{leaving_by}
 use Rattle.code_of.specs.Constants.{of_block}
 use Rattle.code_of.specs.Expressions.{made_by, made_in, exp_code, exps_code}
 use Rattle.code_of.specs.Jumps.{Reach}
@@ -126,7 +126,7 @@ whole_size : (cs : List Const) (back : ℕ) (block : Block) (params pc : ℕ) �
 whole_size cs back (Falls ss tokens line) params pc =
     let one = close_short 0 (levels_after ss params) line in
     let reach : Reach = record { labels = []; exit = None } in
-    let a = length-append (stats_code cs back ss true false 0 params 0 pc [] reach) (with_abc Return (levels_after ss params) 1 back line ∷ []) in
+    let a = length-append (stats_code cs back ss true false 0 params 0 pc [] reach) (leaving_by Return (levels_after ss params) 1 back line ∷ []) in
     let b = stats_sized cs back ss true false 0 params 0 pc [] reach in
     omega (arith, one, a, b)
 whole_size cs back (Returns ss es tokens line) params pc = let a = block_sized cs back (Returns ss es tokens line) false 0 params 0 pc (record { labels = []; exit = None }) in omega (arith, a)

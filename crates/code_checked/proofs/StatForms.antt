@@ -140,7 +140,7 @@ module _ (p : Prototype) where
         let r = n.0 in
         both p (one_law p W source f H t j pc t cs (from_exps source es rest) n.1.0 (omega arith) (grows_then (of_exp f cs) (of_exps es (of_exp f cs)) p.own.constants (grows_exps es (of_exp f cs)) g) fs)
         (both p (list_law p W source es H (t + 1) (j + made_by f) call_line _ t (of_exp f cs) rest n.1.1 (omega arith) g (after_exp source p f j (from_exps source es rest) fs))
-        (both p (tail_piece p (open_mark es (t + 1)) t (list_field 0 es) call_line (omega (arith, r)) (field_below (ends_open es) (0 + count es + 1) (omega (arith, r))) (takes_list_field es (0 + count es + 1) t (t + 1) (omega arith) (omega arith)))
+        (both p (tail_piece p (open_mark es (t + 1)) t (list_field 0 es) back call_line (omega (arith, r)) (field_below (ends_open es) (0 + count es + 1) (omega (arith, r))) bf (takes_list_field es (0 + count es + 1) t (t + 1) (omega arith) (omega arith)))
         (return_piece p (listed t) t 0 back call_line (omega (arith, r)) (lit< tt) bf (refl, omega arith))))
 
     method_return : (call_line : ℕ) (o : Exp) (name : Name) (es : Exps) (t j back pc : ℕ) (cs : List Const) (rest : Prototypes) → ResultIsNear source p (MoreExps (Method call_line o name es) EndExps) t → back < 2 ^ 8
@@ -156,7 +156,7 @@ module _ (p : Prototype) where
         (both p (loads_piece p W (StrConst name.text) (t + 1) call_line (omega (arith, r)) (is_in (StrConst name.text) (same_text name.text) made p.own.constants known))
         (both p (self_piece p t t (t + 1) call_line (omega (arith, r)) (omega (arith, r)) (omega (arith, r)))
         (both p (list_law p W source es H (t + 2) (j + made_by o) call_line _ t named rest n.1.1 (omega arith) g (after_exp source p o j (from_exps source es rest) fs))
-        (both p (tail_piece p (open_mark es (t + 2)) t (list_field 1 es) call_line (omega (arith, r)) (field_below (ends_open es) (1 + count es + 1) (omega (arith, r))) (takes_list_field es (1 + count es + 1) t (t + 2) (omega arith) (omega arith)))
+        (both p (tail_piece p (open_mark es (t + 2)) t (list_field 1 es) back call_line (omega (arith, r)) (field_below (ends_open es) (1 + count es + 1) (omega (arith, r))) bf (takes_list_field es (1 + count es + 1) t (t + 2) (omega arith) (omega arith)))
         (return_piece p (listed t) t 0 back call_line (omega (arith, r)) (lit< tt) bf (refl, omega arith))))))
 
     pub return_law : (closing : Bool) (es : Exps) (t j line back pc : ℕ) (cs : List Const) (rest : Prototypes) → ResultIsNear source p es t → back < 2 ^ 8 → Grows (of_exps es cs) p.own.constants → Functions p j (from_exps source es rest)

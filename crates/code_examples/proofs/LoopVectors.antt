@@ -32,7 +32,7 @@ repeats_code = hand 1 false 5 [] [] (variable "f" 0 16 ∷ variable "x" 2 15 ∷
     (hand 0 false 1 [] (("x", 1) ∷ []) [] [] (abc GetUpval 0 0 0 false ∷ abc Return 0 2 0 false ∷ []) ∷ [])
     (abc Move 1 0 0 false ∷ abc Call 1 1 2 false ∷ abx Closure 2 0
     ∷ abc Move 3 1 0 false ∷ abc Test 3 0 0 false ∷ jump 4 ∷ abc Move 3 0 0 false ∷ abc Move 4 2 0 false ∷ abc Call 3 2 2 false ∷ abc Not 3 3 0 false
-    ∷ abc Test 3 0 0 true ∷ jump 2 ∷ abc Close 1 0 0 false ∷ jump_back 14 ∷ abc Close 1 0 0 false ∷ abc Return 1 1 0 false ∷ [])
+    ∷ abc Test 3 0 0 true ∷ jump 2 ∷ abc Close 1 0 0 false ∷ jump_back 14 ∷ abc Close 1 0 0 false ∷ abc Return 1 1 0 true ∷ [])
 
 repeat_code : Compiles repeats repeats_code
 unfolding opcodes number_of
@@ -57,7 +57,7 @@ breaks_out_code = hand 1 false 9 [] []
     (abc Move 1 0 0 false ∷ load_int 2 1 ∷ load_int 3 2 ∷ abc LoadNil 4 0 0 false ∷ abx TForPrep 1 12
     ∷ abx Closure 6 0 ∷ abc Move 7 5 0 false ∷ load_int 8 3 ∷ abc Eq 7 8 0 true ∷ jump 1 ∷ abc LFalseSkip 7 0 0 false ∷ abc LoadTrue 7 0 0 false
     ∷ abc Test 7 0 0 false ∷ jump 2 ∷ abc Close 1 0 0 false ∷ jump 4
-    ∷ abc Close 5 0 0 false ∷ abc TForCall 1 0 1 false ∷ abx TForLoop 1 14 ∷ abc Close 1 0 0 false ∷ abc Return 1 1 0 false ∷ [])
+    ∷ abc Close 5 0 0 false ∷ abc TForCall 1 0 1 false ∷ abx TForLoop 1 14 ∷ abc Close 1 0 0 false ∷ abc Return 1 1 0 true ∷ [])
 
 generic_for_code : Compiles breaks_out breaks_out_code
 unfolding opcodes number_of
@@ -82,8 +82,8 @@ abbrev pub returns_from_for_code : Prototype
 returns_from_for_code = hand 2 false 9 [] []
     (variable "it" 0 13 ∷ variable "v" 0 13 ∷ hidden 4 12 ∷ hidden 4 12 ∷ hidden 4 12 ∷ hidden 4 12 ∷ variable "k" 5 9 ∷ []) []
     (abc Move 2 0 0 false ∷ load_int 3 1 ∷ load_int 4 2 ∷ abc Move 5 1 0 false ∷ abx TForPrep 2 4
-    ∷ abc Move 7 0 0 false ∷ abc Move 8 6 0 false ∷ abc Call 7 2 0 false ∷ abc Return 7 0 0 false
-    ∷ abc TForCall 2 0 1 false ∷ abx TForLoop 2 6 ∷ abc Close 2 0 0 false ∷ abc Return 2 1 0 false ∷ [])
+    ∷ abc Move 7 0 0 false ∷ abc Move 8 6 0 false ∷ abc Call 7 2 0 false ∷ abc Return 7 0 0 true
+    ∷ abc TForCall 2 0 1 false ∷ abx TForLoop 2 6 ∷ abc Close 2 0 0 false ∷ abc Return 2 1 0 true ∷ [])
 
 return_code : Compiles returns_from_for returns_from_for_code
 unfolding opcodes number_of
@@ -143,7 +143,7 @@ jumps_about_code = hand 1 false 7 [] [] (variable "a" 0 21 ∷ hidden 3 20 ∷ h
     (load_int 1 3 ∷ load_int 2 1 ∷ abc Move 3 0 0 false ∷ abx ForPrep 1 15
     ∷ abc Close 5 0 0 false ∷ jump 2 ∷ abc Close 1 0 0 false ∷ jump 12
     ∷ abc Move 5 4 0 false ∷ load_int 6 2 ∷ abc Eq 5 6 0 true ∷ jump 1 ∷ abc LFalseSkip 5 0 0 false ∷ abc LoadTrue 5 0 0 false
-    ∷ abc Test 5 0 0 false ∷ jump 2 ∷ abc Close 5 0 0 false ∷ jump_back 12 ∷ abc Close 4 0 0 false ∷ abx ForLoop 1 16 ∷ abc Return 1 1 0 false ∷ [])
+    ∷ abc Test 5 0 0 false ∷ jump 2 ∷ abc Close 5 0 0 false ∷ jump_back 12 ∷ abc Close 4 0 0 false ∷ abx ForLoop 1 16 ∷ abc Return 1 1 0 true ∷ [])
 
 jump_code : Compiles jumps_about jumps_about_code
 unfolding opcodes number_of
@@ -176,7 +176,7 @@ leaves_scopes_code = hand 2 false 5 [] [] (variable "f" 0 19 ∷ variable "v" 0 
     (abc Move 2 1 0 false ∷ abc Tbc 2 0 0 false ∷ abc Move 3 0 0 false ∷ abc Call 3 1 2 false
     ∷ abc Move 4 3 0 false ∷ abc Test 4 0 0 false ∷ jump 2 ∷ abc Close 2 0 0 false ∷ jump_back 9 ∷ abc Close 2 0 0 false ∷ jump 6
     ∷ abc LoadTrue 4 0 0 false ∷ abc Test 4 0 0 true ∷ jump 2 ∷ abc Close 3 0 0 false ∷ jump_back 14 ∷ abc Close 3 0 0 false
-    ∷ abc Close 2 0 0 false ∷ abc Return 2 1 0 false ∷ [])
+    ∷ abc Close 2 0 0 false ∷ abc Return 2 1 0 true ∷ [])
 
 leaving_code : Compiles leaves_scopes leaves_scopes_code
 unfolding opcodes number_of
@@ -195,7 +195,7 @@ tests_at_once = fun ("f" ∷ []) [] (block (
 abbrev pub tests_at_once_code : Prototype
 tests_at_once_code = hand 1 false 3 [] [] (variable "f" 0 13 ∷ variable "x" 2 12 ∷ []) []
     (abc Move 1 0 0 false ∷ abc Call 1 1 2 false ∷ abc Close 2 0 0 false ∷ jump 2 ∷ abc Move 2 0 0 false ∷ abc Call 2 1 1 false
-    ∷ abc Move 2 1 0 false ∷ abc Test 2 0 0 true ∷ jump 2 ∷ abc Close 1 0 0 false ∷ jump_back 11 ∷ abc Close 1 0 0 false ∷ abc Return 1 1 0 false ∷ [])
+    ∷ abc Move 2 1 0 false ∷ abc Test 2 0 0 true ∷ jump 2 ∷ abc Close 1 0 0 false ∷ jump_back 11 ∷ abc Close 1 0 0 false ∷ abc Return 1 1 0 true ∷ [])
 
 label_code : Compiles tests_at_once tests_at_once_code
 unfolding opcodes number_of

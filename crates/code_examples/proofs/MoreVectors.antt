@@ -27,7 +27,7 @@ globals = vararg_fun [] (of_local "_ENV" 0 ∷ []) (returning (assign (global "x
 abbrev pub globals_code : Prototype
 globals_code = hand 0 true 3 (text "x" ∷ text "y" ∷ text "print" ∷ []) (("_ENV", 0) ∷ []) [] []
     (abc VarArgPrep 0 0 0 false ∷ abc GetUpval 0 0 0 false ∷ abx LoadK 1 0 ∷ abc GetTabUp 2 0 1 false ∷ abc SetTable 0 1 2 false
-    ∷ abc GetTabUp 0 0 2 false ∷ abc GetTabUp 1 0 0 false ∷ abc TailCall 0 2 0 false ∷ abc Return 0 0 1 false ∷ [])
+    ∷ abc GetTabUp 0 0 2 false ∷ abc GetTabUp 1 0 0 false ∷ abc TailCall 0 2 1 false ∷ abc Return 0 0 1 false ∷ [])
 
 global_names_code : Compiles globals globals_code
 unfolding opcodes number_of
@@ -45,7 +45,7 @@ decides = fun ("a" ∷ "b" ∷ []) [] (returning [] (Or 1 (And 1 (loc "a" 0) (Un
 abbrev pub decides_code : Prototype
 decides_code = hand 2 false 4 [] [] (variable "a" 0 14 ∷ variable "b" 0 14 ∷ []) []
     (abc Move 2 0 0 false ∷ abc Test 2 0 0 false ∷ jump 2 ∷ abc Move 2 1 0 false ∷ abc Not 2 2 0 false ∷ abc Test 2 0 0 true ∷ jump 6
-    ∷ abc Move 2 0 0 false ∷ abc Move 3 1 0 false ∷ abc Le 2 3 0 true ∷ jump 1 ∷ abc LFalseSkip 2 0 0 false ∷ abc LoadTrue 2 0 0 false ∷ abc Return 2 2 0 false ∷ [])
+    ∷ abc Move 2 0 0 false ∷ abc Move 3 1 0 false ∷ abc Le 2 3 0 true ∷ jump 1 ∷ abc LFalseSkip 2 0 0 false ∷ abc LoadTrue 2 0 0 false ∷ abc Return 2 2 0 true ∷ [])
 
 truth_code : Compiles decides decides_code
 unfolding opcodes number_of
@@ -69,8 +69,8 @@ chooses = fun ("a" ∷ []) [] (returning (
 abbrev pub chooses_code : Prototype
 chooses_code = hand 1 false 4 [] [] (variable "a" 0 21 ∷ []) []
     (abc Move 1 0 0 false ∷ load_int 2 1 ∷ abc Lt 2 1 0 true ∷ jump 1 ∷ abc LFalseSkip 1 0 0 false ∷ abc LoadTrue 1 0 0 false ∷ abc Test 1 0 0 false ∷ jump 3
-    ∷ load_int 1 1 ∷ abc Return 1 2 0 false ∷ jump 8 ∷ abc Move 1 0 0 false ∷ abc Test 1 0 0 false ∷ jump 3 ∷ load_int 3 2 ∷ abc Move 0 3 0 false ∷ jump 2
-    ∷ load_int 3 3 ∷ abc Move 0 3 0 false ∷ abc Move 1 0 0 false ∷ abc Return 1 2 0 false ∷ [])
+    ∷ load_int 1 1 ∷ abc Return 1 2 0 true ∷ jump 8 ∷ abc Move 1 0 0 false ∷ abc Test 1 0 0 false ∷ jump 3 ∷ load_int 3 2 ∷ abc Move 0 3 0 false ∷ jump 2
+    ∷ load_int 3 3 ∷ abc Move 0 3 0 false ∷ abc Move 1 0 0 false ∷ abc Return 1 2 0 true ∷ [])
 
 arms_code : Compiles chooses chooses_code
 unfolding opcodes number_of
@@ -96,7 +96,7 @@ calls_method = vararg_fun ("o" ∷ []) [] (returning []
 abbrev pub calls_method_code : Prototype
 calls_method_code = hand 1 true 6 (text "m" ∷ []) [] (variable "o" 0 13 ∷ []) []
     (abc VarArgPrep 1 0 0 false ∷ abc Move 1 0 0 false ∷ abc Len 1 1 0 false ∷ abc Move 2 0 0 false ∷ abc Unm 2 2 0 false ∷ abc Concat 1 2 0 false
-    ∷ abc Move 2 0 0 false ∷ abx LoadK 3 0 ∷ abc OpSelf 2 2 3 false ∷ load_int 4 1 ∷ abc VarArg 5 0 0 false ∷ abc Call 2 0 0 false ∷ abc Return 1 0 2 false ∷ [])
+    ∷ abc Move 2 0 0 false ∷ abx LoadK 3 0 ∷ abc OpSelf 2 2 3 false ∷ load_int 4 1 ∷ abc VarArg 5 0 0 false ∷ abc Call 2 0 0 false ∷ abc Return 1 0 2 true ∷ [])
 
 method_code : Compiles calls_method calls_method_code
 unfolding opcodes number_of
@@ -118,7 +118,7 @@ makes_tables_code = hand 1 false 9 (text "a" ∷ text "b" ∷ text "m" ∷ text 
     (abc Move 1 0 0 false ∷ abx LoadK 2 0 ∷ abc Move 3 0 0 false ∷ abx LoadK 4 1 ∷ load_int 5 1
     ∷ abc Move 6 0 0 false ∷ abx LoadK 7 2 ∷ abc OpSelf 6 6 7 false ∷ load_int 8 2 ∷ abc Call 6 3 2 false ∷ abc SetTable 3 4 6 false ∷ abc SetTable 1 2 5 false
     ∷ abc NewTable 1 0 0 false ∷ op_ax ExtraArg 0 ∷ load_int 2 3 ∷ abc SetList 1 1 0 false ∷ abx LoadK 2 3 ∷ load_int 3 4 ∷ abc SetTable 1 2 3 false
-    ∷ abc Move 2 0 0 false ∷ abx LoadK 3 4 ∷ abc GetTable 2 2 3 false ∷ abc SetList 1 1 1 false ∷ abc Return 1 2 0 false ∷ [])
+    ∷ abc Move 2 0 0 false ∷ abx LoadK 3 4 ∷ abc GetTable 2 2 3 false ∷ abc SetList 1 1 1 false ∷ abc Return 1 2 0 true ∷ [])
 
 tables_code : Compiles makes_tables makes_tables_code
 unfolding opcodes number_of
@@ -136,7 +136,7 @@ swaps = fun ("a" ∷ "b" ∷ []) [] (returning (assigns (loc "a" 0 ∷ loc "b" 1
 abbrev pub swaps_code : Prototype
 swaps_code = hand 2 false 8 [] [] (variable "a" 0 9 ∷ variable "b" 0 9 ∷ []) []
     (abc Move 6 1 0 false ∷ abc Move 7 0 0 false ∷ abc Move 1 7 0 false ∷ abc Move 0 6 0 false
-    ∷ abc Move 2 0 0 false ∷ abc Move 3 1 0 false ∷ abc Sub 2 2 3 false ∷ abc MmBin 2 3 7 false ∷ abc Return 2 2 0 false ∷ [])
+    ∷ abc Move 2 0 0 false ∷ abc Move 3 1 0 false ∷ abc Sub 2 2 3 false ∷ abc MmBin 2 3 7 false ∷ abc Return 2 2 0 true ∷ [])
 
 swap_code : Compiles swaps swaps_code
 unfolding opcodes number_of

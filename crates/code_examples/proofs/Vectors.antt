@@ -44,7 +44,7 @@ abbrev pub changes_operand_code : Prototype
 changes_operand_code = hand 0 true 4 [] [] (variable "a" 2 10 ∷ variable "f" 3 10 ∷ []) (
     hand 0 false 3 [] (("a", 0) ∷ []) [] [] (load_int 2 10 ∷ abc SetUpval 2 0 0 false ∷ load_int 0 1 ∷ abc Return 0 2 0 false ∷ []) ∷ [])
     (abc VarArgPrep 0 0 0 false ∷ load_int 0 1 ∷ abc LoadNil 1 0 0 false ∷ abx Closure 1 0
-    ∷ abc Move 2 0 0 false ∷ abc Move 3 1 0 false ∷ abc Call 3 1 2 false ∷ abc Add 2 2 3 false ∷ abc MmBin 2 3 6 false ∷ abc Return 2 2 1 false ∷ [])
+    ∷ abc Move 2 0 0 false ∷ abc Move 3 1 0 false ∷ abc Call 3 1 2 false ∷ abc Add 2 2 3 false ∷ abc MmBin 2 3 6 false ∷ abc Return 2 2 1 true ∷ [])
 
 operand_code : Compiles changes_operand changes_operand_code
 unfolding opcodes number_of
@@ -74,7 +74,7 @@ last_value_code = hand 0 true 6 [] [] (variable "f" 2 18 ∷ variable "c" 3 18 �
     (hand 0 false 1 [] (("x", 2) ∷ []) [] [] (abc GetUpval 0 0 0 false ∷ abc Return 0 2 0 false ∷ []) ∷ [])
     (abc VarArgPrep 0 0 0 false ∷ abc LoadNil 0 0 0 false ∷ abc LoadTrue 1 0 0 false ∷ abc Move 2 1 0 false ∷ abc Test 2 0 0 false ∷ jump 9
     ∷ load_int 2 0 ∷ abx Closure 5 0 ∷ abc Move 0 5 0 false ∷ load_int 5 5 ∷ abc Move 2 5 0 false ∷ abc LoadFalse 5 0 0 false ∷ abc Move 1 5 0 false
-    ∷ abc Close 2 0 0 false ∷ jump_back 12 ∷ abc Move 2 0 0 false ∷ abc TailCall 2 1 0 false ∷ abc Return 2 0 1 false ∷ [])
+    ∷ abc Close 2 0 0 false ∷ jump_back 12 ∷ abc Move 2 0 0 false ∷ abc TailCall 2 1 1 true ∷ abc Return 2 0 1 true ∷ [])
 
 last_code : Compiles last_value last_value_code
 unfolding opcodes number_of
@@ -90,7 +90,7 @@ spreads = vararg_fun [] [] (returning (locals (declared "a" 0 ∷ declared "b" 1
 
 abbrev pub spreads_code : Prototype
 spreads_code = hand 0 true 4 [] [] (variable "a" 2 5 ∷ variable "b" 2 5 ∷ []) []
-    (abc VarArgPrep 0 0 0 false ∷ abc VarArg 0 0 3 false ∷ abc Move 2 0 0 false ∷ abc VarArg 3 0 0 false ∷ abc Return 2 0 1 false ∷ [])
+    (abc VarArgPrep 0 0 0 false ∷ abc VarArg 0 0 3 false ∷ abc Move 2 0 0 false ∷ abc VarArg 3 0 0 false ∷ abc Return 2 0 1 true ∷ [])
 
 varargs_code : Compiles spreads spreads_code
 unfolding opcodes number_of
@@ -106,7 +106,7 @@ faults = fun ("v" ∷ []) [] (returning (locals (closed "x" 1 ∷ []) (loc "v" 0
 
 abbrev pub faults_code : Prototype
 faults_code = hand 1 false 4 [] [] (variable "v" 0 7 ∷ variable "x" 1 7 ∷ []) []
-    (abc Move 1 0 0 false ∷ abc Tbc 1 0 0 false ∷ load_int 2 1 ∷ load_int 3 0 ∷ abc IDiv 2 2 3 false ∷ abc MmBin 2 3 12 false ∷ abc Return 2 2 0 false ∷ [])
+    (abc Move 1 0 0 false ∷ abc Tbc 1 0 0 false ∷ load_int 2 1 ∷ load_int 3 0 ∷ abc IDiv 2 2 3 false ∷ abc MmBin 2 3 12 false ∷ abc Return 2 2 0 true ∷ [])
 
 fault_code : Compiles faults faults_code
 unfolding opcodes number_of
@@ -129,7 +129,7 @@ abbrev pub closes_at_end_code : Prototype
 closes_at_end_code = hand 2 false 6 [] [] (variable "f" 0 9 ∷ variable "v" 0 9 ∷ variable "x" 1 7 ∷ variable "y" 3 7 ∷ [])
     (hand 0 false 1 [] (("y", 3) ∷ []) [] [] (abc GetUpval 0 0 0 false ∷ abc Return 0 2 0 false ∷ []) ∷ [])
     (abc Move 2 1 0 false ∷ abc Tbc 2 0 0 false ∷ load_int 3 1 ∷ abc Move 4 0 0 false ∷ abx Closure 5 0 ∷ abc Call 4 2 1 false ∷ abc Close 2 0 0 false
-    ∷ load_int 2 2 ∷ abc Return 2 2 0 false ∷ [])
+    ∷ load_int 2 2 ∷ abc Return 2 2 0 true ∷ [])
 
 closes_code : Compiles closes_at_end closes_at_end_code
 unfolding opcodes number_of

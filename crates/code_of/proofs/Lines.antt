@@ -1,11 +1,11 @@
--- Lines that are kept as distances are read back, and distances and far lines fit.
+-- Lines that are kept as distances and by their places are read back, and distances and far lines fit.
 use Rattle.std.proofs.Common.{◌≡◌, ℕ, suc, ◌+◌, ◌<◌, ◌≤◌, ◌^◌, Bool, true, false, cond, if◌then◌else◌, ◌&&◌, ℤ, pos, negsuc, ◌+ℤ◌, ◌-ℤ◌, List, [], ◌∷◌, ◌++◌, length, map, Some, refl, sym, ap, ap₂, ◌∙◌, arith, append_assoc, eq-eqb, ne_eqb, lt-ltb, leb-true}
-use Rattle.std.specs.Prelude.{find, ◌==◌, option_map}
+use Rattle.std.specs.Prelude.{find, ◌==◌, ◌%◌, nat_eq, option_map}
 use Rattle.std.specs.List.{list_all}
 use Rattle.code_core.specs.declared.proto.AbsLine.{AbsLine}
 use Rattle.code_core.specs.Writable.{number_fits, change_fits, line_fits}
 use Rattle.code_core.specs.Check.{is_absolute, line_at, lines_from, is_line}
-use Rattle.code_of.specs.CodeOf.{is_near, changes, far_lines}
+use Rattle.code_of.specs.CodeOf.{is_near, is_distance, changes, far_lines}
 
 abbrev AllBefore : List AbsLine → ℕ → Type 0
 AllBefore [] pc = Unit {0}
@@ -31,36 +31,51 @@ near_change (negsuc n) e = let h = leb-true n 126 e in ne_eqb n 127 (λ d. absur
 back_to_line : (before line : ℕ) → pos before +ℤ (pos line -ℤ pos before) ≡ pos line
 back_to_line before line = grind arith
 
+-- what the first distance comes to, once it is known whether it is near and whether its line is kept by its place
+module _ (line : ℕ) (rest : List ℕ) (pc before : ℕ) (front : List AbsLine) (h : AllBefore front pc)
+    (again : (front : List AbsLine) → AllBefore front (suc pc) → lines_from (front ++ far_lines (suc pc) line rest) (suc pc) (Some (pos line)) (changes line rest) ≡ map (λ l. Some (pos l)) rest) where
+  abbrev z : ℤ
+  z = pos line -ℤ pos before
+
+  abbrev entry : AbsLine
+  entry = record { pc = pc; line = line }
+
+  one : pc + 1 ≡ suc pc
+  one = omega arith
+
+  near_here : (all : List AbsLine) → is_near (pos line -ℤ pos before) ≡ true → line_at all pc (Some (pos before)) (pos line -ℤ pos before) ≡ Some (pos line)
+  near_here all e = ap (λ b. if b then option_map (λ l. pos l.line) (find (λ l. l.pc == pc) all) else Some (pos before +ℤ z)) (near_change z e) ∙ ap Some (back_to_line before line)
+
+  left_out : (change : ℤ) → line_at (front ++ far_lines (suc pc) line rest) pc (Some (pos before)) change ≡ Some (pos line)
+      → lines_from (front ++ far_lines (suc pc) line rest) pc (Some (pos before)) (change ∷ changes line rest) ≡ map (λ l. Some (pos l)) (line ∷ rest)
+  left_out change here =
+      let all = front ++ far_lines (suc pc) line rest in
+      ap (λ o. o ∷ lines_from all (pc + 1) o (changes line rest)) here
+      ∙ ap (λ l. Some (pos line) ∷ l) (ap (λ q. lines_from all q (Some (pos line)) (changes line rest)) one ∙ again front (before_later front pc h))
+
+  kept : (change : ℤ) → line_at (front ++ entry ∷ far_lines (suc pc) line rest) pc (Some (pos before)) change ≡ Some (pos line)
+      → lines_from (front ++ entry ∷ far_lines (suc pc) line rest) pc (Some (pos before)) (change ∷ changes line rest) ≡ map (λ l. Some (pos l)) (line ∷ rest)
+  kept change here =
+      let all = front ++ entry ∷ far_lines (suc pc) line rest in
+      let same : all ≡ (front ++ entry ∷ []) ++ far_lines (suc pc) line rest = sym (append_assoc front (entry ∷ []) (far_lines (suc pc) line rest)) in
+      ap (λ o. o ∷ lines_from all (pc + 1) o (changes line rest)) here
+      ∙ ap (λ l. Some (pos line) ∷ l) (ap₂ (λ q a. lines_from a q (Some (pos line)) (changes line rest)) one same ∙ again (front ++ entry ∷ []) (before_more front pc line h))
+
+  found : line_at (front ++ entry ∷ far_lines (suc pc) line rest) pc (Some (pos before)) (negsuc 127) ≡ Some (pos line)
+  found = ap (option_map (λ l. pos l.line))
+      (find_past front (entry ∷ far_lines (suc pc) line rest) pc h ∙ ap (λ b. if b then Some entry else find (λ l. l.pc == pc) (far_lines (suc pc) line rest)) (eq-eqb pc pc refl))
+
+  first_read : (each near : Bool) → is_near (pos line -ℤ pos before) ≡ near
+      → lines_from (front ++ cond (cond each false near) (far_lines (suc pc) line rest) (record { pc = pc; line = line } ∷ far_lines (suc pc) line rest)) pc (Some (pos before)) (cond near (pos line -ℤ pos before) (negsuc 127) ∷ changes line rest)
+      ≡ map (λ l. Some (pos l)) (line ∷ rest)
+  first_read true true e = kept z (near_here _ e)
+  first_read false true e = left_out z (near_here _ e)
+  first_read true false e = kept (negsuc 127) found
+  first_read false false e = kept (negsuc 127) found
+
 decode : (ls : List ℕ) (pc before : ℕ) (front : List AbsLine) → AllBefore front pc → lines_from (front ++ far_lines pc before ls) pc (Some (pos before)) (changes before ls) ≡ map (λ l. Some (pos l)) ls
 decode [] pc before front h = refl
-decode (line ∷ rest) pc before front h = by (is_near z) refl (decode rest (suc pc) line)
-  where
-    z : ℤ
-    z = pos line -ℤ pos before
-
-    one : pc + 1 ≡ suc pc
-    one = omega arith
-
-    entry : AbsLine
-    entry = record { pc = pc; line = line }
-
-    by : (b : Bool) → is_near (pos line -ℤ pos before) ≡ b
-        → ((front : List AbsLine) → AllBefore front (suc pc) → lines_from (front ++ far_lines (suc pc) line rest) (suc pc) (Some (pos line)) (changes line rest) ≡ map (λ l. Some (pos l)) rest)
-        → lines_from (front ++ far_lines pc before (line ∷ rest)) pc (Some (pos before)) (changes before (line ∷ rest)) ≡ map (λ l. Some (pos l)) (line ∷ rest)
-    by true e again =
-        let all = front ++ far_lines (suc pc) line rest in
-        let here : line_at all pc (Some (pos before)) z ≡ Some (pos line) = ap (λ b. if b then option_map (λ l. pos l.line) (find (λ l. l.pc == pc) all) else Some (pos before +ℤ z)) (near_change z e) ∙ ap Some (back_to_line before line) in
-        ap (λ b. lines_from (front ++ cond b (far_lines (suc pc) line rest) (entry ∷ far_lines (suc pc) line rest)) pc (Some (pos before)) (cond b z (negsuc 127) ∷ changes line rest)) e
-        ∙ ap (λ o. o ∷ lines_from all (pc + 1) o (changes line rest)) here
-        ∙ ap (λ l. Some (pos line) ∷ l) (ap (λ q. lines_from all q (Some (pos line)) (changes line rest)) one ∙ again front (before_later front pc h))
-    by false e again =
-        let all = front ++ entry ∷ far_lines (suc pc) line rest in
-        let found : find (λ l. l.pc == pc) all ≡ Some entry = find_past front (entry ∷ far_lines (suc pc) line rest) pc h ∙ ap (λ b. if b then Some entry else find (λ l. l.pc == pc) (far_lines (suc pc) line rest)) (eq-eqb pc pc refl) in
-        let here : line_at all pc (Some (pos before)) (negsuc 127) ≡ Some (pos line) = ap (option_map (λ l. pos l.line)) found in
-        let same : all ≡ (front ++ entry ∷ []) ++ far_lines (suc pc) line rest = sym (append_assoc front (entry ∷ []) (far_lines (suc pc) line rest)) in
-        ap (λ b. lines_from (front ++ cond b (far_lines (suc pc) line rest) (entry ∷ far_lines (suc pc) line rest)) pc (Some (pos before)) (cond b z (negsuc 127) ∷ changes line rest)) e
-        ∙ ap (λ o. o ∷ lines_from all (pc + 1) o (changes line rest)) here
-        ∙ ap (λ l. Some (pos line) ∷ l) (ap₂ (λ q a. lines_from a q (Some (pos line)) (changes line rest)) one same ∙ again (front ++ entry ∷ []) (before_more front pc line h))
+decode (line ∷ rest) pc before front h = first_read line rest pc before front h (λ front' h'. decode rest (suc pc) line front' h') (nat_eq (pc % 128) 127) (is_near (pos line -ℤ pos before)) refl
 
 -- the lines of instructions are read back
 pub lines_back : (ls : List ℕ) (before : ℕ) → lines_from (far_lines 0 before ls) 0 (Some (pos before)) (changes before ls) ≡ map (λ l. Some (pos l)) ls
@@ -90,7 +105,7 @@ length_changes (l ∷ ls) before = ap suc (length_changes ls l)
 
 pub length_far : (ls : List ℕ) (pc before : ℕ) → length (far_lines pc before ls) ≤ length ls
 length_far [] pc before = omega arith
-length_far (l ∷ ls) pc before = by (is_near (pos l -ℤ pos before)) (length_far ls (suc pc) l)
+length_far (l ∷ ls) pc before = by (is_distance pc (pos l -ℤ pos before)) (length_far ls (suc pc) l)
   where
     by : (b : Bool) → length (far_lines (suc pc) l ls) ≤ length ls → length (cond b (far_lines (suc pc) l ls) (record { pc = pc; line = l } ∷ far_lines (suc pc) l ls)) ≤ length (l ∷ ls)
     by true h = omega (arith, h)
@@ -100,7 +115,7 @@ pub far_fit : (ls : List ℕ) (pc before : ℕ) → list_all number_fits ls ≡ 
 far_fit [] pc before h short = refl
 far_fit (l ∷ ls) pc before h short =
     let parts = both (number_fits l) (list_all number_fits ls) h in
-    by (is_near (pos l -ℤ pos before)) parts.0 (far_fit ls (suc pc) l parts.1 (omega (arith, short)))
+    by (is_distance pc (pos l -ℤ pos before)) parts.0 (far_fit ls (suc pc) l parts.1 (omega (arith, short)))
   where
     both : (a b : Bool) → (a && b) ≡ true → (a ≡ true) × (b ≡ true)
     both true true h = (refl, refl)

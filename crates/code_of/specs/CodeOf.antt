@@ -1,5 +1,5 @@
 -- The prototype that a function's body is compiled to. Where a source name is given, lines and names are kept.
-use Rattle.std.specs.Prelude.{ℕ, suc, ◌+◌, ◌-ℤ◌, ℤ, pos, negsuc, Bool, false, cond, max, List, [], ◌∷◌, ◌++◌, length, map, nat_eq, nat_le, Option, Some, None}
+use Rattle.std.specs.Prelude.{ℕ, suc, ◌+◌, ◌%◌, ◌-ℤ◌, ℤ, pos, negsuc, Bool, false, cond, max, List, [], ◌∷◌, ◌++◌, length, map, nat_eq, nat_le, Option, Some, None}
 use Rattle.tree_core.specs.declared.name.UpName.{UpName}
 use Rattle.tree_core.specs.Tree.{Block, Falls, Returns, Body, BodyOf, Stats, EndStats, MoreStats, Stat, Empty, Local, LocalFunction, Assign, CallStat, Do, While, Repeat, If, IfElse, NumFor, NumForStep, GenFor, Label, Goto, Break, Arms, EndArms, MoreArms, Exp, Nil, True, False, Int, Str, Vararg, Var, Function, Index, Call, Method, Unary, Binary, And, Or, Paren, Table, Exps, EndExps, MoreExps, Fields, EndFields, MoreFields, Field, Item, Keyed}
 use Rattle.tree_activation.specs.Activation.{line_of_end}
@@ -21,8 +21,12 @@ use Rattle.code_of.specs.Variables.{variables, within_block}
 abbrev pub back_field : (vararg : Bool) → (params : ℕ) → ℕ
 back_field vararg params = cond vararg (params + 1) 0
 
+-- the main function has line 0, and begins on line 1
+abbrev pub first_line : (line : ℕ) → ℕ
+first_line line = cond (nat_eq line 0) 1 line
+
 abbrev pub opening : (vararg : Bool) → (params line : ℕ) → List Coded
-opening vararg params line = cond vararg (with_abc VarArgPrep params 0 0 line ∷ []) []
+opening vararg params line = cond vararg (with_abc VarArgPrep params 0 0 (first_line line) ∷ []) []
 
 abbrev pub body_code : Body → List Coded
 body_code (BodyOf params vararg inner ups line) =
@@ -55,10 +59,14 @@ abbrev pub changes : (before : ℕ) → List ℕ → List ℤ
 changes before [] = []
 changes before (line ∷ rest) = change_of (pos line -ℤ pos before) ∷ changes line rest
 
+-- the line of each 128th instruction is kept by its place too: Lua looks for a line from the nearest of these on (ldebug.c, getbaseline)
+abbrev pub is_distance : (pc : ℕ) → ℤ → Bool
+is_distance pc z = cond (nat_eq (pc % 128) 127) false (is_near z)
+
 abbrev pub far_lines : (pc before : ℕ) → List ℕ → List AbsLine
 far_lines pc before [] = []
 far_lines pc before (line ∷ rest) =
-    cond (is_near (pos line -ℤ pos before)) (far_lines (suc pc) line rest) (record { pc = pc; line = line } ∷ far_lines (suc pc) line rest)
+    cond (is_distance pc (pos line -ℤ pos before)) (far_lines (suc pc) line rest) (record { pc = pc; line = line } ∷ far_lines (suc pc) line rest)
 
 abbrev pub upvalue : UpName → UpDesc
 upvalue u = record { in_stack = u.in_stack; index = u.index; kind = 0 }

@@ -1,5 +1,5 @@
 -- Instructions as the compiler lists them: each with its line. A jump counts from the instruction behind it.
-use Rattle.std.specs.Prelude.{ℕ, ◌+◌, ◌-◌, false, List, map}
+use Rattle.std.specs.Prelude.{ℕ, ◌+◌, ◌-◌, false, List, map, nat_lt}
 use Rattle.code_core.specs.declared.opcode.Opcode.{Opcode}
 use Rattle.code_core.specs.declared.opcode.Opcode.TheVariants.{Jmp}
 use Rattle.code_core.specs.declared.instruction.Instruction.{Instruction}
@@ -21,6 +21,11 @@ with_abc op a b c line = (abc op a b c false, line)
 
 abbrev pub with_abx : Opcode → (a bx line : ℕ) → Coded
 with_abx op a bx line = (abx op a bx, line)
+
+-- the function is left, with values from register t on or by the call there. Where locals are in scope, which stand below t, field k says that
+-- cells and variables may have to be closed. Field C is one more than the number of parameters of a function with `...`, else 0
+abbrev pub leaving_by : Opcode → (t b back line : ℕ) → Coded
+leaving_by op t b back line = (abc op t b back (nat_lt 0 t), line)
 
 abbrev pub jump_over : (places line : ℕ) → Coded
 jump_over places line = (op_ax Jmp (16777215 + places), line)

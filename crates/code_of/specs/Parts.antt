@@ -11,7 +11,7 @@ use Rattle.code_core.specs.declared.opcode.Opcode.TheVariants.{Move, LoadI, Load
 use Rattle.code_core.specs.declared.proto.Const.{Const}
 use Rattle.code_core.specs.declared.proto.Const.TheVariants.{Str as StrConst}
 use Rattle.code_core.specs.Instruction.{abc}
-use Rattle.code_of.specs.Coded.{Coded, with_abc, with_abx, jump_over, jump_back}
+use Rattle.code_of.specs.Coded.{Coded, with_abc, with_abx, jump_over, jump_back, leaving_by}
 use Rattle.code_of.specs.Constants.{small_field, loads}
 use Rattle.code_of.specs.Expressions.{made_by, made_in, count, list_field, exp_code, exps_code}
 
@@ -114,16 +114,16 @@ module _ (constants : List Const) where
   abbrev pub call_last : Exp → Exps → (t j line back : ℕ) → List Coded
   call_last f es t j line back =
       exp_code constants f t j 2 ++ (exps_code constants es None (t + 1) (j + made_by f) line
-      ++ (with_abc TailCall t (list_field 0 es) 0 line ∷ with_abc Return t 0 back line ∷ []))
+      ++ (leaving_by TailCall t (list_field 0 es) back line ∷ leaving_by Return t 0 back line ∷ []))
 
   abbrev pub method_last : Exp → List ℕ → Exps → (t j line back : ℕ) → List Coded
   method_last object name es t j line back =
       exp_code constants object t j 2 ++ (loads constants (StrConst name) (t + 1) line ++ (with_abc OpSelf t t (t + 1) line
       ∷ (exps_code constants es None (t + 2) (j + made_by object) line
-      ++ (with_abc TailCall t (list_field 1 es) 0 line ∷ with_abc Return t 0 back line ∷ []))))
+      ++ (leaving_by TailCall t (list_field 1 es) back line ∷ leaving_by Return t 0 back line ∷ []))))
 
   abbrev pub values_last : Exps → (t j line back : ℕ) → List Coded
-  values_last es t j line back = exps_code constants es None t j line ++ with_abc Return t (list_field 0 es) back line ∷ []
+  values_last es t j line back = exps_code constants es None t j line ++ leaving_by Return t (list_field 0 es) back line ∷ []
 
   -- `back` is the field C of each RETURN
   abbrev pub return_code : (closing : Bool) → Exps → (t j line back : ℕ) → List Coded

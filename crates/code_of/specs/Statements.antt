@@ -5,7 +5,7 @@ use Rattle.tree_activation.specs.Activation.{line_of_end}
 use Rattle.tree_terms.specs.Labels.{are_void}
 use Rattle.code_core.specs.declared.opcode.Opcode.TheVariants.{Return}
 use Rattle.code_core.specs.declared.proto.Const.{Const}
-use Rattle.code_of.specs.Coded.{Coded, with_abc}
+use Rattle.code_of.specs.Coded.{Coded, leaving_by}
 use Rattle.code_of.specs.Expressions.{made_by, made_in, exp_code, exps_code}
 use Rattle.code_of.specs.Jumps.{Visible, Reach, label_in, leads}
 use Rattle.code_of.specs.Levels.{made_by_stat, made_in_arms, made_in_stats, made_in_block, closing_after, closings_after}
@@ -117,5 +117,5 @@ module _ (constants : List Const) (back : ℕ) where
   -- the block of a function, whose parameters are its first locals: it ends by a return
   abbrev pub whole_code : Block → (params pc : ℕ) → List Coded
   whole_code (Falls ss tokens line) params pc =
-      stats_code ss true false 0 params 0 pc [] (record { labels = []; exit = None }) ++ with_abc Return (levels_after ss params) 1 back line ∷ []
+      stats_code ss true false 0 params 0 pc [] (record { labels = []; exit = None }) ++ leaving_by Return (levels_after ss params) 1 back line ∷ []
   whole_code (Returns ss es tokens line) params pc = block_code (Returns ss es tokens line) false 0 params 0 pc (record { labels = []; exit = None })

@@ -1,13 +1,20 @@
 // How a function begins and ends.
 ghost use Rattle.std.specs.Prelude.{◌≡◌, OnOk, IfOk};
 ghost use Rattle.tree_core.specs.Plain.{plain_block};
-ghost use Rattle.code_of.specs.CodeOf.{opening, back_field, last_line_of};
+ghost use Rattle.code_of.specs.CodeOf.{opening, back_field, first_line, last_line_of};
 ghost use Rattle.code_expr.specs.Listing.{listed};
 
 use code_core::Opcode;
 use code_expr::{Emitter, next};
 use std::alloc::AllocError;
 use tree_core::Block;
+
+/// The line on which a function begins; the main function has line 0, and begins on line 1.
+fn first_line(line: u32) -> u32
+    ensures { result ≡ first_line line }
+{
+    if line == 0 { 1 } else { line }
+}
 
 /// Puts what a function with `...` begins by last.
 pub fn put_opening(
@@ -19,7 +26,7 @@ pub fn put_opening(
     ensures { OnOk result (emitter.new ≡ listed emitter.old (opening vararg params line)) }
 {
     if vararg {
-        return emitter.put_abc(Opcode::VarArgPrep, params, 0, 0, line);
+        return emitter.put_abc(Opcode::VarArgPrep, params, 0, 0, first_line(line));
     }
     Ok(())
 }

@@ -39,15 +39,15 @@ pub fn changes(alloc: Global, from: u32, steps: &[Step]) -> Result<Vec<i8>, Allo
     Ok(list)
 }
 
-/// The lines that are too far from that in front of them, by the places of their instructions.
-/// For more instructions than 32 bits count there is no memory.
+/// The lines that are too far from that in front of them, and that of each 128th instruction, by
+/// the places of their instructions. For more instructions than 32 bits count there is no memory.
 pub fn far_lines(alloc: Global, from: u32, steps: &[Step]) -> Result<Vec<AbsLine>, AllocError>
     ensures { IfOk result (λ list. list.items ≡ far_lines 0 from (map (λ s. s.line) steps.now)) }
 {
     let mut list = Vec::new(alloc);
     let mut before = from;
     for (place, step) in steps.iter().enumerate() {
-        if near(before, step.line).is_none() {
+        if place % 128 == 127 || near(before, step.line).is_none() {
             let pc = u32::try_from(place).map_err(|_| AllocError)?;
             list.push(AbsLine {
                 pc,

@@ -10,7 +10,7 @@ use Rattle.tree_core.specs.Plain.{plain_block, plain_body}
 use Rattle.tree_core.proofs.Rows.{plain-body}
 use Rattle.code_core.specs.declared.opcode.Opcode.TheVariants.{Return}
 use Rattle.code_core.specs.declared.proto.Const.{Const}
-use Rattle.code_of.specs.Coded.{Coded, with_abc}
+use Rattle.code_of.specs.Coded.{Coded, leaving_by}
 use Rattle.code_of.specs.CodeOf.{back_field, opening, body_code, variables_of}
 use Rattle.code_of.specs.Constants.{of_block}
 use Rattle.tree_terms.specs.Levels.{levels_after}
@@ -52,13 +52,13 @@ behind_return k back ss tokens line params j pc = by (levels_after ss params) re
 pub falls_declared :
     (a q b : Writer) (ss : Stats) (tokens line params back end first place : ℕ)
     → WroteStats a q ss true false 0 params → DeclaresStats a q ss false params
-    → b.emitter ≡ listed q.emitter (with_abc Return end 1 back line ∷ []) → first ≡ length a.variables → place ≡ length b.emitter.steps → b.variables ≡ ended_from first place q.variables
+    → b.emitter ≡ listed q.emitter (leaving_by Return end 1 back line ∷ []) → first ≡ length a.variables → place ≡ length b.emitter.steps → b.variables ≡ ended_from first place q.variables
     → DeclaresBlock a b (Falls ss tokens line) false 0 params
 falls_declared a q b ss tokens line params back end first place w d e first_is place_is ends =
     let k = a.emitter.constants in
     let j = a.emitter.made in
     let pc = length a.emitter.steps in
-    let last : List Coded = with_abc Return end 1 back line ∷ [] in
+    let last : List Coded = leaving_by Return end 1 back line ∷ [] in
     let draft : length w.draft ≡ stats_size k a.back ss false params j =
     sym (draft_sized a q _ (λ reach. stats_code k a.back ss true false 0 params j pc [] reach) w nowhere) ∙ stats_sized k a.back ss true false 0 params j pc [] nowhere in
     let q_long = written_sized a.emitter q.emitter w.draft _ w.emitter_is in

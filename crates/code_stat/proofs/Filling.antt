@@ -12,7 +12,7 @@ use Rattle.code_of.specs.CodeOf.{back_field, opening, body_code}
 use Rattle.code_of.specs.Constants.{of_block}
 use Rattle.code_core.specs.declared.opcode.Opcode.TheVariants.{Close, Return}
 use Rattle.code_core.specs.declared.proto.Const.{Const}
-use Rattle.code_of.specs.Coded.{Coded, with_abc}
+use Rattle.code_of.specs.Coded.{Coded, with_abc, leaving_by}
 use Rattle.code_of.specs.Jumps.{Landing, Reach}
 use Rattle.code_of.specs.Levels.{made_in_stats, made_in_block}
 use Rattle.tree_terms.specs.Levels.{levels_after}
@@ -63,12 +63,12 @@ none_more n = omega arith
 pub whole_falls :
     (a q b : Writer) (ss : Stats) (tokens line params end back : ℕ)
     → WroteStats a q ss true false 0 params → end ≡ levels_after ss params → back ≡ q.back
-    → b.emitter ≡ listed q.emitter (with_abc Return end 1 back line ∷ []) → b.jumps.items ≡ q.jumps.items → b.back ≡ q.back
+    → b.emitter ≡ listed q.emitter (leaving_by Return end 1 back line ∷ []) → b.jumps.items ≡ q.jumps.items → b.back ≡ q.back
     → Wrote a b (made_in_stats ss) (λ reach. whole_from a.emitter.constants a.back (Falls ss tokens line) params a.emitter.made (length a.emitter.steps) reach)
 whole_falls a q b ss tokens line params end back w end_is back_is e jumps kept =
-    let last : List Coded = with_abc Return (levels_after ss params) 1 a.back line ∷ [] in
+    let last : List Coded = leaving_by Return (levels_after ss params) 1 a.back line ∷ [] in
     let returned : b.emitter ≡ followed q.emitter last 0 =
-    e ∙ ap₂ (λ n k. listed q.emitter (with_abc Return n 1 k line ∷ [])) end_is (back_is ∙ w.back_is) ∙ sym (none_made q.emitter last) in
+    e ∙ ap₂ (λ n k. listed q.emitter (leaving_by Return n 1 k line ∷ [])) end_is (back_is ∙ w.back_is) ∙ sym (none_made q.emitter last) in
     remade a b (made_in_stats ss + 0) (made_in_stats ss) (λ reach. stats_code a.emitter.constants a.back ss true false 0 params a.emitter.made (length a.emitter.steps) [] reach ++ last) (none_more (made_in_stats ss))
     (then_wrote a q b (made_in_stats ss) 0 (λ reach. stats_code a.emitter.constants a.back ss true false 0 params a.emitter.made (length a.emitter.steps) [] reach) (λ reach. last) w (plainly q b 0 last returned jumps kept))
 

@@ -9,7 +9,7 @@ use Rattle.tree_core.specs.Plain.{plain_exp, plain_exps}
 use Rattle.code_core.specs.declared.proto.Const.{Const}
 use Rattle.code_core.specs.declared.opcode.Opcode.TheVariants.{OpSelf, TailCall, Return}
 use Rattle.code_core.specs.declared.proto.Const.TheVariants.{Str as StrConst}
-use Rattle.code_of.specs.Coded.{Coded, with_abc}
+use Rattle.code_of.specs.Coded.{Coded, with_abc, leaving_by}
 use Rattle.code_of.specs.Constants.{loads}
 use Rattle.code_of.specs.Expressions.{made_by, made_in, list_field, exp_code, exps_code}
 use Rattle.code_of.specs.Parts.{call_last, method_last, return_code, values_last}
@@ -143,17 +143,17 @@ behind_some : (xs ys : List Coded) (n : ℕ) → length ys ≡ suc n → length 
 behind_some xs ys n e h = let a = length-append xs ys in omega (arith, a, e, h)
 
 values_some : (k : List Const) (es : tree.Exps) (t j line back : ℕ) → length (values_last k es t j line back) ≡ 0 → ⊥
-values_some k es t j line back h = behind_some (exps_code k es None t j line) (with_abc Return t (list_field 0 es) back line ∷ []) 0 refl h
+values_some k es t j line back h = behind_some (exps_code k es None t j line) (leaving_by Return t (list_field 0 es) back line ∷ []) 0 refl h
 
 tail_some : (k : List Const) (e : tree.Exp) (t j line back : ℕ) → is_called e ≡ true → length (return_code k false (tree.MoreExps e tree.EndExps) t j line back) ≡ 0 → ⊥
 tail_some k (tree.Call l f es) t j line back called h =
-    let last : List Coded = with_abc TailCall t (list_field 0 es) 0 l ∷ with_abc Return t 0 back l ∷ [] in
+    let last : List Coded = leaving_by TailCall t (list_field 0 es) back l ∷ leaving_by Return t 0 back l ∷ [] in
     let values = exps_code k es None (t + 1) (j + made_by f) l in
     let a = length-append (exp_code k f t j 2) (values ++ last) in
     let b = length-append values last in
     omega (arith, a, b, h)
 tail_some k (tree.Method l object name es) t j line back called h =
-    let last : List Coded = with_abc TailCall t (list_field 1 es) 0 l ∷ with_abc Return t 0 back l ∷ [] in
+    let last : List Coded = leaving_by TailCall t (list_field 1 es) back l ∷ leaving_by Return t 0 back l ∷ [] in
     let values = exps_code k es None (t + 2) (j + made_by object) l in
     let whole = loads k (StrConst name.text) (t + 1) l in
     let a = length-append (exp_code k object t j 2) (whole ++ (with_abc OpSelf t t (t + 1) l ∷ (values ++ last))) in

@@ -4,7 +4,7 @@ use Rattle.tree_core.specs.Tree.{Block, Falls, Returns, Body, BodyOf}
 use Rattle.code_core.specs.declared.opcode.Opcode.TheVariants.{Return}
 use Rattle.code_core.specs.declared.proto.Const.{Const}
 use Rattle.code_core.specs.declared.proto.LocVar.{LocVar}
-use Rattle.code_of.specs.Coded.{Coded, with_abc}
+use Rattle.code_of.specs.Coded.{Coded, leaving_by}
 use Rattle.code_of.specs.CodeOf.{back_field, opening}
 use Rattle.code_of.specs.Jumps.{Reach}
 use Rattle.code_of.specs.Levels.{made_in_block}
@@ -28,7 +28,7 @@ filled s js = record { constants = s.constants; steps = fill (arrives nowhere) j
 -- the block of a function, in front of which it has made some functions
 abbrev pub whole_from : List Const → (back : ℕ) → Block → (params j pc : ℕ) → Reach → List Coded
 whole_from constants back (Falls ss tokens line) params j pc reach =
-    stats_code constants back ss true false 0 params j pc [] reach ++ with_abc Return (levels_after ss params) 1 back line ∷ []
+    stats_code constants back ss true false 0 params j pc [] reach ++ leaving_by Return (levels_after ss params) 1 back line ∷ []
 whole_from constants back (Returns ss es tokens line) params j pc reach = block_code constants back (Returns ss es tokens line) false 0 params j pc reach
 
 -- a function's code, where these are its constants

@@ -1,17 +1,33 @@
 // `return` (Lua 5.4 manual, 3.3.4), where a call that is all of its list takes the place of its caller.
-ghost use Rattle.std.specs.Prelude.{◌≡◌, OnOk};
+ghost use Rattle.std.specs.Prelude.{◌≡◌, [], ◌∷◌, OnOk};
 ghost use Rattle.tree_core.specs.Tree.{exps, Call, Method};
 ghost use Rattle.tree_core.specs.Plain.{plain_exp, plain_exps};
+ghost use Rattle.code_of.specs.Coded.{leaving_by};
 ghost use Rattle.code_of.specs.Expressions.{made_by, made_in};
 ghost use Rattle.code_of.specs.Parts.{call_last, method_last, return_code, values_last};
 ghost use Rattle.code_stat.specs.Tails.{is_called, tail_code};
-ghost use Rattle.code_expr.specs.Listing.{followed};
+ghost use Rattle.code_expr.specs.Listing.{listed, followed};
 
 use crate::targets::count_made;
 use code_core::Opcode;
 use code_expr::{Emitter, list_field, next};
 use std::alloc::AllocError;
 use tree_core::{Exp, ExpNode, Name};
+
+/// Puts what leaves the function last, a RETURN or a TAILCALL. `back` is its field C; the locals in
+/// scope stand below the register.
+pub(crate) fn put_leaving(
+    emitter: &mut Emitter,
+    op: Opcode,
+    register: usize,
+    field: usize,
+    back: usize,
+    line: u32,
+) -> Result<(), AllocError>
+    ensures { OnOk result (emitter.new ≡ listed emitter.old (leaving_by op register field back line ∷ [])) }
+{
+    emitter.put_flagged(op, register, field, back, 0 < register, line)
+}
 
 /// Writes a call in the place of its caller.
 fn write_call_last(
@@ -27,8 +43,8 @@ fn write_call_last(
     emitter.expression(called, register, 2)?;
     emitter.list(arguments, None, next(register)?, line)?;
     let field = list_field(0, arguments);
-    emitter.put_abc(Opcode::TailCall, register, field, 0, line)?;
-    emitter.put_abc(Opcode::Return, register, 0, back, line)?;
+    put_leaving(emitter, Opcode::TailCall, register, field, back, line)?;
+    put_leaving(emitter, Opcode::Return, register, 0, back, line)?;
     Ok(())
 }
 
@@ -50,8 +66,8 @@ fn write_method_last(
     emitter.put_abc(Opcode::OpSelf, register, register, above, line)?;
     emitter.list(arguments, None, next(above)?, line)?;
     let field = list_field(1, arguments);
-    emitter.put_abc(Opcode::TailCall, register, field, 0, line)?;
-    emitter.put_abc(Opcode::Return, register, 0, back, line)?;
+    put_leaving(emitter, Opcode::TailCall, register, field, back, line)?;
+    put_leaving(emitter, Opcode::Return, register, 0, back, line)?;
     Ok(())
 }
 
@@ -94,7 +110,7 @@ fn write_values_last(
 {
     emitter.list(values, None, register, line)?;
     let field = list_field(0, values);
-    emitter.put_abc(Opcode::Return, register, field, back, line)?;
+    put_leaving(emitter, Opcode::Return, register, field, back, line)?;
     Ok(())
 }
 

@@ -9,6 +9,7 @@ ghost use Rattle.code_stat.specs.Drafts.{Wrote, arrives, landing, or_nowhere};
 ghost use Rattle.code_stat.specs.Whole.{filled, function_of, led, made_in_body, nowhere, variables_in, whole_from};
 
 use crate::jumps::{Destination, Jump};
+use crate::returns::put_leaving;
 use crate::writer::Writer;
 use code_core::Opcode;
 use code_expr::{Constants, Emitter, next};
@@ -71,8 +72,8 @@ impl Writer {
                 let first = self.variables.count();
                 let end = self.statements(&block.stats, true, false, 0, params)?;
                 let back = self.back;
-                self.emitter
-                    .put_abc(Opcode::Return, end.level, 1, back, block.line)?;
+                let emitter = &mut self.emitter;
+                put_leaving(emitter, Opcode::Return, end.level, 1, back, block.line)?;
                 let place = self.place();
                 self.variables.end_scopes(first, place)?;
                 Ok(())

@@ -128,11 +128,11 @@ module _ (p : Prototype) where
       ∙ go_step p 1 w [] (record a { registers = write_all t (nils (n + 1)) a.registers }) c there
 
   -- a call in the function's place
-  pub tail_step : (t b field : ℕ) (args : List Value) (a : Activation) (c : Captured) → at p a.pc ≡ Some (abc TailCall t b field false) → t < 2 ^ 8 → b < 2 ^ 8 → t < length a.registers → Passed p b (t + 1) args a
+  pub tail_step : (t b field : ℕ) (args : List Value) (a : Activation) (c : Captured) → at p a.pc ≡ Some (abc TailCall t b field (nat_lt 0 t)) → t < 2 ^ 8 → b < 2 ^ 8 → t < length a.registers → Passed p b (t + 1) args a
       → talk_step p (before a c) ≡ says_so (calls_last (nth a.registers t) args) p a c (λ x b d. amid (marked trap p b.pc x.reply) [] b d)
   tail_step t b field args a c here t_fits b_fits room passed =
-      let w = abc TailCall t b field false in
-      row_step p w TailCall (own (read_register t) (λ f _. read_values (t + 1) b (λ v _. tail_call (read f) v))) a c here (opcode_of-abc TailCall t b field false)
-      (ap₂ (λ d e. own (read_register d) (λ f _. read_values (d + 1) e (λ v _. tail_call (read f) v))) (a_of-abc TailCall t b field false t_fits) (b_of-abc TailCall t b field false t_fits b_fits))
+      let w = abc TailCall t b field (nat_lt 0 t) in
+      row_step p w TailCall (own (read_register t) (λ f _. read_values (t + 1) b (λ v _. tail_call (read f) v))) a c here (opcode_of-abc TailCall t b field (nat_lt 0 t))
+      (ap₂ (λ d e. own (read_register d) (λ f _. read_values (d + 1) e (λ v _. tail_call (read f) v))) (a_of-abc TailCall t b field (nat_lt 0 t) t_fits) (b_of-abc TailCall t b field (nat_lt 0 t) t_fits b_fits))
       ∙ own_step p (read_register t) (λ f _. read_values (t + 1) b (λ v _. tail_call (read f) v)) [] a c (lt-ltb t (length a.registers) room)
       ∙ read_values_step (t + 1) b (λ v _. tail_call (read 0) v) (nth a.registers t ∷ []) args a c passed

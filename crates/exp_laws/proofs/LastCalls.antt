@@ -1,5 +1,5 @@
 -- A call in its function's place: both sides ask for it, and hear no more but of a fault.
-use Rattle.std.proofs.Common.{◌≡◌, ℕ, zero, suc, ◌+◌, ◌<◌, ◌≤◌, ◌^◌, List, [], ◌∷◌, ◌++◌, length, true, false, None, refl, sym, ap, ◌∙◌, arith, length-append}
+use Rattle.std.proofs.Common.{nat_lt, ◌≡◌, ℕ, zero, suc, ◌+◌, ◌<◌, ◌≤◌, ◌^◌, List, [], ◌∷◌, ◌++◌, length, true, false, None, refl, sym, ap, ◌∙◌, arith, length-append}
 use Rattle.int_core.specs.Value.{Value, known, string, nth, write}
 use Rattle.int_core.specs.Ask.{calls_last, Reply, values, faulted, left, Captured, brought, IsFaulted}
 use Rattle.tree_core.specs.Tree.{Exp, Exps, EndExps}
@@ -13,7 +13,7 @@ use Rattle.code_core.specs.declared.proto.Const.TheVariants.{Str as StrConst}
 use Rattle.machine_core.specs.Text.{trap}
 use Rattle.machine_core.specs.Talk.{before, amid, marked}
 use Rattle.list_laws.proofs.Values.{nth_write_same, nth_write_other}
-use Rattle.code_of.specs.Coded.{with_abc}
+use Rattle.code_of.specs.Coded.{with_abc, leaving_by}
 use Rattle.code_of.specs.Constants.{loads, Found}
 use Rattle.code_of.specs.Expressions.{made_by, count, ends_open, list_field, exp_code, exps_code}
 use Rattle.exp_laws.proofs.Registers.{Rel, told, share_same, after_share, after_put}
@@ -30,44 +30,44 @@ use Rattle.exp_laws.proofs.ListForms.{Listed}
 use Rattle.exp_laws.proofs.Exps.{room_some, args_ready, held_one, held_two, placed_all, exp_same, exps_same}
 
 module _ (S : Setting) (pending : List Pending) where
-  tail_goes : (b n line t pc opened : ℕ) (f : Value) (args : List Value) (s : tree.State) (env regs : List Value) (c : Captured) → step s ≡ asks (calls_last f args) line (of_tree S pending env c) [] (λ _. over)
-      → HasAt S pc (with_abc TailCall t b 0 line ∷ []) → t < S.code.own.stack → b < 2 ^ 8 → Rel S.hidden S.code.own.stack pending env c regs → nth regs t ≡ f → Passed S.code b (t + 1) args (of_code S pending pc regs opened)
+  tail_goes : (b back n line t pc opened : ℕ) (f : Value) (args : List Value) (s : tree.State) (env regs : List Value) (c : Captured) → step s ≡ asks (calls_last f args) line (of_tree S pending env c) [] (λ _. over)
+      → HasAt S pc (leaving_by TailCall t b back line ∷ []) → t < S.code.own.stack → b < 2 ^ 8 → Rel S.hidden S.code.own.stack pending env c regs → nth regs t ≡ f → Passed S.code b (t + 1) args (of_code S pending pc regs opened)
       → Agree S n s (before (of_code S pending pc regs opened) c)
-  tail_goes b zero line t pc opened f args s env regs c e has room b_fits rel f_is passed = tt
-  tail_goes b (suc n) line t pc opened f args s env regs c e has room b_fits rel f_is passed =
-      let here = here_abc S TailCall t b 0 false line pc [] has in
+  tail_goes b back zero line t pc opened f args s env regs c e has room b_fits rel f_is passed = tt
+  tail_goes b back (suc n) line t pc opened f args s env regs c e has room b_fits rel f_is passed =
+      let here = here_abc S TailCall t b back (nat_lt 0 t) line pc [] has in
       both_ask S n s _ (calls_last f args) (calls_last (nth regs t) args) line _ _ _ _ _ e
-      (tail_step S.code t b 0 args (of_code S pending pc regs opened) c has.0 (omega (arith, room, S.small)) b_fits (omega (arith, room, rel.room)) passed) (sym f_is, refl) refl here.lined
+      (tail_step S.code t b back args (of_code S pending pc regs opened) c has.0 (omega (arith, room, S.small)) b_fits (omega (arith, room, rel.room)) passed) (sym f_is, refl) refl here.lined
       (share_same S.hidden S.code.own.stack pending env c regs rel) (λ x fits. by x.shared x.reply fits.reply)
     where
       by : (shared : List Value) (reply : Reply) → IsFaulted reply
           → Agree S n (trees.heard reply line (of_tree S pending (brought c.held shared env) (told c)) [] (λ _. over)) (amid (marked trap S.code pc reply) [] (of_code S pending pc (brought c.held shared regs) opened) (told c))
       by shared (faulted words) is =
           faults_alike S n pending line pc opened (brought c.held shared env) (brought c.held shared regs) (told c) words _ _ (after_share S.hidden S.code.own.stack pending env regs shared c t rel).rel
-          (here_abc S TailCall t b 0 false line pc [] has) refl refl
+          (here_abc S TailCall t b back (nat_lt 0 t) line pc [] has) refl refl
       by shared (values vs) is = absurd is
       by shared (left v) is = absurd is
 
   -- the arguments are there
-  called_last : (es : Exps) (more : ℕ) (args : List Value) (n line t pc opened : ℕ) (env regs : List Value) (c : Captured) (k : List Work) → HasAt S pc (with_abc TailCall t (list_field more es) 0 line ∷ [])
+  called_last : (es : Exps) (more back : ℕ) (args : List Value) (n line t pc opened : ℕ) (env regs : List Value) (c : Captured) (k : List Work) → HasAt S pc (leaving_by TailCall t (list_field more es) back line ∷ [])
       → t + (more + 1) ≤ S.code.own.stack → t + room_of_list S.code.own.constants (more + 1) es None ≤ S.code.own.stack → Rel S.hidden S.code.own.stack pending env c regs
       → Listed S pending None (ends_open es) (more + 1 + count es) pc t args regs opened
       → Agree S n (tree.at (collect (for_call line true) args EndExps) (of_tree S pending env c) k) (before (of_code S pending pc regs opened) c)
-  called_last es more args n line t pc opened env regs c k has below room rel l =
+  called_last es more back args n line t pc opened env regs c k has below room rel l =
       args_ready S pending es more args t pc opened env regs c below room rel l
-      (λ f rest is f_is passes small. tail_goes (list_field more es) n line t pc opened f rest _ env regs c (ap (λ vs. step (tree.at (collect (for_call line true) vs EndExps) (of_tree S pending env c) k)) is) has (omega (arith, below)) small rel f_is passes)
+      (λ f rest is f_is passes small. tail_goes (list_field more es) back n line t pc opened f rest _ env regs c (ap (λ vs. step (tree.at (collect (for_call line true) vs EndExps) (of_tree S pending env c) k)) is) has (omega (arith, below)) small rel f_is passes)
 
   -- a call of an expression's value
-  pub call_last_same : (f : Exp) (es : Exps) (line t j n pc opened : ℕ) (env regs : List Value) (c : Captured) (k : List Work) → n ≤ S.bound
-      → HasAt S pc (exp_code S.code.own.constants f t j 2 ++ (exps_code S.code.own.constants es None (t + 1) (j + made_by f) line ++ with_abc TailCall t (list_field 0 es) 0 line ∷ []))
+  pub call_last_same : (f : Exp) (es : Exps) (line back t j n pc opened : ℕ) (env regs : List Value) (c : Captured) (k : List Work) → n ≤ S.bound
+      → HasAt S pc (exp_code S.code.own.constants f t j 2 ++ (exps_code S.code.own.constants es None (t + 1) (j + made_by f) line ++ leaving_by TailCall t (list_field 0 es) back line ∷ []))
       → IsPlaced S f (length env) j → ArePlaced S es (length env) (j + made_by f)
-      → pc + length (exp_code S.code.own.constants f t j 2 ++ (exps_code S.code.own.constants es None (t + 1) (j + made_by f) line ++ with_abc TailCall t (list_field 0 es) 0 line ∷ [])) < length S.code.own.code
+      → pc + length (exp_code S.code.own.constants f t j 2 ++ (exps_code S.code.own.constants es None (t + 1) (j + made_by f) line ++ leaving_by TailCall t (list_field 0 es) back line ∷ [])) < length S.code.own.code
       → length env ≤ t → t + room_of S.code.own.constants f 2 ≤ S.code.own.stack → t + room_of_list S.code.own.constants 1 es None ≤ S.code.own.stack → Rel S.hidden S.code.own.stack pending env c regs
       → Agree S n (tree.at (evaluate f) (of_tree S pending env c) (callee_of line true es ∷ k)) (before (of_code S pending pc regs opened) c)
-  call_last_same f es line t j n pc opened env regs c k bound has f_ok es_ok inside le f_room es_room rel =
+  call_last_same f es line back t j n pc opened env regs c k bound has f_ok es_ok inside le f_room es_room rel =
       let first_code = exp_code S.code.own.constants f t j 2 in
       let args_code = exps_code S.code.own.constants es None (t + 1) (j + made_by f) line in
-      let last_code = with_abc TailCall t (list_field 0 es) 0 line ∷ [] in
+      let last_code = leaving_by TailCall t (list_field 0 es) back line ∷ [] in
       let behind = has_back S pc first_code (args_code ++ last_code) has in
       let whole = length-append first_code (args_code ++ last_code) in
       let rest = length-append args_code last_code in
@@ -76,21 +76,21 @@ module _ (S : Setting) (pending : List Pending) where
       (λ vs env1 regs1 c1 o1 af eq one. go_left S n _ (tree.at (collect (for_call line true) (first vs ∷ []) es) (of_tree S pending env1 c1) k) _ refl
       (exps_same S pending es (for_call line true) None t 1 (j + made_by f) line n (pc + length first_code) o1 (first vs ∷ []) env1 regs1 c1 k bound tt (has_front S (pc + length first_code) args_code last_code behind) tt (placed_all S pending es _ _ _ af.size es_ok)
       (omega (arith, inside, whole, rest)) refl (held_one S pending t (first vs) regs1 eq) (omega (arith, le, af.size)) (omega (arith, f_room, some)) es_room af.rel
-      (λ args env2 regs2 c2 o2 af2 l. called_last es 0 args n line t (pc + length first_code + length args_code) o2 env2 regs2 c2 k (has_back S (pc + length first_code) args_code last_code behind) (omega (arith, f_room, some)) es_room af2.rel l)))
+      (λ args env2 regs2 c2 o2 af2 l. called_last es 0 back args n line t (pc + length first_code + length args_code) o2 env2 regs2 c2 k (has_back S (pc + length first_code) args_code last_code behind) (omega (arith, f_room, some)) es_room af2.rel l)))
 
   -- a call of a method
-  pub method_last_same : (object : Exp) (name : List ℕ) (es : Exps) (line t j n pc opened : ℕ) (env regs : List Value) (c : Captured) (k : List Work) → n ≤ S.bound
-      → HasAt S pc (exp_code S.code.own.constants object t j 2 ++ (loads S.code.own.constants (StrConst name) (t + 1) line ++ (with_abc OpSelf t t (t + 1) line ∷ (exps_code S.code.own.constants es None (t + 2) (j + made_by object) line ++ with_abc TailCall t (list_field 1 es) 0 line ∷ []))))
+  pub method_last_same : (object : Exp) (name : List ℕ) (es : Exps) (line back t j n pc opened : ℕ) (env regs : List Value) (c : Captured) (k : List Work) → n ≤ S.bound
+      → HasAt S pc (exp_code S.code.own.constants object t j 2 ++ (loads S.code.own.constants (StrConst name) (t + 1) line ++ (with_abc OpSelf t t (t + 1) line ∷ (exps_code S.code.own.constants es None (t + 2) (j + made_by object) line ++ leaving_by TailCall t (list_field 1 es) back line ∷ []))))
       → IsPlaced S object (length env) j → Found S.code.own.constants (StrConst name) → ArePlaced S es (length env) (j + made_by object)
-      → pc + length (exp_code S.code.own.constants object t j 2 ++ (loads S.code.own.constants (StrConst name) (t + 1) line ++ (with_abc OpSelf t t (t + 1) line ∷ (exps_code S.code.own.constants es None (t + 2) (j + made_by object) line ++ with_abc TailCall t (list_field 1 es) 0 line ∷ [])))) < length S.code.own.code
+      → pc + length (exp_code S.code.own.constants object t j 2 ++ (loads S.code.own.constants (StrConst name) (t + 1) line ++ (with_abc OpSelf t t (t + 1) line ∷ (exps_code S.code.own.constants es None (t + 2) (j + made_by object) line ++ leaving_by TailCall t (list_field 1 es) back line ∷ [])))) < length S.code.own.code
       → length env ≤ t → t + room_of S.code.own.constants object 2 ≤ S.code.own.stack → t + 1 < S.code.own.stack → t + room_of_list S.code.own.constants 2 es None ≤ S.code.own.stack → Rel S.hidden S.code.own.stack pending env c regs
       → Agree S n (tree.at (evaluate object) (of_tree S pending env c) (method_of line true name es ∷ k)) (before (of_code S pending pc regs opened) c)
-  method_last_same object name es line t j n pc opened env regs c k bound has o_ok found es_ok inside le o_room room es_room rel =
+  method_last_same object name es line back t j n pc opened env regs c k bound has o_ok found es_ok inside le o_room room es_room rel =
       let first_code = exp_code S.code.own.constants object t j 2 in
       let name_code = loads S.code.own.constants (StrConst name) (t + 1) line in
       let self_code = with_abc OpSelf t t (t + 1) line in
       let args_code = exps_code S.code.own.constants es None (t + 2) (j + made_by object) line in
-      let last_code = with_abc TailCall t (list_field 1 es) 0 line ∷ [] in
+      let last_code = leaving_by TailCall t (list_field 1 es) back line ∷ [] in
       let key = known (string name) in
       let behind = has_back S pc first_code (name_code ++ (self_code ∷ (args_code ++ last_code))) has in
       let beyond = has_back S (pc + length first_code) name_code (self_code ∷ (args_code ++ last_code)) behind in
@@ -105,4 +105,4 @@ module _ (S : Setting) (pending : List Pending) where
       (nth_write_other (t + 1) key regs1 t (λ same. absurd (omega (arith, same))) ∙ eq) (nth_write_same (t + 1) key regs1)
       (λ ws env2 regs2 c2 af2 method_is self_is. exps_same S pending es (for_call line true) None t 2 (j + made_by object) line n (q + 1) o1 (first ws ∷ first vs ∷ []) env2 regs2 c2 k bound tt (has_front S (q + 1) args_code last_code beyond.1.1) tt
       (placed_all S pending es _ _ _ (af2.size ∙ af.size) es_ok) (omega (arith, inside, whole, middle, rest)) refl (held_two S pending t (first ws) (first vs) regs2 method_is self_is) (omega (arith, le, af.size, af2.size)) (omega (arith, room)) es_room af2.rel
-      (λ args env3 regs3 c3 o3 af3 l. called_last es 1 args n line t (q + 1 + length args_code) o3 env3 regs3 c3 k (has_back S (q + 1) args_code last_code beyond.1.1) (omega (arith, room)) es_room af3.rel l))))
+      (λ args env3 regs3 c3 o3 af3 l. called_last es 1 back args n line t (q + 1 + length args_code) o3 env3 regs3 c3 k (has_back S (q + 1) args_code last_code beyond.1.1) (omega (arith, room)) es_room af3.rel l))))

@@ -1,6 +1,6 @@
 -- A `return` of a list of expressions, whatever variables are to be closed.
 use Rattle.std.proofs.Common.{◌≡◌, ℕ, zero, suc, ◌+◌, ◌-◌, ◌<◌, ◌≤◌, ◌^◌, Bool, true, false, cond, List, [], ◌∷◌, ◌++◌, length, Some, None, refl, ap, ap₂, ◌∙◌, subst, arith}
-use Rattle.std.specs.Prelude.{◌==◌}
+use Rattle.std.specs.Prelude.{nat_lt, ◌==◌}
 use Rattle.int_core.specs.Value.{Value, known, nil}
 use Rattle.int_core.specs.Ask.{returns, Captured}
 use Rattle.tree_core.specs.Tree.{Exps}
@@ -16,7 +16,7 @@ use Rattle.machine_core.specs.InstructionRows.{read_values, counted}
 use Rattle.machine_core.specs.InstructionRows as rows
 use Rattle.machine_core.specs.Talk.{before, talk, talk_step}
 use Rattle.list_laws.proofs.Tests.{eq_not}
-use Rattle.code_of.specs.Coded.{with_abc}
+use Rattle.code_of.specs.Coded.{with_abc, leaving_by}
 use Rattle.code_of.specs.Expressions.{count, ends_open, list_field, exps_code}
 use Rattle.exp_laws.proofs.Registers.{Rel}
 use Rattle.exp_laws.specs.Setting.{Setting}
@@ -37,24 +37,24 @@ returned p (suc n) from vs a h =
     let wide = h.0 in
     ap (λ b. cond b (counted (told_of (suc n) vs)) (suc n - 1)) (eq_not (suc n) 0 (λ e. absurd (omega (arith, e)))) ∙ omega (arith, wide)
 
-return_step : (p : Prototype) (t b back : ℕ) (vs : List Value) (a : Activation) (c : Captured) → at p a.pc ≡ Some (abc Return t b back false) → t < 2 ^ 8 → b < 2 ^ 8 → Passed p b t vs a
+return_step : (p : Prototype) (t b back : ℕ) (vs : List Value) (a : Activation) (c : Captured) → at p a.pc ≡ Some (abc Return t b back (nat_lt 0 t)) → t < 2 ^ 8 → b < 2 ^ 8 → Passed p b t vs a
     → talk_step p (before a c) ≡ talk p (rows.returns t (length vs)) vs a c
 return_step p t b back vs a c here t_fits b_fits passed =
-    let w = abc Return t b back false in
-    row_step p w Return (read_values t b (λ _ s. rows.returns t (cond (b == 0) (counted s) (b - 1)))) a c here (opcode_of-abc Return t b back false)
-    (ap₂ (λ d e. read_values d e (λ _ s. rows.returns d (cond (e == 0) (counted s) (e - 1)))) (a_of-abc Return t b back false t_fits) (b_of-abc Return t b back false t_fits b_fits))
+    let w = abc Return t b back (nat_lt 0 t) in
+    row_step p w Return (read_values t b (λ _ s. rows.returns t (cond (b == 0) (counted s) (b - 1)))) a c here (opcode_of-abc Return t b back (nat_lt 0 t))
+    (ap₂ (λ d e. read_values d e (λ _ s. rows.returns d (cond (e == 0) (counted s) (e - 1)))) (a_of-abc Return t b back (nat_lt 0 t) t_fits) (b_of-abc Return t b back (nat_lt 0 t) t_fits b_fits))
     ∙ read_values_step p t b (λ _ s. rows.returns t (cond (b == 0) (counted s) (b - 1))) [] vs a c passed
     ∙ ap (λ n. talk p (rows.returns t n) vs a c) (returned p b t vs a passed)
 
 module _ (S : Setting) (pending : List Pending) where
   pub return_list_same : (es : Exps) (line t j back n pc opened : ℕ) (env regs : List Value) (c : Captured) (k : List Work) → n ≤ S.bound
-      → HasAt S pc (exps_code S.code.own.constants es None t j line ++ with_abc Return t (list_field 0 es) back line ∷ []) → ArePlaced S es (length env) j
+      → HasAt S pc (exps_code S.code.own.constants es None t j line ++ leaving_by Return t (list_field 0 es) back line ∷ []) → ArePlaced S es (length env) j
       → pc + length (exps_code S.code.own.constants es None t j line) < length S.code.own.code → count es + 1 < 2 ^ 8 → length env ≤ t → t ≤ S.code.own.stack → t + room_of_list S.code.own.constants 0 es None ≤ S.code.own.stack
       → Rel S.hidden S.code.own.stack pending env c regs
       → Agree S n (tree.at (collect (for_return line) [] es) (of_tree S pending env c) k) (before (of_code S pending pc regs opened) c)
   return_list_same es line t j back n pc opened env regs c k bound has ok inside small le low room rel =
       let values_code = exps_code S.code.own.constants es None t j line in
-      let last_code = with_abc Return t (list_field 0 es) back line ∷ [] in
+      let last_code = leaving_by Return t (list_field 0 es) back line ∷ [] in
       let none : t ≡ t + 0 = omega arith in
       exps_same S pending es (for_return line) None t 0 j line n pc opened [] env regs c k bound tt (subst (λ r. HasAt S pc (exps_code S.code.own.constants es None r j line)) none (has_front S pc values_code last_code has)) tt ok
       (subst (λ r. pc + length (exps_code S.code.own.constants es None r j line) < length S.code.own.code) none inside) refl (λ i lt. absurd (omega (arith, lt))) le (omega (arith, low)) room rel
@@ -63,8 +63,8 @@ module _ (S : Setting) (pending : List Pending) where
       (let behind_code = has_back S pc values_code last_code has in
       let list = passed_all S pending (ends_open es) (0 + count es) (list_field 0 es) (pc + length values_code) t o1 vs regs1 (is_field (ends_open es) refl) (λ one. let w = width one in omega (arith, w, af.rel.room)) l in
       let enough = list.1.0 in
-      returns_alike S t vs n pending line (pc + length values_code) o1 env1 regs1 vs c1 _ af.rel (record { word = abc Return t (list_field 0 es) back false; opcode = Return; there = behind_code.0; is = opcode_of-abc Return t (list_field 0 es) back false; lined = behind_code.1.0 })
-      (a_of-abc Return t (list_field 0 es) back false (omega (arith, low, S.small))) (behind_fits t (length vs) (length regs1) enough) list.1.1
+      returns_alike S t vs n pending line (pc + length values_code) o1 env1 regs1 vs c1 _ af.rel (record { word = abc Return t (list_field 0 es) back (nat_lt 0 t); opcode = Return; there = behind_code.0; is = opcode_of-abc Return t (list_field 0 es) back (nat_lt 0 t); lined = behind_code.1.0 })
+      (a_of-abc Return t (list_field 0 es) back (nat_lt 0 t) (omega (arith, low, S.small))) (behind_fits t (length vs) (length regs1) enough) list.1.1
       (return_step S.code t (list_field 0 es) back vs (of_code S pending (pc + length values_code) regs1 o1) c1 behind_code.0 (omega (arith, low, S.small)) (field_fits (ends_open es) refl) list.0))))
     where
       width : ends_open es ≡ false → t + (0 + count es) ≤ S.code.own.stack

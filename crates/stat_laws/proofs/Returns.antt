@@ -1,6 +1,6 @@
 -- Leaving a function with values: `return`, and the end of its block.
 use Rattle.std.proofs.Common.{◌≡◌, ℕ, ◌+◌, ◌-◌, ◌<◌, ◌≤◌, ◌^◌, lit<, Bool, true, false, cond, List, [], ◌∷◌, ◌++◌, length, Some, None, refl, sym, ap, ap₂, subst, ◌∙◌, arith, append_assoc, length-append}
-use Rattle.std.specs.Prelude.{◌==◌}
+use Rattle.std.specs.Prelude.{nat_lt, ◌==◌}
 use Rattle.int_core.specs.Value.{Value}
 use Rattle.int_core.specs.Ask.{goes_on, Captured}
 use Rattle.tree_core.specs.Tree.{Block, Returns, Stats, EndStats, Repeat, Exp, Nil, True, False, Int, Str, Vararg, Function, Var, Index, Call, Method, Unary, Binary, And, Or, Paren, Table, Exps, EndExps, MoreExps, MoreStats}
@@ -17,7 +17,7 @@ use Rattle.machine_core.specs.InstructionRows as rows
 use Rattle.machine_core.specs.InstructionRows.{read_values, counted}
 use Rattle.machine_core.specs.Talk.{talk, talk_step, before}
 use Rattle.list_laws.proofs.Items.{append_nil}
-use Rattle.code_of.specs.Coded.{Coded, with_abc}
+use Rattle.code_of.specs.Coded.{Coded, with_abc, leaving_by}
 use Rattle.code_of.specs.Expressions.{made_by, count, list_field, exp_code, exps_code}
 use Rattle.code_of.specs.Constants.{loads}
 use Rattle.code_core.specs.declared.proto.Const.TheVariants.{Str as StrConst}
@@ -54,21 +54,21 @@ known_all EndStats t closing closed h = h
 known_all (MoreStats s ss) t closing closed h = known_all ss (level_after s t) (closing_after s closing) (closed_after s t closed) (known_after s t closing closed h)
 
 last_some : (cs : List Const) (es : Exps) (t j line back : ℕ) → 1 ≤ length (values_last cs es t j line back)
-last_some cs es t j line back = let sum = length-append (exps_code cs es None t j line) (with_abc Return t (list_field 0 es) back line ∷ []) in omega (arith, sum)
+last_some cs es t j line back = let sum = length-append (exps_code cs es None t j line) (leaving_by Return t (list_field 0 es) back line ∷ []) in omega (arith, sum)
 
 -- a `return` has an instruction at least
 pub return_some : (cs : List Const) (closing : Bool) (es : Exps) (t j line back : ℕ) → 1 ≤ length (return_code cs closing es t j line back)
 return_some cs false (MoreExps (Call l f es) EndExps) t j line back =
     let a = exp_code cs f t j 2 in
     let b = exps_code cs es None (t + 1) (j + made_by f) l in
-    let last = with_abc TailCall t (list_field 0 es) 0 l ∷ with_abc Return t 0 back l ∷ [] in
+    let last = leaving_by TailCall t (list_field 0 es) back l ∷ leaving_by Return t 0 back l ∷ [] in
     let one = length-append a (b ++ last) in
     let two = length-append b last in
     omega (arith, one, two)
 return_some cs false (MoreExps (Method l o name es) EndExps) t j line back =
     let a = exp_code cs o t j 2 in
     let b = loads cs (StrConst name.text) (t + 1) l in
-    let rest = with_abc OpSelf t t (t + 1) l ∷ (exps_code cs es None (t + 2) (j + made_by o) l ++ (with_abc TailCall t (list_field 1 es) 0 l ∷ with_abc Return t 0 back l ∷ [])) in
+    let rest = with_abc OpSelf t t (t + 1) l ∷ (exps_code cs es None (t + 2) (j + made_by o) l ++ (leaving_by TailCall t (list_field 1 es) back l ∷ leaving_by Return t 0 back l ∷ [])) in
     let one = length-append a (b ++ rest) in
     let two = length-append b rest in
     omega (arith, one, two)
@@ -109,11 +109,11 @@ return_some cs true es t j line back = last_some cs es t j line back
 
 module _ (S : Setting) where
   -- RETURN of no values
-  pub return_step : (t back pc opened : ℕ) (ps : List Pending) (regs : List Value) (c : Captured) → at S.code pc ≡ Some (abc Return t 1 back false) → t < 2 ^ 8 → t + 0 ≤ length regs
+  pub return_step : (t back pc opened : ℕ) (ps : List Pending) (regs : List Value) (c : Captured) → at S.code pc ≡ Some (abc Return t 1 back (nat_lt 0 t)) → t < 2 ^ 8 → t + 0 ≤ length regs
       → talk_step S.code (before (of_code S ps pc regs opened) c) ≡ talk S.code (rows.returns t 0) [] (of_code S ps pc regs opened) c
   return_step t back pc opened ps regs c here small width =
-      row_step S.code (abc Return t 1 back false) Return (read_values t 1 (λ _ s. rows.returns t 0)) (of_code S ps pc regs opened) c here (opcode_of-abc Return t 1 back false)
-      (ap₂ (λ x y. read_values x y (λ _ s. rows.returns x (cond (y == 0) (counted s) (y - 1)))) (a_of-abc Return t 1 back false small) (b_of-abc Return t 1 back false small (lit< tt)))
+      row_step S.code (abc Return t 1 back (nat_lt 0 t)) Return (read_values t 1 (λ _ s. rows.returns t 0)) (of_code S ps pc regs opened) c here (opcode_of-abc Return t 1 back (nat_lt 0 t))
+      (ap₂ (λ x y. read_values x y (λ _ s. rows.returns x (cond (y == 0) (counted s) (y - 1)))) (a_of-abc Return t 1 back (nat_lt 0 t) small) (b_of-abc Return t 1 back (nat_lt 0 t) small (lit< tt)))
       ∙ read_values_step S.code t 1 (λ _ s. rows.returns t 0) [] [] (of_code S ps pc regs opened) c (refl, (width, (λ i lt. absurd (omega arith))))
 
   without_last : (a : List Coded) (x y : Coded) (pc : ℕ) → HasAt S pc (a ++ x ∷ y ∷ []) → HasAt S pc (a ++ x ∷ [])
@@ -164,7 +164,7 @@ module _ (S : Setting) where
         → t + room_of_list S.code.own.constants 0 es None ≤ S.code.own.stack → count es + 1 < 2 ^ 8 → pc + length (values_last S.code.own.constants es t j line back) ≤ length S.code.own.code → length env ≡ t → Rel S.hidden S.code.own.stack ps env c regs
         → Agree S n (tree.at (collect (for_return line) [] es) (of_tree S ps env c) k) (before (of_code S ps pc regs opened) c)
     list_returns ps es n t j line pc opened env regs c k fewer has placed room few inside size rel =
-        let sum = length-append (exps_code S.code.own.constants es None t j line) (with_abc Return t (list_field 0 es) back line ∷ []) in
+        let sum = length-append (exps_code S.code.own.constants es None t j line) (leaving_by Return t (list_field 0 es) back line ∷ []) in
         return_list_same S ps es line t j back n pc opened env regs c k fewer has (subst (λ u. ArePlaced S es u j) (sym size) placed) (omega (arith, inside, sum)) few (omega (arith, size)) (omega (arith, size, rel.fits)) room rel
 
     -- `return`, where no variable to be closed is in scope
@@ -174,23 +174,23 @@ module _ (S : Setting) where
     return_goes (MoreExps (Call l f es) EndExps) n t j line pc opened env regs c k s st fewer has h inside size rel =
         let first_code = exp_code S.code.own.constants f t j 2 in
         let args = exps_code S.code.own.constants es None (t + 1) (j + made_by f) l in
-        let one = with_abc TailCall t (list_field 0 es) 0 l in
-        let two = with_abc Return t 0 back l in
+        let one = leaving_by TailCall t (list_field 0 es) back l in
+        let two = leaving_by Return t 0 back l in
         let front = without_last (first_code ++ args) one two pc (subst (HasAt S pc) (sym (append_assoc first_code args (one ∷ two ∷ []))) has) in
         let a = length-append first_code (args ++ one ∷ []) in
         let b = length-append args (one ∷ []) in
         let d = length-append first_code (args ++ one ∷ two ∷ []) in
         let e = length-append args (one ∷ two ∷ []) in
         go_left S n s (tree.at (evaluate f) (of_tree S [] env c) (callee_of l true es ∷ k)) _ st
-        (call_last_same S [] f es l t j n pc opened env regs c k fewer (subst (HasAt S pc) (append_assoc first_code args (one ∷ [])) front) (subst (λ u. IsPlaced S f u j) (sym size) h.0) (subst (λ u. ArePlaced S es u (j + made_by f)) (sym size) h.1.0)
+        (call_last_same S [] f es l back t j n pc opened env regs c k fewer (subst (HasAt S pc) (append_assoc first_code args (one ∷ [])) front) (subst (λ u. IsPlaced S f u j) (sym size) h.0) (subst (λ u. ArePlaced S es u (j + made_by f)) (sym size) h.1.0)
         (omega (arith, inside, a, b, d, e)) (omega (arith, size)) h.1.1.0 h.1.1.1 rel)
     return_goes (MoreExps (Method l o name es) EndExps) n t j line pc opened env regs c k s st fewer has h inside size rel =
         let first_code = exp_code S.code.own.constants o t j 2 in
         let key = loads S.code.own.constants (StrConst name.text) (t + 1) l in
         let self = with_abc OpSelf t t (t + 1) l in
         let args = exps_code S.code.own.constants es None (t + 2) (j + made_by o) l in
-        let one = with_abc TailCall t (list_field 1 es) 0 l in
-        let two = with_abc Return t 0 back l in
+        let one = leaving_by TailCall t (list_field 1 es) back l in
+        let two = leaving_by Return t 0 back l in
         let joined = λ (z : List Coded). append_assoc first_code (key ++ (self ∷ args)) z ∙ ap (λ l. first_code ++ l) (append_assoc key (self ∷ args) z) in
         let front = without_last (first_code ++ (key ++ (self ∷ args))) one two pc (subst (HasAt S pc) (sym (joined (one ∷ two ∷ []))) has) in
         let a = length-append first_code (key ++ (self ∷ (args ++ one ∷ []))) in
@@ -200,7 +200,7 @@ module _ (S : Setting) where
         let e = length-append key (self ∷ (args ++ one ∷ two ∷ [])) in
         let y = length-append args (one ∷ two ∷ []) in
         go_left S n s (tree.at (evaluate o) (of_tree S [] env c) (method_of l true name.text es ∷ k)) _ st
-        (method_last_same S [] o name.text es l t j n pc opened env regs c k fewer (subst (HasAt S pc) (joined (one ∷ [])) front) (subst (λ u. IsPlaced S o u j) (sym size) h.0) h.1.0 (subst (λ u. ArePlaced S es u (j + made_by o)) (sym size) h.1.1.0)
+        (method_last_same S [] o name.text es l back t j n pc opened env regs c k fewer (subst (HasAt S pc) (joined (one ∷ [])) front) (subst (λ u. IsPlaced S o u j) (sym size) h.0) h.1.0 (subst (λ u. ArePlaced S es u (j + made_by o)) (sym size) h.1.1.0)
         (omega (arith, inside, a, b, x, d, e, y)) (omega (arith, size)) h.1.1.1.0 h.1.1.1.1.0 h.1.1.1.1.1 rel)
     return_goes EndExps n t j line pc opened env regs c k s st fewer has h inside size rel =
         go_left S n s (tree.at (collect (for_return line) [] EndExps) (of_tree S [] env c) k) _ st (list_returns [] EndExps n t j line pc opened env regs c k fewer has h.0 h.1.0 h.1.1 inside size rel)

@@ -13,7 +13,7 @@ use Rattle.code_of.specs.Parts.{past_size, bounds_code, steps_code}
 use Rattle.list_laws.proofs.Items.{append_nil}
 use Rattle.code_core.specs.declared.opcode.Opcode.TheVariants.{Return}
 use Rattle.tree_core.specs.declared.name.UpName.{UpName}
-use Rattle.code_of.specs.Coded.{Coded, with_abc}
+use Rattle.code_of.specs.Coded.{Coded, leaving_by}
 use Rattle.code_of.specs.CodeOf.{back_field, opening, body_code, code_of}
 use Rattle.code_of.specs.Constants.{of_block}
 use Rattle.code_of.specs.Statements.{stats_code, whole_code}
@@ -281,7 +281,7 @@ begin_size false params line = refl
 whole_wide : (cs : List Const) (back : ℕ) (inner : Block) (params pc : ℕ) → block_size cs back inner false 0 params 0 ≤ length (whole_code cs back inner params pc)
 whole_wide cs back (Falls ss tokens line) params pc =
     let body = stats_code cs back ss true false 0 params 0 pc [] (record { labels = []; exit = None }) in
-    let sum = length-append body (with_abc Return (levels_after ss params) 1 back line ∷ []) in
+    let sum = length-append body (leaving_by Return (levels_after ss params) 1 back line ∷ []) in
     let sized = stats_sized cs back ss true false 0 params 0 pc [] (record { labels = []; exit = None }) in
     let short = close_short 0 (levels_after ss params) line in
     omega (arith, sum, sized, short)

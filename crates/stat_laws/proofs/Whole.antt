@@ -1,7 +1,7 @@
 -- The code of a function's body means the body.
 use Rattle.std.proofs.Common.{◌≡◌, ℕ, zero, suc, ◌+◌, ◌<◌, ◌≤◌, ◌^◌, Bool, true, false, cond, List, [], ◌∷◌, ◌++◌, length, take, drop, Option, Some, None, refl, sym, ap, subst, ◌∙◌, arith, length-append}
 use Rattle.std.proofs.lemmas.List.{length-map}
-use Rattle.std.specs.Prelude.{slice_get, option_map, pos, negsuc, ℤ}
+use Rattle.std.specs.Prelude.{nat_lt, slice_get, option_map, pos, negsuc, ℤ}
 use Rattle.std.proofs.lemmas.Option.{slice_get-map}
 use Rattle.int_core.specs.Value.{Value, known, nil, nth, bind}
 use Rattle.int_core.specs.Ask.{Captured}
@@ -21,7 +21,7 @@ use Rattle.machine_core.specs.Moves as moves
 use Rattle.machine_core.specs.Moves.{line_of}
 use Rattle.machine_core.specs.Talk.{before}
 use Rattle.code_means.specs.Means.{Means}
-use Rattle.code_of.specs.Coded.{Coded, with_abc, lines}
+use Rattle.code_of.specs.Coded.{Coded, lines, leaving_by}
 use Rattle.code_of.specs.Constants.{of_block}
 use Rattle.code_of.specs.Jumps.{Reach}
 use Rattle.tree_terms.specs.Levels.{levels_after}
@@ -81,7 +81,7 @@ start_reach = record { labels = []; exit = None }
 
 whole_some : (cs : List Const) (back : ℕ) (inner : Block) (params pc : ℕ) → 1 ≤ length (whole_code cs back inner params pc)
 whole_some cs back (Falls ss tokens line) params pc =
-    let sum = length-append (stats_code cs back ss true false 0 params 0 pc [] start_reach) (with_abc Return (levels_after ss params) 1 back line ∷ []) in omega (arith, sum)
+    let sum = length-append (stats_code cs back ss true false 0 params 0 pc [] start_reach) (leaving_by Return (levels_after ss params) 1 back line ∷ []) in omega (arith, sum)
 whole_some cs back (Returns ss es tokens line) params pc =
     let last = return_code cs (closings_after ss false) es (levels_after ss params) (0 + made_in_stats ss) line back in
     let sum = length-append (stats_code cs back ss false false 0 params 0 pc [] start_reach) last in
@@ -94,15 +94,15 @@ module _ (S : Setting) (back : ℕ) where
   no_jumps n lo hi k = record { gotos = λ name ok. absurd (cc); exits = λ ok. absurd (cc) }
 
   -- the function's end, without values
-  end_goes : (n t line line' pc : ℕ) (labels : List Passed) (e : line ≡ line') → HasAt S pc (with_abc Return t 1 back line ∷ []) → t < 2 ^ 8
+  end_goes : (n t line line' pc : ℕ) (labels : List Passed) (e : line ≡ line') → HasAt S pc (leaving_by Return t 1 back line ∷ []) → t < 2 ^ 8
       → (m : ℕ) → m ≤ n → (ps : List Pending) (env regs : List Value) (c : Captured) (opened : ℕ) → t + 0 ≤ length regs → Rel S.hidden S.code.own.stack ps env c regs
       → Agree S m (tree.at (run (record { rest = EndStats; ending = falls_off line; level = 0; labels = labels })) (of_tree S ps env c) (end_of_body line' ∷ [])) (before (of_code S ps pc regs opened) c)
   end_goes n t line line' pc labels e has small m le ps env regs c opened width rel =
       subst (λ l. Agree S m (tree.at (run (record { rest = EndStats; ending = falls_off line; level = 0; labels = labels })) (of_tree S ps env c) (end_of_body l ∷ [])) (before (of_code S ps pc regs opened) c)) e
       (go_left S m _ (tree.at (leave_scope 0 line (known nil) complete) (of_tree S ps env c) (end_of_body line ∷ [])) _ refl
       (ends_alike S m line ps env c _
-      (returns_alike S t [] m ps line pc opened env regs [] c _ rel (record { word = abc Return t 1 back false; opcode = Return; there = has.0; is = opcode_of-abc Return t 1 back false; lined = has.1.0 })
-      (a_of-abc Return t 1 back false small) (behind_fits t 0 (length regs) width) (λ i lt. absurd (omega (arith, lt))) (return_step S t back pc opened ps regs c has.0 small width))))
+      (returns_alike S t [] m ps line pc opened env regs [] c _ rel (record { word = abc Return t 1 back (nat_lt 0 t); opcode = Return; there = has.0; is = opcode_of-abc Return t 1 back (nat_lt 0 t); lined = has.1.0 })
+      (a_of-abc Return t 1 back (nat_lt 0 t) small) (behind_fits t 0 (length regs) width) (λ i lt. absurd (omega (arith, lt))) (return_step S t back pc opened ps regs c has.0 small width))))
 
   abbrev Runs : Block → (n params pc : ℕ) → Type 0
   Runs inner n params pc =
@@ -139,7 +139,7 @@ module _ (S : Setting) (back : ℕ) where
       body = stats_code S.code.own.constants back ss true false 0 params 0 pc [] start_reach
 
       last : List Coded
-      last = with_abc Return (levels_after ss params) 1 back line ∷ []
+      last = leaving_by Return (levels_after ss params) 1 back line ∷ []
 
       size_of : ℕ
       size_of = stats_size S.code.own.constants back ss false params 0

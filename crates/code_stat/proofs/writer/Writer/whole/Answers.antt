@@ -15,11 +15,11 @@ use Rattle.code_stat.proofs.writer.Writer.whole.Goals as goal
 pub returns-in_ok-end_scopes-in-None-clause-code : goal.returns-in_ok-end_scopes-in-None-clause-code
 returns-in_ok-end_scopes-in-None-clause-code c =
     let b = out-Block c.args.block.now in
-    let after : Writer = record c.statements.new.self { emitter = c.put_abc.new.self; variables = c.end_scopes.new.self } in
+    let after : Writer = record c.statements.new.self { emitter = c.put_leaving.new.emitter; variables = c.end_scopes.new.self } in
     subst (λ p. Wrote c.args.self.now after (made_in_block p) (λ reach. whole_from c.args.self.now.emitter.constants c.args.self.now.back p c.args.params c.args.self.now.emitter.made (length c.args.self.now.emitter.steps) reach))
     (sym (falls_of c.args.block.now c.in-None.is))
     (whole_falls c.args.self.now c.statements.new.self after (tree.stats (map plain_stat b.stats.items)) b.tokens b.line c.args.params c.in_ok-end-in-None.end.level c.statements.new.self.back c.in_ok-end-in-None.ensures.code c.in_ok-end-in-None.ensures.level refl
-    c.in_ok-put_abc-in-None.ensures refl refl)
+    c.in_ok-put_leaving-in-None.ensures refl refl)
 
 pub returns-in_ok-block-in-Some-clause-code : goal.returns-in_ok-block-in-Some-clause-code
 returns-in_ok-block-in-Some-clause-code c =
@@ -28,8 +28,8 @@ returns-in_ok-block-in-Some-clause-code c =
 pub returns-in_ok-end_scopes-in-None-clause-variables : goal.returns-in_ok-end_scopes-in-None-clause-variables
 returns-in_ok-end_scopes-in-None-clause-variables c =
     let b = out-Block c.args.block.now in
-    let after : Writer = record c.statements.new.self { emitter = c.put_abc.new.self; variables = c.end_scopes.new.self } in
+    let after : Writer = record c.statements.new.self { emitter = c.put_leaving.new.emitter; variables = c.end_scopes.new.self } in
     let first : c.count-first.result ≡ length c.args.self.now.variables = search rules in
     subst (λ p. DeclaresBlock c.args.self.now after p false 0 c.args.params) (sym (falls_of c.args.block.now c.in-None.is))
     (falls_declared c.args.self.now c.statements.new.self after (tree.stats (map plain_stat b.stats.items)) b.tokens b.line c.args.params c.statements.new.self.back c.in_ok-end-in-None.end.level c.count-first.result c.place-place.result
-    c.in_ok-end-in-None.ensures.code c.in_ok-end-in-None.ensures.variables c.in_ok-put_abc-in-None.ensures first c.place-place.ensures c.in_ok-end_scopes-in-None.ensures)
+    c.in_ok-end-in-None.ensures.code c.in_ok-end-in-None.ensures.variables c.in_ok-put_leaving-in-None.ensures first c.place-place.ensures c.in_ok-end_scopes-in-None.ensures)
