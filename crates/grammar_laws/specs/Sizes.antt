@@ -42,4 +42,3 @@ pub record HasFewLines (source : List ℕ) (tree : Block) : Type 0 where
 
 abbrev pub TreesHaveFewLines : Type 0
 TreesHaveFewLines = (source : List ℕ) (tokens : List Lexeme) (tree : Block) → TokensOf source tokens → Derives tokens tree → HasFewLines source tree
-

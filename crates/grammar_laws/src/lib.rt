@@ -4,4 +4,7 @@
 
 mod law;
 
-pub use law::{places_keep_forms, places_weigh_nothing, trees_are_formed, trees_have_few_lines, trees_take_bytes, trees_weigh_their_tokens};
+pub use law::{
+    places_keep_forms, places_weigh_nothing, trees_are_formed, trees_have_few_lines,
+    trees_take_bytes, trees_weigh_their_tokens,
+};
