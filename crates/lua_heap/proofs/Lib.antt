@@ -1,0 +1,4 @@
+mod Finding
+mod Reading
+mod Equal
+mod Tables

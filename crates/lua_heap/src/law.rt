@@ -1,0 +1,22 @@
+// The laws of the values that are kept.
+ghost use Rattle.lua_heap.specs.Law.{EqualityIsRaw, TablesAreRead, StringsAreThere, NewStringsKeep};
+
+/// Kept values are equal exactly where the values that they stand for are.
+pub fn equality_is_raw()
+    ensures { EqualityIsRaw }
+{}
+
+/// A table is read and written alike, whether its values are kept or what they stand for.
+pub fn tables_are_read()
+    ensures { TablesAreRead }
+{}
+
+/// A valid value names a string that is there.
+pub fn strings_are_there()
+    ensures { StringsAreThere }
+{}
+
+/// A new string changes no valid value.
+pub fn new_strings_keep()
+    ensures { NewStringsKeep }
+{}

@@ -1,0 +1,101 @@
+// The strings of a world.
+ghost use Rattle.std.specs.Prelude.{◌≡◌, ◌<◌, ◌≤◌, [], ◌∷◌, ◌++◌, false, IfOk, IfSome, OnOk, OnErr, Some, is_some, length, slice_get, take, bytes_eq};
+ghost use Rattle.std.specs.List.{list_any};
+ghost use Rattle.int_core.specs.Value.{greatest_string};
+ghost use Rattle.lua_heap.specs.Strings.{interned, AreApart, AreShort};
+
+use indexmap::IndexSet;
+use std::alloc::{AllocError, Global};
+use std::marker::Model;
+use table_core::StrId;
+
+/// Strings, each named by its place among those that came before it, one for each content.
+/// Contracts see the list of the contents.
+#[derive(Drop)]
+pub struct Strings {
+    contents: IndexSet<Vec<u8>>,
+}
+
+impl Model for Strings {
+    ghost use Rattle.std.specs.Prelude.{List, ℕ, map};
+    ghost use Rattle.lua_heap.specs.Strings.{AreShort};
+
+    ghost Value = { List (List ℕ) };
+
+    ghost view = { λ strings. map (λ text. text.items) strings.contents.keys };
+
+    ghost invariant = { λ strings. AreShort (map (λ text. text.items) strings.contents.keys) };
+}
+
+impl Strings {
+    /// No strings.
+    pub fn new(alloc: Global) -> Strings
+        ensures { result ≡ [] }
+    {
+        Strings {
+            contents: IndexSet::new(alloc),
+        }
+    }
+
+    /// How many there are. No two have the same bytes, and none is longer than a string may be.
+    pub fn len(&self) -> usize
+        ensures count { result ≡ length self.now }
+        ensures apart { AreApart self.now }
+        ensures short { AreShort self.now }
+    {
+        self.contents.len()
+    }
+
+    /// The bytes of a string.
+    pub fn bytes(&self, id: StrId) -> &[u8]
+        requires { id.0 < length self.now }
+        ensures { slice_get self.now id.0 ≡ Some result.now }
+    {
+        self.contents.get_index(id.0).unwrap().as_slice()
+    }
+
+    /// The string with these bytes, where there is one.
+    pub fn find(&self, bytes: &[u8]) -> Option<StrId>
+        ensures found { IfSome result (λ id. slice_get self.now id.0 ≡ Some bytes.now) }
+        ensures there { is_some result ≡ list_any (bytes_eq bytes.now) self.now }
+    {
+        Some(StrId(self.contents.get_index_of(bytes)?))
+    }
+
+    /// The string with these bytes, which is added where there is none. A refusal changes nothing.
+    pub fn intern(&mut self, bytes: &[u8]) -> Result<StrId, AllocError>
+        requires { length bytes.now ≤ greatest_string }
+        ensures named { IfOk result (λ id. slice_get self.new id.0 ≡ Some bytes.now) }
+        ensures added { OnOk result (self.new ≡ interned self.old bytes.now) }
+        ensures err { OnErr result (self.new ≡ self.old) }
+    {
+        if let Some(id) = self.find(bytes) {
+            return Ok(id);
+        }
+        self.add(bytes)
+    }
+
+    /// Adds a string whose bytes no other has.
+    fn add(&mut self, bytes: &[u8]) -> Result<StrId, AllocError>
+        requires short { length bytes.now ≤ greatest_string }
+        requires new { list_any (bytes_eq bytes.now) self.old ≡ false }
+        ensures id { IfOk result (λ id. id.0 ≡ length self.old) }
+        ensures added { OnOk result (self.new ≡ self.old ++ bytes.now ∷ []) }
+        ensures err { OnErr result (self.new ≡ self.old) }
+    {
+        let id = StrId(self.contents.len());
+        let content = bytes.to_vec(*self.contents.allocator())?;
+        match self.contents.insert(content) {
+            Ok(_) => Ok(id),
+            Err(_) => Err(AllocError),
+        }
+    }
+
+    /// Keeps the first `count` strings.
+    pub fn release_to(&mut self, count: usize)
+        requires { count ≤ length self.old }
+        ensures { self.new ≡ take count self.old }
+    {
+        self.contents.truncate(count);
+    }
+}
