@@ -111,3 +111,7 @@ pub filter-taken : (p : Value × Value → Bool) (rows : Rows) (at : ℕ) (row :
 filter-taken p rows at row found =
     let step : take (at + 1) rows ≡ take at rows ++ row ∷ [] = take_more rows at row (slice_get_within rows at row found) ∙ ap (λ r. take at rows ++ r ∷ []) (get_or_from_slice_get rows at row row found) in
     ap (filter p) step ∙ filter-append p (take at rows) (row ∷ [])
+
+pub distinct-right : (xs ys : Rows) → IsDistinct value_eq (keys_of (xs ++ ys)) → IsDistinct value_eq (keys_of ys)
+distinct-right [] ys distinct = distinct
+distinct-right (x ∷ xs) ys distinct = distinct-right xs ys (IsDistinct-tail value_eq x.0 (keys_of (xs ++ ys)) distinct)

@@ -8,6 +8,7 @@ use crate::rows::Rows;
 use crate::value::Value;
 
 /// The border after a write, from the one before it.
+#[inline(always)]
 pub(crate) fn mended(rows: &Rows, border: usize, key: Value, value: Value) -> usize
     requires beside { IsBorderBeside rows.now key border }
     requires small { border < 2 ^ 63 }
@@ -15,20 +16,21 @@ pub(crate) fn mended(rows: &Rows, border: usize, key: Value, value: Value) -> us
     ensures { IsBorder lua_values rows.now result }
 {
     match place_of(key) {
-        Some(place) if value == Value::Nil => border.min(place),
+        Some(place) if value.is_nil() => border.min(place),
         Some(place) if place == border => climbed(rows, border + 1),
         _ => border,
     }
 }
 
 /// The border of rows in which each integer up to `from` has a value.
+#[inline(never)]
 fn climbed(rows: &Rows, from: usize) -> usize
     requires { (m : ℕ) → m < from → is_nil (behind lua_values rows.now m) ≡ false }
     ensures { IsBorder lua_values rows.now result }
 {
     let most = rows.len();
     for n in from..most {
-        if behind(rows, n) == Value::Nil {
+        if behind(rows, n).is_nil() {
             return n;
         }
     }
@@ -36,6 +38,7 @@ fn climbed(rows: &Rows, from: usize) -> usize
 }
 
 /// The number that a key lies behind, where it is an integer of at least 1.
+#[inline(always)]
 fn place_of(key: Value) -> Option<usize>
     ensures { MatchOption result ((m : ℕ) → key ≢ Value.Int (pos (m + 1))) (λ n. key ≡ Value.Int (pos (n + 1))) }
 {

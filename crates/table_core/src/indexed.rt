@@ -1,5 +1,5 @@
 // Many rows in an index map, with hints at the places of string keys.
-ghost use Rattle.std.specs.Prelude.{◌≡◌, ◌<◌, ◌^◌, Some, [], ◌∷◌, ◌++◌, length, IfSome, IfNone, MatchOption, OnOk, OnErr, slice_get, slice_set};
+ghost use Rattle.std.specs.Prelude.{◌≡◌, ◌<◌, Some, [], ◌∷◌, ◌++◌, length, IfSome, IfNone, IfOk, MatchOption, OnOk, OnErr, slice_get, slice_set};
 ghost use Rattle.table_core.specs.Places.{HasKeyAt, HasRow, IsAbsent, IsReplaced};
 
 use crate::value::{StrId, Value};
@@ -27,16 +27,26 @@ impl Indexed {
         }
     }
 
-    /// The place of a key's row.
-    pub(crate) fn find(&self, key: Value) -> Option<usize>
-        ensures place { MatchOption result (IsAbsent self.now.rows.entries key) (λ at. HasKeyAt self.now.rows.entries key at) }
-        ensures small { IfSome result (λ at. at < 2 ^ 63) }
+    /// No rows, with room for some.
+    pub(crate) fn with_room(alloc: Global, rows: usize) -> Result<Indexed, AllocError>
+        ensures { IfOk result (λ many. many.rows.entries ≡ []) }
     {
-        let _few = self.rows.len();
+        Ok(Indexed {
+            rows: IndexMap::with_capacity(alloc, rows)?,
+            hints: Vec::new(alloc),
+        })
+    }
+
+    /// The place of a key's row.
+    #[inline(never)]
+    pub(crate) fn find(&self, key: Value) -> Option<usize>
+        ensures { MatchOption result (IsAbsent self.now.rows.entries key) (λ at. HasKeyAt self.now.rows.entries key at) }
+    {
         self.rows.get_index_of(&key)
     }
 
     /// The place of a string's row, where its hint is true.
+    #[inline(always)]
     fn hinted(&self, id: StrId) -> Option<usize>
         ensures { IfSome result (λ at. HasKeyAt self.now.rows.entries (Value.Str id) at) }
     {
@@ -51,6 +61,7 @@ impl Indexed {
     }
 
     /// The place of a key's row, by its hint if it is a string.
+    #[inline(always)]
     fn place(&self, key: Value) -> Option<usize>
         ensures { MatchOption result (IsAbsent self.now.rows.entries key) (λ at. HasKeyAt self.now.rows.entries key at) }
     {
@@ -63,6 +74,7 @@ impl Indexed {
     }
 
     /// The value of a key's row.
+    #[inline(always)]
     pub(crate) fn value(&self, key: Value) -> Option<Value>
         ensures { MatchOption result (IsAbsent self.now.rows.entries key) (λ value. HasRow self.now.rows.entries key value) }
     {
@@ -73,6 +85,7 @@ impl Indexed {
     }
 
     /// Puts a value at a key that is there, and answers the value that it had.
+    #[inline(always)]
     pub(crate) fn replace(&mut self, key: Value, value: Value) -> Option<Value>
         ensures found { IfSome result (λ was. IsReplaced self.old.rows.entries self.new.rows.entries key was value) }
         ensures absent { IfNone result (IsAbsent self.old.rows.entries key) }
@@ -122,6 +135,7 @@ impl Indexed {
 const MOST_HINTS: usize = 1 << 31;
 
 /// Which of `count` hints is a string's.
+#[inline(always)]
 fn slot(id: StrId, count: usize) -> usize {
     id.0 & count.saturating_sub(1)
 }
@@ -148,6 +162,7 @@ fn more_hints(hints: &mut Vec<u32>, rows: &IndexMap<Value, Value>) {
 }
 
 /// Puts a value at a place, and answers the value that stood there.
+#[inline(always)]
 fn set_value(rows: &mut IndexMap<Value, Value>, at: usize, value: Value) -> Value
     requires { at < length rows.old.entries }
     ensures { (key was : Value) → slice_get rows.old.entries at ≡ Some (key, was) → (result ≡ was) × (rows.new.entries ≡ slice_set rows.old.entries at (key, value)) }

@@ -1,6 +1,9 @@
-// Rows found by their keys: the first few are looked through one by one, the others stand in an index map.
-ghost use Rattle.std.specs.Prelude.{◌≡◌, ◌<◌, ◌^◌, Some, [], ◌∷◌, ◌++◌, length, IfSome, IfNone, MatchOption, OnOk, OnErr, slice_get, slice_set};
+// Rows found by their keys: a few are looked through one by one, more stand in an index map.
+ghost use Rattle.std.specs.Prelude.{◌≡◌, ◌<◌, Some, [], ◌∷◌, ◌++◌, length, IfSome, IfNone, IfOk, MatchOption, OnOk, OnErr, slice_get};
+ghost use Rattle.std.specs.List.{IsDistinct};
+ghost use Rattle.std.specs.Map.{keys_of};
 ghost use Rattle.table_core.specs.Places.{HasKeyAt, HasRow, IsAbsent, IsReplaced};
+ghost use Rattle.table_core.specs.Value.{value_eq};
 
 use crate::indexed::Indexed;
 use crate::value::Value;
@@ -8,26 +11,26 @@ use std::alloc::{AllocError, Global};
 use std::marker::Model;
 use std::mem;
 
-/// How many rows are looked through one by one.
+/// How many rows are looked through one by one at most.
 const FEW: usize = 8;
 
 /// Rows in the order of insertion, found by raw equality of their keys. Contracts see the rows.
 #[derive(Debug, Drop)]
 pub(crate) struct Keyed {
+    /// All rows, as long as they are few.
     few: Vec<(Value, Value)>,
+    /// All rows, from then on.
     many: Option<Box<Indexed>>,
 }
 
 impl Model for Keyed {
-    ghost use Rattle.std.specs.Prelude.{◌≤◌, ◌++◌, List, length};
+    ghost use Rattle.std.specs.Prelude.{List};
     ghost use Rattle.table_core.specs.declared.value.Value.{Value as Plain};
     ghost use Rattle.table_core.specs.Indexed.{rows_of};
 
     ghost Value = { List (Plain × Plain) };
 
-    ghost view = { λ keyed. keyed.few.items ++ rows_of keyed.many };
-
-    ghost invariant = { λ keyed. length keyed.few.items ≤ 8 };
+    ghost view = { λ keyed. rows_of keyed.few.items keyed.many };
 }
 
 impl Keyed {
@@ -41,51 +44,58 @@ impl Keyed {
         }
     }
 
+    /// No rows, with room for more than a few.
+    pub(crate) fn with_room(alloc: Global, rows: usize) -> Result<Keyed, AllocError>
+        ensures { IfOk result (λ keyed. keyed ≡ []) }
+    {
+        if rows <= FEW {
+            return Ok(Keyed::new(alloc));
+        }
+        let many = Box::new(alloc, Indexed::with_room(alloc, rows)?)?;
+        Ok(Keyed {
+            few: Vec::new(alloc),
+            many: Some(many),
+        })
+    }
+
     /// The place of a key's row.
     pub(crate) fn find(&self, key: Value) -> Option<usize>
         ensures { MatchOption result (IsAbsent self.now key) (λ at. HasKeyAt self.now key at) }
     {
-        if let Some(at) = place_among(self.few.as_slice(), key) {
-            return Some(at);
+        match &self.many {
+            Some(many) => many.find(key),
+            None => place_among(self.few.as_slice(), key),
         }
-        let Some(many) = &self.many else {
-            return None;
-        };
-        let at = many.find(key)?;
-        Some(self.few.len() + at)
     }
 
     /// The value of a key's row.
+    #[inline(always)]
     pub(crate) fn value(&self, key: Value) -> Option<Value>
         ensures { MatchOption result (IsAbsent self.now key) (λ value. HasRow self.now key value) }
     {
-        if let Some(at) = place_among(self.few.as_slice(), key) {
-            return Some(self.few[at].1);
+        match &self.many {
+            Some(many) => many.value(key),
+            None => value_among(self.few.as_slice(), key),
         }
-        let Some(many) = &self.many else {
-            return None;
-        };
-        many.value(key)
     }
 
     /// Puts a value at a key that is there, and answers the value that it had.
+    #[inline(always)]
     pub(crate) fn replace(&mut self, key: Value, value: Value) -> Option<Value>
         ensures found { IfSome result (λ was. IsReplaced self.old self.new key was value) }
         ensures absent { IfNone result (IsAbsent self.old key) }
         ensures same { IfNone result (self.new ≡ self.old) }
     {
-        if let Some(at) = place_among(self.few.as_slice(), key) {
-            return Some(set_value(&mut self.few, at, key, value));
-        }
         if let Some(many) = &mut self.many {
             return many.replace(key, value);
         }
-        None
+        replace_among(&mut self.few, key, value)
     }
 
     /// Puts a new row last.
     pub(crate) fn push(&mut self, key: Value, value: Value) -> Result<(), AllocError>
-        requires { IsAbsent self.old key }
+        requires absent { IsAbsent self.old key }
+        requires distinct { IsDistinct value_eq (keys_of self.old) }
         ensures added { OnOk result (self.new ≡ self.old ++ (key, value) ∷ []) }
         ensures err { OnErr result (self.new ≡ self.old) }
     {
@@ -95,10 +105,10 @@ impl Keyed {
         if self.few.len() < FEW {
             return push_few(&mut self.few, key, value);
         }
-        let alloc = *self.few.allocator();
-        let mut many = Box::new(alloc, Indexed::new(alloc))?;
+        let mut many = indexed(&self.few)?;
         many.push(key, value)?;
         self.many = Some(many);
+        self.few = Vec::new(*self.few.allocator());
         Ok(())
     }
 
@@ -107,7 +117,7 @@ impl Keyed {
         ensures { result ≡ length self.now }
     {
         match &self.many {
-            Some(many) => self.few.len() + many.rows.len(),
+            Some(many) => many.rows.len(),
             None => self.few.len(),
         }
     }
@@ -117,18 +127,53 @@ impl Keyed {
         requires { at < length self.now }
         ensures { slice_get self.now at ≡ Some result }
     {
-        let few = self.few.len();
-        if at < few {
-            return self.few[at];
-        }
         match &self.many {
-            Some(many) => many.row(at - few),
-            None => (Value::Nil, Value::Nil),
+            Some(many) => many.row(at),
+            None => self.few[at],
         }
     }
 }
 
+/// The rows of a few in an index map.
+fn indexed(few: &Vec<(Value, Value)>) -> Result<Box<Indexed>, AllocError>
+    requires { IsDistinct value_eq (keys_of few.now.items) }
+    ensures { IfOk result (λ many. many.value.rows.entries ≡ few.now.items) }
+{
+    let alloc = *few.allocator();
+    let mut many = Box::new(alloc, Indexed::new(alloc))?;
+    for at in 0..few.len() {
+        let (key, value) = few[at];
+        many.push(key, value)?;
+    }
+    Ok(many)
+}
+
+/// The value of a key's row among a few.
+#[inline(always)]
+fn value_among(rows: &[(Value, Value)], key: Value) -> Option<Value>
+    ensures { MatchOption result (IsAbsent rows.now key) (λ value. HasRow rows.now key value) }
+{
+    match place_among(rows, key) {
+        Some(at) => Some(rows[at].1),
+        None => None,
+    }
+}
+
+/// Puts a value at a key among a few, and answers the value that it had.
+#[inline(always)]
+fn replace_among(rows: &mut Vec<(Value, Value)>, key: Value, value: Value) -> Option<Value>
+    ensures found { IfSome result (λ was. IsReplaced rows.old.items rows.new.items key was value) }
+    ensures absent { IfNone result (IsAbsent rows.old.items key) }
+    ensures same { IfNone result (rows.new ≡ rows.old) }
+{
+    match place_among(rows.as_slice(), key) {
+        Some(at) => Some(set_value(rows, at, key, value)),
+        None => None,
+    }
+}
+
 /// The place of a key's row among a few.
+#[inline(always)]
 fn place_among(rows: &[(Value, Value)], key: Value) -> Option<usize>
     ensures { MatchOption result (IsAbsent rows.now key) (λ at. HasKeyAt rows.now key at) }
 {
@@ -142,6 +187,7 @@ fn place_among(rows: &[(Value, Value)], key: Value) -> Option<usize>
 }
 
 /// Puts a value at the place of a key, and answers the value that it had.
+#[inline(always)]
 fn set_value(rows: &mut Vec<(Value, Value)>, at: usize, key: Value, value: Value) -> Value
     requires { HasKeyAt rows.old.items key at }
     ensures { IsReplaced rows.old.items rows.new.items key result value }

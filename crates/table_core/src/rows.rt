@@ -48,6 +48,7 @@ impl Rows {
     }
 
     /// The value of a key's row.
+    #[inline(always)]
     fn found(&self, key: Value) -> Option<Value>
         ensures { result ≡ lookup (value_eq key) self.now }
     {
@@ -66,6 +67,7 @@ impl Rows {
     }
 
     /// The value at a key, or nil.
+    #[inline(always)]
     pub(crate) fn get(&self, key: Value) -> Value
         ensures { result ≡ get lua_values self.now key }
     {
@@ -73,6 +75,7 @@ impl Rows {
     }
 
     /// Puts a value at a key that is there, and answers the value that it had.
+    #[inline(always)]
     pub(crate) fn replace(&mut self, key: Value, value: Value) -> Option<Value>
         ensures was { result ≡ lookup (value_eq key) self.old }
         ensures now { OnSome result (self.new ≡ set_value (value_eq key) self.old value) }
@@ -142,20 +145,36 @@ impl Rows {
     }
 
     /// How many rows stand in the array.
+    #[inline(always)]
     pub(crate) fn array_len(&self) -> usize
         ensures { IsNumberedPrefix self.now result }
     {
         self.array.len()
     }
 
+    /// No rows, with room for half as many as these where they do not begin with an array.
+    fn fresh(&self) -> Result<Rows, AllocError>
+        ensures { IfOk result (λ rows. rows ≡ []) }
+    {
+        let alloc = *self.array.allocator();
+        if !self.array.is_empty() {
+            return Ok(Rows::new(alloc));
+        }
+        let keyed = Keyed::with_room(alloc, self.keyed.len() / 2)?;
+        Ok(Rows {
+            array: Vec::new(alloc),
+            keyed,
+        })
+    }
+
     /// The rows that are not cleared.
     pub(crate) fn filled(&self) -> Result<Rows, AllocError>
         ensures { IfOk result (λ rows. rows ≡ filter (is_filled lua_values) self.now) }
     {
-        let mut rows = Rows::new(*self.array.allocator());
+        let mut rows = self.fresh()?;
         for at in 0..self.len() {
             let (key, value) = self.row(at);
-            if value == Value::Nil {
+            if value.is_nil() {
                 continue;
             }
             rows.insert_last(key, value)?;
@@ -165,6 +184,7 @@ impl Rows {
 }
 
 /// The place of a key's row among values under 1, 2, 3 and so on; a greater number for another key.
+#[inline(always)]
 fn place_of(key: Value) -> usize
     ensures { IsPlaceOf key result }
 {

@@ -54,6 +54,7 @@ impl Table {
     }
 
     /// The value at a key, or nil where no filled row has it.
+    #[inline(always)]
     pub fn get(&self, key: Value) -> Value
         ensures { result ≡ get lua_values self.now.rows key }
     {
@@ -61,6 +62,7 @@ impl Table {
     }
 
     /// The value at an integer, or nil.
+    #[inline(always)]
     pub fn get_integer(&self, n: i64) -> Value
         ensures { result ≡ get lua_values self.now.rows (Value.Int n) }
     {
@@ -68,6 +70,7 @@ impl Table {
     }
 
     /// The value at a string, or nil.
+    #[inline(always)]
     pub fn get_string(&self, id: StrId) -> Value
         ensures { result ≡ get lua_values self.now.rows (Value.Str id) }
     {
@@ -87,13 +90,14 @@ impl Table {
         if self.put(key, value) {
             return Ok(());
         }
-        if value == Value::Nil {
+        if value.is_nil() {
             return Ok(());
         }
         self.append(key, value)
     }
 
     /// Puts a value at an integer that has a row, and answers whether it has one. It takes no memory.
+    #[inline(always)]
     pub fn set_integer(&mut self, n: i64, value: Value) -> bool
         ensures there { result ≡ has_row lua_values self.old.rows (Value.Int n) }
         ensures set { IsTrue result → self.new.rows ≡ set lua_values self.old.rows (Value.Int n) value }
@@ -104,6 +108,7 @@ impl Table {
     }
 
     /// Puts a value at a string that has a row, and answers whether it has one. It takes no memory.
+    #[inline(always)]
     pub fn set_string(&mut self, id: StrId, value: Value) -> bool
         ensures there { result ≡ has_row lua_values self.old.rows (Value.Str id) }
         ensures set { IsTrue result → self.new.rows ≡ set lua_values self.old.rows (Value.Str id) value }
@@ -114,6 +119,7 @@ impl Table {
     }
 
     /// Puts a value at a key that has a row, and answers whether it has one.
+    #[inline(always)]
     fn put(&mut self, key: Value, value: Value) -> bool
         ensures there { result ≡ has_row lua_values self.old.rows key }
         ensures set { IsTrue result → self.new.rows ≡ set lua_values self.old.rows key value }
@@ -180,7 +186,7 @@ impl Table {
     {
         for at in from..self.rows() {
             let (key, value) = self.row(at);
-            if value != Value::Nil {
+            if !value.is_nil() {
                 return Some((key, value));
             }
         }
@@ -188,6 +194,7 @@ impl Table {
     }
 
     /// The border (Lua 5.4 manual, 3.4.7): the least integer of at least 0 behind which there is no value.
+    #[inline(always)]
     pub fn border(&self) -> i64
         ensures value { result ≡ pos (border lua_values self.now.rows) }
         ensures least { (n : ℕ) × (result ≡ pos n) × IsBorder lua_values self.now.rows n }
@@ -238,6 +245,7 @@ impl Table {
     }
 
     /// The metatable (Lua 5.4 manual, 2.4).
+    #[inline(always)]
     pub fn metatable(&self) -> Option<TableId>
         ensures { result ≡ self.now.metatable }
     {
@@ -253,8 +261,9 @@ impl Table {
 }
 
 /// 1 for nil, and 0 for another value.
+#[inline(always)]
 fn nil_count(value: Value) -> usize
     ensures { result ≡ (if is_nil value then 1 else 0) }
 {
-    usize::from(value == Value::Nil)
+    usize::from(value.is_nil())
 }

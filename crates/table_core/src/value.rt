@@ -3,7 +3,7 @@ ghost use Rattle.std.specs.Prelude.{◌≡◌, ◌≢◌, ◌↔◌, None, IfSom
 ghost use Rattle.std.proofs.Common.{rules};
 ghost use Rattle.std.specs.Cmp.Rules.{comparing, hashing};
 ghost use Rattle.std.specs.Hash.{u64};
-ghost use Rattle.table_core.specs.Value.{coded, hash_code, value_eq};
+ghost use Rattle.table_core.specs.Value.{coded, hash_code, is_nil, value_eq};
 
 use std::hash::{Hash, Hasher};
 use std::marker::Model;
@@ -51,6 +51,7 @@ impl PartialEq for Value {
 
     ghost laws = { Prim.search (comparing, rules) };
 
+    #[inline(always)]
     fn eq(&self, other: &Value) -> bool {
         match (self, other) {
             (Value::Nil, Value::Nil) => true,
@@ -122,6 +123,14 @@ impl Hash for Value {
 }
 
 impl Value {
+    /// Whether it is nil.
+    #[inline(always)]
+    pub(crate) fn is_nil(self) -> bool
+        ensures { result ≡ is_nil self }
+    {
+        matches!(self, Value::Nil)
+    }
+
     /// A number that tells most values apart, in one word.
     fn hash_code(self) -> u64
         ensures { result ≡ hash_code self }

@@ -2,6 +2,7 @@ use Rattle.std.proofs.Common.{◌≡◌, ◌+◌, [], ◌∷◌, ◌++◌, lengt
 use Rattle.std.specs.Prelude.{pos}
 use Rattle.table_core.specs.declared.value.Value.TheVariants.{Int}
 use Rattle.table_core.specs.Places.{IsAbsent, numbered}
+use Rattle.table_core.proofs.NumberedLemmas.{distinct-right}
 use Rattle.table_core.proofs.SplitLemmas.{array-pushed, keyed-pushed, length-all}
 use Rattle.table_core.proofs.rows.Rows.insert_last.Goals as goal
 
@@ -39,6 +40,9 @@ returns-then-goes_on-clause-len c =
     let pushed : c.push.new.self.items ≡ xs ++ c.args.value ∷ [] = search rules in
     let none : c.len-keyed.result ≡ 0 = search rules in
     omega (arith, c.len-numbered.ensures, c.self.inside.array.ok.0, c.len-keyed.ensures, ap length pushed ∙ length-append xs (c.args.value ∷ []), length-all c.push.new.self.items c.self.inside.keyed (invariant_of-self-then-goes_on c))
+
+pub push-requires-2-clause-distinct : goal.push-requires-2-clause-distinct
+push-requires-2-clause-distinct c = distinct-right (numbered 0 c.self.inside.array.items) c.self.inside.keyed c.self.invariant.distinct
 
 pub invariant_of-self-2 : goal.invariant_of-self-2
 invariant_of-self-2 c =
