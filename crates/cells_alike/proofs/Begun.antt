@@ -11,7 +11,8 @@ use Rattle.lua_meaning.specs.World.{Function, Coroutine, fresh, suspended, runni
 use Rattle.lua_meaning.specs.Calls.{frames_in}
 use Rattle.lua_meaning.specs.Meaning.{Script, Meaning, begun, run_from, IsMeaning}
 use Rattle.lua_meaning.specs.Opening.{Entry, prelude_function, opening, primitives}
-use Rattle.meaning_cells.specs.Alike.{Has, Pairs, AreEven}
+use Rattle.list_laws.specs.Held.{Has}
+use Rattle.meaning_cells.specs.Alike.{Pairs, AreEven}
 use Rattle.meaning_cells.proofs.Steps.{starts_alike}
 use Rattle.cells_alike.specs.Alike.{AreThere, IsReady, Ends}
 use Rattle.cells_alike.proofs.Joint.{Made, Thread, is_fresh, is_suspended, is_running, is_normal, is_dead, has_failed, Place, Store, Joint, function_one, function_two, coroutine_one, coroutine_two, one, two, cells_for, IsStore, LayersAt, layers_in, ArePaired, head, Base, talking_in, Stands, busy}

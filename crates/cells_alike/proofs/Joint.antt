@@ -7,7 +7,8 @@ use Rattle.int_core.specs.Ask.{Answer}
 use Rattle.tree_core.specs.Tree.{Body}
 use Rattle.tree_activation.specs.Work.{State}
 use Rattle.lua_meaning.specs.World.{Function, Asker, Frame, talking, waiting, raising, protected, handled_by, handling, closing, Coroutine, fresh, suspended, running, normal, dead, failed, Ending, yielded, Now, talks, ends, World}
-use Rattle.meaning_cells.specs.Alike.{Has, Member, Pairs, Cells, AreCells, AreEven, Onward, Answered}
+use Rattle.list_laws.specs.Held.{Has}
+use Rattle.meaning_cells.specs.Alike.{Member, Pairs, Cells, AreCells, AreEven, Onward, Answered}
 use Rattle.meaning_cells.proofs.Relation.{Rel}
 
 -- a function, with the cells of its outer variables in both forms

@@ -2,11 +2,12 @@
 use Rattle.std.proofs.Common.{◌≡◌, inr, ⊎_elim, ℕ, zero, suc, ◌<◌, List, [], ◌∷◌, ◌++◌, length, Some, refl, sym, ◌∙◌, ap, subst, arith, length-append}
 use Rattle.std.proofs.lemmas.Bool.{cases_eq}
 use Rattle.std.proofs.lemmas.Option.{slice_get_within}
-use Rattle.std.specs.Prelude.{slice_get, slice_set, unwrap_or}
+use Rattle.std.specs.Prelude.{slice_get, slice_set}
 use Rattle.int_core.specs.Value.{Value, nth}
 use Rattle.tree_activation.specs.Work.{State}
 use Rattle.lua_meaning.specs.World.{shared_in}
-use Rattle.meaning_cells.specs.Alike.{Has, Member, Pairs, IsUnpaired, Cells, AreCells, AreEven, CarriesOwn, opened}
+use Rattle.list_laws.specs.Held.{Has}
+use Rattle.meaning_cells.specs.Alike.{Member, Pairs, IsUnpaired, Cells, AreCells, AreEven, CarriesOwn, opened}
 use Rattle.meaning_cells.proofs.Relation.{Rel, same, early}
 use Rattle.list_laws.proofs.Values.{nth_set_same, nth_set_other, nth_old}
 use Rattle.meaning_cells.proofs.Lists.{set_size, in_size, in_other}

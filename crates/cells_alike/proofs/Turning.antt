@@ -11,7 +11,8 @@ use Rattle.tree_core.specs.Tree.{Body}
 use Rattle.tree_activation.specs.Work.{State}
 use Rattle.lua_meaning.specs.World.{Function, spent, gives_back, unwinds, ends, World, breaks, cell_of, second, answered, answered_at_once}
 use Rattle.lua_meaning.specs.Asks.{one as one_value, none as no_values, cells_named, of_maker, made_in, gets_function, pays_unit, calls_for, calls_in_place, settled, handle}
-use Rattle.meaning_cells.specs.Alike.{Has, Pairs, SameCells, SameAsk, as_carried}
+use Rattle.list_laws.specs.Held.{Has}
+use Rattle.meaning_cells.specs.Alike.{Pairs, SameCells, SameAsk, as_carried}
 use Rattle.cells_alike.proofs.Joint.{Made, Waiting, Layer, is_waiting, is_raising, Joint, function_one, function_two, asker_one, asker_two, frame_one, frame_two, one, two, WaitsAt, LayerAt, ArePaired, head, Base, Stable, stopped, Both}
 use Rattle.cells_alike.proofs.Moving.{more_map, get_more, either_by, now_both, breaks_both, raises_both}
 use Rattle.cells_alike.proofs.Answering.{first_form, second_form, given_both, answered_both, calls_both}

@@ -1,26 +1,22 @@
 -- The variables of a function fit: their names do, and they are in scope within its code.
-use Rattle.std.proofs.Common.{◌≡◌, ℕ, zero, suc, ◌+◌, ◌<◌, ◌≤◌, ◌^◌, Bool, true, false, ◌&&◌, List, [], ◌∷◌, ◌++◌, length, Some, None, refl, ap₂, arith, length-append, lt-ltb}
+use Rattle.std.proofs.Common.{◌≡◌, ℕ, zero, suc, ◌+◌, ◌<◌, ◌≤◌, ◌^◌, Bool, true, false, ◌&&◌, List, [], ◌∷◌, ◌++◌, length, Some, refl, ap₂, arith, lt-ltb}
 use Rattle.std.specs.List.{list_all}
 use Rattle.tree_core.specs.declared.name.Name.{Name}
 use Rattle.tree_core.specs.declared.name.Declared.{Declared}
 use Rattle.tree_core.specs.Tree.{Block, Falls, Returns, Body, BodyOf, Stats, EndStats, MoreStats, Stat, Empty, Local, LocalFunction, Assign, CallStat, Do, While, Repeat, If, IfElse, NumFor, NumForStep, GenFor, Label, Goto, Break, Arms, EndArms, MoreArms}
-use Rattle.code_core.specs.declared.opcode.Opcode.TheVariants.{Return}
 use Rattle.code_core.specs.declared.proto.Const.{Const}
 use Rattle.code_core.specs.declared.proto.LocVar.{LocVar}
 use Rattle.code_core.specs.Writable.{name_fits, local_fits}
-use Rattle.code_of.specs.Coded.{leaving_by}
 use Rattle.code_of.specs.Constants.{of_block}
 use Rattle.code_of.specs.Expressions.{made_by, made_in, exp_code, exps_code}
-use Rattle.code_of.specs.Jumps.{Reach}
 use Rattle.code_of.specs.Levels.{made_by_stat, made_in_arms, made_in_block, closing_after}
-use Rattle.tree_terms.specs.Levels.{level_after, levels_after}
+use Rattle.tree_terms.specs.Levels.{level_after}
 use Rattle.code_of.specs.Parts.{past_size, bounds_code, steps_code}
 use Rattle.code_of.specs.Sizes.{stat_size, arms_size, stats_size, block_size, open_size}
-use Rattle.code_of.specs.Statements.{stats_code, whole_code}
 use Rattle.code_of.specs.Variables.{variables, names_of, hidden, declared_by, looped, within_stat, within_arms, within_stats, within_block, within_open}
 use Rattle.code_of.specs.CodeOf.{back_field, body_code, variables_of}
 use Rattle.code_checked.specs.Written.{NamesFit, DeclaredFit, StatIsWritten, ArmsAreWritten, StatsAreWritten, BlockIsWritten, BodyIsWritten}
-use Rattle.code_of.proofs.Sizes.{stats_sized, block_sized, close_short}
+use Rattle.code_of.proofs.Sizes.{whole_size}
 
 -- variables that are in scope at no place behind n
 abbrev pub LocalsFit : ℕ → List LocVar → Type 0
@@ -121,15 +117,6 @@ module _ (cs : List Const) (back n : ℕ) where
     open_fit : (block : Block) (closing : Bool) (t j pc end : ℕ) → BlockIsWritten block → pc + open_size cs back block closing t j ≤ n → end ≤ n → LocalsFit n (within_open cs back block closing t j pc end)
     open_fit (Falls ss tokens line) closing t j pc end w le few = stats_fit ss closing t j pc end w.1 le few
     open_fit (Returns ss es tokens line) closing t j pc end w le few = stats_fit ss closing t j pc end w.1.0 (omega (arith, le)) few
-
-whole_size : (cs : List Const) (back : ℕ) (block : Block) (params pc : ℕ) → block_size cs back block false 0 params 0 ≤ length (whole_code cs back block params pc)
-whole_size cs back (Falls ss tokens line) params pc =
-    let one = close_short 0 (levels_after ss params) line in
-    let reach : Reach = record { labels = []; exit = None } in
-    let a = length-append (stats_code cs back ss true false 0 params 0 pc [] reach) (leaving_by Return (levels_after ss params) 1 back line ∷ []) in
-    let b = stats_sized cs back ss true false 0 params 0 pc [] reach in
-    omega (arith, one, a, b)
-whole_size cs back (Returns ss es tokens line) params pc = let a = block_sized cs back (Returns ss es tokens line) false 0 params 0 pc (record { labels = []; exit = None }) in omega (arith, a)
 
 pub body_locals : (body : Body) → BodyIsWritten body → length (body_code body) < 2 ^ 31 → list_all local_fits (variables_of body) ≡ true
 body_locals (BodyOf params false inner ups line) w few =

@@ -1,5 +1,5 @@
 -- Short forms for prototypes that are written by hand, all on line 1.
-use Rattle.std.specs.Prelude.{◌≡◌, ℕ, ℤ, pos, Bool, true, List, [], ◌∷◌, map, Some, codes}
+use Rattle.std.specs.Prelude.{◌≡◌, ℕ, Bool, true, List, [], map, Some, codes}
 use Prim.Native.String.{String}
 use Rattle.tree_core.specs.Tree.{Body}
 use Rattle.code_core.specs.declared.instruction.Instruction.{Instruction}
@@ -7,13 +7,10 @@ use Rattle.code_core.specs.declared.proto.Const.{Const}
 use Rattle.code_core.specs.declared.proto.LocVar.{LocVar}
 use Rattle.code_core.specs.Prototype.{Prototype, prototypes}
 use Rattle.code_of.specs.CodeOf.{code_of}
+use Rattle.code_means.proofs.Forms.{zeros}
 
 abbrev pub source : List ℕ
 source = codes "@s.lua"
-
-abbrev pub zeros : {A : Type 0} → List A → List ℤ
-zeros [] = []
-zeros (x ∷ xs) = pos 0 ∷ zeros xs
 
 -- an upvalue that is a local of the function around, by its register
 abbrev pub Outer : Type 0

@@ -6,26 +6,16 @@ use Rattle.code_core.specs.Opcode.{opcodes, number_of}
 use Rattle.code_core.specs.declared.opcode.Opcode.TheVariants.{Move, LFalseSkip, LoadTrue, LoadNil, GetUpval, SetUpval, Add, MmBin, Not, Close, Tbc, Eq, Test, Call, Return, ForLoop, ForPrep, TForPrep, TForCall, TForLoop, Closure}
 use Rattle.code_core.specs.Instruction.{abc, abx}
 use Rattle.code_core.specs.Prototype.{Prototype}
-use Rattle.int_core.specs.Value.{Value, known, nil, boolean, integer, object, a_table}
-use Rattle.int_core.specs.Ask.{Reply, values, left}
+use Rattle.int_core.specs.Value.{known, nil, boolean, integer, object, a_table}
+use Rattle.int_core.specs.Ask.{values, left}
 use Rattle.tree_core.specs.declared.name.Place.TheVariants.{Local as LocalPlace}
-use Rattle.tree_core.specs.declared.operator.BinOp.TheVariants.{Add as Plus, Eq as Equal}
-use Rattle.tree_core.specs.declared.operator.UnOp.TheVariants.{Not as Negation}
-use Rattle.tree_core.specs.Tree.{Body, True, Unary, And, Paren, Do, Repeat, NumFor, NumForStep, GenFor, Label, Goto, Break, exps}
+use Rattle.tree_core.specs.declared.operator.BinOp.TheVariants.{Eq as Equal}
+use Rattle.tree_core.specs.Tree.{Body, True, Do, Repeat, NumForStep, GenFor, Label, Goto, Break, exps}
 use Rattle.code_means.proofs.Traces.{number}
-use Rattle.tree_terms.proofs.Forms.{name, no_variable, closed, of_local, loc, outer, int, call, bin, block, returning, locals, loc_is, assign, does, when, fun, function}
+use Rattle.tree_terms.proofs.Forms.{name, no_variable, closed, loc, int, call, bin, block, returning, locals, loc_is, does, when, fun}
 use Rattle.code_means.proofs.Forms.{variable, hidden, load_int, jump, jump_back, AskAlike, tree_asks, code_asks}
 use Rattle.code_examples.proofs.Hand.{hand, Compiles}
-
-abbrev one : Value → Reply
-one v = values (v ∷ [])
-
--- function(f) repeat local x=f() local g=function() return x end until x and not f(g) end
-abbrev repeats : Body
-repeats = fun ("f" ∷ []) [] (block (
-    Repeat 1 (block (
-    loc_is "x" 1 (call (loc "f" 0) []) ∷ loc_is "g" 2 (function (fun [] (of_local "x" 1 ∷ []) (returning [] (outer "x" 0 ∷ [])))) ∷ []))
-    (And 1 (loc "x" 1) (Unary 1 Negation (call (loc "f" 0) (loc "g" 2 ∷ [])))) ∷ []))
+use Rattle.code_means.proofs.Pairs.{one, repeats, breaks_out, continues}
 
 abbrev pub repeats_code : Prototype
 repeats_code = hand 1 false 5 [] [] (variable "f" 0 16 ∷ variable "x" 2 15 ∷ variable "g" 3 15 ∷ [])
@@ -37,18 +27,6 @@ repeats_code = hand 1 false 5 [] [] (variable "f" 0 16 ∷ variable "x" 2 15 ∷
 repeat_code : Compiles repeats repeats_code
 unfolding opcodes number_of
 repeat_code = refl
-
-repeat_rounds : AskAlike 14 (tree_asks repeats (number 1 ∷ []) (one (known nil) ∷ one (number 5) ∷ one (number 6) ∷ one (number 7) ∷ one (known nil) ∷ []))
-    (code_asks repeats_code (number 1 ∷ []) (one (known nil) ∷ one (number 5) ∷ one (number 6) ∷ one (number 7) ∷ one (known nil) ∷ []))
-unfolding opcodes number_of int_wrap
-repeat_rounds = (refl, refl)
-
--- function(it) for k in it,1,2 do local g=function() return k end if k==3 then break end end end
-abbrev breaks_out : Body
-breaks_out = fun ("it" ∷ []) [] (block (
-    GenFor 1 (name "k" (LocalPlace 5) ∷ []) (exps (loc "it" 0 ∷ int 1 ∷ int 2 ∷ [])) (block (
-    loc_is "g" 6 (function (fun [] (of_local "k" 5 ∷ []) (returning [] (outer "k" 0 ∷ []))))
-    ∷ when (bin Equal (loc "k" 5) (int 3)) (Break 1 ∷ []) ∷ [])) ∷ []))
 
 abbrev pub breaks_out_code : Prototype
 breaks_out_code = hand 1 false 9 [] []
@@ -62,16 +40,6 @@ breaks_out_code = hand 1 false 9 [] []
 generic_for_code : Compiles breaks_out breaks_out_code
 unfolding opcodes number_of
 generic_for_code = refl
-
-break_of_generic_for : AskAlike 11 (tree_asks breaks_out (number 77 ∷ []) (one (number 8) ∷ one (known (boolean false)) ∷ one (number 3) ∷ one (known (boolean true)) ∷ []))
-    (code_asks breaks_out_code (number 77 ∷ []) (one (number 8) ∷ one (known (boolean false)) ∷ one (number 3) ∷ one (known (boolean true)) ∷ []))
-unfolding opcodes number_of int_wrap
-break_of_generic_for = (refl, refl)
-
-end_of_generic_for : AskAlike 7 (tree_asks breaks_out (number 77 ∷ []) (one (number 8) ∷ one (known (boolean false)) ∷ values [] ∷ []))
-    (code_asks breaks_out_code (number 77 ∷ []) (one (number 8) ∷ one (known (boolean false)) ∷ values [] ∷ []))
-unfolding opcodes number_of int_wrap
-end_of_generic_for = (refl, refl)
 
 -- function(it,v) for k in it,1,2,v do return it(k) end end: v is to be closed, so the call is none in the function's place
 abbrev returns_from_for : Body
@@ -99,15 +67,6 @@ closed_after_generic_for : AskAlike 4 (tree_asks returns_from_for (number 1 ∷ 
 unfolding opcodes number_of int_wrap
 closed_after_generic_for = (refl, refl)
 
--- function() for i=1,2 do local j=i if j==1 then goto continue end (function() i=i+j end)() ::continue:: end end
-abbrev continues : Body
-continues = fun [] [] (block (
-    NumFor 1 (name "i" (LocalPlace 3)) (int 1) (int 2) (block (
-    loc_is "j" 4 (loc "i" 3)
-    ∷ when (bin Equal (loc "j" 4) (int 1)) (Goto 1 (no_variable "continue") ∷ [])
-    ∷ does (call (Paren 1 (function (fun [] (of_local "i" 3 ∷ of_local "j" 4 ∷ []) (block (assign (outer "i" 0) (bin Plus (outer "i" 0) (outer "j" 1)) ∷ []))))) [])
-    ∷ Label 1 (no_variable "continue") ∷ [])) ∷ []))
-
 abbrev pub continues_code : Prototype
 continues_code = hand 0 false 7 [] [] (hidden 3 19 ∷ hidden 3 19 ∷ hidden 3 19 ∷ variable "i" 4 18 ∷ variable "j" 5 18 ∷ [])
     (hand 0 false 4 [] (("i", 3) ∷ ("j", 4) ∷ []) [] []
@@ -120,16 +79,6 @@ continues_code = hand 0 false 7 [] [] (hidden 3 19 ∷ hidden 3 19 ∷ hidden 3 
 numeric_for_code : Compiles continues continues_code
 unfolding opcodes number_of
 numeric_for_code = refl
-
-goto_continue : AskAlike 8 (tree_asks continues [] (one (known (boolean true)) ∷ one (known (boolean false)) ∷ values [] ∷ []))
-    (code_asks continues_code [] (one (known (boolean true)) ∷ one (known (boolean false)) ∷ values [] ∷ []))
-unfolding opcodes number_of int_wrap
-goto_continue = (refl, refl)
-
-captured_in_rounds : AskAlike 12 (tree_asks continues [] (one (known (boolean false)) ∷ values [] ∷ one (known (boolean false)) ∷ values [] ∷ []))
-    (code_asks continues_code [] (one (known (boolean false)) ∷ values [] ∷ one (known (boolean false)) ∷ values [] ∷ []))
-unfolding opcodes number_of int_wrap
-captured_in_rounds = (refl, refl)
 
 -- function(a) for i=3,1,a do goto test ::found:: do break end ::test:: if i==2 then goto found end end end
 abbrev jumps_about : Body

@@ -7,18 +7,16 @@ use Rattle.code_core.specs.declared.opcode.Opcode.TheVariants.{Move, LoadI, Load
 use Rattle.code_core.specs.declared.proto.Const.TheVariants.{Int as IntConst}
 use Rattle.code_core.specs.Instruction.{abc, abx, op_ax}
 use Rattle.code_core.specs.Prototype.{Prototype}
-use Rattle.int_core.specs.Value.{Value, known, boolean, object, a_table}
-use Rattle.int_core.specs.Ask.{Reply, values}
+use Rattle.int_core.specs.Value.{known, boolean, object, a_table}
+use Rattle.int_core.specs.Ask.{values}
 use Rattle.tree_core.specs.declared.operator.BinOp.TheVariants.{Sub as Minus, Concat as Join, Le as AtMost, Gt}
 use Rattle.tree_core.specs.declared.operator.UnOp.TheVariants.{Not as Negation, Neg, Len as Length}
-use Rattle.tree_core.specs.Tree.{Body, Int, Vararg, Table, Unary, And, Or, Method, Item, Keyed, IfElse, arms, exps, fields}
+use Rattle.tree_core.specs.Tree.{Body, Int, Vararg, Unary, And, Or, Method, IfElse, arms, exps}
 use Rattle.code_means.proofs.Traces.{number}
-use Rattle.tree_terms.proofs.Forms.{no_variable, of_local, loc, global, int, str, call, bin, field, block, returning, assigns, assign, fun, vararg_fun}
+use Rattle.tree_terms.proofs.Forms.{no_variable, of_local, loc, global, int, call, bin, block, returning, assigns, assign, fun, vararg_fun}
 use Rattle.code_means.proofs.Forms.{text, variable, load_int, jump, AskAlike, tree_asks, code_asks}
 use Rattle.code_examples.proofs.Hand.{hand, Compiles}
-
-abbrev one : Value → Reply
-one v = values (v ∷ [])
+use Rattle.code_means.proofs.Pairs.{one, makes_tables}
 
 -- x=y return print(x), where _ENV is the first upvalue
 abbrev globals : Body
@@ -107,12 +105,6 @@ open_lists : AskAlike 6 (tree_asks calls_method (object a_table 9 ∷ number 5 �
 unfolding opcodes number_of int_wrap
 open_lists = (refl, refl)
 
--- function(o) o.a,o.b=1,o:m(2) return {3,x=4,o.c} end
-abbrev makes_tables : Body
-makes_tables = fun ("o" ∷ []) [] (returning (
-    assigns (field (loc "o" 0) "a" ∷ field (loc "o" 0) "b" ∷ []) (int 1 ∷ Method 1 (loc "o" 0) (no_variable "m") (exps (int 2 ∷ [])) ∷ []) ∷ [])
-    (Table 1 (fields (Item (int 3) ∷ Keyed 1 (str "x") (int 4) ∷ Item (field (loc "o" 0) "c") ∷ [])) ∷ []))
-
 abbrev pub makes_tables_code : Prototype
 makes_tables_code = hand 1 false 9 (text "a" ∷ text "b" ∷ text "m" ∷ text "x" ∷ text "c" ∷ []) [] (variable "o" 0 24 ∷ []) []
     (abc Move 1 0 0 false ∷ abx LoadK 2 0 ∷ abc Move 3 0 0 false ∷ abx LoadK 4 1 ∷ load_int 5 1
@@ -123,11 +115,6 @@ makes_tables_code = hand 1 false 9 (text "a" ∷ text "b" ∷ text "m" ∷ text 
 tables_code : Compiles makes_tables makes_tables_code
 unfolding opcodes number_of
 tables_code = refl
-
-assigned_and_constructed : AskAlike 10 (tree_asks makes_tables (object a_table 9 ∷ []) (one (number 1) ∷ one (number 2) ∷ values [] ∷ values [] ∷ values [] ∷ one (number 3) ∷ []))
-    (code_asks makes_tables_code (object a_table 9 ∷ []) (one (number 1) ∷ one (number 2) ∷ values [] ∷ values [] ∷ values [] ∷ one (number 3) ∷ []))
-unfolding opcodes number_of int_wrap
-assigned_and_constructed = (refl, refl)
 
 -- function(a,b) a,b=b,a return a-b end
 abbrev swaps : Body

@@ -1,23 +1,19 @@
 -- Bodies whose code is written by hand, and that the code asks as the body does.
 use Rattle.std.proofs.Common.{true, false, [], ◌∷◌, refl}
-use Rattle.std.specs.Prelude.{codes}
 use Rattle.std.specs.Int.{int_wrap}
 use Rattle.code_core.specs.Opcode.{opcodes, number_of}
 use Rattle.code_core.specs.declared.opcode.Opcode.TheVariants.{Move, LoadFalse, LoadTrue, LoadNil, SetUpval, GetUpval, IDiv, Add, MmBin, Close, Tbc, Test, Call, TailCall, Return, Closure, VarArg, VarArgPrep}
 use Rattle.code_core.specs.Instruction.{abc, abx}
 use Rattle.code_core.specs.Prototype.{Prototype}
-use Rattle.int_core.specs.Value.{Value, known, nil, object, a_table}
-use Rattle.int_core.specs.Ask.{Reply, values, faulted, left}
-use Rattle.tree_core.specs.declared.name.Place.TheVariants.{Local as LocalPlace}
-use Rattle.tree_core.specs.declared.operator.BinOp.TheVariants.{Add as Plus, Idiv}
-use Rattle.tree_core.specs.Tree.{Body, True, False, Vararg, Do, While}
+use Rattle.int_core.specs.Value.{object, a_table}
+use Rattle.int_core.specs.Ask.{values, left}
+use Rattle.tree_core.specs.declared.operator.BinOp.TheVariants.{Idiv}
+use Rattle.tree_core.specs.Tree.{Body, Vararg}
 use Rattle.code_means.proofs.Traces.{number}
-use Rattle.tree_terms.proofs.Forms.{name, declared, closed, of_local, loc, outer, global, int, str, call, bin, block, returning, locals, loc_is, assign, does, fun, vararg_fun, function}
+use Rattle.tree_terms.proofs.Forms.{declared, closed, of_local, loc, global, int, str, call, bin, block, returning, locals, does, fun, vararg_fun}
 use Rattle.code_means.proofs.Forms.{text, variable, load_int, jump, jump_back, AskAlike, tree_asks, code_asks}
 use Rattle.code_examples.proofs.Hand.{hand, Compiles, word}
-
-abbrev one : Value → Reply
-one v = values (v ∷ [])
+use Rattle.code_means.proofs.Pairs.{one, changes_operand, last_value, closes_at_end}
 
 -- print("hi"), by the words of its chunk
 abbrev greets : Body
@@ -33,13 +29,6 @@ greeting : AskAlike 4 (tree_asks greets [] (one (number 1) ∷ values [] ∷ [])
 unfolding opcodes number_of int_wrap
 greeting = (refl, refl)
 
--- local a=1 local function f() a=10 return 1 end return a+f()
-abbrev changes_operand : Body
-changes_operand = vararg_fun [] [] (returning (
-    loc_is "a" 0 (int 1)
-    ∷ Rattle.tree_core.specs.Tree.LocalFunction 1 (name "f" (LocalPlace 1)) (fun [] (of_local "a" 0 ∷ []) (returning (assign (outer "a" 0) (int 10) ∷ []) (int 1 ∷ []))) ∷ [])
-    (bin Plus (loc "a" 0) (call (loc "f" 1) []) ∷ []))
-
 abbrev pub changes_operand_code : Prototype
 changes_operand_code = hand 0 true 4 [] [] (variable "a" 2 10 ∷ variable "f" 3 10 ∷ []) (
     hand 0 false 3 [] (("a", 0) ∷ []) [] [] (load_int 2 10 ∷ abc SetUpval 2 0 0 false ∷ load_int 0 1 ∷ abc Return 0 2 0 false ∷ []) ∷ [])
@@ -49,25 +38,6 @@ changes_operand_code = hand 0 true 4 [] [] (variable "a" 2 10 ∷ variable "f" 3
 operand_code : Compiles changes_operand changes_operand_code
 unfolding opcodes number_of
 operand_code = refl
-
-operand_at_its_turn : AskAlike 4 (tree_asks changes_operand [] (one (number 4) ∷ []))
-    (code_asks changes_operand_code [] (one (number 4) ∷ []))
-unfolding opcodes number_of int_wrap
-operand_at_its_turn = (refl, refl)
-
-operand_not_integer : AskAlike 5 (tree_asks changes_operand [] (one (known nil) ∷ one (number 7) ∷ []))
-    (code_asks changes_operand_code [] (one (known nil) ∷ one (number 7) ∷ []))
-unfolding opcodes number_of int_wrap
-operand_not_integer = (refl, refl)
-
--- local f local c=true while c do local x=0 f=function() return x end x=5 c=false end return f()
-abbrev last_value : Body
-last_value = vararg_fun [] [] (returning (
-    locals (declared "f" 0 ∷ []) [] ∷ loc_is "c" 1 (True 1)
-    ∷ While 1 (loc "c" 1) (block (
-    loc_is "x" 2 (int 0) ∷ assign (loc "f" 0) (function (fun [] (of_local "x" 2 ∷ []) (returning [] (outer "x" 0 ∷ []))))
-    ∷ assign (loc "x" 2) (int 5) ∷ assign (loc "c" 1) (False 1) ∷ [])) ∷ [])
-    (call (loc "f" 0) [] ∷ []))
 
 abbrev pub last_value_code : Prototype
 last_value_code = hand 0 true 6 [] [] (variable "f" 2 18 ∷ variable "c" 3 18 ∷ variable "x" 7 14 ∷ [])
@@ -79,10 +49,6 @@ last_value_code = hand 0 true 6 [] [] (variable "f" 2 18 ∷ variable "c" 3 18 �
 last_code : Compiles last_value last_value_code
 unfolding opcodes number_of
 last_code = refl
-
-last_value_in_scope : AskAlike 4 (tree_asks last_value [] []) (code_asks last_value_code [] [])
-unfolding opcodes number_of int_wrap
-last_value_in_scope = (refl, refl)
 
 -- function(...) local a,b=... return a,... end
 abbrev spreads : Body
@@ -117,14 +83,6 @@ own_fault : AskAlike 4 (tree_asks faults (object a_table 3 ∷ []) (left (number
 unfolding opcodes number_of int_wrap
 own_fault = (refl, refl)
 
--- function(f,v) do local x <close> = v local y=1 f(function() return y end) end return 2 end
-abbrev closes_at_end : Body
-closes_at_end = fun ("f" ∷ "v" ∷ []) [] (returning (
-    Do 1 (block (
-    locals (closed "x" 2 ∷ []) (loc "v" 1 ∷ []) ∷ loc_is "y" 3 (int 1)
-    ∷ does (call (loc "f" 0) (function (fun [] (of_local "y" 3 ∷ []) (returning [] (outer "y" 0 ∷ []))) ∷ [])) ∷ [])) ∷ [])
-    (int 2 ∷ []))
-
 abbrev pub closes_at_end_code : Prototype
 closes_at_end_code = hand 2 false 6 [] [] (variable "f" 0 9 ∷ variable "v" 0 9 ∷ variable "x" 1 7 ∷ variable "y" 3 7 ∷ [])
     (hand 0 false 1 [] (("y", 3) ∷ []) [] [] (abc GetUpval 0 0 0 false ∷ abc Return 0 2 0 false ∷ []) ∷ [])
@@ -134,18 +92,3 @@ closes_at_end_code = hand 2 false 6 [] [] (variable "f" 0 9 ∷ variable "v" 0 9
 closes_code : Compiles closes_at_end closes_at_end_code
 unfolding opcodes number_of
 closes_code = refl
-
-closed_at_block_end : AskAlike 6 (tree_asks closes_at_end (number 1 ∷ object a_table 5 ∷ []) (values [] ∷ values [] ∷ []))
-    (code_asks closes_at_end_code (number 1 ∷ object a_table 5 ∷ []) (values [] ∷ values [] ∷ []))
-unfolding opcodes number_of int_wrap
-closed_at_block_end = (refl, refl)
-
-closed_by_error : AskAlike 6 (tree_asks closes_at_end (number 1 ∷ object a_table 5 ∷ []) (left (number 6) ∷ left (number 7) ∷ []))
-    (code_asks closes_at_end_code (number 1 ∷ object a_table 5 ∷ []) (left (number 6) ∷ left (number 7) ∷ []))
-unfolding opcodes number_of int_wrap
-closed_by_error = (refl, refl)
-
-faulted_call : AskAlike 7 (tree_asks closes_at_end (number 1 ∷ object a_table 5 ∷ []) (faulted (codes "no") ∷ left (number 6) ∷ values [] ∷ []))
-    (code_asks closes_at_end_code (number 1 ∷ object a_table 5 ∷ []) (faulted (codes "no") ∷ left (number 6) ∷ values [] ∷ []))
-unfolding opcodes number_of int_wrap
-faulted_call = (refl, refl)

@@ -20,7 +20,7 @@ use Rattle.code_means.proofs.Traces.{trace}
 
 -- codes
 
-abbrev zeros : {A : Type 0} → List A → List ℤ
+abbrev pub zeros : {A : Type 0} → List A → List ℤ
 zeros [] = []
 zeros (x ∷ xs) = pos 0 ∷ zeros xs
 

@@ -1,6 +1,6 @@
 pub mod Traces
 pub mod Forms
-mod Pairs
-mod Same
+pub mod Pairs
+pub mod Same
 mod WholeRuns
 mod StillPending

@@ -32,12 +32,12 @@ changes_operand_code = code 0 true [] [] [] (
     (abc VarArgPrep 0 0 0 false ∷ load_int 0 1 ∷ abc LoadNil 1 0 0 false ∷ abx Closure 2 0 ∷ abc Move 1 2 0 false
     ∷ abc Move 2 0 0 false ∷ abc Move 3 1 0 false ∷ abc Call 3 1 2 false ∷ abc Add 2 2 3 false ∷ abc MmBin 2 3 6 false ∷ abc Return 2 2 0 false ∷ [])
 
-operand_at_its_turn : AskAlike 4 (tree_asks changes_operand [] (one (number 4) ∷ []))
+pub operand_at_its_turn : AskAlike 4 (tree_asks changes_operand [] (one (number 4) ∷ []))
     (code_asks changes_operand_code [] (one (number 4) ∷ []))
 unfolding opcodes number_of int_wrap
 operand_at_its_turn = (refl, refl)
 
-operand_not_integer : AskAlike 5 (tree_asks changes_operand [] (one (known nil) ∷ one (number 7) ∷ []))
+pub operand_not_integer : AskAlike 5 (tree_asks changes_operand [] (one (known nil) ∷ one (number 7) ∷ []))
     (code_asks changes_operand_code [] (one (known nil) ∷ one (number 7) ∷ []))
 unfolding opcodes number_of int_wrap
 operand_not_integer = (refl, refl)
@@ -62,7 +62,7 @@ last_value_code = code 0 true [] [] [] (code 0 false [] (in_register 2 ∷ []) [
     ∷ load_int 2 0 ∷ abx Closure 3 0 ∷ abc Move 0 3 0 false ∷ load_int 3 5 ∷ abc Move 2 3 0 false ∷ abc LoadFalse 3 0 0 false ∷ abc Move 1 3 0 false
     ∷ abc Close 2 0 0 false ∷ jump_back 11 ∷ abc Move 2 0 0 false ∷ abc TailCall 2 1 0 false ∷ abc Return 2 0 0 false ∷ [])
 
-last_value_in_scope : AskAlike 4 (tree_asks last_value [] [])
+pub last_value_in_scope : AskAlike 4 (tree_asks last_value [] [])
     (code_asks last_value_code [] [])
 unfolding opcodes number_of int_wrap
 last_value_in_scope = (refl, refl)
@@ -80,12 +80,12 @@ breaks_out_code = code 1 false [] [] [] (code 0 false [] (in_register 5 ∷ []) 
     ∷ abx Closure 7 0 ∷ abc Move 6 7 0 false ∷ abc Move 7 5 0 false ∷ load_int 8 3 ∷ abc Eq 7 8 0 false ∷ jump 2 ∷ abc Close 1 0 0 false ∷ jump 4
     ∷ abc Close 5 0 0 false ∷ abc TForCall 1 0 1 false ∷ abx TForLoop 1 11 ∷ abc Close 1 0 0 false ∷ abc Return0 0 1 0 false ∷ [])
 
-break_of_generic_for : AskAlike 11 (tree_asks breaks_out (number 77 ∷ []) (one (number 8) ∷ one (known (boolean false)) ∷ one (number 3) ∷ one (known (boolean true)) ∷ []))
+pub break_of_generic_for : AskAlike 11 (tree_asks breaks_out (number 77 ∷ []) (one (number 8) ∷ one (known (boolean false)) ∷ one (number 3) ∷ one (known (boolean true)) ∷ []))
     (code_asks breaks_out_code (number 77 ∷ []) (one (number 8) ∷ one (known (boolean false)) ∷ one (number 3) ∷ one (known (boolean true)) ∷ []))
 unfolding opcodes number_of int_wrap
 break_of_generic_for = (refl, refl)
 
-end_of_generic_for : AskAlike 7 (tree_asks breaks_out (number 77 ∷ []) (one (number 8) ∷ one (known (boolean false)) ∷ values [] ∷ []))
+pub end_of_generic_for : AskAlike 7 (tree_asks breaks_out (number 77 ∷ []) (one (number 8) ∷ one (known (boolean false)) ∷ values [] ∷ []))
     (code_asks breaks_out_code (number 77 ∷ []) (one (number 8) ∷ one (known (boolean false)) ∷ values [] ∷ []))
 unfolding opcodes number_of int_wrap
 end_of_generic_for = (refl, refl)
@@ -104,19 +104,19 @@ closes_at_end_code = code 2 false [] [] (variable "f" 0 9 ∷ variable "v" 0 9 �
     (abc Move 2 1 0 false ∷ abc Tbc 2 0 0 false ∷ load_int 3 1 ∷ abc Move 4 0 0 false ∷ abx Closure 5 0 ∷ abc Call 4 2 1 false ∷ abc Close 2 0 0 false
     ∷ load_int 2 2 ∷ abc Return 2 2 0 false ∷ [])
 
-closed_at_block_end : AskAlike 6 (tree_asks closes_at_end (number 1 ∷ object a_table 5 ∷ []) (values [] ∷ values [] ∷ []))
+pub closed_at_block_end : AskAlike 6 (tree_asks closes_at_end (number 1 ∷ object a_table 5 ∷ []) (values [] ∷ values [] ∷ []))
     (code_asks closes_at_end_code (number 1 ∷ object a_table 5 ∷ []) (values [] ∷ values [] ∷ []))
 unfolding opcodes number_of int_wrap
 closed_at_block_end = (refl, refl)
 
 -- the call is left with an error; and the closing method too
-closed_by_error : AskAlike 6 (tree_asks closes_at_end (number 1 ∷ object a_table 5 ∷ []) (left (number 6) ∷ left (number 7) ∷ []))
+pub closed_by_error : AskAlike 6 (tree_asks closes_at_end (number 1 ∷ object a_table 5 ∷ []) (left (number 6) ∷ left (number 7) ∷ []))
     (code_asks closes_at_end_code (number 1 ∷ object a_table 5 ∷ []) (left (number 6) ∷ left (number 7) ∷ []))
 unfolding opcodes number_of int_wrap
 closed_by_error = (refl, refl)
 
 -- the callee cannot be called
-faulted_call : AskAlike 7 (tree_asks closes_at_end (number 1 ∷ object a_table 5 ∷ []) (faulted (codes "no") ∷ left (number 6) ∷ values [] ∷ []))
+pub faulted_call : AskAlike 7 (tree_asks closes_at_end (number 1 ∷ object a_table 5 ∷ []) (faulted (codes "no") ∷ left (number 6) ∷ values [] ∷ []))
     (code_asks closes_at_end_code (number 1 ∷ object a_table 5 ∷ []) (faulted (codes "no") ∷ left (number 6) ∷ values [] ∷ []))
 unfolding opcodes number_of int_wrap
 faulted_call = (refl, refl)
@@ -140,7 +140,7 @@ makes_tables_code = code 1 false (text "a" ∷ text "b" ∷ text "m" ∷ text "x
     ∷ abc NewTable 1 0 0 false ∷ op_ax ExtraArg 0 ∷ load_int 2 3 ∷ abc SetList 1 1 0 false ∷ abx LoadK 2 3 ∷ load_int 3 4 ∷ abc SetTable 1 2 3 false
     ∷ abc Move 2 0 0 false ∷ abx LoadK 3 4 ∷ abc GetTable 2 2 3 false ∷ abc SetList 1 1 1 false ∷ abc Return 1 2 0 false ∷ [])
 
-assigned_and_constructed : AskAlike 10 (tree_asks makes_tables (object a_table 9 ∷ []) (one (number 1) ∷ one (number 2) ∷ values [] ∷ values [] ∷ values [] ∷ one (number 3) ∷ []))
+pub assigned_and_constructed : AskAlike 10 (tree_asks makes_tables (object a_table 9 ∷ []) (one (number 1) ∷ one (number 2) ∷ values [] ∷ values [] ∷ values [] ∷ one (number 3) ∷ []))
     (code_asks makes_tables_code (object a_table 9 ∷ []) (one (number 1) ∷ one (number 2) ∷ values [] ∷ values [] ∷ values [] ∷ one (number 3) ∷ []))
 unfolding opcodes number_of int_wrap
 assigned_and_constructed = (refl, refl)
@@ -161,12 +161,12 @@ continues_code = code 0 false [] [] [] (code 0 false [] (in_register 3 ∷ in_re
     ∷ abc Move 4 3 0 false ∷ abc Move 5 4 0 false ∷ load_int 6 1 ∷ abc Eq 5 6 0 false ∷ jump 2 ∷ abc Close 3 0 0 false ∷ jump 2
     ∷ abx Closure 5 0 ∷ abc Call 5 1 1 false ∷ abc Close 3 0 0 false ∷ abx ForLoop 0 11 ∷ abc Return0 0 1 0 false ∷ [])
 
-goto_continue : AskAlike 8 (tree_asks continues [] (one (known (boolean true)) ∷ one (known (boolean false)) ∷ values [] ∷ []))
+pub goto_continue : AskAlike 8 (tree_asks continues [] (one (known (boolean true)) ∷ one (known (boolean false)) ∷ values [] ∷ []))
     (code_asks continues_code [] (one (known (boolean true)) ∷ one (known (boolean false)) ∷ values [] ∷ []))
 unfolding opcodes number_of int_wrap
 goto_continue = (refl, refl)
 
-captured_in_rounds : AskAlike 12 (tree_asks continues [] (one (known (boolean false)) ∷ values [] ∷ one (known (boolean false)) ∷ values [] ∷ []))
+pub captured_in_rounds : AskAlike 12 (tree_asks continues [] (one (known (boolean false)) ∷ values [] ∷ one (known (boolean false)) ∷ values [] ∷ []))
     (code_asks continues_code [] (one (known (boolean false)) ∷ values [] ∷ one (known (boolean false)) ∷ values [] ∷ []))
 unfolding opcodes number_of int_wrap
 captured_in_rounds = (refl, refl)
@@ -184,7 +184,7 @@ repeats_code = code 1 false [] [] [] (code 0 false [] (in_register 1 ∷ []) [] 
     ∷ abc Move 3 1 0 false ∷ abc Test 3 0 0 false ∷ jump 4 ∷ abc Move 3 0 0 false ∷ abc Move 4 2 0 false ∷ abc Call 3 2 2 false ∷ abc Not 3 3 0 false
     ∷ abc Test 3 0 0 false ∷ jump 2 ∷ abc Close 1 0 0 false ∷ jump 2 ∷ abc Close 1 0 0 false ∷ jump_back 17 ∷ abc Return0 0 1 0 false ∷ [])
 
-repeat_rounds : AskAlike 14 (tree_asks repeats (number 1 ∷ []) (one (known nil) ∷ one (number 5) ∷ one (number 6) ∷ one (number 7) ∷ one (known nil) ∷ []))
+pub repeat_rounds : AskAlike 14 (tree_asks repeats (number 1 ∷ []) (one (known nil) ∷ one (number 5) ∷ one (number 6) ∷ one (number 7) ∷ one (known nil) ∷ []))
     (code_asks repeats_code (number 1 ∷ []) (one (known nil) ∷ one (number 5) ∷ one (number 6) ∷ one (number 7) ∷ one (known nil) ∷ []))
 unfolding opcodes number_of int_wrap
 repeat_rounds = (refl, refl)

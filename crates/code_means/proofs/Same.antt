@@ -81,7 +81,7 @@ module _ {A B : Type 0} (R : A → B → Type 0) where
 
 -- the first ask is determined
 
-abbrev NoOwn : {F S : Type 0} → Next F S → Type 0
+abbrev pub NoOwn : {F S : Type 0} → Next F S → Type 0
 NoOwn (goes_on s) = ⊥
 NoOwn _ = Unit {0}
 
@@ -112,13 +112,13 @@ then_no_own (goes_on s) x said goes h = h
 then_no_own (says q line shared k) x said goes h = tt
 then_no_own stuck x said goes h = tt
 
-known_no_own : {F S : Type 0} → (lines : Bool) (next : Next F S) → NoOwn (as_known lines next) → NoOwn next
+pub known_no_own : {F S : Type 0} → (lines : Bool) (next : Next F S) → NoOwn (as_known lines next) → NoOwn next
 known_no_own true next a = a
 known_no_own false (goes_on s) a = a
 known_no_own false (says q line shared k) a = tt
 known_no_own false stuck a = tt
 
-like_no_own : {A B S T : Type 0} → (R : A → B → Type 0) (Q : S → T → Type 0) (next : Next A S) (other : Next B T) → NextLike R Q next other → NoOwn next × NoOwn other
+pub like_no_own : {A B S T : Type 0} → (R : A → B → Type 0) (Q : S → T → Type 0) (next : Next A S) (other : Next B T) → NextLike R Q next other → NoOwn next × NoOwn other
 like_no_own R Q (says q line shared k) (says r place also l) like = (tt, tt)
 like_no_own R Q stuck stuck like = (tt, tt)
 like_no_own R Q next other like = absurd like

@@ -2,17 +2,17 @@
 use Rattle.std.proofs.Common.{◌≡◌, ℕ, ◌+◌, Bool, true, false, List, [], ◌∷◌, ◌++◌, length, Option, Some, None, refl, ap, ◌∙◌, arith, length-append, ◌≤◌, cond}
 use Rattle.tree_core.specs.Tree.{Block, Falls, Returns, Stats, EndStats, MoreStats, Stat, Empty, Local, LocalFunction, Assign, CallStat, Do, While, Repeat, If, IfElse, NumFor, NumForStep, GenFor, Label, Goto, Break, Arms, EndArms, MoreArms}
 use Rattle.tree_activation.specs.Activation.{line_of_end}
-use Rattle.code_core.specs.declared.opcode.Opcode.TheVariants.{Close, Test, ForLoop, ForPrep, TForPrep, TForCall, TForLoop}
+use Rattle.code_core.specs.declared.opcode.Opcode.TheVariants.{Close, Test, ForLoop, ForPrep, TForPrep, TForCall, TForLoop, Return}
 use Rattle.code_core.specs.declared.proto.Const.{Const}
 use Rattle.code_core.specs.Instruction.{abc}
-use Rattle.code_of.specs.Coded.{Coded, with_abc, with_abx, jump_over, jump_back}
+use Rattle.code_of.specs.Coded.{Coded, with_abc, with_abx, jump_over, jump_back, leaving_by}
 use Rattle.code_of.specs.Expressions.{made_by, made_in, exp_code, exps_code}
 use Rattle.code_of.specs.Jumps.{Landing, Visible, Reach, label_in, leads}
 use Rattle.code_of.specs.Levels.{made_by_stat, made_in_arms, made_in_stats, made_in_block, closing_after, closings_after}
 use Rattle.tree_terms.specs.Levels.{level_after, levels_after, levels_in}
 use Rattle.code_of.specs.Parts.{marks_code, close_code, while_code, repeat_code, past_size, past, arm_code, counting_code, iterating_code, return_code, bounds_code, steps_code}
 use Rattle.code_of.specs.Sizes.{stat_size, arms_size, stats_size, block_size, open_size}
-use Rattle.code_of.specs.Statements.{in_loop, passed_after, labels_ahead, stat_code, arms_code, stats_code, block_code, open_code}
+use Rattle.code_of.specs.Statements.{in_loop, passed_after, labels_ahead, stat_code, arms_code, stats_code, block_code, open_code, whole_code}
 use Rattle.std.specs.Prelude.{cond, nat_eq}
 
 -- the forms of statements, where their parts have these sizes
@@ -165,3 +165,12 @@ close_short before after line = by (nat_eq before after)
     by : (b : Bool) → length (cond b [] (with_abc Close before 0 0 line ∷ [])) ≤ 1
     by true = omega arith
     by false = omega arith
+
+pub whole_size : (cs : List Const) (back : ℕ) (block : Block) (params pc : ℕ) → block_size cs back block false 0 params 0 ≤ length (whole_code cs back block params pc)
+whole_size cs back (Falls ss tokens line) params pc =
+    let one = close_short 0 (levels_after ss params) line in
+    let reach : Reach = record { labels = []; exit = None } in
+    let a = length-append (stats_code cs back ss true false 0 params 0 pc [] reach) (leaving_by Return (levels_after ss params) 1 back line ∷ []) in
+    let b = stats_sized cs back ss true false 0 params 0 pc [] reach in
+    omega (arith, one, a, b)
+whole_size cs back (Returns ss es tokens line) params pc = let a = block_sized cs back (Returns ss es tokens line) false 0 params 0 pc (record { labels = []; exit = None }) in omega (arith, a)

@@ -32,7 +32,8 @@ use Rattle.code_stat.specs.Whole.{nowhere, function_of, variables_in, whole_from
 use Rattle.code_stat.proofs.Declaring.{scopes_end}
 use Rattle.code_stat.proofs.Drafting.{draft_sized, written_sized}
 use Rattle.code_stat.proofs.Filling.{whole_is}
-use Rattle.code_stat.proofs.Undeclared.{levels_grow, ends_anywhere, is_closed}
+use Rattle.tree_terms.proofs.Levels.{levels_rise}
+use Rattle.code_stat.proofs.Undeclared.{ends_anywhere, is_closed}
 
 -- a function that falls off its end: its locals live to the end of the return, and where it has none, it does not matter to which place they would
 
@@ -43,7 +44,7 @@ behind_return k back ss tokens line params j pc = by (levels_after ss params) re
   where
     by : (n : ℕ) → levels_after ss params ≡ n → within_stats k back ss false params j pc (pc + (stats_size k back ss false params j + 1)) ≡ within_block k back (Falls ss tokens line) false 0 params j pc
     by zero e =
-        let grows = levels_grow ss params in
+        let grows = levels_rise ss params in
         ends_anywhere k back ss false params j pc (pc + (stats_size k back ss false params j + 1)) (pc + block_size k back (Falls ss tokens line) false 0 params j) (omega (arith, grows, e))
     by (suc n) e =
         let some : length (close_code 0 (levels_after ss params) line) ≡ 1 = is_closed 0 (levels_after ss params) line (λ none. omega (arith, none, e)) in

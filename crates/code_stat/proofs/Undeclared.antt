@@ -12,33 +12,12 @@ use Rattle.code_of.specs.Parts.{close_code, return_code}
 use Rattle.code_of.specs.Sizes.{stat_size, arms_size, stats_size, block_size}
 use Rattle.code_of.specs.Variables.{declared_by, within_stat, within_arms, within_stats, within_block}
 use Rattle.code_stat.proofs.Returning.{return_some}
+use Rattle.tree_terms.proofs.Levels.{level_rises, levels_rise}
 
 -- how many locals are in scope
 
-pub level_grows : (s : Stat) (t : ℕ) → t ≤ level_after s t
-level_grows (Empty line) t = omega arith
-level_grows (Local line names es) t = omega arith
-level_grows (LocalFunction line name body) t = omega arith
-level_grows (Assign line targets es) t = omega arith
-level_grows (CallStat line e) t = omega arith
-level_grows (Do line block) t = omega arith
-level_grows (While line e block) t = omega arith
-level_grows (Repeat line block e) t = omega arith
-level_grows (If line arms) t = omega arith
-level_grows (IfElse line arms block) t = omega arith
-level_grows (NumFor line name from limit block) t = omega arith
-level_grows (NumForStep line name from limit step block) t = omega arith
-level_grows (GenFor line names es block) t = omega arith
-level_grows (Label line name) t = omega arith
-level_grows (Goto line name) t = omega arith
-level_grows (Break line) t = omega arith
-
-pub levels_grow : (ss : Stats) (t : ℕ) → t ≤ levels_after ss t
-levels_grow EndStats t = omega arith
-levels_grow (MoreStats s ss) t = let a = level_grows s t in let b = levels_grow ss (level_after s t) in omega (arith, a, b)
-
 first_same : (s : Stat) (ss : Stats) (t : ℕ) → levels_after (MoreStats s ss) t ≡ t → level_after s t ≡ t
-first_same s ss t h = let a = level_grows s t in let b = levels_grow ss (level_after s t) in omega (arith, a, b, h)
+first_same s ss t h = let a = level_rises s t in let b = levels_rise ss (level_after s t) in omega (arith, a, b, h)
 
 equal : (m n : ℕ) → nat_eq m n ≡ true → m ≡ n
 equal m n h = grind (arith, nat_tests)

@@ -23,20 +23,15 @@ use Rattle.list_laws.proofs.Tests.{eq_refl, eq_true, lt_not, or_right}
 use Rattle.exp_laws.proofs.Registers.{Rel, marked_in, Ascends, held_same}
 use Rattle.exp_laws.specs.Setting.{Setting}
 use Rattle.exp_laws.proofs.Talking.{Here, Agree, go_left, both_ask, of_tree, of_code}
+use Rattle.list_laws.proofs.Ends.{Snoc, empty, with_last, snoc}
+use Rattle.list_laws.proofs.Held.{none_below, brought_none}
 
 -- cells cut loose
-
-pub none_below : (held : List (ℕ × ℕ)) → held_below 0 held ≡ []
-none_below [] = refl
-none_below (h ∷ held) = ap (λ b. cond b (h ∷ held_below 0 held) (held_below 0 held)) (lt_not h.0 0 (λ l. omega arith)) ∙ none_below held
 
 pub gone_all : (held : List (ℕ × ℕ)) (xs : List Value) → gone_from 0 held xs ≡ shared_by held xs
 gone_all [] xs = refl
 gone_all (h ∷ held) xs =
     ap (λ b. cond b (gone_from 0 held xs) ((h.1, nth xs h.0) ∷ gone_from 0 held xs)) (lt_not h.0 0 (λ l. omega arith)) ∙ ap (λ l. (h.1, nth xs h.0) ∷ l) (gone_all held xs)
-
-pub brought_none : (held : List (ℕ × ℕ)) (vs xs : List Value) → brought (held_below 0 held) vs xs ≡ xs
-brought_none held vs xs = ap (λ h. brought h vs xs) (none_below held)
 
 -- registers that are kept
 
@@ -59,18 +54,6 @@ blanked_keeps keeps count regs r h e =
     nth_blanked keeps 0 count regs r h (ap keeps at ∙ e) ∙ ap (nth regs) at
 
 -- the last variable to be closed
-
-pub data Snoc {A : Type 0} : List A → Type 0 where
-  empty : Snoc []
-  behind : (ys : List A) → (y : A) → Snoc (ys ++ y ∷ [])
-
-snoc_more : {A : Type 0} (x : A) (zs : List A) → Snoc zs → Snoc (x ∷ zs)
-snoc_more x _ empty = behind [] x
-snoc_more x _ (behind ys y) = behind (x ∷ ys) y
-
-pub snoc : {A : Type 0} (xs : List A) → Snoc xs
-snoc [] = empty
-snoc (x ∷ xs) = snoc_more x xs (snoc xs)
 
 push_either : (b : Bool) (q r : ℕ) (ms : List ℕ) → cond b (q ∷ (ms ++ r ∷ [])) (ms ++ r ∷ []) ≡ cond b (q ∷ ms) ms ++ r ∷ []
 push_either true q r ms = refl
@@ -234,8 +217,8 @@ module _ (S : Setting) where
       by : (m : ℕ) (pending : List Pending) → Snoc pending → length pending ≤ m → Left pending env c regs
           → Agree S (suc n) (tree.at (leave_scope 0 line e (finish line (throws e))) (of_tree S pending env c) []) (amid fails (e ∷ []) (of_code S pending pc regs opened) c)
       by m _ empty short l = ends l
-      by zero _ (behind ys y) short l = let size = length_more ys y in absurd (omega (arith, size))
-      by (suc m) _ (behind ys y) short l =
+      by zero _ (with_last ys y) short l = let size = length_more ys y in absurd (omega (arith, size))
+      by (suc m) _ (with_last ys y) short l =
           let size = length_more ys y in
           closed ys y y.needed refl l
           (λ needed. by m ys (snoc ys) (omega (arith, size)) (record { shared = l.shared; values = λ r h. l.values r (ap (λ ms. is_pending ms r) (marked_fewer ys y needed) ∙ h) }))

@@ -19,7 +19,7 @@ use Rattle.machine_core.specs.InstructionRows as rows
 use Rattle.machine_core.specs.Talk as code
 use Rattle.machine_core.specs.Talk.{talk, talk_step, says_so, heard, amid}
 use Rattle.list_laws.proofs.Items.{append_nil, length_more}
-use Rattle.list_laws.proofs.Ends.{without_last_is}
+use Rattle.list_laws.proofs.Ends.{without_last_is, Snoc, empty, with_last, snoc}
 use Rattle.list_laws.proofs.Tests.{lt_true, or_left, or_right, both_true}
 use Rattle.exp_laws.proofs.Registers.{Rel, marked_in}
 use Rattle.list_laws.proofs.Values.{last_nth, drop_front}
@@ -27,8 +27,8 @@ use Rattle.exp_laws.specs.Setting.{Setting}
 use Rattle.exp_laws.proofs.Talking.{Here, Agree, go_left, both_ask, of_tree, of_code}
 use Rattle.exp_laws.proofs.Lists.{Holds, range_held}
 use Rattle.exp_laws.proofs.Steps.{own_step}
-use Rattle.exp_laws.proofs.Leaving.{none_below, gone_all, brought_none, length_blanked, blanked_keeps, Snoc, empty, snoc, marked_more, marked_fewer, last_marked, is_pending_last, is_pending_more, Left, left_from, cut, cut_same, leave_one, leaves_so, faults_so}
-use Rattle.exp_laws.proofs.Leaving as leaving
+use Rattle.list_laws.proofs.Held.{none_below, brought_none}
+use Rattle.exp_laws.proofs.Leaving.{gone_all, length_blanked, blanked_keeps, marked_more, marked_fewer, last_marked, is_pending_last, is_pending_more, Left, left_from, cut, cut_same, leave_one, leaves_so, faults_so}
 
 behind_most : (from count i : ℕ) → i < count → from + i < behind from count
 behind_most from zero i h = absurd (omega arith)
@@ -124,8 +124,8 @@ module _ (S : Setting) (from : ℕ) (vs : List Value) where
       (both_ask S n _ _ (leaves (returns vs)) (leaves (returns vs)) line _ _ _ _ _ refl (d ∙ returns_none had (of_code S [] pc regs opened) c refl wide held) refl refl here.lined
       (ap (λ h. shared_by h [] ++ (gone_from 0 c.held env ++ c.gone)) (none_below c.held) ∙ ap (λ g. g ++ c.gone) (gone_all c.held env ∙ l.shared))
       (λ x fits. absurd fits.reply))
-  returns_step n returns_so zero _ (leaving.behind ys y) short line pc opened env regs had c q l here is wide held d = let more = length_more ys y in absurd (omega (arith, more, short))
-  returns_step n returns_so (suc m) _ (leaving.behind ys y) short line pc opened env regs had c q l here is wide held d =
+  returns_step n returns_so zero _ (with_last ys y) short line pc opened env regs had c q l here is wide held d = let more = length_more ys y in absurd (omega (arith, more, short))
+  returns_step n returns_so (suc m) _ (with_last ys y) short line pc opened env regs had c q l here is wide held d =
       by y.needed refl (λ needed. returns_step n returns_so m ys (snoc ys) (let more = length_more ys y in omega (arith, more, short)) line pc opened env regs had c q
       (record { shared = l.shared; values = λ r h. l.values r (ap (λ ms. is_pending ms r) (marked_fewer ys y needed) ∙ h) }) here is wide held
       (d ∙ ap (λ ms. talk S.code (rows.returns from count) had (record { pc = pc; registers = regs; varargs = S.varargs; pending = ms; opened = opened }) c) (marked_fewer ys y needed)))

@@ -26,6 +26,7 @@ use Rattle.lua_lex.specs.Strings.{decimal_len, unicode_len, escape_of, element_o
 use Rattle.lua_lex.specs.Strings as strings
 use Rattle.grammar_laws.proofs.Claims.{opening}
 use Rattle.lua_lex.specs.Lexical.{kind_of, begins_numeral, begins_comment, comment_kind, SkipsOf, Gap, nothing, piece, word_token, IsTokenOf, IsToken, TokensFrom, ends, goes_on}
+use Rattle.list_laws.proofs.Tests.{or_left}
 
 -- what is dropped leaves no more
 
@@ -157,10 +158,6 @@ empty_kind : kind_of [] ≡ End
 unfolding kind_of
 empty_kind = refl
 
-left_passes : (a b : Bool) → a ≡ true → (a || b) ≡ true
-left_passes true b e = refl
-left_passes false b e = absurd cc
-
 numeral_passes : (digit point more start : Bool) → (digit || (point && more)) ≡ true → ((start || digit) || point) ≡ true
 numeral_passes true point more true e = refl
 numeral_passes true point more false e = refl
@@ -188,7 +185,7 @@ mark_takes (x ∷ spelling) number e = omega arith
 token_takes_of : (kind : Kind) (text : List ℕ) (token : Token) (rest : List ℕ) → kind_of text ≡ kind → IsTokenOf kind text token rest → length rest + 1 ≤ length text
 token_takes_of Word [] token rest is h = absurd (let bad : End ≡ Word = sym empty_kind ∙ is in cc)
 token_takes_of Word (x ∷ text) token rest is h =
-    omega (arith, dropped (prefix_len is_name_byte (x ∷ text)) (x ∷ text) h.1, runs is_name_byte x text (left_passes (is_name_start x) (is_ascii_digit x) (word_starts (x ∷ text) is)))
+    omega (arith, dropped (prefix_len is_name_byte (x ∷ text)) (x ∷ text) h.1, runs is_name_byte x text (or_left (is_name_start x) (is_ascii_digit x) (word_starts (x ∷ text) is)))
 token_takes_of Numeral [] token rest is h = absurd (let bad : End ≡ Numeral = sym empty_kind ∙ is in cc)
 token_takes_of Numeral (x ∷ text) token rest is h =
     let starts = numeral_passes (is_ascii_digit x) (x == 46) (is_ascii_digit (slice_index (x ∷ text) 1)) (is_name_start x) (numeral_starts (x ∷ text) is) in

@@ -1,15 +1,11 @@
 -- Setting places keeps the forms.
-use Rattle.std.proofs.Common.{◌≡◌, suc, List, [], ◌∷◌, length, refl, ap, arith}
+use Rattle.std.proofs.Common.{List, [], ◌∷◌, arith}
 use Rattle.std.specs.Prelude.{map}
-use Rattle.tree_core.specs.declared.name.Name.{Name}
 use Rattle.tree_core.specs.Tree.{Block, Falls, Returns, Body, BodyOf, Stats, EndStats, MoreStats, Stat, Local, LocalFunction, Assign, CallStat, Do, While, Repeat, If, IfElse, NumFor, NumForStep, GenFor, Arms, EndArms, MoreArms, Exp, Var, Function, Index, Call, Method, Unary, Binary, And, Or, Paren, Table, Exps, EndExps, MoreExps, Fields, EndFields, MoreFields, Field, Item, Keyed}
 use Rattle.scope_core.specs.Scopes.{Frame, declare, declare_all, declared_by, plain_variable, behind, behind_stats, numeric_hidden, generic_hidden}
-use Rattle.scope_core.specs.Places.{upvalues_of, placed_names, placed_exp, placed_exps, placed_fields, placed_field, placed_body, placed_block, placed_stats, placed_stat, placed_arms, main_upvalues, placed}
+use Rattle.scope_core.specs.Places.{upvalues_of, placed_exp, placed_exps, placed_fields, placed_field, placed_body, placed_block, placed_stats, placed_stat, placed_arms, main_upvalues, placed}
 use Rattle.grammar_laws.specs.Formed.{IsCall, IsNameOrIndex, AreTargets, ExpIsFormed, ExpsAreFormed, FieldsAreFormed, FieldIsFormed, StatIsFormed, ArmsAreFormed, StatsAreFormed, BlockIsFormed, BodyIsFormed}
-
-names_length : (fs : List Frame) (names : List Name) → length (placed_names fs names) ≡ length names
-names_length fs [] = refl
-names_length fs (x ∷ names) = ap suc (names_length (declare fs (plain_variable x)) names)
+use Rattle.scope_laws.proofs.Views.{names_length}
 
 call_stays : (fs : List Frame) (e : Exp) → IsCall e → IsCall (placed_exp fs e)
 call_stays fs (Call line f es) h = tt

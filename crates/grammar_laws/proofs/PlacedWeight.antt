@@ -1,20 +1,11 @@
 -- Setting places keeps the weight.
-use Rattle.std.proofs.Common.{◌≡◌, ◌+◌, List, [], ◌∷◌, length, refl, arith}
+use Rattle.std.proofs.Common.{◌≡◌, ◌+◌, List, [], ◌∷◌, refl, arith}
 use Rattle.std.specs.Prelude.{map}
-use Rattle.tree_core.specs.declared.name.Name.{Name}
-use Rattle.tree_core.specs.declared.name.Declared.{Declared}
 use Rattle.tree_core.specs.Tree.{Block, Falls, Returns, Body, BodyOf, Stats, EndStats, MoreStats, Stat, Empty, Local, LocalFunction, Assign, CallStat, Do, While, Repeat, If, IfElse, NumFor, NumForStep, GenFor, Label, Goto, Break, Arms, EndArms, MoreArms, Exp, Nil, True, False, Int, Str, Vararg, Var, Function, Index, Call, Method, Unary, Binary, And, Or, Paren, Table, Exps, EndExps, MoreExps, Fields, EndFields, MoreFields, Field, Item, Keyed}
-use Rattle.scope_core.specs.Scopes.{Frame, declare, declare_all, declared_by, declared_variable, plain_variable, behind, behind_stats, numeric_hidden, generic_hidden}
-use Rattle.scope_core.specs.Places.{main_upvalues, upvalues_of, placed_names, placed_declared, placed_exp, placed_exps, placed_fields, placed_field, placed_body, placed_block, placed_stats, placed_stat, placed_arms, placed}
+use Rattle.scope_core.specs.Scopes.{Frame, declare, declare_all, declared_by, plain_variable, behind, behind_stats, numeric_hidden, generic_hidden}
+use Rattle.scope_core.specs.Places.{main_upvalues, upvalues_of, placed_exp, placed_exps, placed_fields, placed_field, placed_body, placed_block, placed_stats, placed_stat, placed_arms, placed}
 use Rattle.tree_terms.specs.Weight.{weight, weight_of_arguments, weight_of_exps, weight_of_fields, weight_of_field, weight_of_stat, weight_of_arms, weight_of_stats, weight_of_block, weight_of_body}
-
-names_count : (fs : List Frame) (names : List Name) → length (placed_names fs names) ≡ length names
-names_count fs [] = refl
-names_count fs (x ∷ names) = omega (arith, names_count (declare fs (plain_variable x)) names)
-
-declared_count : (fs : List Frame) (names : List Declared) → length (placed_declared fs names) ≡ length names
-declared_count fs [] = refl
-declared_count fs (d ∷ names) = omega (arith, declared_count (declare fs (declared_variable d)) names)
+use Rattle.scope_laws.proofs.Views.{names_length, declared_length}
 
 mutual
   pub exp_weighs : (fs : List Frame) (e : Exp) → weight (placed_exp fs e) ≡ weight e
@@ -54,7 +45,7 @@ mutual
 
   stat_weighs : (fs : List Frame) (s : Stat) → weight_of_stat (placed_stat fs s) ≡ weight_of_stat s
   stat_weighs fs (Empty line) = refl
-  stat_weighs fs (Local line names es) = omega (arith, exps_weighs fs es, declared_count fs names)
+  stat_weighs fs (Local line names es) = omega (arith, exps_weighs fs es, declared_length fs names)
   stat_weighs fs (LocalFunction line name body) = omega (arith, body_weighs (declare fs (plain_variable name)) body)
   stat_weighs fs (Assign line targets es) = omega (arith, exps_weighs fs targets, exps_weighs fs es)
   stat_weighs fs (CallStat line e) = omega (arith, exp_weighs fs e)
@@ -65,7 +56,7 @@ mutual
   stat_weighs fs (IfElse line arms block) = omega (arith, arms_weighs fs arms, block_weighs fs block)
   stat_weighs fs (NumFor line name from limit block) = omega (arith, exp_weighs fs from, exp_weighs fs limit, block_weighs (declare (declare_all fs numeric_hidden) (plain_variable name)) block)
   stat_weighs fs (NumForStep line name from limit step block) = omega (arith, exp_weighs fs from, exp_weighs fs limit, exp_weighs fs step, block_weighs (declare (declare_all fs numeric_hidden) (plain_variable name)) block)
-  stat_weighs fs (GenFor line names es block) = omega (arith, exps_weighs fs es, block_weighs (declare_all (declare_all fs generic_hidden) (map plain_variable names)) block, names_count (declare_all fs generic_hidden) names)
+  stat_weighs fs (GenFor line names es block) = omega (arith, exps_weighs fs es, block_weighs (declare_all (declare_all fs generic_hidden) (map plain_variable names)) block, names_length (declare_all fs generic_hidden) names)
   stat_weighs fs (Label line name) = refl
   stat_weighs fs (Goto line name) = refl
   stat_weighs fs (Break line) = refl

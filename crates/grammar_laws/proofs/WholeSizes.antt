@@ -1,11 +1,10 @@
 -- The laws, joined.
-use Rattle.std.proofs.Common.{◌≡◌, ℕ, ◌+◌, ◌≤◌, List, [], length, refl, arith}
+use Rattle.std.proofs.Common.{ℕ, ◌+◌, List, [], length, refl, arith}
 use Rattle.tree_core.specs.Tree.{Block}
 use Rattle.token_cursor.specs.Words.{Lexeme}
 use Rattle.lua_lex.specs.Lexical.{TokensOf}
 use Rattle.lua_parse.specs.Moves.{a_block, chunk}
 use Rattle.lua_parse.specs.Reading.{Derives}
-use Rattle.scope_core.specs.Places.{placed}
 use Rattle.grammar_laws.specs.Sizes.{Weighs, TakesBytes, WeighsAlike, HasFewLines}
 use Rattle.grammar_laws.proofs.SizeReadings.{Gone, part_kept, goes}
 use Rattle.grammar_laws.proofs.Bytes.{tokens_count, openings_fit}

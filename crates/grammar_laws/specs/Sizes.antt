@@ -1,6 +1,6 @@
 -- The laws of the sizes of sources: what bounds hold for the tree of a source.
-use Rattle.std.specs.Prelude.{◌≡◌, ℕ, ◌+◌, ◌*◌, ◌≤◌, ◌<◌, ◌^◌, Bool, List, [], length}
-use Rattle.tree_core.specs.Tree.{Block, Body, BodyOf}
+use Rattle.std.specs.Prelude.{◌≡◌, ℕ, ◌+◌, ◌*◌, ◌≤◌, List, length}
+use Rattle.tree_core.specs.Tree.{Block}
 use Rattle.token_cursor.specs.Words.{Lexeme}
 use Rattle.lua_lex.specs.Lexical.{TokensOf}
 use Rattle.lua_parse.specs.Reading.{Derives}

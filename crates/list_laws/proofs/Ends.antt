@@ -25,3 +25,16 @@ upward (x ∷ xs) = upward xs ++ x ∷ []
 pub length_upward : {A : Type 0} (xs : List A) → length (upward xs) ≡ length xs
 length_upward [] = refl
 length_upward (x ∷ xs) = length_more (upward xs) x ∙ ap suc (length_upward xs)
+
+-- a list from its end
+pub data Snoc {A : Type 0} : List A → Type 0 where
+  empty : Snoc []
+  with_last : (ys : List A) → (y : A) → Snoc (ys ++ y ∷ [])
+
+snoc_more : {A : Type 0} (x : A) (zs : List A) → Snoc zs → Snoc (x ∷ zs)
+snoc_more x _ empty = with_last [] x
+snoc_more x _ (with_last ys y) = with_last (x ∷ ys) y
+
+pub snoc : {A : Type 0} (xs : List A) → Snoc xs
+snoc [] = empty
+snoc (x ∷ xs) = snoc_more x xs (snoc xs)

@@ -12,7 +12,8 @@ use Rattle.tree_activation.specs.Work.{State, when_captured}
 use Rattle.lua_meaning.specs.Primitives.{put_metatable}
 use Rattle.lua_meaning.specs.Meaning.{Meaning, is_suspended, lines}
 use Rattle.lua_meaning.specs.TreeMeaning.{tree_meaning, tree_onward}
-use Rattle.lua_meaning.proofs.Scripts.{name, closed, of_local, loc, outer, global, int, str, bin, call, field, function, block, returning, locals, loc_is, assign, does, local_function, fun, env, chunk, prelude, summary, run, ran, prints, co, usual}
+use Rattle.tree_terms.proofs.Forms.{name, closed, of_local, loc, outer, global, int, str, bin, call, field, function, block, returning, locals, loc_is, does, fun}
+use Rattle.lua_meaning.proofs.Scripts.{assign, local_function, env, chunk, prelude, summary, run, ran, prints, co, usual}
 
 -- the lines of an input
 input_lines : lines (codes "ab\n\nz") ≡ codes "ab" ∷ codes "" ∷ codes "z" ∷ []

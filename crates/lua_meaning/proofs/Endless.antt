@@ -15,7 +15,8 @@ use Rattle.lua_meaning.specs.Step.{ticks}
 use Rattle.lua_meaning.specs.Meaning.{begun}
 use Rattle.lua_meaning.specs.Opening.{opening, prelude_function, primitives, environment_table, globals_table}
 use Rattle.lua_meaning.specs.TreeMeaning.{trees}
-use Rattle.lua_meaning.proofs.Scripts.{of_local, loc, outer, global, int, bin, call, block, returning, does, local_function, fun, chunk, prelude}
+use Rattle.tree_terms.proofs.Forms.{of_local, loc, outer, global, int, bin, call, block, returning, does, fun}
+use Rattle.lua_meaning.proofs.Scripts.{local_function, chunk, prelude}
 
 -- the scripts
 

@@ -12,7 +12,8 @@ use Rattle.tree_core.specs.Tree.{Body, Stat, Exp, Nil, True, False, Call, Table,
 use Rattle.tree_activation.specs.Work.{when_captured}
 use Rattle.lua_meaning.specs.Primitives.{put_metatable}
 use Rattle.lua_meaning.specs.TreeMeaning.{tree_meaning}
-use Rattle.lua_meaning.proofs.Scripts.{name, no_variable, closed, of_local, loc, outer, global, int, str, dots, bin, call, function, block, returning, locals, loc_is, assign, does, local_function, fun, vararg_fun, env, of_outer, chunk, prelude, summary, run, ran, prints, usual}
+use Rattle.tree_terms.proofs.Forms.{name, no_variable, closed, of_local, loc, outer, global, int, str, bin, call, function, block, returning, locals, loc_is, does, fun, vararg_fun}
+use Rattle.lua_meaning.proofs.Scripts.{dots, assign, local_function, env, of_outer, chunk, prelude, summary, run, ran, prints, usual}
 
 -- FUNCTION(ARGUMENTS) on another line
 abbrev call_at : ℕ → Exp → List Exp → Exp

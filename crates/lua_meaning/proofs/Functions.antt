@@ -6,7 +6,8 @@ use Rattle.int_core.specs.Heap.{raw_set}
 use Rattle.tree_core.specs.declared.operator.BinOp.TheVariants.{Add, Sub, Mul, Mod, Idiv, Band, Bor, Bxor, Shl, Shr, Concat, Lt, Le, Gt, Ge, Eq, Ne}
 use Rattle.tree_core.specs.declared.operator.UnOp.TheVariants.{Neg, BitNot, Not, Len}
 use Rattle.tree_core.specs.Tree.{Body, Stat, Exp, Nil, True, False, Table, Unary, And, Or, Paren, Index, Do, If, Item, Keyed, exps, fields, arms}
-use Rattle.lua_meaning.proofs.Scripts.{declared, closed, of_local, of_outer, loc, outer, global, int, str, dots, bin, call, method, field, function, block, returning, locals, loc_is, assign, assigns, does, when, local_function, fun, vararg_fun, env, chunk, run, ran, prints, usual}
+use Rattle.tree_terms.proofs.Forms.{declared, closed, of_local, loc, outer, global, int, str, bin, call, field, function, block, returning, locals, loc_is, assigns, does, when, fun, vararg_fun}
+use Rattle.lua_meaning.proofs.Scripts.{dots, method, assign, local_function, chunk, run, ran, prints, usual}
 
 abbrev neg : ℕ → Exp
 neg n = Unary 1 Neg (int n)
@@ -185,7 +186,7 @@ tail_calls = refl
 -- local _ENV={x=3} return x: a local of that name is where globals are looked up
 local_environment : run 300 (chunk (returning (
     loc_is "_ENV" 0 (Table 1 (fields (Keyed 1 (str "x") (int 3) ∷ []))) ∷ [])
-    (Rattle.tree_core.specs.Tree.Var 1 (Rattle.lua_meaning.proofs.Scripts.name "x" (Rattle.tree_core.specs.declared.name.Place.TheVariants.GlobalIn 0)) ∷ []))) [] usual ≡ ran "return\t3\n" 0
+    (Rattle.tree_core.specs.Tree.Var 1 (Rattle.tree_terms.proofs.Forms.name "x" (Rattle.tree_core.specs.declared.name.Place.TheVariants.GlobalIn 0)) ∷ []))) [] usual ≡ ran "return\t3\n" 0
 unfolding digits raw_set
 local_environment = refl
 

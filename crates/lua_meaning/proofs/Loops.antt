@@ -7,7 +7,8 @@ use Rattle.tree_core.specs.declared.operator.BinOp.TheVariants.{Add, Mul, Mod, L
 use Rattle.tree_core.specs.declared.operator.UnOp.TheVariants.{Neg, Len}
 use Rattle.tree_core.specs.Tree.{Body, Stat, Nil, True, Table, Unary, Index, Do, While, Repeat, If, IfElse, NumFor, NumForStep, GenFor, Label, Goto, Break, Item, Keyed, exps, fields, arms}
 use Rattle.tree_core.specs.declared.name.Place.TheVariants.{Local as LocalPlace}
-use Rattle.lua_meaning.proofs.Scripts.{name, no_variable, declared, of_local, loc, outer, global, int, str, bin, call, function, block, returning, locals, loc_is, assign, does, when, local_function, fun, chunk, run, ran, prints, usual}
+use Rattle.tree_terms.proofs.Forms.{name, no_variable, declared, of_local, loc, outer, global, int, str, bin, call, function, block, returning, locals, loc_is, does, when, fun}
+use Rattle.lua_meaning.proofs.Scripts.{assign, local_function, chunk, run, ran, prints, usual}
 
 abbrev neg : ℕ → Rattle.tree_core.specs.Tree.Exp
 neg n = Unary 1 Neg (int n)

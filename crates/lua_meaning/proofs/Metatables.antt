@@ -11,7 +11,8 @@ use Rattle.tree_core.specs.declared.operator.BinOp.TheVariants.{Add, Mul, Concat
 use Rattle.tree_core.specs.declared.operator.UnOp.TheVariants.{Neg, Len}
 use Rattle.tree_core.specs.Tree.{Stat, Exp, Nil, Table, Unary, Index, Keyed, Item, Field, fields}
 use Rattle.lua_meaning.specs.Primitives.{put_metatable, prelude_text, refused, gives, word, done_so, next_in, text_in, row}
-use Rattle.lua_meaning.proofs.Scripts.{loc, global, int, str, bin, call, field, function, block, returning, loc_is, assign, does, fun, env, chunk, run, ran, prints, usual}
+use Rattle.tree_terms.proofs.Forms.{loc, global, int, str, bin, call, field, function, block, returning, loc_is, does, fun}
+use Rattle.lua_meaning.proofs.Scripts.{assign, env, chunk, run, ran, prints, usual}
 
 abbrev keyed : String → Exp → Field
 keyed text e = Keyed 1 (str text) e

@@ -1,6 +1,6 @@
 -- Runs that have ended, and runs that are cut at a yield.
 use Rattle.std.proofs.Common.{◌≡◌, ℕ, zero, suc, ◌+◌, ◌≤◌, Bool, true, false, List, [], ◌∷◌, ◌++◌, Option, Some, None, refl, sym, ◌∙◌, ap, arith, append_assoc}
-use Rattle.std.specs.Prelude.{option_map, unwrap_or}
+use Rattle.std.specs.Prelude.{option_map}
 use Rattle.lua_meaning.specs.World.{System, World, yielded, returned, failed_with, spent, broken, Now, talks, gives_back, raises_error, unwinds, calls_primitive, ends}
 use Rattle.lua_meaning.specs.Primitives.{Primitive}
 use Rattle.lua_meaning.specs.Step.{has_ended, tick, ticks}

@@ -13,9 +13,9 @@ use Rattle.machine_core.specs.Moves.{line_of, begin_leaving, blamed, cells_done,
 use Rattle.machine_core.specs.FrameRows.{When, at_once, by_asking, expand_by, after_call, refused_under, after_asked}
 use Rattle.machine_core.specs.RowFits.{IsWaiting}
 use Rattle.machine_core.specs.Talk.{State, amid, talk, heard, captured_done}
-use Rattle.machine_core.specs.TalkRun.{TalkFrame, talking, waiting, Now, talks, raising, Talks, shared_in, shared_out, turn, answered, calls_value}
-use Rattle.machine_core.specs.TalkRun.{blamed as talk_blamed}
-use Rattle.machine_readings.proofs.Cells.{Held, shared_append, share_in}
+use Rattle.machine_core.specs.TalkRun.{TalkFrame, talking, waiting, Now, talks, raising, Talks, shared_in, shared_out, turn, answered, calls_value, blamed as talk_blamed}
+use Rattle.list_laws.specs.Held.{Held}
+use Rattle.machine_readings.proofs.Cells.{shared_append, share_in}
 use Rattle.machine_readings.proofs.Sim.{RegsOk, Fixed, Alike, Working, Rested, Stacks, flush, work_again}
 use Rattle.machine_readings.proofs.Worlds.{mk, frame, top_is}
 use Rattle.machine_readings.proofs.Moves.{leaving_move}

@@ -11,7 +11,7 @@ use Rattle.machine_core.specs.World.{Function, Cell, LuaFrame, Frame, lua, pcall
 use Rattle.machine_core.specs.Moves.{frame_place, limited, placed, blamed, without_mark, line_of}
 use Rattle.machine_core.specs.TalkRun.{TalkFrame, waiting, protected, handled_by, handling, Now, Talks, place_text, blamed as talk_blamed, placed as talk_placed}
 use Rattle.list_laws.proofs.Ends.{upward}
-use Rattle.machine_readings.proofs.Cells.{Held}
+use Rattle.list_laws.specs.Held.{Held}
 use Rattle.machine_readings.proofs.Sim.{Pair, under, Below}
 use Rattle.machine_readings.proofs.Worlds.{mk}
 use Rattle.machine_readings.proofs.Both.{mk_talks}

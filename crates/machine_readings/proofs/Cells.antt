@@ -1,21 +1,14 @@
 -- Captured locals in cells: written to them before an ask, taken back at its answer, closed.
-use Rattle.std.proofs.Common.{ℕ, ◌<◌, ◌≤◌, ◌≡◌, ◌⊎◌, inl, inr, ⊎_elim, List, [], ◌∷◌, ◌++◌, length, Some, None, refl, sym, ap, subst, ◌∙◌, arith}
-use Rattle.std.specs.Prelude.{Bool, true, false, cond, nat_eq, nat_lt, slice_set}
+use Rattle.std.proofs.Common.{ℕ, ◌<◌, ◌≤◌, ◌≡◌, ◌⊎◌, inl, inr, ⊎_elim, List, [], ◌∷◌, ◌++◌, length, refl, sym, ap, subst, ◌∙◌, arith}
+use Rattle.std.specs.Prelude.{Bool, true, false, cond, nat_lt, slice_set}
 use Rattle.std.proofs.lemmas.Bool.{cases_eq}
 use Rattle.int_core.specs.Value.{Value, nth, write}
-use Rattle.int_core.specs.Ask.{shared_by, gone_from, held_below, brought, cell_held}
+use Rattle.int_core.specs.Ask.{shared_by, gone_from, brought}
 use Rattle.machine_core.specs.TalkRun.{shared_in, shared_out}
+use Rattle.list_laws.specs.Held.{Held, Has}
 use Rattle.list_laws.proofs.Values.{nth_write_same, nth_write_other, write_more, nth_set_same, nth_set_other}
 use Rattle.list_laws.proofs.Items.{length_set}
-use Rattle.list_laws.proofs.Tests.{lt_true, lt_is, eq_true, eq_refl}
-
-abbrev pub Held : Type 0
-Held = List (ℕ × ℕ)
-
--- the register r is held as the cell c
-abbrev pub Has : ℕ → ℕ → Held → Type 0
-Has r c [] = ⊥
-Has r c (s ∷ h) = ((s.0 ≡ r) × (s.1 ≡ c)) ⊎ Has r c h
+use Rattle.list_laws.proofs.Tests.{lt_true, lt_is}
 
 abbrev pub Once : Held → Type 0
 Once h = (r q c : ℕ) → Has r c h → Has q c h → r ≡ q
@@ -90,35 +83,3 @@ module _ (a : ℕ) (regs vs : List Value) where
       by false e ih =
           let f = lt_true s.0 a in
           nth_set_other s.1 (nth regs s.0) (shared_in (gone_from a h regs) vs) c (λ d. absurd (let g : true ≡ false = sym (f (n s.0 (inl (refl, sym d)))) ∙ e in cc)) ∙ ih
-
-pub below_has : (a : ℕ) (h : Held) (r c : ℕ) → Has r c h → r < a → Has r c (held_below a h)
-below_has a [] r c k l = k
-below_has a (s ∷ h) r c k l = by (nat_lt s.0 a) refl (λ m. below_has a h r c m l)
-  where
-    by : (b : Bool) → nat_lt s.0 a ≡ b → (Has r c h → Has r c (held_below a h)) → Has r c (cond b (s ∷ held_below a h) (held_below a h))
-    by true e ih = ⊎_elim (λ m. inl m) (λ m. inr (ih m)) k
-    by false e ih = ⊎_elim (λ m. absurd (let g : true ≡ false = sym (lt_true s.0 a (subst (λ x. x < a) (sym m.0) l)) ∙ e in cc)) ih k
-
-pub below_was : (a : ℕ) (h : Held) (r c : ℕ) → Has r c (held_below a h) → Has r c h × (r < a)
-below_was a [] r c k = absurd k
-below_was a (s ∷ h) r c k = by (nat_lt s.0 a) refl (below_was a h r c) k
-  where
-    by : (b : Bool) → nat_lt s.0 a ≡ b → (Has r c (held_below a h) → Has r c h × (r < a)) → Has r c (cond b (s ∷ held_below a h) (held_below a h)) → Has r c (s ∷ h) × (r < a)
-    by true e ih m = ⊎_elim (λ n. (inl n, subst (λ x. x < a) n.0 (lt_is s.0 a e))) (λ n. (inr (ih n).0, (ih n).1)) m
-    by false e ih m = (inr (ih m).0, (ih m).1)
-
-pub find_has : (h : Held) (r c : ℕ) → cell_held r h ≡ Some c → Has r c h
-find_has [] r c e = absurd (cc)
-find_has (s ∷ h) r c e = by (nat_eq s.0 r) refl (find_has h r c) e
-  where
-    by : (b : Bool) → nat_eq s.0 r ≡ b → (cell_held r h ≡ Some c → Has r c h) → cond b (Some s.1) (cell_held r h) ≡ Some c → Has r c (s ∷ h)
-    by true d ih f = let g : s.1 ≡ c = cc in inl (eq_true s.0 r d, g)
-    by false d ih f = inr (ih f)
-
-pub has_find : (h : Held) (r c : ℕ) → Has r c h → cell_held r h ≡ None → ⊥
-has_find [] r c k e = k
-has_find (s ∷ h) r c k e = by (nat_eq s.0 r) refl (has_find h r c) e
-  where
-    by : (b : Bool) → nat_eq s.0 r ≡ b → (Has r c h → cell_held r h ≡ None → ⊥) → cond b (Some s.1) (cell_held r h) ≡ None → ⊥
-    by true d ih f = absurd (cc)
-    by false d ih f = ⊎_elim (λ m. absurd (let g : true ≡ false = sym (eq_refl r) ∙ ap (λ x. nat_eq x r) (sym m.0) ∙ d in cc)) (λ m. ih m f) k

@@ -6,7 +6,9 @@ use Rattle.int_core.specs.Ask.{shared_by, gone_from, held_below}
 use Rattle.machine_core.specs.World.{Function, Cell, closed, open_at, Frame, close_from}
 use Rattle.machine_core.specs.TalkRun.{TalkFrame, shared_in}
 use Rattle.list_laws.proofs.Tests.{lt_not, lt_is, lt_off, eq_true, eq_refl}
-use Rattle.machine_readings.proofs.Cells.{Held, gone_on, gone_off, below_has, below_was, shared_length}
+use Rattle.list_laws.specs.Held.{Held}
+use Rattle.machine_readings.proofs.Cells.{gone_on, gone_off, shared_length}
+use Rattle.list_laws.proofs.Held.{below_has, below_was}
 use Rattle.machine_readings.proofs.Sim.{Holds, holds_less, CellsOk, below_length, Working, below_values, once, in_range, not_top, not_shut}
 
 pub get_map : {A B : Type 0} (f : A → B) (xs : List A) (i : ℕ) (x : A) → slice_get xs i ≡ Some x → slice_get (map f xs) i ≡ Some (f x)

@@ -11,9 +11,8 @@ use Rattle.machine_core.specs.InstructionRows.{after, told_values}
 use Rattle.machine_core.specs.Moves.{Made, made, CallShape, not_entered, Over, frame_over, push_frame, give_with, asks, see_top, pop_frame, act, move, has_room, called, push_all, stack_overflow, greatest_depth, go, spent, calls_primitive, raised, unwinding, Row, stop, ends, run, top_now}
 use Rattle.machine_core.specs.FrameRows.{by_asking, goes_on_by, after_asked, refused_under, hand_over, handed, blames, gives_up}
 use Rattle.machine_core.specs.Talk.{State, amid}
-use Rattle.machine_core.specs.TalkRun.{TalkFrame, talking, waiting, Now, talks, Talks, raising, shared_out, answered, calls_over, calls_value, error_in_handler}
-use Rattle.machine_core.specs.TalkRun.{returning as talk_returning, unwinding as talk_unwinding, blames as talk_blames}
-use Rattle.machine_readings.proofs.Cells.{Held}
+use Rattle.machine_core.specs.TalkRun.{TalkFrame, talking, waiting, Now, talks, Talks, raising, shared_out, answered, calls_over, calls_value, error_in_handler, returning as talk_returning, unwinding as talk_unwinding, blames as talk_blames}
+use Rattle.list_laws.specs.Held.{Held}
 use Rattle.machine_readings.proofs.Sim.{CellsOk, Expected, Pair, under, Below, below_talks, Stacks}
 use Rattle.machine_readings.proofs.Closing.{no_top, new_top}
 use Rattle.machine_readings.proofs.Worlds.{mk, frame, shape_of, top_is, pop_is, push_is, room_is}

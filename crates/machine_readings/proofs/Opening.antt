@@ -12,7 +12,8 @@ use Rattle.machine_core.specs.TalkRun.{TalkFrame, Talks, own_cell, cells_named}
 use Rattle.list_laws.proofs.Tests.{eq_true, eq_refl}
 use Rattle.list_laws.proofs.Items.{get_old, get_new, get_either, length_more}
 use Rattle.list_laws.proofs.Values.{nth_old}
-use Rattle.machine_readings.proofs.Cells.{Held, Has, find_has, has_find}
+use Rattle.list_laws.specs.Held.{Held, Has}
+use Rattle.list_laws.proofs.Held.{find_has, has_find}
 use Rattle.machine_readings.proofs.Sim.{Holds, holds_less, CellsOk, RegsOk, Working, Rested, below_values}
 
 module _ (f r : ℕ) where

@@ -11,7 +11,8 @@ use Rattle.machine_core.specs.RowFits.{IsWaiting}
 use Rattle.machine_core.specs.Talk.{State, amid}
 use Rattle.machine_core.specs.TalkRun.{TalkFrame, waiting, protected, handled_by, handling, shared_in}
 use Rattle.list_laws.proofs.Items.{get_old}
-use Rattle.machine_readings.proofs.Cells.{Held, Has, Once, InRange, flush_on, flush_off, shared_length}
+use Rattle.list_laws.specs.Held.{Held, Has}
+use Rattle.machine_readings.proofs.Cells.{Once, InRange, flush_on, flush_off, shared_length}
 
 -- the frame with the number f holds its register r as the cell c
 abbrev pub Holds : ℕ → ℕ → ℕ → List Held → Type 0

@@ -16,7 +16,7 @@ use Rattle.machine_core.specs.Talk.{before, talk, talk_step}
 use Rattle.machine_core.specs.TalkRun.{TalkFrame, talking, waiting, protected, handled_by, handling, Now, talks, raising, has_returned, has_yielded, has_failed, is_spent, Talks, tick_by, calls_over, turn, error_in_handler, returning as talk_returning, unwinding as talk_unwinding, calls_primitive as talk_primitive, raised_to as talk_raised_to, blames as talk_blames, errs_at as talk_errs_at, placed as talk_placed}
 use Rattle.machine_readings.specs.Join.{primitives}
 use Rattle.list_laws.proofs.Items.{append_nil}
-use Rattle.machine_readings.proofs.Cells.{Held}
+use Rattle.list_laws.specs.Held.{Held}
 use Rattle.machine_readings.proofs.Sim.{CellsOk, Pair, Below, Stacks}
 use Rattle.machine_readings.proofs.Worlds.{mk, frame, stack_at, shape_of, top_is, lua_step_is, woken_is}
 use Rattle.machine_readings.proofs.Both.{mk_talks, handing, Both, both_run, both_hand, both_raise, both_unwind, both_primitive, both_asked, both_asked_trap, both_spent, leads_from, both_yielded, both_returned, both_failed, tick, Leads, by_move, talk_tick}

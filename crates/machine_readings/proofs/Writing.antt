@@ -11,7 +11,7 @@ use Rattle.list_laws.proofs.Values.{nth_get, nth_set_same, nth_set_other, nth_wr
 use Rattle.list_laws.proofs.Tests.{eq_true, eq_refl}
 use Rattle.list_laws.proofs.Items.{get_new, get_set_same, get_set_other, length_set}
 use Rattle.list_laws.proofs.Ends.{upward, length_upward}
-use Rattle.machine_readings.proofs.Cells.{Held, Has}
+use Rattle.list_laws.specs.Held.{Held, Has}
 use Rattle.machine_readings.proofs.Sim.{Holds, holds_less, CellsOk, RegsOk, Pair, under, Below, below_length, Rested, below_values}
 use Rattle.machine_readings.proofs.Worlds.{mk, frame}
 

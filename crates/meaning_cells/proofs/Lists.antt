@@ -1,19 +1,15 @@
 -- Lists of values, and the cells that an activation holds.
-use Rattle.std.proofs.Common.{ℕ, zero, suc, ◌<◌, ◌≡◌, ◌⊎◌, inl, inr, ⊎_elim, List, [], ◌∷◌, ◌++◌, length, Some, None, refl, sym, ap, subst, ◌∙◌, arith, Bool, true, false, cond}
-use Rattle.std.specs.Prelude.{map, nat_eq, nat_lt, slice_set}
+use Rattle.std.proofs.Common.{ℕ, zero, suc, ◌<◌, ◌≡◌, ◌⊎◌, inl, inr, ⊎_elim, List, [], ◌∷◌, ◌++◌, length, refl, sym, ap, subst, ◌∙◌, arith, Bool, true, false, cond}
+use Rattle.std.specs.Prelude.{map, nat_lt, slice_set}
 use Rattle.std.proofs.lemmas.Bool.{cases_eq}
 use Rattle.int_core.specs.Value.{Value, nth, write}
-use Rattle.int_core.specs.Ask.{shared_by, held_below, gone_from, brought, cell_held}
+use Rattle.int_core.specs.Ask.{shared_by, held_below, gone_from, brought}
 use Rattle.list_laws.proofs.Values.{nth_write_same, nth_write_other, length_write, nth_set_same, nth_set_other, write_own}
-use Rattle.list_laws.proofs.Tests.{eq_refl, eq_true, lt_is, lt_off}
 use Rattle.lua_meaning.specs.World.{shared_in, shared_out}
 use Rattle.meaning_cells.specs.Opening.{carried}
-use Rattle.meaning_cells.specs.Alike.{Has}
+use Rattle.list_laws.specs.Held.{Held, Has}
 
 -- what an answer brings back
-
-abbrev Held : Type 0
-Held = List (ℕ × ℕ)
 
 pub bring_at : (f : ℕ → Value) (h : Held) (ys : List Value) (gone : List (ℕ × Value)) (xs : List Value) (r : ℕ) (v : Value)
     → (nth xs r ≡ v) ⊎ ((c : ℕ) × Has r c h) → ((c : ℕ) → Has r c h → f c ≡ v) → nth (brought h (map (λ s. f s.0) (shared_by h ys ++ gone)) xs) r ≡ v
@@ -43,38 +39,6 @@ shares [] gone xs r c k = absurd k
 shares (s ∷ h) gone xs r c k = ⊎_elim (λ m. inl (m.1, ap (nth xs) m.0)) (λ m. inr (shares h gone xs r c m)) k
 
 -- what is held
-
-pub below_has : (a : ℕ) (h : Held) (r c : ℕ) → Has r c h → r < a → Has r c (held_below a h)
-below_has a [] r c k l = k
-below_has a (s ∷ h) r c k l = by (nat_lt s.0 a) refl (λ m. below_has a h r c m l)
-  where
-    by : (b : Bool) → nat_lt s.0 a ≡ b → (Has r c h → Has r c (held_below a h)) → Has r c (cond b (s ∷ held_below a h) (held_below a h))
-    by true e ih = ⊎_elim (λ m. inl m) (λ m. inr (ih m)) k
-    by false e ih = ⊎_elim (λ m. absurd (lt_off s.0 a e (subst (λ x. x < a) (sym m.0) l))) ih k
-
-pub below_was : (a : ℕ) (h : Held) (r c : ℕ) → Has r c (held_below a h) → Has r c h × (r < a)
-below_was a [] r c k = absurd k
-below_was a (s ∷ h) r c k = by (nat_lt s.0 a) refl (below_was a h r c) k
-  where
-    by : (b : Bool) → nat_lt s.0 a ≡ b → (Has r c (held_below a h) → Has r c h × (r < a)) → Has r c (cond b (s ∷ held_below a h) (held_below a h)) → Has r c (s ∷ h) × (r < a)
-    by true e ih m = ⊎_elim (λ n. (inl n, subst (λ x. x < a) n.0 (lt_is s.0 a e))) (λ n. (inr (ih n).0, (ih n).1)) m
-    by false e ih m = (inr (ih m).0, (ih m).1)
-
-pub find_has : (h : Held) (r c : ℕ) → cell_held r h ≡ Some c → Has r c h
-find_has [] r c e = absurd (cc)
-find_has (s ∷ h) r c e = by (nat_eq s.0 r) refl (find_has h r c) e
-  where
-    by : (b : Bool) → nat_eq s.0 r ≡ b → (cell_held r h ≡ Some c → Has r c h) → cond b (Some s.1) (cell_held r h) ≡ Some c → Has r c (s ∷ h)
-    by true d ih f = let g : s.1 ≡ c = cc in inl (eq_true s.0 r d, g)
-    by false d ih f = inr (ih f)
-
-pub has_find : (h : Held) (r c : ℕ) → Has r c h → cell_held r h ≡ None → ⊥
-has_find [] r c k e = k
-has_find (s ∷ h) r c k e = by (nat_eq s.0 r) refl (has_find h r c) e
-  where
-    by : (b : Bool) → nat_eq s.0 r ≡ b → (Has r c h → cell_held r h ≡ None → ⊥) → cond b (Some s.1) (cell_held r h) ≡ None → ⊥
-    by true d ih f = absurd (cc)
-    by false d ih f = ⊎_elim (λ m. absurd (let g : true ≡ false = sym (eq_refl r) ∙ ap (λ x. nat_eq x r) (sym m.0) ∙ d in cc)) (λ m. ih m f) k
 
 -- the places from a level on
 abbrev pub held_from : ℕ → Held → Held

@@ -9,8 +9,10 @@ use Rattle.tree_core.specs.Tree.{Body}
 use Rattle.tree_activation.specs.Work.{End, until, Passed, Point, Purpose, for_call, for_return, Control, collect, aim, store, choose, run, complete, decide, count_round, test_round, enter_round, capture, make, mark, pay, leave_scope, finish, Work, looping, repeating, counting, iterating, until_test, in_block, listed, dropped, function_to, if_test, while_test, aimed_key, aimed_field, when_declared, when_captured, Pending, Activation, State, at}
 use Rattle.tree_activation.specs.Asking.{captured_locals}
 use Rattle.tree_terms.specs.Bodies.{upvalues_of}
-use Rattle.meaning_cells.specs.Alike.{Has, Member, IsUnpaired, Cells, AreCells, AreEven, after_asks, CarriesOwn, Onward, Brings, as_carried, as_stored, opened, new_cell}
-use Rattle.meaning_cells.proofs.Lists.{bring_at, bring_size, bring_own, below_has, below_was, find_has, has_find, held_from, gone_is, from_has, from_was, place_of, in_size, in_held, in_off, shared_was, out_is}
+use Rattle.list_laws.specs.Held.{Has}
+use Rattle.meaning_cells.specs.Alike.{Member, IsUnpaired, Cells, AreCells, AreEven, after_asks, CarriesOwn, Onward, Brings, as_carried, as_stored, opened, new_cell}
+use Rattle.meaning_cells.proofs.Lists.{bring_at, bring_size, bring_own, held_from, gone_is, from_has, from_was, place_of, in_size, in_held, in_off, shared_was, out_is}
+use Rattle.list_laws.proofs.Held.{below_has, below_was, find_has, has_find}
 use Rattle.list_laws.proofs.Values.{nth_old, same_list}
 
 -- what the two share, and their cells

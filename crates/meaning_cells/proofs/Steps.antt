@@ -23,10 +23,12 @@ use Rattle.tree_activation.specs.Expressions.{give_first, reads_variable, evalua
 use Rattle.tree_activation.specs.Jumps.{Landing, passed_by, ahead, behind, lands, goes_to, breaks}
 use Rattle.tree_activation.specs.Statements.{point_of, repeat_point, begins, marks_closed, declares, declares_function, aims_at_name, aims, paired, stores_at, stores, goes_on_from, rounds_to_come, hidden, begins_round, begins_counting, starts_counting, step_of, counts_on, counts_round, hidden_integer, iterates, tests_round, enters_round, has_none, begins_return, executes, ends, runs_on, chooses}
 use Rattle.tree_activation.specs.Activation.{step, uses_list, takes_all, collects, given, completes, decides, counts_in, tests_in, enters_in, on_top, line_of_end, start}
-use Rattle.meaning_cells.specs.Alike.{Has, Member, IsUnpaired, Cells, AreCells, AreEven, opened, SameAsk, SameCells, Moves, FirstAlone, SecondOpens, BothOpen, Together, Steps, Alike}
+use Rattle.list_laws.specs.Held.{Has}
+use Rattle.meaning_cells.specs.Alike.{Member, IsUnpaired, Cells, AreCells, AreEven, opened, SameAsk, SameCells, Moves, FirstAlone, SecondOpens, BothOpen, Together, Steps, Alike}
 use Rattle.list_laws.proofs.Tests.{lt_is, lt_true}
 use Rattle.list_laws.proofs.Values.{write_more}
-use Rattle.meaning_cells.proofs.Lists.{bring_size, bring_own, below_was, find_has, has_find}
+use Rattle.meaning_cells.proofs.Lists.{bring_size, bring_own}
+use Rattle.list_laws.proofs.Held.{below_was, find_has, has_find}
 use Rattle.meaning_cells.proofs.Relation.{View, one, two, Held, held_more, held_even, held_owns, held_cut, held_told, held_first, held_second, held_both, bound, floor, Under, Low, IsEnd, IsPoint, Serves, Sound, Ready, Landed, Req, Rel, same, early, steps_behind, brought_same, in_scope_too}
 use Rattle.meaning_cells.proofs.Facts.{under_none, low_none, point_ok, repeat_ok, numbers_in, fitted_size, marks_req, round_size, enter_size, integer_in_scope, IsLanding, ahead_ok, behind_ok}
 

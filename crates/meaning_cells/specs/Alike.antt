@@ -7,12 +7,8 @@ use Rattle.tree_core.specs.Tree.{Body}
 use Rattle.tree_activation.specs.Work.{when_declared, when_captured, State}
 use Rattle.tree_activation.specs.Activation.{start, step}
 use Rattle.lua_meaning.specs.World.{shared_in, shared_out}
+use Rattle.list_laws.specs.Held.{Has}
 use Rattle.meaning_cells.specs.Opening.{carried}
-
--- a list has this entry
-abbrev pub Has : {A : Type 0} → ℕ → A → List (ℕ × A) → Type 0
-Has n x [] = ⊥
-Has n x (s ∷ list) = ((s.0 ≡ n) × (s.1 ≡ x)) ⊎ Has n x list
 
 abbrev pub Member : ℕ → List ℕ → Type 0
 Member n [] = ⊥

@@ -9,7 +9,7 @@ use Rattle.code_core.specs.Prototype.{Prototype}
 use Rattle.machine_core.specs.Talk.{State as CodeState, talk_start, talk_step}
 use Rattle.lua_meaning.specs.World.{as_known}
 use Rattle.code_means.specs.Means.{Same, Means}
-use Rattle.runs_alike.proofs.Ticking.{NoOwn, like_no_own, known_no_own}
+use Rattle.code_means.proofs.Same.{NoOwn, like_no_own, known_no_own}
 
 -- more steps change nothing once it asks
 

@@ -1,6 +1,6 @@
 -- A run of a world that ends, ends alike in the world that is dressed anew.
 use Rattle.std.proofs.Common.{◌≡◌, ℕ, zero, suc, ◌+◌, ◌-◌, ◌≤◌, Bool, true, List, [], ◌∷◌, ◌++◌, Option, Some, None, refl, ◌∙◌, ap, ap₂, subst, arith}
-use Rattle.std.specs.Prelude.{option_map, unwrap_or}
+use Rattle.std.specs.Prelude.{option_map}
 use Rattle.int_core.specs.Value.{Value}
 use Rattle.int_core.specs.Ask.{NextLike}
 use Rattle.lua_meaning.specs.World.{System, yielded, returned, failed_with, spent, broken, Now, talks, gives_back, raises_error, unwinds, calls_primitive, ends, World, as_known}

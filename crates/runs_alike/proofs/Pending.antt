@@ -18,35 +18,16 @@ use Rattle.machine_core.specs.InstructionRows.{left_so, fails}
 use Rattle.machine_core.specs.Talk.{State as CodeState, amid, captured_done, says_so, heard, talk_step}
 use Rattle.lua_meaning.specs.World.{as_known}
 use Rattle.code_means.specs.Runs as codes
-use Rattle.list_laws.proofs.Ends.{last_is, without_last_is}
+use Rattle.list_laws.proofs.Ends.{last_is, without_last_is, Snoc, empty, with_last, snoc}
 use Rattle.list_laws.proofs.Items.{length_more}
-use Rattle.list_laws.proofs.Tests.{lt_not}
-use Rattle.runs_alike.proofs.Ticking.{NoOwn, like_no_own, known_no_own}
+use Rattle.code_means.proofs.Same.{NoOwn, like_no_own, known_no_own}
 use Rattle.runs_alike.proofs.AllAsks.{asks_once, Talk, Made, all_same}
 use Rattle.runs_alike.proofs.TreeLeft.{IsLeaving}
 use Rattle.runs_alike.proofs.CodeLeft.{leaves_last, closes_next, one_fewer, Rests, goes_so, breaks_rule, rests}
 use Rattle.runs_alike.proofs.CodeLeft as code
+use Rattle.list_laws.proofs.Held.{brought_none}
 
 -- lists
-
-data Snoc {A : Type 0} : List A → Type 0 where
-  empty : Snoc []
-  with_last : (ys : List A) → (y : A) → Snoc (ys ++ y ∷ [])
-
-snoc_more : {A : Type 0} (x : A) (zs : List A) → Snoc zs → Snoc (x ∷ zs)
-snoc_more x _ empty = with_last [] x
-snoc_more x _ (with_last ys y) = with_last (x ∷ ys) y
-
-snoc : {A : Type 0} (xs : List A) → Snoc xs
-snoc [] = empty
-snoc (x ∷ xs) = snoc_more x xs (snoc xs)
-
-none_below : (held : List (ℕ × ℕ)) → held_below 0 held ≡ []
-none_below [] = refl
-none_below (h ∷ held) = ap (λ b. cond b (h ∷ held_below 0 held) (held_below 0 held)) (lt_not h.0 0 (λ l. omega arith)) ∙ none_below held
-
-nothing_brought : (held : List (ℕ × ℕ)) (vs xs : List Value) → brought (held_below 0 held) vs xs ≡ xs
-nothing_brought held vs xs = ap (λ h. brought h vs xs) (none_below held)
 
 -- the tree
 
@@ -99,7 +80,7 @@ says_next (suc m) a line e _ (with_last ys y) short = by y.needed refl (says_nex
       (leave_one a ys y line e ∙ ap (λ b. cond b (asks (closes (nth a.locals y.number) e) line asked [] (λ _. leave_scope 0 line e (finish line (throws e)))) (goes_on (left_at line e (with_pending a ys)))) is)
       refl
       (closed_more a.locals ys y ∙ ap (λ b. cond b (nth a.locals y.number ∷ []) [] ++ closed_of a.locals ys) is
-      ∙ ap (λ locals. nth a.locals y.number ∷ closed_of locals ys) (sym (nothing_brought a.captured.held (no_values shared).shared a.locals)))
+      ∙ ap (λ locals. nth a.locals y.number ∷ closed_of locals ys) (sym (brought_none a.captured.held (no_values shared).shared a.locals)))
   by false is more =
       let moves : step (left_at line e (with_pending a (ys ++ y ∷ []))) ≡ goes_on (left_at line e (with_pending a ys)) =
       leave_one a ys y line e
@@ -196,7 +177,7 @@ module _ (l : Bool) (body : Body) (p : Prototype) where
     rest a' shared talks = after_rest (rests d p (kept shared).pc) where
       after_rest : Rests d p (kept shared).pc → codes.closed_of p n (after_closing b) ≡ closed_of a'.locals a'.pending
       after_rest (goes_so is) =
-          ap (λ rs. codes.closed_of p n (record (after_closing b) { registers = rs })) (sym (nothing_brought c.held (no_values shared).shared (after_closing b).registers))
+          ap (λ rs. codes.closed_of p n (record (after_closing b) { registers = rs })) (sym (brought_none c.held (no_values shared).shared (after_closing b).registers))
           ∙ more a' (kept shared) cut_loose refl (subst (λ t. Talk l body p (left_at line e a') (amid t (d ∷ []) (kept shared) cut_loose)) is talks)
       after_rest (breaks_rule is) =
           absurd (never_stuck l body p line e a' (amid trap (d ∷ []) (kept shared) cut_loose) (subst (λ t. Talk l body p (left_at line e a') (amid t (d ∷ []) (kept shared) cut_loose)) is talks) refl)

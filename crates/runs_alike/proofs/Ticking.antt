@@ -14,25 +14,11 @@ use Rattle.runs_alike.proofs.Dressed.{Part, dress, dress_coroutine, dress_corout
 use Rattle.runs_alike.proofs.Moving.{with_same, with_like, where_same, either_out, now_out, raises_out, yields_out}
 use Rattle.runs_alike.proofs.Answering.{calls_over_out, resumes_out, closes_out}
 use Rattle.runs_alike.proofs.Turning.{handle_out}
-
-abbrev pub NoOwn : {F S : Type 0} → Next F S → Type 0
-NoOwn (goes_on s) = ⊥
-NoOwn _ = Unit {0}
+use Rattle.code_means.proofs.Same.{NoOwn}
 
 pub known_goes : {F S : Type 0} → (l : Bool) (s : S) → as_known {F = F} l (goes_on s) ≡ goes_on s
 known_goes true s = refl
 known_goes false s = refl
-
-pub like_no_own : {A B S T : Type 0} → (R : A → B → Type 0) (Q : S → T → Type 0) (x : Next A S) (y : Next B T) → NextLike R Q x y → NoOwn x × NoOwn y
-like_no_own R Q (says q line shared k) (says r place also l) like = (tt, tt)
-like_no_own R Q stuck stuck like = (tt, tt)
-like_no_own R Q x y like = absurd like
-
-pub known_no_own : {F S : Type 0} → (l : Bool) (x : Next F S) → NoOwn (as_known l x) → NoOwn x
-known_no_own true x a = a
-known_no_own false (goes_on s) a = a
-known_no_own false (says q line shared k) a = tt
-known_no_own false stuck a = tt
 
 -- steps of one world
 

@@ -11,7 +11,8 @@ use Rattle.runs_alike.proofs.Dressed.{Part, state, goes, dressed_function, dress
 use Rattle.runs_alike.proofs.Moving.{same_out, now_out}
 use Rattle.runs_alike.proofs.Answering.{handed_out, raised_out, unwound_out}
 use Rattle.runs_alike.proofs.Turning.{opt_out}
-use Rattle.runs_alike.proofs.Ticking.{like_no_own, known_no_own, sum_of, ticks_sum, seen, own_tick, comes, Reach, PendAlike, turns_out, primitive_out}
+use Rattle.code_means.proofs.Same.{like_no_own, known_no_own}
+use Rattle.runs_alike.proofs.Ticking.{sum_of, ticks_sum, seen, own_tick, comes, Reach, PendAlike, turns_out, primitive_out}
 
 -- the step of an activation on top
 now_tick : {F S : Type 0} → (system : System F S) (prims : ℕ → Option Primitive) (V : World F S) (f : ℕ) (below : List (Frame S)) (g : Function F) (s : S) → slice_get V.functions f ≡ Some g

@@ -2,7 +2,7 @@ pub mod Parts
 pub mod Labels
 pub mod Rules
 mod Named
-mod Views
+pub mod Views
 mod Names
 pub mod Main
 mod Example

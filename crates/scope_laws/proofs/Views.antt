@@ -106,7 +106,7 @@ pub names_length : (fs : List Frame) (names : List Name) → length (placed_name
 names_length fs [] = refl
 names_length fs (name ∷ names) = ap suc (names_length (declare fs (plain_variable name)) names)
 
-declared_length : (fs : List Frame) (names : List Declared) → length (placed_declared fs names) ≡ length names
+pub declared_length : (fs : List Frame) (names : List Declared) → length (placed_declared fs names) ≡ length names
 declared_length fs [] = refl
 declared_length fs (d ∷ names) = ap suc (declared_length (declare fs (declared_variable d)) names)
 

@@ -25,7 +25,8 @@ use Rattle.stat_laws.proofs.Standing.{strong, AllFrom, from_lower, from_more, be
 use Rattle.code_of.proofs.Sizes.{stat_sized}
 use Rattle.stat_laws.proofs.Naming.{StatIsNamed, StatsAreNamed}
 use Rattle.stat_laws.specs.Scoped.{StatIsPlaced, StatsArePlaced}
-use Rattle.stat_laws.proofs.Labels.{closed_numbers, closed_after, IsNoLabel, level_rises, level_still, runs_stat, passed_other, named_other, Jumps, jumps_within, point, RunGoes, AllAhead, all_other, AllPassed, passed_within, rest_jumps}
+use Rattle.stat_laws.proofs.Labels.{closed_numbers, closed_after, IsNoLabel, level_still, runs_stat, passed_other, named_other, Jumps, jumps_within, point, RunGoes, AllAhead, all_other, AllPassed, passed_within, rest_jumps}
+use Rattle.tree_terms.proofs.Levels.{level_rises}
 use Rattle.list_laws.proofs.Items.{append_nil}
 
 -- variables to be closed, behind some statements
@@ -33,10 +34,6 @@ use Rattle.list_laws.proofs.Items.{append_nil}
 abbrev pub closeds_after : Stats → ℕ → List ℕ → List ℕ
 closeds_after EndStats t closed = closed
 closeds_after (MoreStats s ss) t closed = closeds_after ss (level_after s t) (closed_after s t closed)
-
-pub levels_rise : (ss : Stats) (t : ℕ) → t ≤ levels_after ss t
-levels_rise EndStats t = omega arith
-levels_rise (MoreStats s ss) t = let a = level_rises s t in let b = levels_rise ss (level_after s t) in omega (arith, a, b)
 
 numbers_from : (names : List Declared) (t : ℕ) → AllFrom t (closed_numbers names t)
 numbers_from [] t = tt

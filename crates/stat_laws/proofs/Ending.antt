@@ -13,7 +13,8 @@ use Rattle.machine_core.specs.Talk.{talk_step}
 use Rattle.lua_meaning.specs.World.{as_known}
 use Rattle.exp_laws.specs.Setting.{Setting}
 use Rattle.exp_laws.proofs.Talking.{Agree, NextAgree, go_left, of_tree}
-use Rattle.exp_laws.proofs.Leaving.{Snoc, empty, behind, snoc, cut, leave_one}
+use Rattle.list_laws.proofs.Ends.{Snoc, empty, with_last, snoc}
+use Rattle.exp_laws.proofs.Leaving.{cut, leave_one}
 
 module _ (S : Setting) where
   -- code that talks as one state of the tree does talks as another does
@@ -76,8 +77,8 @@ module _ (S : Setting) where
       let done = tree.at (finish line (returns [])) (of_tree S [] [] (record { held = held_below 0 c.held; gone = gone_from 0 c.held env ++ c.gone })) [] in
       go_left S (suc n) _ (tree.at complete (of_tree S [] [] (record { held = held_below 0 c.held; gone = gone_from 0 c.held env ++ c.gone })) (end_of_body line ∷ [])) t refl
       (go_left S (suc n) _ done t refl (went (suc n) (finishing line [] env c) done refl t h))
-  ends_step n below zero line _ (behind ys y) short env c t h = let sum = length-append ys (y ∷ []) in absurd (omega (arith, sum, short))
-  ends_step n below (suc m) line _ (behind ys y) short env c t h =
+  ends_step n below zero line _ (with_last ys y) short env c t h = let sum = length-append ys (y ∷ []) in absurd (omega (arith, sum, short))
+  ends_step n below (suc m) line _ (with_last ys y) short env c t h =
       by y.needed (leave_one S ys y line (known nil) (finish line (returns [])) env c []) (leave_one S ys y line (known nil) complete env c (end_of_body line ∷ []))
       (λ h'. ends_step n below m line ys (snoc ys) (let sum = length-append ys (y ∷ []) in omega (arith, sum, short)) env c t h')
     where

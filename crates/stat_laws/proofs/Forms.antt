@@ -40,7 +40,8 @@ use Rattle.tree_terms.specs.Labels.{Named}
 use Rattle.stat_laws.specs.Scoped.{ArmsArePlaced, BlockIsPlaced}
 use Rattle.code_of.proofs.Sizes.{past_sized, block_sized, arms_sized, stats_sized}
 use Rattle.stat_laws.proofs.Labels.{Jumps, jumps_within}
-use Rattle.stat_laws.proofs.Blocks.{has_some, Added, added_all, added_none, levels_rise, closeds_after, StatLaw, StatsLaw}
+use Rattle.stat_laws.proofs.Blocks.{has_some, Added, added_all, added_none, closeds_after, StatLaw, StatsLaw}
+use Rattle.tree_terms.proofs.Levels.{levels_rise}
 
 module _ (S : Setting) where
   -- the law of expressions

@@ -27,6 +27,7 @@ use Rattle.exp_laws.proofs.Placing.{HasAt}
 use Rattle.stat_laws.proofs.Closing.{AllBelow}
 use Rattle.stat_laws.proofs.Standing.{numbers, AllFrom, from_lower, from_more, GoesOn, lands_ahead, lands_back}
 use Rattle.list_laws.proofs.Items.{append_nil}
+use Rattle.tree_terms.proofs.Levels.{level_rises}
 
 -- the numbers of those variables of a declaration that are to be closed
 
@@ -41,24 +42,6 @@ closed_after _ t closed = closed
 abbrev pub IsNoLabel : Stat → Type 0
 IsNoLabel (Label line name) = ⊥
 IsNoLabel _ = Unit {0}
-
-pub level_rises : (s : Stat) (t : ℕ) → t ≤ level_after s t
-level_rises (Empty line) t = omega arith
-level_rises (Local line names es) t = omega arith
-level_rises (LocalFunction line name' body) t = omega arith
-level_rises (Assign line targets es) t = omega arith
-level_rises (CallStat line e) t = omega arith
-level_rises (Do line block) t = omega arith
-level_rises (While line e block) t = omega arith
-level_rises (Repeat line block e) t = omega arith
-level_rises (If line arms) t = omega arith
-level_rises (IfElse line arms block) t = omega arith
-level_rises (NumFor line name' from limit block) t = omega arith
-level_rises (NumForStep line name' from limit step block) t = omega arith
-level_rises (GenFor line names es block) t = omega arith
-level_rises (Goto line name') t = omega arith
-level_rises (Break line) t = omega arith
-level_rises (Label line name') t = omega arith
 
 pub level_still : (s : Stat) (t : ℕ) (closed : List ℕ) → level_after s t ≤ t → closed_after s t closed ≡ closed
 level_still (Empty line) t closed le = refl

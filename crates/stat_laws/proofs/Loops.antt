@@ -28,7 +28,8 @@ use Rattle.stat_laws.proofs.Closing.{AllBelow, GoesLeft, ends_goes}
 use Rattle.stat_laws.proofs.Standing.{strong, numbers, part, ascends_under, Standing, GoesOn, goes_fewer, back_goes}
 use Rattle.code_of.proofs.Sizes.{close_sized, stats_sized}
 use Rattle.stat_laws.proofs.Labels.{Jumps, jumps_within}
-use Rattle.stat_laws.proofs.Blocks.{Added, added_all, added_none, levels_rise, closeds_after, StatLaw, StatsLaw}
+use Rattle.stat_laws.proofs.Blocks.{Added, added_all, added_none, closeds_after, StatLaw, StatsLaw}
+use Rattle.tree_terms.proofs.Levels.{levels_rise}
 use Rattle.stat_laws.proofs.Forms.{ExpLaw, room_some, past_test, by_test, loop_jumps}
 
 module _ (S : Setting) (back : ℕ) (exps : ExpLaw S) where

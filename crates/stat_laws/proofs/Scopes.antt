@@ -8,17 +8,16 @@ use Rattle.code_core.specs.declared.proto.LocVar.{LocVar}
 use Rattle.code_core.specs.Prototype.{Prototype}
 use Rattle.code_of.specs.Expressions.{made_by, made_in, exp_code, exps_code}
 use Rattle.code_of.specs.Levels.{made_by_stat, made_in_arms, made_in_block, closing_after}
-use Rattle.tree_terms.specs.Levels.{level_after, levels_after}
+use Rattle.tree_terms.specs.Levels.{level_after}
 use Rattle.code_of.specs.Parts.{past_size, bounds_code, steps_code}
 use Rattle.list_laws.proofs.Items.{append_nil}
-use Rattle.code_core.specs.declared.opcode.Opcode.TheVariants.{Return}
 use Rattle.tree_core.specs.declared.name.UpName.{UpName}
-use Rattle.code_of.specs.Coded.{Coded, leaving_by}
+use Rattle.code_of.specs.Coded.{Coded}
 use Rattle.code_of.specs.CodeOf.{back_field, opening, body_code, code_of}
 use Rattle.code_of.specs.Constants.{of_block}
-use Rattle.code_of.specs.Statements.{stats_code, whole_code}
+use Rattle.code_of.specs.Statements.{whole_code}
 use Rattle.stat_laws.specs.Fits.{is_known}
-use Rattle.code_of.proofs.Sizes.{stats_sized, block_sized, close_short}
+use Rattle.code_of.proofs.Sizes.{whole_size}
 use Rattle.code_of.specs.Sizes.{stat_size, arms_size, stats_size, block_size, open_size}
 use Rattle.code_of.specs.Variables.{names_of, variables, hidden, looped, declared_by, within_stat, within_arms, within_stats, within_block, within_open}
 use Rattle.stat_laws.proofs.Naming.{StatIsNamed, ArmsAreNamed, StatsAreNamed, BlockIsNamed, OpenIsNamed}
@@ -278,16 +277,6 @@ begin_size : (vararg : Bool) (params line : ℕ) → length (opening vararg para
 begin_size true params line = refl
 begin_size false params line = refl
 
-whole_wide : (cs : List Const) (back : ℕ) (inner : Block) (params pc : ℕ) → block_size cs back inner false 0 params 0 ≤ length (whole_code cs back inner params pc)
-whole_wide cs back (Falls ss tokens line) params pc =
-    let body = stats_code cs back ss true false 0 params 0 pc [] (record { labels = []; exit = None }) in
-    let sum = length-append body (leaving_by Return (levels_after ss params) 1 back line ∷ []) in
-    let sized = stats_sized cs back ss true false 0 params 0 pc [] (record { labels = []; exit = None }) in
-    let short = close_short 0 (levels_after ss params) line in
-    omega (arith, sum, sized, short)
-whole_wide cs back (Returns ss es tokens line) params pc =
-    let sized = block_sized cs back (Returns ss es tokens line) false 0 params 0 pc (record { labels = []; exit = None }) in omega (arith, sized)
-
 pub body_named : (source : Option (List ℕ)) (params : List Name) (vararg : Bool) (inner : Block) (ups : List UpName) (line : ℕ)
     → BlockIsNamed (is_known source) (code_of source (BodyOf params vararg inner ups line)) (back_field vararg (length params)) inner false 0 (length params) 0 (length (opening vararg (length params) line))
 body_named source params vararg inner ups line =
@@ -307,7 +296,7 @@ body_named source params vararg inner ups line =
     sum = length-append (opening vararg (length params) line) rest
 
     wide : block_size (of_block inner []) (back_field vararg (length params)) inner false 0 (length params) 0 ≤ length rest
-    wide = whole_wide (of_block inner []) (back_field vararg (length params)) inner (length params) (length (opening vararg (length params) line))
+    wide = whole_size (of_block inner []) (back_field vararg (length params)) inner (length params) (length (opening vararg (length params) line))
 
     whole : (source : Option (List ℕ)) → (code_of source (BodyOf params vararg inner ups line)).own.locals ≡ cond (is_known source) (parameters ++ (within (length (opening vararg (length params) line)) ++ [])) []
     whole None = refl
