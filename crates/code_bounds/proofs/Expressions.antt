@@ -2,19 +2,20 @@
 use Rattle.std.proofs.Common.{◌≡◌, ℕ, zero, suc, ◌+◌, ◌-◌, ◌<◌, ◌≤◌, ◌^◌, ◌⊎◌, inl, inr, max, Bool, true, false, cond, List, [], ◌∷◌, ◌++◌, Some, None, refl, ap, lit<, arith}
 use Rattle.tree_core.specs.Tree.{Exp, Nil, True, False, Int, Str, Vararg, Function, Var, Index, Call, Method, Unary, Binary, And, Or, Paren, Table, Exps, EndExps, MoreExps, Fields, EndFields, MoreFields, Item, Keyed}
 use Rattle.tree_terms.specs.Bodies.{line_of_body}
-use Rattle.code_core.specs.declared.opcode.Opcode.TheVariants.{LoadFalse, LoadTrue, GetTable, NewTable, SetTable, Closure, OpSelf, ExtraArg, Call as CallCode}
+use Rattle.code_core.specs.declared.opcode.Opcode.TheVariants.{LoadFalse, LoadTrue, GetTable, NewTable, SetTable, Closure, ExtraArg, Call as CallCode}
 use Rattle.code_core.specs.declared.proto.Const.{Const}
 use Rattle.code_core.specs.declared.proto.Const.TheVariants.{Int as IntConst, Str as StrConst}
 use Rattle.code_core.specs.Instruction.{op_ax}
 use Rattle.code_of.specs.Coded.{Coded, with_abc}
-use Rattle.code_of.specs.Constants.{is_small, small_field, loads}
+use Rattle.code_of.specs.Constants.{is_small, small_field}
 use Rattle.code_of.specs.Operators.{prefix_code, operator_code}
 use Rattle.code_of.specs.Expressions.{made_by, count, is_open, is_last_open, ends_open, list_field, Wanted, results_field, one_less, field_of, wanted_after, is_last_item, set_list, exp_code, exps_code, fields_code}
-use Rattle.code_of.specs.Rooms.{room_of_values, room_of_nils, room_of, room_of_list, room_of_fields}
-use Rattle.code_of.proofs.Rooms.{name_room}
+use Rattle.code_of.specs.Rooms.{room_of_values, room_of_nils, room_of, room_of_list, room_of_fields, room_of_self}
+use Rattle.code_of.proofs.Rooms.{name_room, self_room}
+use Rattle.code_of.specs.Operators.{self_code}
 use Rattle.scope_laws.specs.Finding.{ExpFinds, ExpsFind, FieldsFind}
-use Rattle.code_bounds.proofs.Tops.{top, top_more, top_append, ax_is, one_a, one_abc, one_ax, one_nil, one_store, one_self, one_call, rest_below, rest_above}
-use Rattle.code_bounds.proofs.Pieces.{Takes, ListTakes, takes_one, loads_top, integer_top, name_takes, prefix_top, operator_top, two_take, one_takes, either_takes, nils_take, more_take, call_takes, method_takes, set_top}
+use Rattle.code_bounds.proofs.Tops.{top, top_more, top_append, ax_is, one_a, one_abc, one_ax, one_nil, one_store, one_call, rest_below, rest_above}
+use Rattle.code_bounds.proofs.Pieces.{self_top, Takes, ListTakes, takes_one, loads_top, integer_top, name_takes, prefix_top, operator_top, two_take, one_takes, either_takes, nils_take, more_take, call_takes, method_takes, set_top}
 
 -- fields of calls and `...`
 
@@ -160,13 +161,13 @@ module _ (cs : List Const) where
           let b = list_field 1 es in
           let few = field_room es 1 in
           let counted = count_room es 2 in
-          method_takes t (room_of cs object 2) l b field (room_of_values field) (exp_code cs object t j 2) (loads cs (StrConst name.text) (t + 1) line)
-          (exps_code cs es None (t + 2) (j + made_by object) line) (with_abc CallCode t b field line ∷ []) (with_abc OpSelf t t (t + 1) line) some
+          let two = (self_room cs name.text).0 in
+          method_takes t (room_of cs object 2) (room_of_self cs name.text) l b field (room_of_values field) (exp_code cs object t j 2) (self_code cs name.text t line)
+          (exps_code cs es None (t + 2) (j + made_by object) line) (with_abc CallCode t b field line ∷ []) some two
           (exp_takes object size t j 2 known.0 above (lit< tt) (omega arith))
-          (let e = loads_top cs (StrConst name.text) (t + 1) line (omega arith) in omega (arith, e))
-          (one_self t (omega arith))
+          (self_top cs name.text t line (omega arith))
           (exps_take es None 2 t (t + 2) size (j + made_by object) line refl known.1 (omega arith) (lit< tt) (omega arith))
-          (one_call t b field (omega arith) (omega (arith, few, counted, some)) fits) (omega (arith, few, counted, some)) (values_low field) (values_high field)
+          (one_call t b field (omega (arith, small, two)) (omega (arith, small, few, counted, some)) fits) (omega (arith, few, counted, some)) (values_low field) (values_high field)
       exp_takes (Unary line op e) size t j field known above fits small =
           let some = own_room e in
           one_takes t (room_of cs e 2) (exp_code cs e t j 2) (prefix_code op t line) some (exp_takes e size t j 2 known above (lit< tt) small)

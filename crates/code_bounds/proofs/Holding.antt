@@ -9,6 +9,7 @@ use Rattle.code_of.specs.Constants.{number_in}
 use Rattle.code_of.specs.Expressions.{count, is_open, is_last_item, Wanted, results_field, one_less}
 use Rattle.scope_core.specs.Held.{positional, held_name, held, held_behind, held_fields, held_field}
 use Rattle.scope_core.specs.Held as held_specs
+use Rattle.code_of.proofs.Rooms.{self_room}
 use Rattle.code_of.specs.Rooms.{room_of_values, room_of_nils, room_of_name, room_of, room_of_list, room_of_fields}
 
 -- both counts of a list are one
@@ -130,7 +131,7 @@ module _ (cs : List Const) where
     exp_held (Var line name) field = let h = name_held name.place name.text in omega (arith, h)
     exp_held (Index line object key) field = let a = item_by object false (exp_held object) in let b = item_by key false (exp_held key) in omega (arith, a, b)
     exp_held (Call line f es) field = let a = item_by f false (exp_held f) in let b = exps_held es None 1 in omega (arith, a, b)
-    exp_held (Method line object name es) field = let a = item_by object false (exp_held object) in let b = exps_held es None 2 in omega (arith, a, b)
+    exp_held (Method line object name es) field = let a = item_by object false (exp_held object) in let b = exps_held es None 2 in let c = (self_room cs name.text).1 in omega (arith, a, b, c)
     exp_held (Unary line op e) field = let a = item_by e false (exp_held e) in omega (arith, a)
     exp_held (Binary line op e d) field = let a = item_by e false (exp_held e) in let b = item_by d false (exp_held d) in omega (arith, a, b)
     exp_held (And line e d) field = let a = item_by e false (exp_held e) in let b = item_by d false (exp_held d) in omega (arith, a, b)

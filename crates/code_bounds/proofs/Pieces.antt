@@ -7,7 +7,7 @@ use Rattle.tree_core.specs.declared.operator.UnOp.TheVariants.{Neg, BitNot, Not 
 use Rattle.tree_core.specs.declared.operator.BinOp.{BinOp}
 use Rattle.tree_core.specs.declared.operator.BinOp.TheVariants.{Add as Plus, Sub as Minus, Mul as Times, Mod as Modulo, Idiv, Band, Bor, Bxor, Shl as ShiftLeft, Shr as ShiftRight, Concat as Join, Eq as Equal, Ne, Lt as Less, Le as AtMost, Gt, Ge}
 use Rattle.code_core.specs.declared.opcode.Opcode.{Opcode}
-use Rattle.code_core.specs.declared.opcode.Opcode.TheVariants.{Move, LoadI, LoadK, LoadKx, LFalseSkip, LoadTrue, GetUpval, GetTabUp, GetTable, Add, Sub, Mul, Mod, IDiv, BAnd, BOr, BXor, Shl, Shr, MmBin, Unm, BNot, Not, Len, Eq, Lt, Le, Test, SetList, ExtraArg, Jmp}
+use Rattle.code_core.specs.declared.opcode.Opcode.TheVariants.{OpSelf, Move, LoadI, LoadK, LoadKx, LFalseSkip, LoadTrue, GetUpval, GetTabUp, GetTable, Add, Sub, Mul, Mod, IDiv, BAnd, BOr, BXor, Shl, Shr, MmBin, Unm, BNot, Not, Len, Eq, Lt, Le, Test, SetList, ExtraArg, Jmp}
 use Rattle.code_core.specs.declared.instruction.Instruction.{Instruction}
 use Rattle.code_core.specs.declared.proto.Const.{Const}
 use Rattle.code_core.specs.declared.proto.Const.TheVariants.{Str as StrConst}
@@ -15,11 +15,11 @@ use Rattle.code_core.specs.Instruction.{abc, op_ax, a_of, b_of, c_of}
 use Rattle.code_core.specs.Fields.{registers}
 use Rattle.code_of.specs.Coded.{Coded, with_abc, with_abx, jump_over}
 use Rattle.code_of.specs.Constants.{number_in, loads}
-use Rattle.code_of.specs.Operators.{name_code, prefix_code, arithmetic_code, truth_code, operator_code}
+use Rattle.code_of.specs.Operators.{name_code, prefix_code, arithmetic_code, truth_code, operator_code, self_code}
 use Rattle.code_of.specs.Expressions.{Wanted, nils_code, either_code, set_list}
-use Rattle.code_of.specs.Rooms.{room_of_name, room_of_nils}
+use Rattle.code_of.specs.Rooms.{room_of_name, room_of_self, room_of_nils}
 use Rattle.scope_laws.specs.Finding.{PlaceIsThere}
-use Rattle.code_bounds.proofs.Tops.{top, one, top_more, top_append, ax_is, one_a, one_ab, one_abc, one_ax, one_sum, one_nil, one_join}
+use Rattle.code_bounds.proofs.Tops.{one_self, one_self_key, top, one, top_more, top_append, ax_is, one_a, one_ab, one_abc, one_ax, one_sum, one_nil, one_join}
 
 abbrev pub Takes : (t n : ℕ) → List Coded → Type 0
 Takes t n code = (top code ≤ t + n) × (t + n ≤ max t (top code))
@@ -78,6 +78,19 @@ module _ (cs : List Const) (text : List ℕ) where
       let c = one_abc GetTable t n t false refl (omega arith) (omega (arith, known.0)) (omega arith) in
       (omega (arith, a, b, c), omega (arith, a, b, c))
   name_takes (GlobalOf u) hidden ups size t line known above small = global_takes u (number_in cs (StrConst text)) t line (nat_lt (number_in cs (StrConst text)) 256) small
+
+-- a method by its name
+
+pub self_top : (cs : List Const) (text : List ℕ) (t line : ℕ) → t + room_of_self cs text ≤ 255 → top (self_code cs text t line) ≡ t + room_of_self cs text
+self_top cs text t line small = by (nat_lt (number_in cs (StrConst text)) 256) small
+  where
+    by : (b : Bool) → t + cond b 2 3 ≤ 255 → top (cond b ((abc OpSelf t t (number_in cs (StrConst text)) true, line) ∷ []) (loads cs (StrConst text) (t + 2) line ++ with_abc OpSelf t t (t + 2) line ∷ [])) ≡ t + cond b 2 3
+    by true small = let e = one_self_key t (number_in cs (StrConst text)) (omega (arith, small)) in omega (arith, e)
+    by false small =
+        let a = top_append (loads cs (StrConst text) (t + 2) line) (with_abc OpSelf t t (t + 2) line ∷ []) in
+        let b = loads_top cs (StrConst text) (t + 2) line (omega (arith, small)) in
+        let c = one_self t (t + 2) (omega (arith, small)) (omega (arith, small)) in
+        omega (arith, a, b, c)
 
 -- operators
 
@@ -188,17 +201,16 @@ call_takes t x l b c v first list call some h k e few low high =
         (all ≤ t + max x (max l v)) × (t + max x (max l v) ≤ max t all)
     by m n o i all is p q r s o_is i_low i_high = (omega arith, omega arith)
 
-pub method_takes : (t x l b c v : ℕ) (first load list call : List Coded) (self : Coded) → 1 ≤ x → Takes t x first → top load ≡ t + 2 → one self.0 ≡ t + 2 → ListTakes t (t + 2) l list →
-    top call ≡ max (t + 1) (max (t + b) (t + (c - 1))) → b ≤ max 2 l → c - 1 ≤ v → v ≤ max 1 (c - 1) → Takes t (max x (max (max 2 l) v)) (first ++ (load ++ (self ∷ (list ++ call))))
-method_takes t x l b c v first load list call self some h loaded named k e few low high =
-    let a = top_append first (load ++ (self ∷ (list ++ call))) in
-    let d = top_append load (self ∷ (list ++ call)) in
-    let f = top_more self (list ++ call) in
+pub method_takes : (t x z l b c v : ℕ) (first named list call : List Coded) → 1 ≤ x → 2 ≤ z → Takes t x first → top named ≡ t + z → ListTakes t (t + 2) l list →
+    top call ≡ max (t + 1) (max (t + b) (t + (c - 1))) → b ≤ max 2 l → c - 1 ≤ v → v ≤ max 1 (c - 1) → Takes t (max x (max (max z l) v)) (first ++ (named ++ (list ++ call)))
+method_takes t x z l b c v first named list call some two h named_is k e few low high =
+    let a = top_append first (named ++ (list ++ call)) in
+    let d = top_append named (list ++ call) in
     let g = top_append list call in
-    by (top first) (top list) (top call) (c - 1) (top (first ++ (load ++ (self ∷ (list ++ call))))) (omega (arith, a, d, f, g, loaded, named)) h.0 h.1 k.0 k.1 e low high
+    by (top first) (top list) (top call) (c - 1) (top (first ++ (named ++ (list ++ call)))) (omega (arith, a, d, g, named_is)) h.0 h.1 k.0 k.1 e low high
   where
-    by : (m n o i all : ℕ) → all ≡ max m (max (t + 2) (max n o)) → m ≤ t + x → t + x ≤ max t m → n ≤ t + l → t + l ≤ max (t + 2) n → o ≡ max (t + 1) (max (t + b) (t + i)) → i ≤ v → v ≤ max 1 i →
-        (all ≤ t + max x (max (max 2 l) v)) × (t + max x (max (max 2 l) v) ≤ max t all)
+    by : (m n o i all : ℕ) → all ≡ max m (max (t + z) (max n o)) → m ≤ t + x → t + x ≤ max t m → n ≤ t + l → t + l ≤ max (t + 2) n → o ≡ max (t + 1) (max (t + b) (t + i)) → i ≤ v → v ≤ max 1 i →
+        (all ≤ t + max x (max (max z l) v)) × (t + max x (max (max z l) v) ≤ max t all)
     by m n o i all is p q r s o_is i_low i_high = (omega arith, omega arith)
 
 -- a constructor's item is stored

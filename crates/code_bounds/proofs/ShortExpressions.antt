@@ -12,7 +12,7 @@ use Rattle.code_core.specs.declared.proto.Const.TheVariants.{Int as IntConst, St
 use Rattle.code_core.specs.Instruction.{abc, op_ax}
 use Rattle.code_of.specs.Coded.{Coded, with_abc, with_abx, jump_over}
 use Rattle.code_of.specs.Constants.{is_small, small_field, number_in, loads, loads_numbered, loads_integer}
-use Rattle.code_of.specs.Operators.{name_code, global_code, prefix_code, operator_code}
+use Rattle.code_of.specs.Operators.{name_code, global_code, prefix_code, operator_code, self_code}
 use Rattle.code_of.specs.Expressions.{made_by, list_field, is_last_open, is_last_item, Wanted, one_less, field_of, wanted_after, nils_code, either_code, set_list, exp_code, exps_code, fields_code}
 use Rattle.tree_terms.specs.Weight.{weight, weight_of_arguments, weight_of_exps, weight_of_fields}
 
@@ -49,6 +49,13 @@ name_short cs (Upvalue u) text t line = omega arith
 name_short cs (GlobalIn n) text t line =
     omega (arith, loads_short cs (StrConst text) t line, length-append (loads cs (StrConst text) t line) (with_abc GetTable t n t line ∷ []))
 name_short cs (GlobalOf u) text t line = global_short (number_in cs (StrConst text)) u (loads cs (StrConst text) (t + 1) line) t line (loads_short cs (StrConst text) (t + 1) line)
+
+pub self_short : (cs : List Const) (text : List ℕ) (t line : ℕ) → length (self_code cs text t line) ≤ 3
+self_short cs text t line = by (nat_lt (number_in cs (StrConst text)) 256)
+  where
+    by : (b : Bool) → length (cond b ((abc OpSelf t t (number_in cs (StrConst text)) true, line) ∷ []) (loads cs (StrConst text) (t + 2) line ++ with_abc OpSelf t t (t + 2) line ∷ [])) ≤ 3
+    by true = omega arith
+    by false = omega (arith, loads_short cs (StrConst text) (t + 2) line, length-append (loads cs (StrConst text) (t + 2) line) (with_abc OpSelf t t (t + 2) line ∷ []))
 
 operator_short : (op : BinOp) (t line : ℕ) → length (operator_code op t line) ≤ 4
 operator_short Plus t line = omega arith
@@ -123,14 +130,14 @@ module _ (cs : List Const) where
         let call = with_abc CallCode t (list_field 0 es) c line ∷ [] in
         omega (arith, exp_short f t j 2, arguments_short es (t + 1) (j + made_by f) line, length-append (exp_code cs f t j 2) (arguments ++ call), length-append arguments call)
     exp_short (Method line object name es) t j c =
-        let key = loads cs (StrConst name.text) (t + 1) line in
+        let key = self_code cs name.text t line in
         let arguments = exps_code cs es None (t + 2) (j + made_by object) line in
         let call = with_abc CallCode t (list_field 1 es) c line ∷ [] in
-        let after = with_abc OpSelf t t (t + 1) line ∷ (arguments ++ call) in
+        let after = arguments ++ call in
         omega (
           arith,
           exp_short object t j 2,
-          loads_short cs (StrConst name.text) (t + 1) line,
+          self_short cs name.text t line,
           arguments_short es (t + 2) (j + made_by object) line,
           length-append (exp_code cs object t j 2) (key ++ after),
           length-append key after,

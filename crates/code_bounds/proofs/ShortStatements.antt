@@ -5,18 +5,18 @@ use Rattle.tree_core.specs.declared.name.Place.{Place}
 use Rattle.tree_core.specs.declared.name.Place.TheVariants.{Unset, Upvalue, GlobalIn, GlobalOf, Local as LocalPlace}
 use Rattle.tree_core.specs.Tree.{Block, Falls, Returns, Stats, EndStats, MoreStats, Stat, Empty, Local, LocalFunction, Assign, CallStat, Do, While, Repeat, If, IfElse, NumFor, NumForStep, GenFor, Label, Goto, Break, Arms, EndArms, MoreArms, Exp, Var, Index, Call, Method, Exps, EndExps, MoreExps}
 use Rattle.tree_activation.specs.Statements.{is_closed}
-use Rattle.code_core.specs.declared.opcode.Opcode.TheVariants.{Tbc, OpSelf, TailCall, Return}
+use Rattle.code_core.specs.declared.opcode.Opcode.TheVariants.{Tbc, TailCall, Return}
 use Rattle.code_core.specs.declared.proto.Const.{Const}
 use Rattle.code_core.specs.declared.proto.Const.TheVariants.{Str as StrConst}
 use Rattle.code_of.specs.Coded.{with_abc, leaving_by}
-use Rattle.code_of.specs.Constants.{loads}
+use Rattle.code_of.specs.Operators.{self_code}
 use Rattle.code_of.specs.Expressions.{made_by, made_in, count, list_field, exp_code, exps_code}
 use Rattle.code_of.specs.Levels.{made_by_stat, made_in_arms, made_in_stats, made_in_block, closing_after, closings_after}
 use Rattle.tree_terms.specs.Levels.{level_after, levels_after, levels_in}
 use Rattle.code_of.specs.Parts.{marks_code, past_size, default_step, name_target, target_code, targets_code, name_store, store_code, stores_code, assign_code, call_last, method_last, values_last, return_code, pair_code, bounds_code, steps_code}
 use Rattle.code_of.specs.Sizes.{stat_size, arms_size, stats_size, block_size, open_size}
 use Rattle.tree_terms.specs.Weight.{weight, weight_of_arguments, weight_of_exps, weight_of_stat, weight_of_arms, weight_of_stats, weight_of_block}
-use Rattle.code_bounds.proofs.ShortExpressions.{loads_short, exp_short, arguments_short, exps_short}
+use Rattle.code_bounds.proofs.ShortExpressions.{loads_short, self_short, exp_short, arguments_short, exps_short}
 use Rattle.code_of.proofs.Sizes.{close_short}
 
 marks_short : (names : List Declared) (t : ℕ) → length (marks_code names t) ≤ length names
@@ -93,14 +93,14 @@ module _ (cs : List Const) where
 
   method_last_short : (object : Exp) (name : List ℕ) (es : Exps) (t j line back : ℕ) → length (method_last cs object name es t j line back) ≤ 6 * weight object + 6 * weight_of_arguments es + 6
   method_last_short object name es t j line back =
-      let key = loads cs (StrConst name) (t + 1) line in
+      let key = self_code cs name t line in
       let arguments = exps_code cs es None (t + 2) (j + made_by object) line in
       let last = leaving_by TailCall t (list_field 1 es) back line ∷ leaving_by Return t 0 back line ∷ [] in
-      let after = with_abc OpSelf t t (t + 1) line ∷ (arguments ++ last) in
+      let after = arguments ++ last in
       omega (
         arith,
         exp_short cs object t j 2,
-        loads_short cs (StrConst name) (t + 1) line,
+        self_short cs name t line,
         arguments_short cs es (t + 2) (j + made_by object) line,
         length-append (exp_code cs object t j 2) (key ++ after),
         length-append key after,

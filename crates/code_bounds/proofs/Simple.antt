@@ -4,19 +4,19 @@ use Rattle.std.specs.Prelude.{nat_lt, nat_eq}
 use Rattle.tree_core.specs.declared.name.Declared.{Declared}
 use Rattle.tree_core.specs.Tree.{Exp, Vararg, Call, Method, Exps, EndExps, MoreExps}
 use Rattle.tree_activation.specs.Statements.{is_closed}
-use Rattle.code_core.specs.declared.opcode.Opcode.TheVariants.{OpSelf, Close, Tbc, TailCall, Return}
+use Rattle.code_core.specs.declared.opcode.Opcode.TheVariants.{Close, Tbc, TailCall, Return}
 use Rattle.code_core.specs.declared.proto.Const.{Const}
-use Rattle.code_core.specs.declared.proto.Const.TheVariants.{Str as StrConst}
 use Rattle.code_core.specs.Instruction.{abc}
 use Rattle.code_of.specs.Coded.{with_abc, leaving_by}
-use Rattle.code_of.specs.Constants.{loads}
 use Rattle.code_of.specs.Expressions.{made_by, is_open, list_field, Wanted, results_field, exp_code, exps_code}
 use Rattle.code_of.specs.Parts.{marks_code, close_code, call_last, method_last, values_last, return_code}
 use Rattle.scope_core.specs.Held.{held, held_behind}
-use Rattle.code_of.specs.Rooms.{room_of_values, room_of_nils, room_of, room_of_list}
+use Rattle.code_of.specs.Rooms.{room_of_values, room_of_nils, room_of, room_of_list, room_of_self}
+use Rattle.code_of.proofs.Rooms.{self_room}
+use Rattle.code_of.specs.Operators.{self_code}
 use Rattle.scope_laws.specs.Finding.{ExpFinds, ExpsFind}
-use Rattle.code_bounds.proofs.Tops.{top, one, top_more, top_append, one_a, one_self, one_tail, one_return}
-use Rattle.code_bounds.proofs.Pieces.{Takes, ListTakes, loads_top, call_takes, method_takes}
+use Rattle.code_bounds.proofs.Tops.{top, one, top_more, top_append, one_a, one_tail, one_return}
+use Rattle.code_bounds.proofs.Pieces.{self_top, Takes, ListTakes, call_takes, method_takes}
 use Rattle.code_bounds.proofs.Expressions.{own_room, count_room, field_room, exp_takes, exps_take}
 use Rattle.code_bounds.proofs.Holding.{wanted_count, exp_held, exps_held, all_held}
 use Rattle.code_bounds.proofs.Room.{HasRoom}
@@ -109,21 +109,21 @@ module _ (cs : List Const) where
       (ends_call t b line back (omega arith) (omega (arith, few, counted, some))) (omega (arith, few, counted, some)) (omega arith) (omega arith)
 
   method_last_takes : (hidden : List ℕ) (ups : ℕ) (object : Exp) (name : List ℕ) (es : Exps) (size t j line back : ℕ) → ExpFinds object hidden size ups → ExpsFind es hidden size ups → size ≤ t →
-      t + max (room_of cs object 2) (max (max 2 (room_of_list cs 2 es None)) 1) ≤ 255 →
-      Takes t (max (room_of cs object 2) (max (max 2 (room_of_list cs 2 es None)) 1)) (method_last cs object name es t j line back)
+      t + max (room_of cs object 2) (max (max (room_of_self cs name) (room_of_list cs 2 es None)) 1) ≤ 255 →
+      Takes t (max (room_of cs object 2) (max (max (room_of_self cs name) (room_of_list cs 2 es None)) 1)) (method_last cs object name es t j line back)
   method_last_takes hidden ups object name es size t j line back known all_known above small =
       let some = own_room cs object in
       let l = room_of_list cs 2 es None in
       let b = list_field 1 es in
       let few = field_room cs es 1 in
       let counted = count_room cs es 2 in
-      method_takes t (room_of cs object 2) l b 0 1 (exp_code cs object t j 2) (loads cs (StrConst name) (t + 1) line) (exps_code cs es None (t + 2) (j + made_by object) line)
-      (leaving_by TailCall t b back line ∷ leaving_by Return t 0 back line ∷ []) (with_abc OpSelf t t (t + 1) line) some
+      let two = (self_room cs name).0 in
+      method_takes t (room_of cs object 2) (room_of_self cs name) l b 0 1 (exp_code cs object t j 2) (self_code cs name t line) (exps_code cs es None (t + 2) (j + made_by object) line)
+      (leaving_by TailCall t b back line ∷ leaving_by Return t 0 back line ∷ []) some two
       (exp_takes cs hidden ups object size t j 2 known above (lit< tt) (omega arith))
-      (let e = loads_top cs (StrConst name) (t + 1) line (omega arith) in omega (arith, e))
-      (one_self t (omega arith))
+      (self_top cs name t line (omega arith))
       (exps_take cs hidden ups es None 2 t (t + 2) size (j + made_by object) line refl all_known (omega arith) (lit< tt) (omega arith))
-      (ends_call t b line back (omega arith) (omega (arith, few, counted, some))) (omega (arith, few, counted, some)) (omega arith) (omega arith)
+      (ends_call t b line back (omega (arith, small, two)) (omega (arith, small, few, counted, some))) (omega (arith, few, counted, some)) (omega arith) (omega arith)
 
   abbrev ReturnTakes : Bool → Exps → Type 0
   ReturnTakes closing es = (hidden : List ℕ) (ups size t j line back : ℕ) → ExpsFind es hidden size ups → size ≤ t → t + room_of_list cs 0 es None ≤ 254 → ListTakes t t (room_of_list cs 0 es None) (return_code cs closing es t j line back)

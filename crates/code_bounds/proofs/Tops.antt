@@ -141,15 +141,30 @@ one_store a b c a_fits b_fits c_fits =
     let w = abc SetTable a b c false in
     one_abc SetTable a b c false (ap (λ l. a_of w ∷ b_of w ∷ l) (third_is SetTable a b c a_fits)) a_fits b_fits c_fits
 
-pub one_self : (t : ℕ) → t + 1 < 2 ^ 8 → one (abc OpSelf t t (t + 1) false) ≡ t + 2
-one_self t fits =
-    let w = abc OpSelf t t (t + 1) false in
-    let small : t < 2 ^ 8 = omega arith in
-    let e = abc_is OpSelf t t (t + 1) false ((a_of w + 1) ∷ b_of w ∷ c_of w ∷ []) (ap (λ l. (a_of w + 1) ∷ b_of w ∷ l) (third_is OpSelf t t (t + 1) small)) in
-    by (a_of w) (b_of w) (c_of w) e (a_of-abc OpSelf t t (t + 1) false small) (b_of-abc OpSelf t t (t + 1) false small small) (c_of-abc OpSelf t t (t + 1) false small small fits)
+pub one_self : (t y : ℕ) → t < 2 ^ 8 → y < 2 ^ 8 → one (abc OpSelf t t y false) ≡ max (t + 2) (y + 1)
+one_self t y small fits =
+    let w = abc OpSelf t t y false in
+    let e = abc_is OpSelf t t y false ((a_of w + 1) ∷ b_of w ∷ c_of w ∷ []) (ap (λ l. (a_of w + 1) ∷ b_of w ∷ l) (third_is OpSelf t t y small)) in
+    by (a_of w) (b_of w) (c_of w) e (a_of-abc OpSelf t t y false small) (b_of-abc OpSelf t t y false small small) (c_of-abc OpSelf t t y false small small fits)
   where
-    by : (x y z : ℕ) → one (abc OpSelf t t (t + 1) false) ≡ room_for ((x + 1) ∷ y ∷ z ∷ []) 0 → x ≡ t → y ≡ t → z ≡ t + 1 → one (abc OpSelf t t (t + 1) false) ≡ t + 2
-    by x y z e f g h = omega arith
+    by : (a b c : ℕ) → one (abc OpSelf t t y false) ≡ room_for ((a + 1) ∷ b ∷ c ∷ []) 0 → a ≡ t → b ≡ t → c ≡ y → one (abc OpSelf t t y false) ≡ max (t + 2) (y + 1)
+    by a b c e f g h = omega arith
+
+-- where the third operand is a constant
+flag_set : (op : Opcode) (a b c : ℕ) → a < 2 ^ 8 → bits_from 15 1 (abc op a b c true) ≡ 1
+flag_set op a b c a_fits = let small = number_below op in omega arith
+
+no_third : (op : Opcode) (a b c : ℕ) → a < 2 ^ 8 → register_or_constant (abc op a b c true) ≡ []
+no_third op a b c a_fits = ap (λ n. if n == 1 then [] else c_of (abc op a b c true) ∷ []) (flag_set op a b c a_fits)
+
+pub one_self_key : (t n : ℕ) → t < 2 ^ 8 → one (abc OpSelf t t n true) ≡ t + 2
+one_self_key t n small =
+    let w = abc OpSelf t t n true in
+    let e = abc_is OpSelf t t n true ((a_of w + 1) ∷ b_of w ∷ []) (ap (λ l. (a_of w + 1) ∷ b_of w ∷ l) (no_third OpSelf t t n small)) in
+    by (a_of w) (b_of w) e (a_of-abc OpSelf t t n true small) (b_of-abc OpSelf t t n true small small)
+  where
+    by : (a b : ℕ) → one (abc OpSelf t t n true) ≡ room_for ((a + 1) ∷ b ∷ []) 0 → a ≡ t → b ≡ t → one (abc OpSelf t t n true) ≡ t + 2
+    by a b e f g = omega arith
 
 -- lists of registers whose number is a field
 

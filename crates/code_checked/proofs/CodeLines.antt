@@ -16,7 +16,7 @@ use Rattle.code_core.specs.declared.proto.Const.TheVariants.{Int as IntConst, St
 use Rattle.code_core.specs.Writable.{number_fits}
 use Rattle.code_of.specs.Coded.{Coded, lines, jump_over, jump_back}
 use Rattle.code_of.specs.Constants.{is_small, number_in, loads, loads_integer, of_block}
-use Rattle.code_of.specs.Operators.{name_code, operator_code}
+use Rattle.code_of.specs.Operators.{name_code, self_code, operator_code}
 use Rattle.code_of.specs.Expressions.{made_by, made_in, count, Wanted, is_last_item, field_of, wanted_after, nils_code, set_list, exp_code, exps_code, fields_code}
 use Rattle.code_of.specs.Jumps.{Landing, Visible, Reach, label_in, leads}
 use Rattle.code_of.specs.Levels.{made_by_stat, made_in_arms, made_in_stats, made_in_block, closing_after, closings_after}
@@ -47,6 +47,10 @@ either false xs ys h k = k
 
 loads_lines : (cs : List Const) (x : Const) (t line : ℕ) → LineFits line → LinesFit (loads cs x t line)
 loads_lines cs x t line h = either (nat_lt (number_in cs x) 131072) _ _ (h, tt) (h, (h, tt))
+
+method_lines : (cs : List Const) (text : List ℕ) (t line : ℕ) → LineFits line → LinesFit (self_code cs text t line)
+method_lines cs text t line h =
+    either (nat_lt (number_in cs (StrConst text)) 256) _ _ (h, tt) (lines_both (loads cs (StrConst text) (t + 2) line) _ (loads_lines cs (StrConst text) (t + 2) line h) (h, tt))
 
 integer_lines : (cs : List Const) (z : ℤ) (t line : ℕ) → LineFits line → LinesFit (loads_integer cs z t line)
 integer_lines cs z t line h = either (is_small z) _ _ (h, tt) (loads_lines cs (IntConst z) t line h)
@@ -119,8 +123,8 @@ module _ (cs : List Const) where
     exp_lines (Index line o k) t j c w = lines_both (exp_code cs o t j 2) _ (exp_lines o t j 2 w.1.0) (lines_both (exp_code cs k (t + 1) (j + made_by o) 2) _ (exp_lines k (t + 1) (j + made_by o) 2 w.1.1) (w.0, tt))
     exp_lines (Call line f es) t j c w = lines_both (exp_code cs f t j 2) _ (exp_lines f t j 2 w.1.0) (lines_both (exps_code cs es None (t + 1) (j + made_by f) line) _ (exps_lines es None (t + 1) (j + made_by f) line w.0 w.1.1) (w.0, tt))
     exp_lines (Method line o name es) t j c w =
-        lines_both (exp_code cs o t j 2) _ (exp_lines o t j 2 w.1.0) (lines_both (loads cs (StrConst name.text) (t + 1) line) _ (loads_lines cs (StrConst name.text) (t + 1) line w.0)
-        (w.0, lines_both (exps_code cs es None (t + 2) (j + made_by o) line) _ (exps_lines es None (t + 2) (j + made_by o) line w.0 w.1.1.1) (w.0, tt)))
+        lines_both (exp_code cs o t j 2) _ (exp_lines o t j 2 w.1.0) (lines_both (self_code cs name.text t line) _ (method_lines cs name.text t line w.0)
+        (lines_both (exps_code cs es None (t + 2) (j + made_by o) line) _ (exps_lines es None (t + 2) (j + made_by o) line w.0 w.1.1.1) (w.0, tt)))
     exp_lines (Unary line op e) t j c w = lines_both (exp_code cs e t j 2) _ (exp_lines e t j 2 w.1) (w.0, tt)
     exp_lines (Binary line op e d) t j c w = lines_both (exp_code cs e t j 2) _ (exp_lines e t j 2 w.1.0) (lines_both (exp_code cs d (t + 1) (j + made_by e) 2) _ (exp_lines d (t + 1) (j + made_by e) 2 w.1.1) (operator_lines op t line w.0))
     exp_lines (And line e d) t j c w = lines_both (exp_code cs e t j 2) _ (exp_lines e t j 2 w.1.0) (w.0, (w.0, exp_lines d t (j + made_by e) 2 w.1.1))
@@ -195,8 +199,8 @@ module _ (cs : List Const) where
       lines_both (exp_code cs f t j 2) _ (exp_lines f t j 2 c.1.0) (lines_both (exps_code cs es None (t + 1) (j + made_by f) at_line) _ (exps_lines es None (t + 1) (j + made_by f) at_line c.0 c.1.1) (c.0, (c.0, tt)))
   return_lines false (MoreExps (Method at_line o name es) EndExps) t j line back h w =
       let c = w.0 in
-      lines_both (exp_code cs o t j 2) _ (exp_lines o t j 2 c.1.0) (lines_both (loads cs (StrConst name.text) (t + 1) at_line) _ (loads_lines cs (StrConst name.text) (t + 1) at_line c.0)
-      (c.0, lines_both (exps_code cs es None (t + 2) (j + made_by o) at_line) _ (exps_lines es None (t + 2) (j + made_by o) at_line c.0 c.1.1.1) (c.0, (c.0, tt))))
+      lines_both (exp_code cs o t j 2) _ (exp_lines o t j 2 c.1.0) (lines_both (self_code cs name.text t at_line) _ (method_lines cs name.text t at_line c.0)
+      (lines_both (exps_code cs es None (t + 2) (j + made_by o) at_line) _ (exps_lines es None (t + 2) (j + made_by o) at_line c.0 c.1.1.1) (c.0, (c.0, tt))))
   return_lines closing es t j line back h w = values_lines es t j line back h w
 
   module _ (back : ℕ) where

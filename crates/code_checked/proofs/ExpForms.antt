@@ -19,7 +19,7 @@ use Rattle.code_checked.proofs.Pieces.{closed, listed, Piece, both, nothing}
 use Rattle.code_checked.proofs.Words.{simple, simple_get_table}
 use Rattle.code_checked.proofs.Found.{Grows, grows_then, grows_with, is_in}
 use Rattle.code_of.proofs.Constants.{same_text}
-use Rattle.code_checked.proofs.Loads.{Whole, Functions, loads_piece, closure_piece, set_table_piece, self_piece}
+use Rattle.code_checked.proofs.Loads.{Whole, Functions, closure_piece, set_table_piece, method_piece}
 use Rattle.code_checked.proofs.Seams.{alike}
 use Rattle.code_checked.proofs.Calls.{call_piece, list_piece}
 use Rattle.code_checked.proofs.Operators.{prefix_piece, operator_piece}
@@ -188,11 +188,10 @@ module _ (p : Prototype) (W : Whole p) (source : Option (List ℕ)) (H : Type 0)
       let named = with_constant (StrConst name.text) made in
       let known = grows_then named (of_exps es named) p.own.constants (grows_exps es named) g in
       both p (one_o t j pc size cs (from_exps source es rest) near.1.0 le (grows_then made named p.own.constants (grows_with (StrConst name.text) made) known) fs)
-      (both p (loads_piece p W (StrConst name.text) (t + 1) line (omega (arith, r)) (is_in (StrConst name.text) (same_text name.text) made p.own.constants known))
-      (both p (self_piece p t t (t + 1) line (omega (arith, r)) (omega (arith, r)) (omega (arith, r)))
+      (both p (method_piece p W t line name.text (omega (arith, r)) (is_in (StrConst name.text) (same_text name.text) made p.own.constants known))
       (both p (list (t + 2) (j + made_by o) line _ size named rest near.1.1 (omega (arith, le)) g (after_exp source p o j (from_exps source es rest) fs))
       (call_piece p (open_mark es (t + 2)) (list_at c t) t (list_field 1 es) c line (omega (arith, r)) (field_below (ends_open es) (1 + count es + 1) (omega (arith, r))) cf
-      (takes_list_field es (1 + count es + 1) t (t + 2) (omega arith) (omega arith)) (gives_at c t)))))
+      (takes_list_field es (1 + count es + 1) t (t + 2) (omega arith) (omega arith)) (gives_at c t))))
 
   pub unary_form : (line : ℕ) (op : UnOp) (e : Exp) → OneLaw e → ExpLaw (Unary line op e)
   unary_form line op e one_e t j c pc size cs rest near le cf g fs =

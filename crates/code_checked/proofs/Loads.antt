@@ -17,7 +17,7 @@ use Rattle.tree_core.specs.declared.name.Place.{Place}
 use Rattle.tree_core.specs.declared.name.Place.TheVariants.{Unset, Upvalue, GlobalIn, GlobalOf, Local as LocalPlace}
 use Rattle.code_of.specs.Coded.{with_abc, with_abx}
 use Rattle.code_of.specs.Constants.{is_small, small_field, number_in, loads, loads_integer, of_name}
-use Rattle.code_of.specs.Operators.{global_code, name_code}
+use Rattle.code_of.specs.Operators.{global_code, name_code, self_code}
 use Rattle.code_of.specs.CodeOf.{back_field, upvalue}
 use Rattle.code_checked.specs.Near.{IsRegister, NameIsNear, AreCaptured}
 use Rattle.code_checked.proofs.Pieces.{closed, Piece, both, nothing}
@@ -232,12 +232,33 @@ module _ (p : Prototype) where
     still = λ pc. refl;
   }
 
+  self_key : (r n : ℕ) (text : List ℕ) → r < 2 ^ 8 → n < 2 ^ 8 → number_in p.own.constants (StrConst text) ≡ n → IsIn p.own.constants (StrConst text) → Plain p closed closed (abc OpSelf r r n true)
+  self_key r n text rf nf e i = record {
+    single = record {
+      opcode = OpSelf;
+      is = opcode_of-abc OpSelf r r n true;
+      whole = refl;
+      fits = abc_fits OpSelf r r n true rf rf nf;
+      alone = refl;
+      constant = λ extra. ap (λ b. list_all (is_used p) (if b then (name, c_of (abc OpSelf r r n true)) ∷ [] else [])) (k_of-abc OpSelf r r n true rf)
+          ∙ ap (λ c. list_all (is_used p) ((name, c) ∷ [])) (c_of-abc OpSelf r r n true rf rf nf)
+          ∙ constant_test name n i.entry (ap (slice_get p.own.constants) (sym e) ∙ i.there) (is_name text i.entry i.alike);
+      upvalue = refl;
+      inner = λ pc here. refl;
+      half = refl;
+      gives = refl;
+      takes = refl;
+      varargs = λ pc h. h;
+    };
+    still = λ pc. refl;
+  }
+
   -- pieces
 
   pub set_table_piece : {H : Type 0} {pc : ℕ} (r k v line : ℕ) → r < 2 ^ 8 → k < 2 ^ 8 → v < 2 ^ 8 → Piece p H closed closed pc (with_abc SetTable r k v line ∷ [])
   set_table_piece {H} {pc} r k v line rf kf vf = one p closed closed (abc SetTable r k v false) line (set_table r k v rf kf vf)
 
-  pub self_piece : {H : Type 0} {pc : ℕ} (r o k line : ℕ) → r < 2 ^ 8 → o < 2 ^ 8 → k < 2 ^ 8 → Piece p H closed closed pc (with_abc OpSelf r o k line ∷ [])
+  self_piece : {H : Type 0} {pc : ℕ} (r o k line : ℕ) → r < 2 ^ 8 → o < 2 ^ 8 → k < 2 ^ 8 → Piece p H closed closed pc (with_abc OpSelf r o k line ∷ [])
   self_piece {H} {pc} r o k line rf of kf = one p closed closed (abc OpSelf r o k false) line (self r o k rf of kf)
 
   pub set_upvalue_piece : {H : Type 0} {pc : ℕ} (v u line : ℕ) → v < 2 ^ 8 → u < 2 ^ 8 → u < length p.own.upvalues → Piece p H closed closed pc (with_abc SetUpval v u 0 line ∷ [])
@@ -264,6 +285,19 @@ module _ (p : Prototype) where
 
     pub upvalue_piece : {H : Type 0} {pc : ℕ} (t u line : ℕ) → t < 2 ^ 8 → u < length p.own.upvalues → Piece p H closed closed pc (with_abc GetUpval t u 0 line ∷ [])
     upvalue_piece {H} {pc} t u line tf h = let most = W.upvalues in one p closed closed (abc GetUpval t u 0 false) line (get_upvalue t u tf (omega (arith, h, most)) h)
+
+    -- a method by its name
+    pub method_piece : {H : Type 0} {pc : ℕ} (t line : ℕ) (text : List ℕ) → IsRegister t → IsIn p.own.constants (StrConst text) → Piece p H closed closed pc (self_code p.own.constants text t line)
+    method_piece {H} {pc} t line text r i = by (nat_lt (number_in p.own.constants (StrConst text)) 256) refl
+      where
+        n : ℕ
+        n = number_in p.own.constants (StrConst text)
+
+        by : (b : Bool) → nat_lt (number_in p.own.constants (StrConst text)) 256 ≡ b
+            → Piece p H closed closed pc (cond b ((abc OpSelf t t (number_in p.own.constants (StrConst text)) true, line) ∷ [])
+            (loads p.own.constants (StrConst text) (t + 2) line ++ with_abc OpSelf t t (t + 2) line ∷ []))
+        by true e = one p closed closed (abc OpSelf t t n true) line (self_key t n text (omega (arith, r)) (ltb-true n 256 e) refl i)
+        by false e = both p (loads_piece (StrConst text) (t + 2) line r i) (self_piece t t (t + 2) line (omega (arith, r)) (omega (arith, r)) r)
 
     global_piece : {H : Type 0} {pc : ℕ} (u t line : ℕ) (text : List ℕ) → IsRegister t → u < length p.own.upvalues → IsIn p.own.constants (StrConst text)
         → Piece p H closed closed pc (global_code (number_in p.own.constants (StrConst text)) u (loads p.own.constants (StrConst text) (t + 1) line) t line)

@@ -22,7 +22,7 @@ use Rattle.code_checked.proofs.Pieces.{closed, listed, returned, Ends, Piece, bo
 use Rattle.code_checked.proofs.Words.{simple, simple_move, simple_load_nil, simple_close, simple_tbc}
 use Rattle.code_checked.proofs.Found.{Grows, grows_then, grows_with, is_in}
 use Rattle.code_of.proofs.Constants.{same_text}
-use Rattle.code_checked.proofs.Loads.{Whole, Functions, loads_piece, upvalue_piece, set_upvalue_piece, set_table_piece, self_piece, closure_piece}
+use Rattle.code_checked.proofs.Loads.{Whole, Functions, loads_piece, upvalue_piece, set_upvalue_piece, set_table_piece, closure_piece, method_piece}
 use Rattle.code_checked.proofs.Calls.{return_piece, tail_piece}
 use Rattle.code_checked.proofs.Lists.{open_mark, takes_list_field, field_below, HaveRoom}
 use Rattle.code_checked.proofs.Growing.{grows_exp, grows_exps, after_exp, after_exps}
@@ -153,11 +153,10 @@ module _ (p : Prototype) where
         let named = with_constant (StrConst name.text) made in
         let known = grows_then named (of_exps es named) p.own.constants (grows_exps es named) g in
         both p (one_law p W source o H t j pc t cs (from_exps source es rest) n.1.0 (omega arith) (grows_then made named p.own.constants (grows_with (StrConst name.text) made) known) fs)
-        (both p (loads_piece p W (StrConst name.text) (t + 1) call_line (omega (arith, r)) (is_in (StrConst name.text) (same_text name.text) made p.own.constants known))
-        (both p (self_piece p t t (t + 1) call_line (omega (arith, r)) (omega (arith, r)) (omega (arith, r)))
+        (both p (method_piece p W t call_line name.text (omega (arith, r)) (is_in (StrConst name.text) (same_text name.text) made p.own.constants known))
         (both p (list_law p W source es H (t + 2) (j + made_by o) call_line _ t named rest n.1.1 (omega arith) g (after_exp source p o j (from_exps source es rest) fs))
         (both p (tail_piece p (open_mark es (t + 2)) t (list_field 1 es) back call_line (omega (arith, r)) (field_below (ends_open es) (1 + count es + 1) (omega (arith, r))) bf (takes_list_field es (1 + count es + 1) t (t + 2) (omega arith) (omega arith)))
-        (return_piece p (listed t) t 0 back call_line (omega (arith, r)) (lit< tt) bf (refl, omega arith))))))
+        (return_piece p (listed t) t 0 back call_line (omega (arith, r)) (lit< tt) bf (refl, omega arith)))))
 
     pub return_law : (closing : Bool) (es : Exps) (t j line back pc : ℕ) (cs : List Const) (rest : Prototypes) → ResultIsNear source p es t → back < 2 ^ 8 → Grows (of_exps es cs) p.own.constants → Functions p j (from_exps source es rest)
         → Piece p H closed returned pc (return_code p.own.constants closing es t j line back)

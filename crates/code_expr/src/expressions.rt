@@ -143,8 +143,7 @@ impl Emitter {
     {
         let above = next(target)?;
         self.expression(object, target, 2)?;
-        self.load_text(&name.text, above, line)?;
-        self.put_abc(Opcode::OpSelf, target, target, above, line)?;
+        self.look_up_method(&name.text, target, line)?;
         self.list(arguments, None, next(above)?, line)?;
         self.put_abc(
             Opcode::Call,

@@ -2,7 +2,7 @@
 ghost use Rattle.std.specs.Prelude.{◌≡◌, ◌+◌, OnOk};
 ghost use Rattle.code_core.specs.declared.proto.Const.TheVariants.{Str};
 ghost use Rattle.code_of.specs.Constants.{loads, loads_integer, loads_numbered, number_in};
-ghost use Rattle.code_of.specs.Operators.{global_code, name_code};
+ghost use Rattle.code_of.specs.Operators.{global_code, name_code, self_code};
 ghost use Rattle.code_expr.specs.Listing.{listed};
 
 use crate::constants::is_small;
@@ -46,6 +46,24 @@ impl Emitter {
         }
         let number = self.constants().number_of_integer(integer);
         self.load_numbered(number, target, line)
+    }
+
+    /// Looks a method up by its name, whose object stands in a register.
+    pub fn look_up_method(
+        &mut self,
+        text: &Bytes,
+        target: usize,
+        line: u32,
+    ) -> Result<(), AllocError>
+        ensures { OnOk result (self.new ≡ listed self.old (self_code self.old.constants text.now target line)) }
+    {
+        let number = self.constants().number_of_text(text);
+        if number > 255 {
+            let key = next(next(target)?)?;
+            self.load_text(text, key, line)?;
+            return self.put_abc(Opcode::OpSelf, target, target, key, line);
+        }
+        self.put_flagged(Opcode::OpSelf, target, target, number, true, line)
     }
 
     /// Reads a variable.

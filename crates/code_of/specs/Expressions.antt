@@ -3,13 +3,13 @@
 use Rattle.std.specs.Prelude.{ℕ, zero, suc, ◌+◌, ◌-◌, ◌/◌, ◌%◌, Bool, true, false, cond, List, [], ◌∷◌, ◌++◌, length, nat_lt, Option, Some, None}
 use Rattle.tree_core.specs.Tree.{Exp, Nil, True, False, Int, Str, Vararg, Function, Var, Index, Call, Method, Unary, Binary, And, Or, Paren, Table, Exps, EndExps, MoreExps, Fields, EndFields, MoreFields, Field, Item, Keyed}
 use Rattle.tree_terms.specs.Bodies.{line_of_body}
-use Rattle.code_core.specs.declared.opcode.Opcode.TheVariants.{LoadFalse, LoadTrue, LoadNil, GetTable, SetTable, NewTable, OpSelf, Test, SetList, Closure, VarArg, ExtraArg, Call as CallCode}
+use Rattle.code_core.specs.declared.opcode.Opcode.TheVariants.{LoadFalse, LoadTrue, LoadNil, GetTable, SetTable, NewTable, Test, SetList, Closure, VarArg, ExtraArg, Call as CallCode}
 use Rattle.code_core.specs.declared.proto.Const.{Const}
 use Rattle.code_core.specs.declared.proto.Const.TheVariants.{Str as StrConst}
 use Rattle.code_core.specs.Instruction.{abc, op_ax}
 use Rattle.code_of.specs.Coded.{Coded, with_abc, with_abx, jump_over}
 use Rattle.code_of.specs.Constants.{loads, loads_integer}
-use Rattle.code_of.specs.Operators.{name_code, prefix_code, operator_code}
+use Rattle.code_of.specs.Operators.{name_code, self_code, prefix_code, operator_code}
 
 -- how many functions an expression makes itself
 abbrev mutual
@@ -119,8 +119,8 @@ module _ (constants : List Const) where
         exp_code object t j 2 ++ (exp_code key (t + 1) (j + made_by object) 2 ++ with_abc GetTable t t (t + 1) line ∷ [])
     exp_code (Call line f es) t j c = exp_code f t j 2 ++ (exps_code es None (t + 1) (j + made_by f) line ++ with_abc CallCode t (list_field 0 es) c line ∷ [])
     exp_code (Method line object name es) t j c =
-        exp_code object t j 2 ++ (loads constants (StrConst name.text) (t + 1) line ++ (with_abc OpSelf t t (t + 1) line
-        ∷ (exps_code es None (t + 2) (j + made_by object) line ++ with_abc CallCode t (list_field 1 es) c line ∷ [])))
+        exp_code object t j 2 ++ (self_code constants name.text t line
+        ++ (exps_code es None (t + 2) (j + made_by object) line ++ with_abc CallCode t (list_field 1 es) c line ∷ []))
     exp_code (Unary line op e) t j c = exp_code e t j 2 ++ prefix_code op t line
     exp_code (Binary line op e d) t j c = exp_code e t j 2 ++ (exp_code d (t + 1) (j + made_by e) 2 ++ operator_code op t line)
     exp_code (And line e d) t j c = either_code false (exp_code e t j 2) (exp_code d t (j + made_by e) 2) t line

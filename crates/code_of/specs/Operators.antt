@@ -8,7 +8,7 @@ use Rattle.tree_core.specs.declared.operator.UnOp.TheVariants.{Neg, BitNot, Not 
 use Rattle.tree_core.specs.declared.operator.BinOp.{BinOp}
 use Rattle.tree_core.specs.declared.operator.BinOp.TheVariants.{Add as Plus, Sub as Minus, Mul as Times, Mod as Modulo, Idiv, Band, Bor, Bxor, Shl as ShiftLeft, Shr as ShiftRight, Concat as Join, Eq as Equal, Ne, Lt as Less, Le as AtMost, Gt, Ge}
 use Rattle.code_core.specs.declared.opcode.Opcode.{Opcode}
-use Rattle.code_core.specs.declared.opcode.Opcode.TheVariants.{Move, LFalseSkip, LoadTrue, GetUpval, GetTabUp, GetTable, Add, Sub, Mul, Mod, IDiv, BAnd, BOr, BXor, Shl, Shr, MmBin, Unm, BNot, Not, Len, Concat, Eq, Lt, Le}
+use Rattle.code_core.specs.declared.opcode.Opcode.TheVariants.{Move, LFalseSkip, LoadTrue, GetUpval, GetTabUp, GetTable, OpSelf, Add, Sub, Mul, Mod, IDiv, BAnd, BOr, BXor, Shl, Shr, MmBin, Unm, BNot, Not, Len, Concat, Eq, Lt, Le}
 use Rattle.code_core.specs.declared.proto.Const.{Const}
 use Rattle.code_core.specs.declared.proto.Const.TheVariants.{Str}
 use Rattle.code_core.specs.Instruction.{abc}
@@ -28,6 +28,16 @@ name_code constants (LocalPlace n) text t line = with_abc Move t n 0 line ∷ []
 name_code constants (Upvalue u) text t line = with_abc GetUpval t u 0 line ∷ []
 name_code constants (GlobalIn n) text t line = loads constants (Str text) t line ++ with_abc GetTable t n t line ∷ []
 name_code constants (GlobalOf u) text t line = global_code (number_in constants (Str text)) u (loads constants (Str text) (t + 1) line) t line
+
+-- a method's object stands in register t, which gets the method; the object goes to t + 1. The method's name is read as a constant where its number
+-- has 8 bits, else from register t + 2: SELF writes t + 1 before it looks the name up
+
+abbrev pub method_code : (number : ℕ) → (key : List Coded) → (t line : ℕ) → List Coded
+method_code number key t line =
+    cond (nat_lt number 256) ((abc OpSelf t t number true, line) ∷ []) (key ++ with_abc OpSelf t t (t + 2) line ∷ [])
+
+abbrev pub self_code : List Const → List ℕ → (t line : ℕ) → List Coded
+self_code constants text t line = method_code (number_in constants (Str text)) (loads constants (Str text) (t + 2) line) t line
 
 -- the operand of a prefix operator stands in register t, and so does the result
 

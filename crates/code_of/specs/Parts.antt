@@ -7,12 +7,13 @@ use Rattle.tree_core.specs.declared.name.Place.TheVariants.{Unset, Upvalue, Glob
 use Rattle.tree_core.specs.Tree.{Body, Exp, Var, Index, Call, Method, Exps, EndExps, MoreExps}
 use Rattle.tree_terms.specs.Bodies.{line_of_body}
 use Rattle.tree_activation.specs.Statements.{is_closed}
-use Rattle.code_core.specs.declared.opcode.Opcode.TheVariants.{Move, LoadI, LoadNil, GetUpval, SetUpval, SetTable, OpSelf, Close, Tbc, Test, TailCall, Return, ForLoop, ForPrep, TForPrep, TForCall, TForLoop, Closure}
+use Rattle.code_core.specs.declared.opcode.Opcode.TheVariants.{Move, LoadI, LoadNil, GetUpval, SetUpval, SetTable, Close, Tbc, Test, TailCall, Return, ForLoop, ForPrep, TForPrep, TForCall, TForLoop, Closure}
 use Rattle.code_core.specs.declared.proto.Const.{Const}
 use Rattle.code_core.specs.declared.proto.Const.TheVariants.{Str as StrConst}
 use Rattle.code_core.specs.Instruction.{abc}
 use Rattle.code_of.specs.Coded.{Coded, with_abc, with_abx, jump_over, jump_back, leaving_by}
 use Rattle.code_of.specs.Constants.{small_field, loads}
+use Rattle.code_of.specs.Operators.{self_code}
 use Rattle.code_of.specs.Expressions.{made_by, made_in, count, list_field, exp_code, exps_code}
 
 -- variables to be closed are marked once all names of their declaration are in scope
@@ -118,9 +119,8 @@ module _ (constants : List Const) where
 
   abbrev pub method_last : Exp → List ℕ → Exps → (t j line back : ℕ) → List Coded
   method_last object name es t j line back =
-      exp_code constants object t j 2 ++ (loads constants (StrConst name) (t + 1) line ++ (with_abc OpSelf t t (t + 1) line
-      ∷ (exps_code constants es None (t + 2) (j + made_by object) line
-      ++ (leaving_by TailCall t (list_field 1 es) back line ∷ leaving_by Return t 0 back line ∷ []))))
+      exp_code constants object t j 2 ++ (self_code constants name t line ++ (exps_code constants es None (t + 2) (j + made_by object) line
+      ++ (leaving_by TailCall t (list_field 1 es) back line ∷ leaving_by Return t 0 back line ∷ [])))
 
   abbrev pub values_last : Exps → (t j line back : ℕ) → List Coded
   values_last es t j line back = exps_code constants es None t j line ++ leaving_by Return t (list_field 0 es) back line ∷ []

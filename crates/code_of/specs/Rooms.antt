@@ -22,13 +22,17 @@ module _ (cs : List Const) where
   room_of_name (GlobalOf u) text = cond (nat_lt (number_in cs (StrConst text)) 256) 1 2
   room_of_name _ text = 1
 
+  -- a method and its object, and its name where that is no constant of the instruction
+  abbrev pub room_of_self : List ℕ → ℕ
+  room_of_self text = cond (nat_lt (number_in cs (StrConst text)) 256) 2 3
+
   abbrev mutual
     pub room_of : Exp → (field : ℕ) → ℕ
     room_of (Vararg line) field = room_of_values field
     room_of (Var line name) field = room_of_name name.place name.text
     room_of (Index line object key) field = max (room_of object 2) (1 + room_of key 2)
     room_of (Call line f es) field = max (room_of f 2) (max (room_of_list 1 es None) (room_of_values field))
-    room_of (Method line object name es) field = max (room_of object 2) (max (max 2 (room_of_list 2 es None)) (room_of_values field))
+    room_of (Method line object name es) field = max (room_of object 2) (max (max (room_of_self name.text) (room_of_list 2 es None)) (room_of_values field))
     room_of (Unary line op e) field = room_of e 2
     room_of (Binary line op e d) field = max (room_of e 2) (1 + room_of d 2)
     room_of (And line e d) field = max (room_of e 2) (room_of d 2)

@@ -62,8 +62,7 @@ fn write_method_last(
 {
     let above = next(register)?;
     emitter.expression(object, register, 2)?;
-    emitter.load_text(&name.text, above, line)?;
-    emitter.put_abc(Opcode::OpSelf, register, register, above, line)?;
+    emitter.look_up_method(&name.text, register, line)?;
     emitter.list(arguments, None, next(above)?, line)?;
     let field = list_field(1, arguments);
     put_leaving(emitter, Opcode::TailCall, register, field, back, line)?;

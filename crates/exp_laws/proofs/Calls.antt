@@ -1,24 +1,25 @@
 -- What the machine does at calls, at `...` and at lists of values, as one equation each.
-use Rattle.std.proofs.Common.{◌≡◌, ℕ, zero, suc, ◌+◌, ◌-◌, ◌<◌, ◌≤◌, ◌^◌, lit<, false, cond, pos, List, [], ◌∷◌, ◌++◌, length, Some, None, refl, sym, ap, ap₂, ◌∙◌, arith}
+use Rattle.std.proofs.Common.{slice_get, Bool, true, ◌≡◌, ℕ, zero, suc, ◌+◌, ◌-◌, ◌<◌, ◌≤◌, ◌^◌, lit<, false, cond, pos, List, [], ◌∷◌, ◌++◌, length, Some, None, refl, sym, ap, ap₂, ◌∙◌, arith}
 use Rattle.std.specs.Prelude.{filter, nat_lt, ◌==◌, if◌then◌else◌, option_and_then}
 use borrow.Author.Tests.{lt-ltb, le-leb}
-use Rattle.int_core.specs.Value.{Value, Shape, is_known, nil, integer, nth, range, write, write_all}
+use Rattle.int_core.specs.Value.{Value, Shape, known, is_known, nil, integer, nth, range, write, write_all}
 use Rattle.int_core.specs.Operations.{index}
 use Rattle.int_core.specs.Ask.{operates, calls, calls_last, Captured, goes_on}
 use Rattle.code_core.specs.declared.opcode.Opcode.{Opcode}
 use Rattle.code_core.specs.declared.opcode.Opcode.TheVariants.{OpSelf, VarArg, LoadNil, TailCall, Call as CallCode}
 use Rattle.code_core.specs.declared.instruction.Instruction.{Instruction}
+use Rattle.code_core.specs.declared.proto.Const.{Const}
 use Rattle.code_core.specs.Instruction.{abc, opcode_of, a_of, c_of}
 use Rattle.code_core.specs.Fields.{opens}
 use Rattle.code_core.specs.Prototype.{Prototype}
 use Rattle.code_core.specs.Check.{at, mark, left_by, open_from, opened as opened_mark}
 use Rattle.code_core.proofs.FieldLemmas.{opcode_of-abc, a_of-abc, b_of-abc, c_of-abc}
 use Rattle.machine_core.specs.World.{Activation, for_call, for_value}
-use Rattle.machine_core.specs.Text.{read, read_register, read_constant, read_registers, read_list, read_varargs, write_register, write_registers, write_list, write_nils, drop_pending, cut_from, Text, own, call, tail_call, trap, list_end, list_values, nils, blanked, behind, is_there}
+use Rattle.machine_core.specs.Text.{read, constant, read_register, read_constant, read_registers, read_list, read_varargs, write_register, write_registers, write_list, write_nils, drop_pending, cut_from, Text, own, call, tail_call, trap, list_end, list_values, nils, blanked, behind, is_there}
 use Rattle.machine_core.specs.InstructionRows.{next, gets, read_values, write_values, rest_at, rest_by, register_or_constant}
 use Rattle.machine_core.specs.Talk.{before, amid, talk, talk_step, says_so, heard, marked}
 use Rattle.exp_laws.proofs.Lists.{Holds, range_held}
-use Rattle.exp_laws.proofs.Steps.{row_step, own_step, go_step}
+use Rattle.exp_laws.proofs.Steps.{row_step, own_step, go_step, found_below}
 use Rattle.exp_laws.proofs.Arithmetic.{front_of}
 use Rattle.code_of.proofs.Fields.{k_of-abc}
 use Rattle.code_of.specs.Rooms.{room_of_values}
@@ -106,18 +107,35 @@ module _ (p : Prototype) where
       (ap₂ (λ d e. own read_varargs (λ v _. write_values d e v)) (a_of-abc VarArg t 0 field false t_fits) (c_of-abc VarArg t 0 field false t_fits (lit< tt) fits))
       ∙ own_step p read_varargs (λ v _. write_values t field v) [] a c refl
 
-  -- a method: its object goes to the register behind, and the method is asked for
-  pub self_step : (t : ℕ) (a : Activation) (c : Captured) → at p a.pc ≡ Some (abc OpSelf t t (t + 1) false) → t + 1 < 2 ^ 8 → t + 1 < length a.registers
-      → talk_step p (before a c) ≡ says_so (operates index (nth a.registers t ∷ nth a.registers (t + 1) ∷ [])) p (record a { registers = write (t + 1) (nth a.registers t) a.registers }) c (λ x b d. heard for_value p x b d)
-  self_step t a c here fits room =
-      let w = abc OpSelf t t (t + 1) false in
-      let t_fits : t < 2 ^ 8 = omega arith in
-      row_step p w OpSelf (own (read_register t) (λ o _. own (read_register (t + 1)) (λ key _. gets (read o) (read key) (write_register (t + 1) (read o) ∷ []) t))) a c here (opcode_of-abc OpSelf t t (t + 1) false)
-      (ap₂ (λ b d. own (read_register b) (λ o _. register_or_constant w (λ key _. gets (read o) (read key) (write_register (d + 1) (read o) ∷ []) d))) (b_of-abc OpSelf t t (t + 1) false t_fits t_fits) (a_of-abc OpSelf t t (t + 1) false t_fits)
-      ∙ ap (λ k. own (read_register t) (λ o _. cond k (own (read_constant (c_of w)) (λ key _. gets (read o) (read key) (write_register (t + 1) (read o) ∷ []) t)) (own (read_register (c_of w)) (λ key _. gets (read o) (read key) (write_register (t + 1) (read o) ∷ []) t)))) (k_of-abc OpSelf t t (t + 1) false t_fits)
-      ∙ ap (λ e. own (read_register t) (λ o _. own (read_register e) (λ key _. gets (read o) (read key) (write_register (t + 1) (read o) ∷ []) t))) (c_of-abc OpSelf t t (t + 1) false t_fits t_fits fits))
-      ∙ own_step p (read_register t) (λ o _. own (read_register (t + 1)) (λ key _. gets (read o) (read key) (write_register (t + 1) (read o) ∷ []) t)) [] a c (lt-ltb t (length a.registers) (omega arith))
-      ∙ own_step p (read_register (t + 1)) (λ key _. gets (read 0) (read key) (write_register (t + 1) (read 0) ∷ []) t) (nth a.registers t ∷ []) a c (lt-ltb (t + 1) (length a.registers) room)
+  -- a method: its object goes to the register after it, and the method is asked for. Its name stands in a register or is a constant
+
+  abbrev method_text : (t : ℕ) → (k : Bool) → (c : ℕ) → Text
+  method_text t k c =
+      own (read_register t) (λ o _. cond k (own (read_constant c) (λ key _. gets (read o) (read key) (write_register (t + 1) (read o) ∷ []) t)) (own (read_register c) (λ key _. gets (read o) (read key) (write_register (t + 1) (read o) ∷ []) t)))
+
+  method_row : (t y : ℕ) (k : Bool) (a : Activation) (c : Captured) → at p a.pc ≡ Some (abc OpSelf t t y k) → t < 2 ^ 8 → y < 2 ^ 8 → talk_step p (before a c) ≡ talk p (method_text t k y) [] a c
+  method_row t y k a c here t_fits fits =
+      let w = abc OpSelf t t y k in
+      row_step p w OpSelf (method_text t k y) a c here (opcode_of-abc OpSelf t t y k)
+      (ap₂ (λ b d. own (read_register b) (λ o _. register_or_constant w (λ key _. gets (read o) (read key) (write_register (d + 1) (read o) ∷ []) d))) (b_of-abc OpSelf t t y k t_fits t_fits) (a_of-abc OpSelf t t y k t_fits)
+      ∙ ap (λ k. method_text t k (c_of w)) (k_of-abc OpSelf t t y k t_fits)
+      ∙ ap (method_text t k) (c_of-abc OpSelf t t y k t_fits t_fits fits))
+
+  pub self_step : (t y : ℕ) (a : Activation) (c : Captured) → at p a.pc ≡ Some (abc OpSelf t t y false) → t < 2 ^ 8 → y < 2 ^ 8 → t < length a.registers → y < length a.registers
+      → talk_step p (before a c) ≡ says_so (operates index (nth a.registers t ∷ nth a.registers y ∷ [])) p (record a { registers = write (t + 1) (nth a.registers t) a.registers }) c (λ x b d. heard for_value p x b d)
+  self_step t y a c here t_fits fits t_room room =
+      method_row t y false a c here t_fits fits
+      ∙ own_step p (read_register t) (λ o _. own (read_register y) (λ key _. gets (read o) (read key) (write_register (t + 1) (read o) ∷ []) t)) [] a c (lt-ltb t (length a.registers) t_room)
+      ∙ own_step p (read_register y) (λ key _. gets (read 0) (read key) (write_register (t + 1) (read 0) ∷ []) t) (nth a.registers t ∷ []) a c (lt-ltb y (length a.registers) room)
+
+  pub self_key_step : (t number : ℕ) (x : Const) (a : Activation) (c : Captured) → at p a.pc ≡ Some (abc OpSelf t t number true) → t < 2 ^ 8 → number < 2 ^ 8 → t < length a.registers → slice_get p.own.constants number ≡ Some x
+      → talk_step p (before a c) ≡ says_so (operates index (nth a.registers t ∷ known (constant x) ∷ [])) p (record a { registers = write (t + 1) (nth a.registers t) a.registers }) c (λ x b d. heard for_value p x b d)
+  self_key_step t number x a c here t_fits fits t_room there =
+      method_row t number true a c here t_fits fits
+      ∙ own_step p (read_register t) (λ o _. own (read_constant number) (λ key _. gets (read o) (read key) (write_register (t + 1) (read o) ∷ []) t)) [] a c (lt-ltb t (length a.registers) t_room)
+      ∙ own_step p (read_constant number) (λ key _. gets (read 0) (read key) (write_register (t + 1) (read 0) ∷ []) t) (nth a.registers t ∷ []) a c
+      (lt-ltb number (length p.own.constants) (found_below p.own.constants number x there))
+      ∙ ap (λ o. talk p (gets (read 0) (read 1) (write_register (t + 1) (read 0) ∷ []) t) (nth a.registers t ∷ elim o as (λ _. List Value) [ None ↦ [] | Some k ↦ known (constant k) ∷ [] ]) a c) there
 
   pub nils_step : (t n : ℕ) (w : Instruction) (a : Activation) (c : Captured) → at p a.pc ≡ Some (abc LoadNil t n 0 false) → at p (a.pc + 1) ≡ Some w → t < 2 ^ 8 → n < 2 ^ 8 → t + (n + 1) ≤ length a.registers
       → talk_step p (before a c) ≡ goes_on (before (record a { registers = write_all t (nils (n + 1)) a.registers; pc = a.pc + 1 }) c)

@@ -1,31 +1,30 @@
 -- The code of an expression talks as the expression does. The work below is any work, and code goes on by a hypothesis.
 use Rattle.std.proofs.Common.{◌≡◌, ℕ, ◌+◌, ◌-◌, ◌<◌, ◌≤◌, ◌^◌, lit<, max, Bool, true, false, zero, suc, Option, Some, None, List, [], ◌∷◌, ◌++◌, length, cond, refl, ap, sym, ◌∙◌, subst, arith, length-append}
-use Rattle.int_core.specs.Value.{Value, a_table, object as reference, same_truth, known, nil, boolean, string, nth, write, shape, holds}
-use Rattle.list_laws.proofs.Values.{nth_write_same, nth_write_other}
+use Rattle.int_core.specs.Value.{Value, a_table, object as reference, same_truth, known, nil, boolean, nth, shape, holds}
 use Rattle.int_core.specs.Ask.{Captured, goes_on}
 use Rattle.tree_core.specs.Tree.{Exp, Nil, True, False, Int, Str, Vararg, Function, Var, Index, Call, Method, Unary, Binary, And, Or, Paren, Table, Exps, EndExps, MoreExps, Fields, EndFields, MoreFields, Item, Keyed}
 use Rattle.tree_activation.specs.Work.{Purpose, for_call, evaluate, give, collect, construct, item_of, keyed_value, keyed_store, callee_of, method_of, listed, Work, Pending, key_of, object_of, operand_of, right_of, left_of, and_right, or_right, first_only}
 use Rattle.tree_activation.specs.Work as tree
 use Rattle.tree_activation.specs.Activation.{takes_all, step}
 use Rattle.tree_activation.specs.Asking.{first}
-use Rattle.code_core.specs.declared.opcode.Opcode.TheVariants.{LoadNil, LoadTrue, LoadFalse, GetTable, SetTable, Test, OpSelf, Call as CallCode}
+use Rattle.code_core.specs.declared.opcode.Opcode.TheVariants.{LoadNil, LoadTrue, LoadFalse, GetTable, SetTable, Test, Call as CallCode}
 use Rattle.code_core.specs.declared.proto.Const.{Const}
 use Rattle.code_core.specs.declared.proto.Const.TheVariants.{Str as StrConst}
 use Rattle.code_core.specs.Instruction.{abc}
 use Rattle.code_core.specs.Check.{fixed, open_from}
 use Rattle.machine_core.specs.Talk.{before}
 use Rattle.code_of.specs.Coded.{with_abc, jump_over}
-use Rattle.code_of.specs.Constants.{is_small, loads}
-use Rattle.code_of.specs.Operators.{prefix_code, operator_code}
+use Rattle.code_of.specs.Constants.{is_small}
+use Rattle.code_of.specs.Operators.{self_code, prefix_code, operator_code}
 use Rattle.code_of.specs.Expressions.{made_by, count, is_open, ends_open, Wanted, results_field, one_less, field_of, wanted_after, list_field, exp_code, exps_code, fields_code, set_list}
 use Rattle.exp_laws.specs.Setting.{Setting}
-use Rattle.exp_laws.proofs.Registers.{Rel, After, after_none, after_then, lower, after_put}
+use Rattle.exp_laws.proofs.Registers.{Rel, After, after_none, after_then, lower}
 use Rattle.exp_laws.proofs.Talking.{Agree, go_left, of_tree, of_code}
 use Rattle.exp_laws.proofs.Placing.{HasAt, has_front, has_back}
 use Rattle.exp_laws.proofs.Steps.{true_step, false_step}
 use Rattle.exp_laws.proofs.Lists.{Holds, held_first}
 use Rattle.exp_laws.proofs.Calls.{Passed}
-use Rattle.exp_laws.proofs.CallForms.{varargs_goes, call_goes, method_goes}
+use Rattle.exp_laws.proofs.CallForms.{varargs_goes, call_goes, self_goes}
 use Rattle.exp_laws.proofs.ListForms.{GoesListed, Listed, total, listed_at, listed_after, listed_less, passed, nils_goes, held_both}
 use Rattle.exp_laws.proofs.FunctionForms.{function_goes}
 use Rattle.exp_laws.proofs.Tables.{items_count}
@@ -33,9 +32,9 @@ use Rattle.exp_laws.proofs.TableForms.{new_goes, fill_goes, store_goes}
 use Rattle.exp_laws.proofs.Loads.{nil_step}
 use Rattle.exp_laws.specs.Placed.{IsPlaced, ArePlaced, FieldsArePlaced}
 use Rattle.code_of.specs.Rooms.{room_of, room_of_fields, room_of_list, room_of_values}
-use Rattle.code_of.proofs.Rooms.{name_room}
+use Rattle.code_of.proofs.Rooms.{name_room, self_room}
 use Rattle.exp_laws.proofs.Going.{Given, Filled, Goes, GoesFilled, at_place, goes_at, goes_after, one_goes}
-use Rattle.exp_laws.proofs.NameForms.{load_right, constant_goes, integer_goes, index_goes, name_goes}
+use Rattle.exp_laws.proofs.NameForms.{constant_goes, integer_goes, index_goes, name_goes}
 use Rattle.exp_laws.proofs.OperatorForms.{unary_goes, binary_goes, decides_goes}
 
 and_decides : {A : Type 0} (x y : A) (b : Bool) → same_truth b false ≡ true → cond b x y ≡ y
@@ -451,32 +450,28 @@ module _ (S : Setting) (pending : List Pending) where
         (filled_after n field t _ env regs env2 regs2 c2 k (after_then S.hidden S.code.own.stack pending env regs env1 regs1 env2 regs2 c1 c2 t t (omega arith) af af2) goes))))))
     all_same (Method line object name es) field t j n pc opened env regs c k bound has fits ok inside le room rel goes =
         let first_code = exp_code S.code.own.constants object t j 2 in
-        let name_code = loads S.code.own.constants (StrConst name.text) (t + 1) line in
-        let self_code = with_abc OpSelf t t (t + 1) line in
+        let name_code = self_code S.code.own.constants name.text t line in
         let args_code = exps_code S.code.own.constants es None (t + 2) (j + made_by object) line in
         let last_code = with_abc CallCode t (list_field 1 es) field line ∷ [] in
-        let key = known (string name.text) in
-        let behind = has_back S pc first_code (name_code ++ (self_code ∷ (args_code ++ last_code))) has in
-        let beyond = has_back S (pc + length first_code) name_code (self_code ∷ (args_code ++ last_code)) behind in
-        let whole = length-append first_code (name_code ++ (self_code ∷ (args_code ++ last_code))) in
-        let middle = length-append name_code (self_code ∷ (args_code ++ last_code)) in
+        let behind = has_back S pc first_code (name_code ++ (args_code ++ last_code)) has in
+        let beyond = has_back S (pc + length first_code) name_code (args_code ++ last_code) behind in
+        let whole = length-append first_code (name_code ++ (args_code ++ last_code)) in
+        let middle = length-append name_code (args_code ++ last_code) in
         let rest = length-append args_code last_code in
+        let two = (self_room S.code.own.constants name.text).0 in
         let q = pc + length first_code + length name_code in
         go_left S n _ (tree.at (evaluate object) (of_tree S pending env c) (method_of line false name.text es ∷ k)) _ refl
-        (one_same object (all_same object) t j n pc opened env regs c (method_of line false name.text es ∷ k) bound (has_front S pc first_code (name_code ++ (self_code ∷ (args_code ++ last_code))) has) ok.0 (omega (arith, inside, whole)) le (omega (arith, room)) rel
-        (λ vs env1 regs1 c1 o1 af eq one. let put = after_put S.hidden S.code.own.stack pending env1 regs1 c1 (t + 1) key (omega (arith, le, af.size)) af.rel in
-        load_right S pending (StrConst name.text) (t + 1) line n (pc + length first_code) o1 _ regs1 c1 ok.1.0 (has_front S (pc + length first_code) name_code (self_code ∷ (args_code ++ last_code)) behind) (omega (arith, inside, whole, middle)) (omega (arith, room, S.small)) (omega (arith, room, af.rel.room))
-        (method_goes S pending n line t q o1 (first vs) key _ env1 (write (t + 1) key regs1) c1 k (λ ws. collect (for_call line false) (first ws ∷ first vs ∷ []) es) refl (beyond.0, (beyond.1.0, tt)) (omega (arith, inside, whole, middle, rest)) (omega (arith, le, af.size)) (omega (arith, room)) put.rel
-        (nth_write_other (t + 1) key regs1 t (λ same. absurd (omega (arith, same))) ∙ eq) (nth_write_same (t + 1) key regs1)
-        (λ ws env2 regs2 c2 af2 method_is self_is. lists_same es (for_call line false) None t 2 (j + made_by object) line n (q + 1) o1 (first ws ∷ first vs ∷ []) env2 regs2 c2 k bound tt (has_front S (q + 1) args_code last_code beyond.1.1) tt
-        (placed_all es _ _ _ (af2.size ∙ af.size) ok.1.1) (omega (arith, inside, whole, middle, rest)) refl (held_two t (first ws) (first vs) regs2 method_is self_is) (omega (arith, le, af.size, af2.size)) (omega (arith, room)) (omega (arith, room)) af2.rel
-        (λ args env3 regs3 c3 o3 af3 l. called es 1 field args n line t (q + 1 + length args_code) o3 env3 regs3 c3 k (has_back S (q + 1) args_code last_code beyond.1.1)
-        (omega (arith, inside, whole, middle, rest)) (omega (arith, le, af.size, af2.size, af3.size)) (omega (arith, room)) (omega (arith, room)) (omega (arith, room)) fits af3.rel l
-        (filled_at n field t _ (pc + length (first_code ++ (name_code ++ (self_code ∷ (args_code ++ last_code))))) env3 regs3 k (omega (arith, whole, middle, rest))
+        (one_same object (all_same object) t j n pc opened env regs c (method_of line false name.text es ∷ k) bound (has_front S pc first_code (name_code ++ (args_code ++ last_code)) has) ok.0 (omega (arith, inside, whole)) le (omega (arith, room)) rel
+        (λ vs env1 regs1 c1 o1 af eq one. self_goes S pending name.text n line t (pc + length first_code) o1 (first vs) _ env1 regs1 c1 k (λ ws. collect (for_call line false) (first ws ∷ first vs ∷ []) es) refl
+        (has_front S (pc + length first_code) name_code (args_code ++ last_code) behind) ok.1.0 (omega (arith, inside, whole, middle, rest)) (omega (arith, le, af.size)) (omega (arith, room)) af.rel eq
+        (λ ws env2 regs2 c2 af2 method_is self_is. lists_same es (for_call line false) None t 2 (j + made_by object) line n q o1 (first ws ∷ first vs ∷ []) env2 regs2 c2 k bound tt (has_front S q args_code last_code beyond) tt
+        (placed_all es _ _ _ (af2.size ∙ af.size) ok.1.1) (omega (arith, inside, whole, middle, rest)) refl (held_two t (first ws) (first vs) regs2 method_is self_is) (omega (arith, le, af.size, af2.size)) (omega (arith, room, two)) (omega (arith, room)) af2.rel
+        (λ args env3 regs3 c3 o3 af3 l. called es 1 field args n line t (q + length args_code) o3 env3 regs3 c3 k (has_back S q args_code last_code beyond)
+        (omega (arith, inside, whole, middle, rest)) (omega (arith, le, af.size, af2.size, af3.size)) (omega (arith, room, two)) (omega (arith, room)) (omega (arith, room)) fits af3.rel l
+        (filled_at n field t _ (pc + length (first_code ++ (name_code ++ (args_code ++ last_code)))) env3 regs3 k (omega (arith, whole, middle, rest))
         (filled_after n field t _ env regs env3 regs3 c3 k
         (after_then S.hidden S.code.own.stack pending env regs env1 regs1 env3 regs3 c1 c3 t t (omega arith) af
-        (after_then S.hidden S.code.own.stack pending env1 regs1 env2 regs2 env3 regs3 c2 c3 t t (omega arith)
-        (after_then S.hidden S.code.own.stack pending env1 regs1 env1 (write (t + 1) key regs1) env2 regs2 c1 c2 t t (omega arith) (lower S.hidden S.code.own.stack pending env1 regs1 env1 (write (t + 1) key regs1) c1 (t + 1) t (omega arith) put) af2) af3)) goes)))))))
+        (after_then S.hidden S.code.own.stack pending env1 regs1 env2 regs2 env3 regs3 c2 c3 t t (omega arith) af2 af3)) goes))))))
 
     lists_same : (es : Exps) → ListSame es
     lists_same EndExps purpose wanted base above j line n pc opened have env regs c k bound all has wf ok inside size held le below room rel goes =

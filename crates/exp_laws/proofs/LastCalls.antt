@@ -1,6 +1,6 @@
 -- A call in its function's place: both sides ask for it, and hear no more but of a fault.
-use Rattle.std.proofs.Common.{nat_lt, ◌≡◌, ℕ, zero, suc, ◌+◌, ◌<◌, ◌≤◌, ◌^◌, List, [], ◌∷◌, ◌++◌, length, true, false, None, refl, sym, ap, ◌∙◌, arith, length-append}
-use Rattle.int_core.specs.Value.{Value, known, string, nth, write}
+use Rattle.std.proofs.Common.{nat_lt, ◌≡◌, ℕ, zero, suc, ◌+◌, ◌<◌, ◌≤◌, ◌^◌, List, [], ◌∷◌, ◌++◌, length, true, None, refl, sym, ap, ◌∙◌, arith, length-append}
+use Rattle.int_core.specs.Value.{Value, nth}
 use Rattle.int_core.specs.Ask.{calls_last, Reply, values, faulted, left, Captured, brought, IsFaulted}
 use Rattle.tree_core.specs.Tree.{Exp, Exps, EndExps}
 use Rattle.tree_activation.specs.Work.{for_call, evaluate, collect, callee_of, method_of, over, Work, Pending}
@@ -8,24 +8,24 @@ use Rattle.tree_activation.specs.Work as tree
 use Rattle.tree_activation.specs.Activation.{step}
 use Rattle.tree_activation.specs.Asking.{first, asks}
 use Rattle.tree_activation.specs.Asking as trees
-use Rattle.code_core.specs.declared.opcode.Opcode.TheVariants.{OpSelf, TailCall}
+use Rattle.code_core.specs.declared.opcode.Opcode.TheVariants.{TailCall}
 use Rattle.code_core.specs.declared.proto.Const.TheVariants.{Str as StrConst}
 use Rattle.machine_core.specs.Text.{trap}
 use Rattle.machine_core.specs.Talk.{before, amid, marked}
-use Rattle.list_laws.proofs.Values.{nth_write_same, nth_write_other}
-use Rattle.code_of.specs.Coded.{with_abc, leaving_by}
-use Rattle.code_of.specs.Constants.{loads, Found}
+use Rattle.code_of.specs.Coded.{leaving_by}
+use Rattle.code_of.specs.Constants.{Found}
+use Rattle.code_of.specs.Operators.{self_code}
 use Rattle.code_of.specs.Expressions.{made_by, count, ends_open, list_field, exp_code, exps_code}
-use Rattle.exp_laws.proofs.Registers.{Rel, told, share_same, after_share, after_put}
+use Rattle.exp_laws.proofs.Registers.{Rel, told, share_same, after_share}
 use Rattle.exp_laws.specs.Setting.{Setting}
 use Rattle.exp_laws.proofs.Talking.{Agree, go_left, both_ask, of_tree, of_code}
 use Rattle.exp_laws.proofs.Placing.{HasAt, has_front, has_back, here_abc}
 use Rattle.exp_laws.proofs.Leaving.{faults_alike}
 use Rattle.exp_laws.specs.Placed.{IsPlaced, ArePlaced}
-use Rattle.code_of.specs.Rooms.{room_of, room_of_list}
+use Rattle.code_of.specs.Rooms.{room_of, room_of_list, room_of_self}
+use Rattle.code_of.proofs.Rooms.{self_room}
 use Rattle.exp_laws.proofs.Calls.{Passed, tail_step}
-use Rattle.exp_laws.proofs.NameForms.{load_right}
-use Rattle.exp_laws.proofs.CallForms.{method_goes}
+use Rattle.exp_laws.proofs.CallForms.{self_goes}
 use Rattle.exp_laws.proofs.ListForms.{Listed}
 use Rattle.exp_laws.proofs.Exps.{room_some, args_ready, held_one, held_two, placed_all, exp_same, exps_same}
 
@@ -80,29 +80,26 @@ module _ (S : Setting) (pending : List Pending) where
 
   -- a call of a method
   pub method_last_same : (object : Exp) (name : List ℕ) (es : Exps) (line back t j n pc opened : ℕ) (env regs : List Value) (c : Captured) (k : List Work) → n ≤ S.bound
-      → HasAt S pc (exp_code S.code.own.constants object t j 2 ++ (loads S.code.own.constants (StrConst name) (t + 1) line ++ (with_abc OpSelf t t (t + 1) line ∷ (exps_code S.code.own.constants es None (t + 2) (j + made_by object) line ++ leaving_by TailCall t (list_field 1 es) back line ∷ []))))
+      → HasAt S pc (exp_code S.code.own.constants object t j 2 ++ (self_code S.code.own.constants name t line ++ (exps_code S.code.own.constants es None (t + 2) (j + made_by object) line ++ leaving_by TailCall t (list_field 1 es) back line ∷ [])))
       → IsPlaced S object (length env) j → Found S.code.own.constants (StrConst name) → ArePlaced S es (length env) (j + made_by object)
-      → pc + length (exp_code S.code.own.constants object t j 2 ++ (loads S.code.own.constants (StrConst name) (t + 1) line ++ (with_abc OpSelf t t (t + 1) line ∷ (exps_code S.code.own.constants es None (t + 2) (j + made_by object) line ++ leaving_by TailCall t (list_field 1 es) back line ∷ [])))) < length S.code.own.code
-      → length env ≤ t → t + room_of S.code.own.constants object 2 ≤ S.code.own.stack → t + 1 < S.code.own.stack → t + room_of_list S.code.own.constants 2 es None ≤ S.code.own.stack → Rel S.hidden S.code.own.stack pending env c regs
+      → pc + length (exp_code S.code.own.constants object t j 2 ++ (self_code S.code.own.constants name t line ++ (exps_code S.code.own.constants es None (t + 2) (j + made_by object) line ++ leaving_by TailCall t (list_field 1 es) back line ∷ []))) < length S.code.own.code
+      → length env ≤ t → t + room_of S.code.own.constants object 2 ≤ S.code.own.stack → t + room_of_self S.code.own.constants name ≤ S.code.own.stack → t + room_of_list S.code.own.constants 2 es None ≤ S.code.own.stack → Rel S.hidden S.code.own.stack pending env c regs
       → Agree S n (tree.at (evaluate object) (of_tree S pending env c) (method_of line true name es ∷ k)) (before (of_code S pending pc regs opened) c)
   method_last_same object name es line back t j n pc opened env regs c k bound has o_ok found es_ok inside le o_room room es_room rel =
       let first_code = exp_code S.code.own.constants object t j 2 in
-      let name_code = loads S.code.own.constants (StrConst name) (t + 1) line in
-      let self_code = with_abc OpSelf t t (t + 1) line in
+      let name_code = self_code S.code.own.constants name t line in
       let args_code = exps_code S.code.own.constants es None (t + 2) (j + made_by object) line in
       let last_code = leaving_by TailCall t (list_field 1 es) back line ∷ [] in
-      let key = known (string name) in
-      let behind = has_back S pc first_code (name_code ++ (self_code ∷ (args_code ++ last_code))) has in
-      let beyond = has_back S (pc + length first_code) name_code (self_code ∷ (args_code ++ last_code)) behind in
-      let whole = length-append first_code (name_code ++ (self_code ∷ (args_code ++ last_code))) in
-      let middle = length-append name_code (self_code ∷ (args_code ++ last_code)) in
+      let behind = has_back S pc first_code (name_code ++ (args_code ++ last_code)) has in
+      let beyond = has_back S (pc + length first_code) name_code (args_code ++ last_code) behind in
+      let whole = length-append first_code (name_code ++ (args_code ++ last_code)) in
+      let middle = length-append name_code (args_code ++ last_code) in
       let rest = length-append args_code last_code in
+      let two = (self_room S.code.own.constants name).0 in
       let q = pc + length first_code + length name_code in
-      exp_same S pending object t j n pc opened env regs c (method_of line true name es ∷ k) bound (has_front S pc first_code (name_code ++ (self_code ∷ (args_code ++ last_code))) has) o_ok (omega (arith, inside, whole)) le o_room rel
-      (λ vs env1 regs1 c1 o1 af eq one. let put = after_put S.hidden S.code.own.stack pending env1 regs1 c1 (t + 1) key (omega (arith, le, af.size)) af.rel in
-      load_right S pending (StrConst name) (t + 1) line n (pc + length first_code) o1 _ regs1 c1 found (has_front S (pc + length first_code) name_code (self_code ∷ (args_code ++ last_code)) behind) (omega (arith, inside, whole, middle)) (omega (arith, room, S.small)) (omega (arith, room, af.rel.room))
-      (method_goes S pending n line t q o1 (first vs) key _ env1 (write (t + 1) key regs1) c1 k (λ ws. collect (for_call line true) (first ws ∷ first vs ∷ []) es) refl (beyond.0, (beyond.1.0, tt)) (omega (arith, inside, whole, middle, rest)) (omega (arith, le, af.size)) room put.rel
-      (nth_write_other (t + 1) key regs1 t (λ same. absurd (omega (arith, same))) ∙ eq) (nth_write_same (t + 1) key regs1)
-      (λ ws env2 regs2 c2 af2 method_is self_is. exps_same S pending es (for_call line true) None t 2 (j + made_by object) line n (q + 1) o1 (first ws ∷ first vs ∷ []) env2 regs2 c2 k bound tt (has_front S (q + 1) args_code last_code beyond.1.1) tt
-      (placed_all S pending es _ _ _ (af2.size ∙ af.size) es_ok) (omega (arith, inside, whole, middle, rest)) refl (held_two S pending t (first ws) (first vs) regs2 method_is self_is) (omega (arith, le, af.size, af2.size)) (omega (arith, room)) es_room af2.rel
-      (λ args env3 regs3 c3 o3 af3 l. called_last es 1 back args n line t (q + 1 + length args_code) o3 env3 regs3 c3 k (has_back S (q + 1) args_code last_code beyond.1.1) (omega (arith, room)) es_room af3.rel l))))
+      exp_same S pending object t j n pc opened env regs c (method_of line true name es ∷ k) bound (has_front S pc first_code (name_code ++ (args_code ++ last_code)) has) o_ok (omega (arith, inside, whole)) le o_room rel
+      (λ vs env1 regs1 c1 o1 af eq one. self_goes S pending name n line t (pc + length first_code) o1 (first vs) _ env1 regs1 c1 k (λ ws. collect (for_call line true) (first ws ∷ first vs ∷ []) es) refl
+      (has_front S (pc + length first_code) name_code (args_code ++ last_code) behind) found (omega (arith, inside, whole, middle, rest)) (omega (arith, le, af.size)) room af.rel eq
+      (λ ws env2 regs2 c2 af2 method_is self_is. exps_same S pending es (for_call line true) None t 2 (j + made_by object) line n q o1 (first ws ∷ first vs ∷ []) env2 regs2 c2 k bound tt (has_front S q args_code last_code beyond) tt
+      (placed_all S pending es _ _ _ (af2.size ∙ af.size) es_ok) (omega (arith, inside, whole, middle, rest)) refl (held_two S pending t (first ws) (first vs) regs2 method_is self_is) (omega (arith, le, af.size, af2.size)) (omega (arith, room, two)) es_room af2.rel
+      (λ args env3 regs3 c3 o3 af3 l. called_last es 1 back args n line t (q + length args_code) o3 env3 regs3 c3 k (has_back S q args_code last_code beyond) (omega (arith, room, two)) es_room af3.rel l)))

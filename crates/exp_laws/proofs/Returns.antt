@@ -16,7 +16,7 @@ use Rattle.machine_core.specs.InstructionRows.{read_values, counted}
 use Rattle.machine_core.specs.InstructionRows as rows
 use Rattle.machine_core.specs.Talk.{before, talk, talk_step}
 use Rattle.list_laws.proofs.Tests.{eq_not}
-use Rattle.code_of.specs.Coded.{with_abc, leaving_by}
+use Rattle.code_of.specs.Coded.{leaving_by}
 use Rattle.code_of.specs.Expressions.{count, ends_open, list_field, exps_code}
 use Rattle.exp_laws.proofs.Registers.{Rel}
 use Rattle.exp_laws.specs.Setting.{Setting}

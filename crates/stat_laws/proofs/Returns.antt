@@ -24,6 +24,7 @@ use Rattle.code_core.specs.declared.proto.Const.TheVariants.{Str as StrConst}
 use Rattle.code_of.specs.Jumps.{Reach}
 use Rattle.tree_terms.specs.Levels.{level_after, levels_after}
 use Rattle.code_of.specs.Levels.{closing_after, closings_after, made_in_stats}
+use Rattle.code_of.specs.Operators.{self_code}
 use Rattle.code_of.specs.Parts.{values_last, return_code}
 use Rattle.code_of.specs.Sizes.{stat_size, stats_size, block_size, open_size}
 use Rattle.code_of.specs.Statements.{in_loop, stats_code, open_code}
@@ -67,11 +68,13 @@ return_some cs false (MoreExps (Call l f es) EndExps) t j line back =
     omega (arith, one, two)
 return_some cs false (MoreExps (Method l o name es) EndExps) t j line back =
     let a = exp_code cs o t j 2 in
-    let b = loads cs (StrConst name.text) (t + 1) l in
-    let rest = with_abc OpSelf t t (t + 1) l ∷ (exps_code cs es None (t + 2) (j + made_by o) l ++ (leaving_by TailCall t (list_field 1 es) back l ∷ leaving_by Return t 0 back l ∷ [])) in
-    let one = length-append a (b ++ rest) in
-    let two = length-append b rest in
-    omega (arith, one, two)
+    let b = self_code cs name.text t l in
+    let d = exps_code cs es None (t + 2) (j + made_by o) l in
+    let last = leaving_by TailCall t (list_field 1 es) back l ∷ leaving_by Return t 0 back l ∷ [] in
+    let one = length-append a (b ++ (d ++ last)) in
+    let two = length-append b (d ++ last) in
+    let three = length-append d last in
+    omega (arith, one, two, three)
 return_some cs false EndExps t j line back = last_some cs EndExps t j line back
 return_some cs false (MoreExps (Nil l) EndExps) t j line back = last_some cs (MoreExps (Nil l) EndExps) t j line back
 return_some cs false (MoreExps (True l) EndExps) t j line back = last_some cs (MoreExps (True l) EndExps) t j line back
@@ -186,18 +189,17 @@ module _ (S : Setting) where
         (omega (arith, inside, a, b, d, e)) (omega (arith, size)) h.1.1.0 h.1.1.1 rel)
     return_goes (MoreExps (Method l o name es) EndExps) n t j line pc opened env regs c k s st fewer has h inside size rel =
         let first_code = exp_code S.code.own.constants o t j 2 in
-        let key = loads S.code.own.constants (StrConst name.text) (t + 1) l in
-        let self = with_abc OpSelf t t (t + 1) l in
+        let key = self_code S.code.own.constants name.text t l in
         let args = exps_code S.code.own.constants es None (t + 2) (j + made_by o) l in
         let one = leaving_by TailCall t (list_field 1 es) back l in
         let two = leaving_by Return t 0 back l in
-        let joined = λ (z : List Coded). append_assoc first_code (key ++ (self ∷ args)) z ∙ ap (λ l. first_code ++ l) (append_assoc key (self ∷ args) z) in
-        let front = without_last (first_code ++ (key ++ (self ∷ args))) one two pc (subst (HasAt S pc) (sym (joined (one ∷ two ∷ []))) has) in
-        let a = length-append first_code (key ++ (self ∷ (args ++ one ∷ []))) in
-        let b = length-append key (self ∷ (args ++ one ∷ [])) in
+        let joined = λ (z : List Coded). append_assoc first_code (key ++ args) z ∙ ap (λ l. first_code ++ l) (append_assoc key args z) in
+        let front = without_last (first_code ++ (key ++ args)) one two pc (subst (HasAt S pc) (sym (joined (one ∷ two ∷ []))) has) in
+        let a = length-append first_code (key ++ (args ++ one ∷ [])) in
+        let b = length-append key (args ++ one ∷ []) in
         let x = length-append args (one ∷ []) in
-        let d = length-append first_code (key ++ (self ∷ (args ++ one ∷ two ∷ []))) in
-        let e = length-append key (self ∷ (args ++ one ∷ two ∷ [])) in
+        let d = length-append first_code (key ++ (args ++ one ∷ two ∷ [])) in
+        let e = length-append key (args ++ one ∷ two ∷ []) in
         let y = length-append args (one ∷ two ∷ []) in
         go_left S n s (tree.at (evaluate o) (of_tree S [] env c) (method_of l true name.text es ∷ k)) _ st
         (method_last_same S [] o name.text es l back t j n pc opened env regs c k fewer (subst (HasAt S pc) (joined (one ∷ [])) front) (subst (λ u. IsPlaced S o u j) (sym size) h.0) h.1.0 (subst (λ u. ArePlaced S es u (j + made_by o)) (sym size) h.1.1.0)

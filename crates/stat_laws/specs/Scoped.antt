@@ -16,7 +16,7 @@ use Rattle.exp_laws.specs.Setting.{Setting, hiding}
 use Rattle.code_of.specs.Constants.{Found}
 use Rattle.exp_laws.specs.Placed.{Inner, Captures, IsPlaced, ArePlaced}
 use Rattle.tree_terms.specs.Hidden.{IsNoneOf}
-use Rattle.code_of.specs.Rooms.{room_of, room_of_list}
+use Rattle.code_of.specs.Rooms.{room_of, room_of_list, room_of_self}
 
 -- what can be assigned: a name, though no hidden local has one, or an index
 abbrev pub MayAssign : (hidden : List ℕ) → Place → Type 0
@@ -48,7 +48,7 @@ module _ (S : Setting) where
       IsPlaced S f t j × (ArePlaced S es t (j + made_by f) × ((t + room_of S.code.own.constants f 2 ≤ S.code.own.stack) × (t + room_of_list S.code.own.constants 1 es None ≤ S.code.own.stack)))
   LastIsPlaced (MoreExps (Method line object name es) EndExps) t j =
       IsPlaced S object t j × (Found S.code.own.constants (StrConst name.text) × (ArePlaced S es t (j + made_by object)
-      × ((t + room_of S.code.own.constants object 2 ≤ S.code.own.stack) × ((t + 1 < S.code.own.stack) × (t + room_of_list S.code.own.constants 2 es None ≤ S.code.own.stack)))))
+      × ((t + room_of S.code.own.constants object 2 ≤ S.code.own.stack) × ((t + room_of_self S.code.own.constants name.text ≤ S.code.own.stack) × (t + room_of_list S.code.own.constants 2 es None ≤ S.code.own.stack)))))
   LastIsPlaced es t j = ListIsPlaced es t j
 
   -- where a variable to be closed is in scope, no call is in the function's place

@@ -1,10 +1,9 @@
 use Rattle.std.proofs.Common.{arith, ◌≡◌, ◌+◌, [], ◌∷◌, ◌++◌, None}
 use Rattle.tree_core.specs.Tree as tree
 use Rattle.tree_core.specs.Plain.{plain_exp, plain_exps}
-use Rattle.code_core.specs.declared.opcode.Opcode.TheVariants.{TailCall, Return, OpSelf}
-use Rattle.code_core.specs.declared.proto.Const.TheVariants.{Str as StrConst}
+use Rattle.code_core.specs.declared.opcode.Opcode.TheVariants.{TailCall, Return}
 use Rattle.code_of.specs.Coded.{with_abc, leaving_by}
-use Rattle.code_of.specs.Constants.{loads}
+use Rattle.code_of.specs.Operators.{self_code}
 use Rattle.code_of.specs.Expressions.{exp_code, exps_code, list_field, made_by, made_in}
 use Rattle.code_expr.specs.Listing.{listed, followed}
 use Rattle.code_expr.proofs.Joining.{then_made, then_listed, listed_then}
@@ -16,20 +15,16 @@ returns c =
     let k = c.args.emitter.now.constants in
     let t = c.args.register in
     let es = tree.exps (plain_exps c.args.arguments.now.items) in
-    let key = StrConst c.args.name.now.text in
-    let get = with_abc OpSelf t t (t + 1) c.args.line in
+    let text = c.args.name.now.text in
     let called = leaving_by TailCall t (list_field 1 es) c.args.back c.args.line in
     let ends = leaving_by Return t 0 c.args.back c.args.line in
     let two : c.in_ok-next.field-0 ≡ t + 2 = omega (arith, c.in_ok-next.ensures, c.in_ok-above.ensures) in
-    let loaded : c.load_text.new.self ≡ listed c.expression.new.self (loads c.expression.new.self.constants key (t + 1) c.args.line) = rw c.in_ok-above.ensures at c.in_ok-load_text.ensures in
-    let found : c.put_abc.new.self ≡ listed c.load_text.new.self (get ∷ []) = rw c.in_ok-above.ensures at c.in_ok-put_abc.ensures in
-    let values : c.list.new.self ≡ followed c.put_abc.new.self (exps_code c.put_abc.new.self.constants es None (t + 2) c.put_abc.new.self.made c.args.line) (made_in es) =
+    let values : c.list.new.self ≡ followed c.look_up_method.new.self (exps_code c.look_up_method.new.self.constants es None (t + 2) c.look_up_method.new.self.made c.args.line) (made_in es) =
     rw two at c.in_ok-list.ensures in
     let call : c.put_leaving.new.emitter ≡ listed c.list.new.self (called ∷ []) = rw c.list_field-field.ensures at c.in_ok-put_leaving.ensures in
     then_made c.args.emitter.now c.expression.new.self c.put_leaving-2.new.emitter (exp_code k (plain_exp c.args.object.now) t c.args.emitter.now.made 2) (made_by (plain_exp c.args.object.now))
-    (λ k j. loads k key (t + 1) c.args.line ++ (get ∷ (exps_code k es None (t + 2) j c.args.line ++ (called ∷ ends ∷ [])))) (made_in es) c.in_ok-expression.ensures
-    (listed_then c.expression.new.self c.load_text.new.self c.put_leaving-2.new.emitter (loads c.expression.new.self.constants key (t + 1) c.args.line)
-    (λ k j. get ∷ (exps_code k es None (t + 2) j c.args.line ++ (called ∷ ends ∷ []))) (made_in es) loaded
-    (listed_then c.load_text.new.self c.put_abc.new.self c.put_leaving-2.new.emitter (get ∷ []) (λ k j. exps_code k es None (t + 2) j c.args.line ++ (called ∷ ends ∷ [])) (made_in es) found
-    (then_listed c.put_abc.new.self c.list.new.self c.put_leaving-2.new.emitter (exps_code c.put_abc.new.self.constants es None (t + 2) c.put_abc.new.self.made c.args.line) (made_in es)
-    (λ k. called ∷ ends ∷ []) values (two_listed c.list.new.self c.put_leaving.new.emitter c.put_leaving-2.new.emitter called ends call c.in_ok-put_leaving-2.ensures))))
+    (λ k j. self_code k text t c.args.line ++ (exps_code k es None (t + 2) j c.args.line ++ (called ∷ ends ∷ []))) (made_in es) c.in_ok-expression.ensures
+    (listed_then c.expression.new.self c.look_up_method.new.self c.put_leaving-2.new.emitter (self_code c.expression.new.self.constants text t c.args.line)
+    (λ k j. exps_code k es None (t + 2) j c.args.line ++ (called ∷ ends ∷ [])) (made_in es) c.in_ok-look_up_method.ensures
+    (then_listed c.look_up_method.new.self c.list.new.self c.put_leaving-2.new.emitter (exps_code c.look_up_method.new.self.constants es None (t + 2) c.look_up_method.new.self.made c.args.line) (made_in es)
+    (λ k. called ∷ ends ∷ []) values (two_listed c.list.new.self c.put_leaving.new.emitter c.put_leaving-2.new.emitter called ends call c.in_ok-put_leaving-2.ensures)))

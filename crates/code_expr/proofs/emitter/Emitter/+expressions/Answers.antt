@@ -1,13 +1,11 @@
 use Rattle.std.proofs.Common.{arith, rules, ◌≡◌, ◌+◌, ◌-◌, ◌<◌, [], ◌∷◌, ◌++◌, cond, sym, ap, ◌∙◌, None, length, map}
 use Rattle.tree_core.specs.Tree as tree
 use Rattle.tree_core.specs.Plain.{plain_exp, plain_exps, plain_field}
-use Rattle.code_core.specs.declared.opcode.Opcode.TheVariants.{Test, GetTable, SetTable, OpSelf, ExtraArg}
+use Rattle.code_core.specs.declared.opcode.Opcode.TheVariants.{Test, GetTable, SetTable, ExtraArg}
 use Rattle.code_core.specs.declared.opcode.Opcode.TheVariants.{Call as CallCode}
-use Rattle.code_core.specs.declared.proto.Const.TheVariants.{Str as StrConst}
 use Rattle.code_core.specs.Instruction.{abc, op_ax}
 use Rattle.code_of.specs.Coded.{with_abc}
-use Rattle.code_of.specs.Constants.{loads}
-use Rattle.code_of.specs.Operators.{prefix_code, operator_code}
+use Rattle.code_of.specs.Operators.{self_code, prefix_code, operator_code}
 use Rattle.code_of.specs.Expressions.{exp_code, exps_code, set_list, list_field, made_by, made_in}
 use Rattle.code_expr.specs.Listing.{listed, followed}
 use Rattle.code_expr.proofs.Joining.{then_made, then_listed, listed_then, jumped}
@@ -87,23 +85,18 @@ pub method-returns : goal.method-returns
 method-returns t c =
     let k = c.args.self.now.constants in
     let es = tree.exps (plain_exps c.args.arguments.now.items) in
-    let key = StrConst c.args.name.now.text in
-    let get = with_abc OpSelf c.args.target c.args.target (c.args.target + 1) c.args.line in
+    let text = c.args.name.now.text in
     let called = with_abc CallCode c.args.target (list_field 1 es) c.args.results c.args.line in
     let two : c.in_ok-next.field-0 ≡ c.args.target + 2 = omega (arith, c.in_ok-next.ensures, c.in_ok-above.ensures) in
-    let loaded : c.load_text.new.self ≡ listed c.expression.new.self (loads c.expression.new.self.constants key (c.args.target + 1) c.args.line) =
-    rw c.in_ok-above.ensures at c.in_ok-load_text.ensures in
-    let found : c.put_abc.new.self ≡ listed c.load_text.new.self (get ∷ []) = rw c.in_ok-above.ensures at c.in_ok-put_abc.ensures in
-    let values : c.list.new.self ≡ followed c.put_abc.new.self (exps_code c.put_abc.new.self.constants es None (c.args.target + 2) c.put_abc.new.self.made c.args.line) (made_in es) =
+    let values : c.list.new.self ≡ followed c.look_up_method.new.self (exps_code c.look_up_method.new.self.constants es None (c.args.target + 2) c.look_up_method.new.self.made c.args.line) (made_in es) =
     rw two at c.in_ok-list.ensures in
-    let call : c.put_abc-2.new.self ≡ listed c.list.new.self (called ∷ []) = rw c.list_field.ensures at c.in_ok-put_abc-2.ensures in
-    then_made c.args.self.now c.expression.new.self c.put_abc-2.new.self (exp_code k (plain_exp c.args.object.now) c.args.target c.args.self.now.made 2) (made_by (plain_exp c.args.object.now))
-    (λ k j. loads k key (c.args.target + 1) c.args.line ++ (get ∷ (exps_code k es None (c.args.target + 2) j c.args.line ++ called ∷ []))) (made_in es) c.in_ok-expression.ensures
-    (listed_then c.expression.new.self c.load_text.new.self c.put_abc-2.new.self (loads c.expression.new.self.constants key (c.args.target + 1) c.args.line)
-    (λ k j. get ∷ (exps_code k es None (c.args.target + 2) j c.args.line ++ called ∷ [])) (made_in es) loaded
-    (listed_then c.load_text.new.self c.put_abc.new.self c.put_abc-2.new.self (get ∷ []) (λ k j. exps_code k es None (c.args.target + 2) j c.args.line ++ called ∷ []) (made_in es) found
-    (then_listed c.put_abc.new.self c.list.new.self c.put_abc-2.new.self (exps_code c.put_abc.new.self.constants es None (c.args.target + 2) c.put_abc.new.self.made c.args.line) (made_in es)
-    (λ k. called ∷ []) values call)))
+    let call : c.put_abc.new.self ≡ listed c.list.new.self (called ∷ []) = rw c.list_field.ensures at c.in_ok-put_abc.ensures in
+    then_made c.args.self.now c.expression.new.self c.put_abc.new.self (exp_code k (plain_exp c.args.object.now) c.args.target c.args.self.now.made 2) (made_by (plain_exp c.args.object.now))
+    (λ k j. self_code k text c.args.target c.args.line ++ (exps_code k es None (c.args.target + 2) j c.args.line ++ called ∷ [])) (made_in es) c.in_ok-expression.ensures
+    (listed_then c.expression.new.self c.look_up_method.new.self c.put_abc.new.self (self_code c.expression.new.self.constants text c.args.target c.args.line)
+    (λ k j. exps_code k es None (c.args.target + 2) j c.args.line ++ called ∷ []) (made_in es) c.in_ok-look_up_method.ensures
+    (then_listed c.look_up_method.new.self c.list.new.self c.put_abc.new.self (exps_code c.look_up_method.new.self.constants es None (c.args.target + 2) c.look_up_method.new.self.made c.args.line) (made_in es)
+    (λ k. called ∷ []) values call))
 
 pub list-loop-exp-preserved : goal.list-loop-exp-preserved
 list-loop-exp-preserved t c =
