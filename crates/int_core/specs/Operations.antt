@@ -211,7 +211,9 @@ pub data Callee : Type 0 where
 
 -- each link puts the value that is called in front of the arguments
 abbrev pub callee_of : ℕ → Heap → Value → List Value → Callee
-callee_of zero H f arguments = cond (is_function f) (callee f arguments) (not_callable (codes "stack overflow"))
+callee_of zero H f arguments =
+    cond (is_function f) (callee f arguments)
+    (cond (is_nil (handler_in H of_call f)) (not_callable (of_type (codes "call") f)) (not_callable (codes "stack overflow")))
 callee_of (suc links) H f arguments =
     cond (is_function f) (callee f arguments)
     (cond (is_nil (handler_in H of_call f)) (not_callable (of_type (codes "call") f)) (callee_of links H (handler_in H of_call f) (f ∷ arguments)))

@@ -194,7 +194,11 @@ module _ (p : Pairs) where
       (λ x y h. cond_rel (SameSettled p) (is_function x) (is_function y) _ _ _ _ (function_test p x y h) (both_ask x y (o ∷ k ∷ v ∷ []) (o' ∷ k' ∷ w ∷ []) h (s, (t, (u, tt)))) (store_same links H I x y k k' v w a h t u))
 
   pub callee_same : (links : ℕ) (H I : Heap) (f g : Value) (vs ws : List Value) → SameHeap p H I → SameValue p f g → SameValues p vs ws → SameCallee p (callee_of links H f vs) (callee_of links I g ws)
-  callee_same zero H I f g vs ws a s h = cond_rel (SameCallee p) (is_function f) (is_function g) _ _ _ _ (function_test p f g s) (both_callee f g vs ws s h) (both_not_callable _)
+  callee_same zero H I f g vs ws a s h =
+      let m = handler_same H I of_call f g a s in
+      cond_rel (SameCallee p) (is_function f) (is_function g) _ _ _ _ (function_test p f g s) (both_callee f g vs ws s h)
+      (cond_rel (SameCallee p) (is_nil (handler_in H of_call f)) (is_nil (handler_in I of_call g)) _ _ _ _ (nil_same p a.one_to_one _ _ m)
+      (not_callable_so p _ _ (of_type_same p (codes "call") f g s)) (both_not_callable _))
   callee_same (suc links) H I f g vs ws a s h =
       let m = handler_same H I of_call f g a s in
       cond_rel (SameCallee p) (is_function f) (is_function g) _ _ _ _ (function_test p f g s) (both_callee f g vs ws s h)

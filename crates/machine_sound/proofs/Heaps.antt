@@ -160,11 +160,12 @@ module _ (z : Sizes) (H : Heap) (h : HeapOk z H) where
   CalleeOk (not_callable text) = Unit {0}
 
   pub callee_ok : (links : ℕ) (f : Value) (vs : List Value) → Valid z f → Each (Valid z) vs → CalleeOk (callee_of links H f vs)
-  callee_ok zero f vs a b = pick (is_function f) refl
+  callee_ok zero f vs a b = pick (is_function f) (is_nil (handler_in H of_call f)) refl
     where
-      pick : (t : Bool) → is_function f ≡ t → CalleeOk (cond t (callee f vs) (not_callable (codes "stack overflow")))
-      pick true e = (a, e, b)
-      pick false e = tt
+      pick : (t u : Bool) → is_function f ≡ t → CalleeOk (cond t (callee f vs) (cond u (not_callable (of_type (codes "call") f)) (not_callable (codes "stack overflow"))))
+      pick true u e = (a, e, b)
+      pick false true e = tt
+      pick false false e = tt
   callee_ok (suc links) f vs a b =
       pick (is_function f) (is_nil (handler_in H of_call f)) refl (callee_ok links (handler_in H of_call f) (f ∷ vs) (handler_ok of_call f) (each_cons (Valid z) f vs a b))
     where
