@@ -1,0 +1,3 @@
+mod Equal
+mod Names
+mod Saving

@@ -1,0 +1,2 @@
+pub mod Permanents
+pub mod Saved
