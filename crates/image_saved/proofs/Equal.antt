@@ -1,5 +1,6 @@
 -- Values and keys that are raw equal are the same.
 use Rattle.std.proofs.Common.{arith, ℕ, ◌≡◌, Bool, true, false, refl, ap, ap₂, ℤ, pos, negsuc}
+use Rattle.std.proofs.lemmas.Bool.{and_parts}
 use Rattle.std.proofs.lemmas.Bool.Decides.{nat_tests}
 use Rattle.std.specs.Prelude.{nat_eq, ◌&&◌}
 use Rattle.std.proofs.lemmas.Slice.Eq.{bytes_eq-Decides}
@@ -43,15 +44,10 @@ kind_is a_function a_function h = refl
 kind_is a_coroutine a_coroutine h = refl
 kind_is _ _ h = absurd (cc)
 
-both_true : (a b : Bool) → (a && b) ≡ true → (a ≡ true) × (b ≡ true)
-both_true true true h = (refl, refl)
-both_true true false h = absurd (cc)
-both_true false b h = absurd (cc)
-
 pub value_is : (a b : Value) → same a b ≡ true → a ≡ b
 value_is (known p) (known q) h = ap known (plain_is p q h)
 value_is (object k m) (object l n) h =
-    let both = both_true (same_kind k l) (nat_eq m n) h in
+    let both = and_parts (same_kind k l) (nat_eq m n) h in
     ap₂ object (kind_is k l both.0) (number_is m n both.1)
 value_is (known p) (object l n) h = absurd (cc)
 value_is (object k m) (known q) h = absurd (cc)
