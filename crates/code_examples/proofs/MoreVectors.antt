@@ -92,7 +92,7 @@ calls_method = vararg_fun ("o" ∷ []) [] (returning []
     (bin Join (Unary 1 Length (loc "o" 0)) (Unary 1 Neg (loc "o" 0)) ∷ Method 1 (loc "o" 0) (no_variable "m") (exps (int 1 ∷ Vararg 1 ∷ [])) ∷ []))
 
 abbrev pub calls_method_code : Prototype
-calls_method_code = hand 1 true 6 (text "m" ∷ []) [] (variable "o" 0 13 ∷ []) []
+calls_method_code = hand 1 true 6 (text "m" ∷ []) [] (variable "o" 0 12 ∷ []) []
     (abc VarArgPrep 1 0 0 false ∷ abc Move 1 0 0 false ∷ abc Len 1 1 0 false ∷ abc Move 2 0 0 false ∷ abc Unm 2 2 0 false ∷ abc Concat 1 2 0 false
     ∷ abc Move 2 0 0 false ∷ abc OpSelf 2 2 0 true ∷ load_int 4 1 ∷ abc VarArg 5 0 0 false ∷ abc Call 2 0 0 false ∷ abc Return 1 0 2 true ∷ [])
 
@@ -106,7 +106,7 @@ unfolding opcodes number_of int_wrap
 open_lists = (refl, refl)
 
 abbrev pub makes_tables_code : Prototype
-makes_tables_code = hand 1 false 9 (text "a" ∷ text "b" ∷ text "m" ∷ text "x" ∷ text "c" ∷ []) [] (variable "o" 0 24 ∷ []) []
+makes_tables_code = hand 1 false 9 (text "a" ∷ text "b" ∷ text "m" ∷ text "x" ∷ text "c" ∷ []) [] (variable "o" 0 23 ∷ []) []
     (abc Move 1 0 0 false ∷ abx LoadK 2 0 ∷ abc Move 3 0 0 false ∷ abx LoadK 4 1 ∷ load_int 5 1
     ∷ abc Move 6 0 0 false ∷ abc OpSelf 6 6 2 true ∷ load_int 8 2 ∷ abc Call 6 3 2 false ∷ abc SetTable 3 4 6 false ∷ abc SetTable 1 2 5 false
     ∷ abc NewTable 1 0 0 false ∷ op_ax ExtraArg 0 ∷ load_int 2 3 ∷ abc SetList 1 1 0 false ∷ abx LoadK 2 3 ∷ load_int 3 4 ∷ abc SetTable 1 2 3 false

@@ -8,7 +8,7 @@ use Rattle.tree_activation.specs.Work.{complete, collect, evaluate, callee_of, m
 use Rattle.tree_activation.specs.Work as tree
 use Rattle.tree_activation.specs.Activation.{step}
 use Rattle.tree_activation.specs.Statements.{repeat_point, begins_return}
-use Rattle.code_core.specs.declared.opcode.Opcode.TheVariants.{OpSelf, TailCall, Return}
+use Rattle.code_core.specs.declared.opcode.Opcode.TheVariants.{TailCall, Return}
 use Rattle.code_core.specs.Instruction.{abc}
 use Rattle.code_core.specs.Check.{at}
 use Rattle.code_core.specs.declared.proto.Const.{Const}
@@ -17,10 +17,8 @@ use Rattle.machine_core.specs.InstructionRows as rows
 use Rattle.machine_core.specs.InstructionRows.{read_values, counted}
 use Rattle.machine_core.specs.Talk.{talk, talk_step, before}
 use Rattle.list_laws.proofs.Items.{append_nil}
-use Rattle.code_of.specs.Coded.{Coded, with_abc, leaving_by}
+use Rattle.code_of.specs.Coded.{Coded, leaving_by}
 use Rattle.code_of.specs.Expressions.{made_by, count, list_field, exp_code, exps_code}
-use Rattle.code_of.specs.Constants.{loads}
-use Rattle.code_core.specs.declared.proto.Const.TheVariants.{Str as StrConst}
 use Rattle.code_of.specs.Jumps.{Reach}
 use Rattle.tree_terms.specs.Levels.{level_after, levels_after}
 use Rattle.code_of.specs.Levels.{closing_after, closings_after, made_in_stats}
