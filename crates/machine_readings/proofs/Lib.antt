@@ -4,6 +4,7 @@ pub mod Closing
 pub mod Worlds
 pub mod Moves
 pub mod Opening
+pub mod FrameNumbers
 pub mod Writing
 pub mod Both
 pub mod Blame

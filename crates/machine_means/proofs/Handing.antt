@@ -1,0 +1,63 @@
+-- Results on their way to the frame on top, in both worlds.
+use Rattle.std.proofs.Common.{◌≡◌, List, [], ◌++◌, Some, None, refl, ap, ◌∙◌, Bool, false}
+use Rattle.int_core.specs.Value.{Value, bind, last}
+use Rattle.machine_core.specs.World.{World, Stack, stack_of}
+use Rattle.machine_core.specs.Moves.{TopShape, lua_top, pcall_top, xpcall_top, handler_top, closing_top, no_top, top_shape, Ending, go, returned, made, Outcome, trapped, ends, run}
+use Rattle.machine_core.specs.FrameRows.{handed, hand_over}
+use Rattle.lua_meaning.specs.World.{Now, gives_back, now_in}
+use Rattle.machine_means.specs.Joined.{TalkWorld, Joined}
+use Rattle.machine_means.specs.Laws.{GivesBack}
+
+abbrev pub ending_of : TopShape → Ending
+ending_of lua_top = go
+ending_of _ = returned
+
+handed_is : (top : TopShape) (env : List Value) (W : World) → run (handed top) env W ≡ ends (ending_of top) W
+handed_is lua_top env W = refl
+handed_is pcall_top env W = refl
+handed_is xpcall_top env W = refl
+handed_is handler_top env W = refl
+handed_is closing_top env W = refl
+handed_is (no_top in_main) env W = refl
+
+hand_over_is : (W : World) (s : Stack) (env : List Value) → stack_of W ≡ Some s → run hand_over env W ≡ ends (ending_of (top_shape W (last s.frames))) W
+hand_over_is W s env e =
+    ap (λ o. elim (bind (bind o (λ s. Some (top_shape W (last s.frames)))) (λ top. made {A = TopShape} W [] top)) as (λ _. Outcome) [ None ↦ trapped | Some d ↦ run (handed d.told) (env ++ d.values) d.world ]) e
+    ∙ handed_is (top_shape W (last s.frames)) (env ++ []) W
+
+-- nothing that joins the worlds looks at what moves
+pub moved : (lax : Bool) (M : World) (T : TalkWorld) (mv : List Value) → Joined lax M T → Joined lax (record M { moving = mv }) T
+moved lax M T mv k = record {
+  heap = k.heap;
+  globals = k.globals;
+  printed = k.printed;
+  fuel = k.fuel;
+  chain = k.chain;
+  functions = k.functions;
+  held = k.held;
+  cells = k.cells;
+  coroutines = k.coroutines;
+}
+
+pub told_now : (lax : Bool) (M : World) (T : TalkWorld) (now : Now) → Joined lax M T → Joined lax M (now_in T now)
+told_now lax M T now k = record {
+  heap = k.heap;
+  globals = k.globals;
+  printed = k.printed;
+  fuel = k.fuel;
+  chain = k.chain;
+  functions = k.functions;
+  held = k.held;
+  cells = k.cells;
+  coroutines = k.coroutines;
+}
+
+pub gives : (W : World) (T : TalkWorld) (s : Stack) (env : List Value) → stack_of W ≡ Some s → Joined false W T → T.now ≡ gives_back W.moving → GivesBack (run hand_over env W) T
+gives W T s env e k n = record {
+  ending = ending_of (top_shape W (last s.frames));
+  world = W;
+  is = hand_over_is W s env e;
+  reached = hand_over_is W s [] e;
+  now = n;
+  joined = k;
+}

@@ -1,0 +1,15 @@
+pub mod Held
+pub mod Shared
+pub mod StillPending
+pub mod FrameWrites
+pub mod CellWrites
+pub mod Pending
+pub mod Switches
+pub mod Resuming
+pub mod Running
+pub mod Handing
+pub mod Shutting
+pub mod Giving
+pub mod Writing
+pub mod Resumed
+pub mod Worlds

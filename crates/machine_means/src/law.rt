@@ -1,0 +1,18 @@
+// The laws, each with what it speaks of in `specs/`.
+ghost use Rattle.machine_means.specs.Laws.{EndsJoined, FailsJoined, ResumesJoined, WritesJoined, YieldsJoined};
+
+/// A cell that is written keeps a world of the machine and one of talking activations joined, whether it is closed or open, and in the
+/// frames of whichever coroutine, the one that runs or another one.
+pub fn writes_keep_worlds_joined()
+    ensures { WritesJoined }
+{}
+
+/// Where the running coroutine gives way to the one that resumed it, both worlds stay joined, and the same values are on their way to the
+/// frame on top: where it yields, where it ends, and where an error leaves it, after which both keep the same values that it still has to
+/// close. So it is where a coroutine that has begun is resumed, or refused with the same text.
+pub fn switches_keep_worlds_joined()
+    ensures yields { YieldsJoined }
+    ensures ends { EndsJoined }
+    ensures fails { FailsJoined }
+    ensures resumes { ResumesJoined }
+{}

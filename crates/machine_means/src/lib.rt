@@ -1,0 +1,7 @@
+//! That the machine is the meaning: its worlds and those of talking activations over code, side by side, for any number of coroutines.
+//! The crate has no code that runs. Each public function states what is proved of the definitions.
+#![tactic(auto)]
+
+mod law;
+
+pub use law::{switches_keep_worlds_joined, writes_keep_worlds_joined};
