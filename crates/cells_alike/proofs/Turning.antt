@@ -5,7 +5,7 @@ use Rattle.std.proofs.lemmas.Option.{slice_get-map}
 use Rattle.std.specs.Prelude.{slice_get, slice_set, map, option_map, codes}
 use Rattle.int_core.specs.Value.{Value, object, a_table, a_function, is_nil, nth, bind}
 use Rattle.int_core.specs.Heap.{filled_table, add_table}
-use Rattle.int_core.specs.Operations.{Settled, found, ask, fault, does, handler_in, of_close}
+use Rattle.int_core.specs.Operations.{Settled, found, ask, fault, cannot_arise, does, handler_in, of_close}
 use Rattle.int_core.specs.Ask.{CellName, of_local, of_upvalue, returns, throws, Ask, reads_upvalue, writes_upvalue, makes_table, makes_function, fills_table, pays, opens, operates, calls, calls_last, marks, closes, raises, leaves, Reply, values, faulted}
 use Rattle.tree_core.specs.Tree.{Body}
 use Rattle.tree_activation.specs.Work.{State}
@@ -181,6 +181,7 @@ settled_both : (J : Joint) (w : Waiting) (below : List Layer) (o : Settled) → 
 settled_both J w below (found H vs) q a = answered_both (record J { heap = H; frames = below }) w (values vs) below q a q.layers
 settled_both J w below (ask h vs) q a = calls_for_both J w below h vs q a
 settled_both J w below (fault why) q a = answered_both (record J { frames = below }) w (faulted why) below q a q.layers
+settled_both J w below cannot_arise q a = breaks_both J
 
 unit_both : (fuel : ℕ) (J : Joint) (w : Waiting) (below : List Layer) → RestsOn J below → WaitsOn J below w
     → Both (pays_unit fuel (one J) (asker_one w) (map frame_one below)) (pays_unit fuel (two J) (asker_two w) (map frame_two below))

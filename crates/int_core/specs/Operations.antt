@@ -161,11 +161,13 @@ is_function (object a_function n) = true
 is_function (known (primitive n)) = true
 is_function _ = false
 
--- what became of an operation
+-- what became of an operation. `cannot_arise` is that of a table that is not there, and of too few or too many operands: no sound world and
+-- no activation comes to it
 pub data Settled : Type 0 where
   found : Heap → List Value → Settled
   ask : (handler : Value) → (arguments : List Value) → Settled
   fault : List ℕ → Settled
+  cannot_arise : Settled
 
 abbrev pub asked : Option Value → List Value → Settled → Settled
 asked (Some h) arguments otherwise = ask h arguments
@@ -238,7 +240,7 @@ concat_on H _ _ left right =
 
 abbrev pub raw_length : Heap → Value → Settled
 raw_length H (object a_table n) = elim (slice_get H.tables n) [
-  | None ↦ fault (codes "")
+  | None ↦ cannot_arise
   | Some t ↦ found H (known (integer (pos (border table_values t.rows))) ∷ [])
 ]
 raw_length H v = fault (of_type (codes "get length of") v)
@@ -278,6 +280,12 @@ pub data Operation : Type 0 where
   less : Operation
   less_equal : Operation
 
+-- how many operands it has
+abbrev pub operands : Operation → ℕ
+operands store = 3
+operands length' = 1
+operands _ = 2
+
 abbrev pub does : Operation → List Value → Heap → Settled
 does index (o ∷ key ∷ []) H = index_of greatest_chain H o key
 does store (o ∷ key ∷ value ∷ []) H = store_of greatest_chain H o key value
@@ -287,4 +295,4 @@ does length' (v ∷ []) H = length_on H v
 does equal (left ∷ right ∷ []) H = equal_on H left right
 does less (left ∷ right ∷ []) H = ordered of_lt int_lt before H left right
 does less_equal (left ∷ right ∷ []) H = ordered of_le int_le (λ s t. not (before t s)) H left right
-does _ _ H = fault []
+does _ _ H = cannot_arise

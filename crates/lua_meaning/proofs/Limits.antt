@@ -4,7 +4,7 @@ use Rattle.std.proofs.lemmas.Bool.Decides.{nat_tests}
 use Rattle.std.specs.Prelude.{ℤ, nat_lt, slice_get, slice_set, drop, codes}
 use Rattle.int_core.specs.Value.{Value, known, primitive, object, a_function, a_coroutine, is_nil, nth}
 use Rattle.int_core.specs.Heap.{filled_table}
-use Rattle.int_core.specs.Operations.{Callee, callee, not_callable, callee_of, greatest_chain, Settled, found, ask, fault, does, handler_in, of_close, is_function}
+use Rattle.int_core.specs.Operations.{Callee, callee, not_callable, callee_of, greatest_chain, Settled, found, ask, fault, cannot_arise, does, handler_in, of_close, is_function}
 use Rattle.int_core.specs.Ask.{faulted, Ask, reads_upvalue, writes_upvalue, makes_table, makes_function, fills_table, pays, opens, operates, calls, calls_last, marks, closes, raises, leaves, returns, throws, Answer, Next, goes_on, says, stuck}
 use Rattle.lua_meaning.specs.World.{System, Function, Asker, Frame, talking, waiting, raising, protected, handled_by, handling, closing, Coroutine, fresh, suspended, running, normal, dead, failed, Now, talks, gives_back, raises_error, unwinds, calls_primitive, ends, World, now_in, breaks, greatest_depth, has_room, on_frames, runs_main, raises_text, blamed, given_to, answered, answered_at_once, as_known, cell_of, shared_in}
 use Rattle.lua_meaning.specs.Calls.{error_in_handler, error_or_nil, put_coroutine, frames_in, back_to, returns_all, fails_all, enters_function, enters, pays_with, pays_for, calls_value, calls_over, closes_on, handed, raised_to, unwound, goes_along, goes_into, resumes, greatest_resumes, yields, closes_in, closes_coroutine}
@@ -214,6 +214,7 @@ module _ {F S : Type 0} (system : System F S) where
   settled_keeps n W asker below (found H vs) k few = given_keeps n (record W { heap = H }) asker _ below (record { spends = k.spends; top = k.top; others = k.others }) few
   settled_keeps n W asker below (ask h vs) k few = calls_for_keeps n W asker below h vs k few
   settled_keeps n W asker below (fault why) k few = given_keeps n W asker _ below k few
+  settled_keeps n W asker below cannot_arise k few = now_keeps n W _ k
 
   unit_keeps : (n m : ℕ) (W : World F S) (asker : Asker S) (below : List (Frame S)) → W.fuel ≡ m → Keeps n W → length below + 1 ≤ greatest_depth → Keeps n (pays_unit m W asker below)
   unit_keeps n zero W asker below e k few = now_keeps n W _ k

@@ -2,7 +2,7 @@
 use Rattle.std.specs.Prelude.{ℕ, zero, suc, cond, List, [], ◌∷◌, ◌++◌, length, Option, Some, None, option_map, slice_get, slice_set, codes}
 use Rattle.int_core.specs.Value.{a_table, a_function, Value, object, is_nil, nth, bind}
 use Rattle.int_core.specs.Heap.{filled_table, add_table}
-use Rattle.int_core.specs.Operations.{Settled, found, ask, fault, does, handler_in, of_close}
+use Rattle.int_core.specs.Operations.{Settled, found, ask, fault, cannot_arise, does, handler_in, of_close}
 use Rattle.int_core.specs.Ask.{CellName, of_local, of_upvalue, returns, throws, Ask, reads_upvalue, writes_upvalue, makes_table, makes_function, fills_table, pays, opens, operates, calls, calls_last, marks, closes, raises, leaves, Reply, values, faulted, Next, goes_on, says, stuck}
 use Rattle.lua_meaning.specs.World.{System, Function, Asker, Frame, talking, waiting, raising, spent, gives_back, unwinds, ends, World, now_in, breaks, on_frames, shared_in, cell_of, raises_text, answered, answered_at_once, as_known}
 use Rattle.lua_meaning.specs.Calls.{calls_value}
@@ -49,6 +49,7 @@ module _ {F S : Type 0} (system : System F S) where
   settled W asker below (found H vs) = answered (record W { heap = H }) asker (values vs) below
   settled W asker below (ask h vs) = calls_for W asker below h vs
   settled W asker below (fault why) = answered W asker (faulted why) below
+  settled W asker below cannot_arise = breaks W
 
   -- the cells that the asker shares are written
   abbrev pub handle : Ask F → World F S → Asker S → List (Frame S) → World F S

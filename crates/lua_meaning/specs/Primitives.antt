@@ -4,7 +4,7 @@ use Rattle.std.specs.Prelude.{ℕ, zero, suc, ◌+◌, ◌-◌, ℤ, pos, negsuc
 use Rattle.int_core.specs.Rows.{next}
 use Rattle.int_core.specs.Value.{greatest_string, nil, boolean, integer, string, primitive, a_table, Value, known, object, Shape, is_object, shape, same, is_nil, table_values, nth, bind}
 use Rattle.int_core.specs.Heap.{Heap, raw_get, metatable_of}
-use Rattle.int_core.specs.Operations.{Settled, found, ask, fault, type_name, integer_text, number_in, raw_length, set_raw}
+use Rattle.int_core.specs.Operations.{Settled, found, ask, fault, cannot_arise, type_name, integer_text, number_in, raw_length, set_raw}
 
 -- the functions that are no Lua text, by their names there; `text`, `meta` and `out` are private to the prelude
 pub data Primitive : Type 0 where
@@ -66,6 +66,7 @@ abbrev pub done_so : Settled → Option Done
 done_so (found H vs) = Some (done H vs)
 done_so (ask h vs) = None
 done_so (fault why) = Some (refused why)
+done_so cannot_arise = None
 
 -- the rows
 
@@ -161,6 +162,7 @@ row lua_rawset H vs = with_table (codes "rawset") vs (elim (set_raw H (nth vs 0)
   | found J ws ↦ Some (gives J (nth vs 0))
   | ask h ws ↦ None
   | fault why ↦ Some (refused why)
+  | cannot_arise ↦ None
 ])
 row lua_select H vs = Some (selects H vs)
 row lua_setmetatable H vs = with_table (codes "setmetatable") vs (Some (sets_metatable H (nth vs 0) (nth vs 1)))

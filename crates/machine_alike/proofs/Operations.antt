@@ -4,7 +4,7 @@ use Rattle.std.specs.Prelude.{nat_eq, nat_le, slice_get, slice_set, ℤ, pos, in
 use Rattle.int_core.specs.Rows.{set, border}
 use Rattle.int_core.specs.Value.{a_table, a_function, a_coroutine, same, is_nil, Value, nil, boolean, integer, string, primitive, known, object, table_values, greatest_string}
 use Rattle.int_core.specs.Heap.{Table, Heap, raw_get, raw_set, metatable_of, filled, filled_table}
-use Rattle.int_core.specs.Operations.{Event, of_concat, of_len, of_eq, of_lt, of_le, of_index, of_newindex, of_call, event_name, type_name, of_type, number_in, text_of, is_number, is_text, at_fault, computed, by_zero, before, handler_in, handler_of, is_function, Settled, found, ask, fault, asked, greatest_chain, indexed, index_of, set_raw, stored, store_of, Callee, callee, not_callable, callee_of, wrong_operand, arithmetic_on, joined, concat_on, raw_length, length_on, truth, equal_on, cannot_compare, ordered, Operation, index, store, arithmetic, concat, length', equal, less, less_equal, does}
+use Rattle.int_core.specs.Operations.{Event, of_concat, of_len, of_eq, of_lt, of_le, of_index, of_newindex, of_call, event_name, type_name, of_type, number_in, text_of, is_number, is_text, at_fault, computed, by_zero, before, handler_in, handler_of, is_function, Settled, found, ask, fault, cannot_arise, asked, greatest_chain, indexed, index_of, set_raw, stored, store_of, Callee, callee, not_callable, callee_of, wrong_operand, arithmetic_on, joined, concat_on, raw_length, length_on, truth, equal_on, cannot_compare, ordered, Operation, index, store, arithmetic, concat, length', equal, less, less_equal, does}
 use Rattle.machine_alike.specs.Agree.{Pairs, SameNumber, Both, Each, SameValue, same_known, same_object, SameValues, SameTable, OneToOne}
 use Rattle.machine_alike.proofs.Pairwise.{each_bind, both_each, both_set, cond_rel}
 use Rattle.machine_alike.proofs.Same.{shape_same, value_or_nil}
@@ -19,6 +19,7 @@ pub data SameSettled (p : Pairs) : Settled → Settled → Type 0 where
   both_found : (H I : Heap) (vs ws : List Value) → SameHeap p H I → SameValues p vs ws → SameSettled p (found H vs) (found I ws)
   both_ask : (h g : Value) (vs ws : List Value) → SameValue p h g → SameValues p vs ws → SameSettled p (ask h vs) (ask g ws)
   both_fault : (text : List ℕ) → SameSettled p (fault text) (fault text)
+  neither_arises : SameSettled p cannot_arise cannot_arise
 
 pub data SameCallee (p : Pairs) : Callee → Callee → Type 0 where
   both_callee : (f g : Value) (vs ws : List Value) → SameValue p f g → SameValues p vs ws → SameCallee p (callee f vs) (callee g ws)
@@ -255,8 +256,8 @@ module _ (p : Pairs) where
   raw_length_same H I v w a (same_object a_table i j h) = go (slice_get H.tables i) (slice_get I.tables j) (a.tables i j h)
     where
       go : (o o' : Option Table) → Both (SameTable p) o o' → SameSettled p
-          (elim o [ None ↦ fault (codes "") | Some t ↦ found H (known (integer (pos (border table_values t.rows))) ∷ []) ])
-          (elim o' [ None ↦ fault (codes "") | Some t ↦ found I (known (integer (pos (border table_values t.rows))) ∷ []) ])
+          (elim o [ None ↦ cannot_arise | Some t ↦ found H (known (integer (pos (border table_values t.rows))) ∷ []) ])
+          (elim o' [ None ↦ cannot_arise | Some t ↦ found I (known (integer (pos (border table_values t.rows))) ∷ []) ])
       go None o' r = absurd r
       go (Some x) None r = absurd r
       go (Some x) (Some y) r =
@@ -325,37 +326,37 @@ module _ (p : Pairs) where
 
   settles : (op : Operation) (H I : Heap) (vs ws : List Value) → SameHeap p H I → SameList p vs ws → SameSettled p (does op vs H) (does op ws I)
   settles index H I vs ws a (item o o' _ _ s (item k k' _ _ t ended)) = index_same greatest_chain H I o o' k k' a s t
-  settles index H I vs ws a ended = both_fault _
-  settles index H I vs ws a (item _ _ _ _ _ ended) = both_fault _
-  settles index H I vs ws a (item _ _ _ _ _ (item _ _ _ _ _ (item _ _ _ _ _ _))) = both_fault _
+  settles index H I vs ws a ended = neither_arises
+  settles index H I vs ws a (item _ _ _ _ _ ended) = neither_arises
+  settles index H I vs ws a (item _ _ _ _ _ (item _ _ _ _ _ (item _ _ _ _ _ _))) = neither_arises
   settles store H I vs ws a (item o o' _ _ s (item k k' _ _ t (item v w _ _ u ended))) = store_same greatest_chain H I o o' k k' v w a s t u
-  settles store H I vs ws a ended = both_fault _
-  settles store H I vs ws a (item _ _ _ _ _ ended) = both_fault _
-  settles store H I vs ws a (item _ _ _ _ _ (item _ _ _ _ _ ended)) = both_fault _
-  settles store H I vs ws a (item _ _ _ _ _ (item _ _ _ _ _ (item _ _ _ _ _ (item _ _ _ _ _ _)))) = both_fault _
+  settles store H I vs ws a ended = neither_arises
+  settles store H I vs ws a (item _ _ _ _ _ ended) = neither_arises
+  settles store H I vs ws a (item _ _ _ _ _ (item _ _ _ _ _ ended)) = neither_arises
+  settles store H I vs ws a (item _ _ _ _ _ (item _ _ _ _ _ (item _ _ _ _ _ (item _ _ _ _ _ _)))) = neither_arises
   settles (arithmetic event) H I vs ws a (item v w _ _ s (item x y _ _ t ended)) = arithmetic_same H I event v w x y a s t
-  settles (arithmetic event) H I vs ws a ended = both_fault _
-  settles (arithmetic event) H I vs ws a (item _ _ _ _ _ ended) = both_fault _
-  settles (arithmetic event) H I vs ws a (item _ _ _ _ _ (item _ _ _ _ _ (item _ _ _ _ _ _))) = both_fault _
+  settles (arithmetic event) H I vs ws a ended = neither_arises
+  settles (arithmetic event) H I vs ws a (item _ _ _ _ _ ended) = neither_arises
+  settles (arithmetic event) H I vs ws a (item _ _ _ _ _ (item _ _ _ _ _ (item _ _ _ _ _ _))) = neither_arises
   settles concat H I vs ws a (item v w _ _ s (item x y _ _ t ended)) = concat_same H I v w x y a s t
-  settles concat H I vs ws a ended = both_fault _
-  settles concat H I vs ws a (item _ _ _ _ _ ended) = both_fault _
-  settles concat H I vs ws a (item _ _ _ _ _ (item _ _ _ _ _ (item _ _ _ _ _ _))) = both_fault _
+  settles concat H I vs ws a ended = neither_arises
+  settles concat H I vs ws a (item _ _ _ _ _ ended) = neither_arises
+  settles concat H I vs ws a (item _ _ _ _ _ (item _ _ _ _ _ (item _ _ _ _ _ _))) = neither_arises
   settles length' H I vs ws a (item v w _ _ s ended) = length_same H I v w a s
-  settles length' H I vs ws a ended = both_fault _
-  settles length' H I vs ws a (item _ _ _ _ _ (item _ _ _ _ _ _)) = both_fault _
+  settles length' H I vs ws a ended = neither_arises
+  settles length' H I vs ws a (item _ _ _ _ _ (item _ _ _ _ _ _)) = neither_arises
   settles equal H I vs ws a (item v w _ _ s (item x y _ _ t ended)) = equals_same H I v w x y a s t
-  settles equal H I vs ws a ended = both_fault _
-  settles equal H I vs ws a (item _ _ _ _ _ ended) = both_fault _
-  settles equal H I vs ws a (item _ _ _ _ _ (item _ _ _ _ _ (item _ _ _ _ _ _))) = both_fault _
+  settles equal H I vs ws a ended = neither_arises
+  settles equal H I vs ws a (item _ _ _ _ _ ended) = neither_arises
+  settles equal H I vs ws a (item _ _ _ _ _ (item _ _ _ _ _ (item _ _ _ _ _ _))) = neither_arises
   settles less H I vs ws a (item v w _ _ s (item x y _ _ t ended)) = ordered_same of_lt int_lt before H I v w x y a s t
-  settles less H I vs ws a ended = both_fault _
-  settles less H I vs ws a (item _ _ _ _ _ ended) = both_fault _
-  settles less H I vs ws a (item _ _ _ _ _ (item _ _ _ _ _ (item _ _ _ _ _ _))) = both_fault _
+  settles less H I vs ws a ended = neither_arises
+  settles less H I vs ws a (item _ _ _ _ _ ended) = neither_arises
+  settles less H I vs ws a (item _ _ _ _ _ (item _ _ _ _ _ (item _ _ _ _ _ _))) = neither_arises
   settles less_equal H I vs ws a (item v w _ _ s (item x y _ _ t ended)) = ordered_same of_le int_le (λ s t. not (before t s)) H I v w x y a s t
-  settles less_equal H I vs ws a ended = both_fault _
-  settles less_equal H I vs ws a (item _ _ _ _ _ ended) = both_fault _
-  settles less_equal H I vs ws a (item _ _ _ _ _ (item _ _ _ _ _ (item _ _ _ _ _ _))) = both_fault _
+  settles less_equal H I vs ws a ended = neither_arises
+  settles less_equal H I vs ws a (item _ _ _ _ _ ended) = neither_arises
+  settles less_equal H I vs ws a (item _ _ _ _ _ (item _ _ _ _ _ (item _ _ _ _ _ _))) = neither_arises
 
   pub does_same : (op : Operation) (H I : Heap) (vs ws : List Value) → SameHeap p H I → SameValues p vs ws → SameSettled p (does op vs H) (does op ws I)
   does_same op H I vs ws a h = settles op H I vs ws a (as_one p vs ws h)

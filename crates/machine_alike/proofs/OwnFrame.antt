@@ -15,7 +15,7 @@ use Rattle.machine_alike.specs.Agree.{Pairs, SameCellNumber, Both, Each, SameVal
 use Rattle.machine_alike.specs.Laws.{MadeAlike, Alike, AlikeIfMade, Keeps, KeepsIfMade, IsKept}
 use Rattle.machine_alike.proofs.Pairwise.{each_bind, each_on, each_same, zip_get, zip_length, zip_drop, cond_rel}
 use Rattle.machine_alike.proofs.Same.{SamePlace, place_same, extends_self, extends_on}
-use Rattle.machine_alike.proofs.Operations.{SameHeap, SameSettled, both_found, both_ask, both_fault, does_same, filled_table_same}
+use Rattle.machine_alike.proofs.Operations.{SameHeap, SameSettled, both_found, both_ask, both_fault, neither_arises, does_same, filled_table_same}
 use Rattle.machine_alike.proofs.Grow.{object_new, table_pair, extends_table, add_table_same, function_pair, extends_function, add_function_same}
 use Rattle.machine_alike.proofs.Cells.{open_same, found_open, pair_cells}
 use Rattle.machine_alike.proofs.CellWrites.{read_same, write_cell_same}
@@ -247,6 +247,7 @@ settled_same : (p : Pairs) (W X : World) (a b : Place) (x y : Settled) → Agree
 settled_same p W X a b x y g (both_found H I vs ws h s) = made_same p p SettledShape _ _ vs ws is_found is_found (extends_self p) (heap_agrees p W X H I g h) s refl
 settled_same p W X a b x y g (both_ask h k vs ws l s) = made_same p p SettledShape W X (h ∷ vs) (k ∷ ws) is_asked is_asked (extends_self p) g (l, s) refl
 settled_same p W X a b x y g (both_fault text) = made_same p p SettledShape W X [] [] (is_fault text) (is_fault text) (extends_self p) g tt refl
+settled_same p W X a b x y g neither_arises = tt
 
 pub settle_keeps : (op : Operation) (xs : List Arg) → Keeps (settle op xs)
 settle_keeps op xs p env other W X s g = on_place p SettledShape W X _ _ g

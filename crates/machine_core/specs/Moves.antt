@@ -8,7 +8,7 @@ use Rattle.code_core.specs.Check.{lines_from, at}
 use Rattle.code_core.specs.Writable.{string_fits}
 use Rattle.int_core.specs.Value.{nil, string, primitive, a_table, a_function, a_coroutine, Value, known, object, Shape, shape, is_nil, nth, bind, last, without_last}
 use Rattle.machine_core.specs.World.{Cell, open_at, Wait, running, for_call, for_iterator, for_value, for_truth, dropped, for_concat, for_close, returning, leaving, Activation, Frame, lua, pcall, xpcall, handler, closing, Coroutine, fresh, suspended, in_progress, normal, dead, failed, World, Stack, stack_of, Place, place_of, put_top, push, pop, read_cell, write_cell, find_open, close_from, frames_of}
-use Rattle.int_core.specs.Operations.{Operation, Settled, found, ask, fault, does, Callee, callee, not_callable, callee_of, greatest_chain, handler_in, of_close}
+use Rattle.int_core.specs.Operations.{Operation, Settled, found, ask, fault, cannot_arise, does, Callee, callee, not_callable, callee_of, greatest_chain, handler_in, of_close}
 use Rattle.machine_core.specs.Text.{Arg, arg, args_of, Own, close_cells, keep_pending, reads, tells, effect, fits, done, Quick, read_upvalue, write_upvalue, make_table, make_function, fill_table, pay, Given, given_values}
 
 -- where an error was raised
@@ -407,6 +407,7 @@ abbrev pub settled : World → Place → Settled → Option (Made SettledShape)
 settled W at (found H vs) = made (record W { heap = H }) vs is_found
 settled W at (ask h arguments) = made W (h ∷ arguments) is_asked
 settled W at (fault text) = made W [] (is_fault text)
+settled W at cannot_arise = None
 
 abbrev pub move : (m : Move) → List Value → World → Option (Made (Told m))
 move (on_own m) env W = bind (place_of W) (do_own m env W)

@@ -4,7 +4,7 @@ use Rattle.std.specs.Prelude.{ℕ, zero, suc, ◌+◌, ℤ, pos, Bool, true, fal
 use Rattle.code_core.specs.Prototype.{Prototype}
 use Rattle.int_core.specs.Value.{boolean, string, primitive, a_table, a_function, Value, known, object, Shape, shape, is_nil, nth, bind}
 use Rattle.machine_core.specs.World.{World}
-use Rattle.int_core.specs.Operations.{Settled, found, ask, fault, does, Callee, callee, not_callable, callee_of, greatest_chain, handler_in, of_close}
+use Rattle.int_core.specs.Operations.{Settled, found, ask, fault, cannot_arise, does, Callee, callee, not_callable, callee_of, greatest_chain, handler_in, of_close}
 use Rattle.int_core.specs.Ask.{Reply, values, faulted, left, CellName, of_local, of_upvalue, returns, throws, Ask, reads_upvalue, writes_upvalue, makes_table, makes_function, fills_table, pays, opens, operates, calls, calls_last, marks, closes, raises, leaves, Answer, Next, goes_on, says, stuck}
 use Rattle.int_core.specs.Heap.{add_table, filled_table}
 use Rattle.machine_core.specs.Moves.{without_mark, limited, stack_overflow, greatest_depth}
@@ -109,6 +109,7 @@ abbrev pub settled : Talks → ℕ → Option ℕ → List (ℕ × Value) → (A
 settled T f line shared k below (found H vs) = answered (record T { world = record T.world { heap = H } }) f shared k 0 (values vs) below
 settled T f line shared k below (ask h arguments) = calls_value T (waiting f line shared k ∷ below) h arguments (λ U text. answered U f shared k 0 (faulted text) below)
 settled T f line shared k below (fault text) = answered T f shared k 0 (faulted text) below
+settled T f line shared k below cannot_arise = record T { now = is_stuck }
 
 abbrev pub one : Value → Reply
 one v = values (v ∷ [])

@@ -5,7 +5,7 @@ use Rattle.code_core.specs.Check.{at}
 use Rattle.code_core.specs.declared.instruction.Instruction.{Instruction}
 use Rattle.int_core.specs.Heap.{Heap, add_table}
 use Rattle.int_core.specs.Value.{Value, bind, object, a_table}
-use Rattle.int_core.specs.Operations.{Settled, found, ask, fault, does}
+use Rattle.int_core.specs.Operations.{Settled, found, ask, fault, cannot_arise, does}
 use Rattle.machine_core.specs.World.{Cell, closed, open_at, World, read_cell, write_cell}
 use Rattle.machine_core.specs.Text.{read, arg, args_of, reads, tells, fits, read_upvalue, write_upvalue, make_table, pay, Text, go_by, own, quick, operate}
 use Rattle.machine_core.specs.InstructionRows.{text_at}
@@ -111,11 +111,12 @@ local_is c s when (operate op xs wait [] t) env h k e = by (does op (args_of env
       | is_fault text ↦ prepares [] (raises text)
     ]
 
-    by : (r : Settled) → does op (args_of env xs) h.heap ≡ r → elim r [ found H vs ↦ local c t vs (record h { heap = H }) | ask g vs ↦ None | fault text ↦ None ] ≡ Some k
+    by : (r : Settled) → does op (args_of env xs) h.heap ≡ r → elim r [ found H vs ↦ local c t vs (record h { heap = H }) | ask g vs ↦ None | fault text ↦ None | cannot_arise ↦ None ] ≡ Some k
         → ((H : Heap) (vs : List Value) → local c t vs (record h { heap = H }) ≡ Some k → run (expand_by when t) vs (world c (record h { heap = H })) ≡ ends go (world c k))
         → run (expand_by when (operate op xs wait [] t)) env (world c h) ≡ ends go (world c k)
     by (ask g vs) q e again = absurd (cc)
     by (fault text) q e again = absurd (cc)
+    by cannot_arise q e again = absurd (cc)
     by (found H vs) q e again =
         made_is (settle op xs) next_row env (world c h) (world c (record h { heap = H })) vs is_found
         (settle_move c s h op xs env ∙ ap (λ r. settled (world c h) (place c h) r) q)

@@ -6,7 +6,7 @@ use Rattle.code_core.specs.Check.{at}
 use Rattle.code_core.specs.Prototype.{Prototype}
 use Rattle.int_core.specs.Value.{Value, bind, nth, Shape, is_nil}
 use Rattle.int_core.specs.Heap.{Heap}
-use Rattle.int_core.specs.Operations.{Operation, Settled, found, ask, fault, does, callee_of, Callee, callee, not_callable, greatest_chain, handler_in, of_close}
+use Rattle.int_core.specs.Operations.{Operation, Settled, found, ask, fault, cannot_arise, does, callee_of, Callee, callee, not_callable, greatest_chain, handler_in, of_close}
 use Rattle.int_core.specs.Ask.{Captured, Next, goes_on, says, stuck, values, faulted, cell_held, brought, shared_by, leaves, calls_last}
 use Rattle.machine_core.specs.World.{Function, Cell, open_at, Wait, Activation, Frame, lua, pcall, xpcall, handler, closing, World, find_open, close_from}
 use Rattle.machine_core.specs.Text.{Arg, arg, args_of, read, Own, reads, tells, effect, fits, done, Given, results, thrown, Text, go_by, own, open_cell, quick, operate, call, tail_call, close, closable, raise, leave, trap}
@@ -291,6 +291,7 @@ module _ (b d : World) (when : When) (n : ℕ) (g : Function) (pc : ℕ) (w : Wa
           (subst (λ xs. Leads b d (mk_talks d V fs vs1 (talking n (amid t xs (record a1 { registers = brought c1.held (shared_out (share c1 a1) vs1) a1.registers }) (record { held = c1.held; gone = [] })) ∷ ts) talks fuel) (run (expand_by when t) (drop (length env) (env ++ rs)) (mk b V fs ws1 (lua (frame n w a1') ∷ ms) [] fuel))) (sym (plain_told env rs wait gd.0))
           (subst (λ xs. Leads b d (mk_talks d V fs vs1 (talking n (amid t rs (record a1 { registers = brought c1.held (shared_out (share c1 a1) vs1) a1.registers }) (record { held = c1.held; gone = [] })) ∷ ts) talks fuel) (run (expand_by when t) xs (mk b V fs ws1 (lua (frame n w a1') ∷ ms) [] fuel))) (sym (drop_front env rs))
           (reply_leads b d when n g pc w t ih rs a1 a1' c1 V fs vs1 fuel ms ts ws1 al1.fixed pc1 f (gd.3 (length rs)) q))))
+      by cannot_arise = tt
       by (ask h args) = handler_leads h args wait ps env a a' c H fs vs fuel ms ts ts0 ws al e f (plain_waits wait gd.0) (plain_reach (length env) wait gd.0) gd.1 k
       by (fault text) =
           prepares_leads (answered (mk_talks d H fs vs1 ts0 talks fuel) n (share c1 a1) (hears b d when n g pc (named env wait) a1 c1) 0 (faulted text) ts) ps (raises text) env [] a' H fs fuel ms ws f gd.1

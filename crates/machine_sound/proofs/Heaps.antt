@@ -1,13 +1,13 @@
 -- What operations look at and leave: handlers, chains and values are valid, and the tables stay right.
-use Rattle.std.proofs.Common.{ℕ, zero, suc, ◌<◌, ◌≡◌, List, [], ◌∷◌, ◌++◌, Option, Some, None, refl, ◌∙◌, length, Bool, true, false, cond}
+use Rattle.std.proofs.Common.{ℕ, zero, suc, ◌<◌, ◌≡◌, List, [], ◌∷◌, ◌++◌, Option, Some, None, refl, sym, subst, ◌∙◌, length, Bool, true, false, cond}
 use Rattle.std.specs.Prelude.{ℤ, pos, slice_get, slice_set, not, IsTrue, filter, codes, if◌then◌else◌, nat_le, nat_lt, count_by, unwrap_or, int_lt, int_le}
 use Rattle.std.specs.Map.{lookup, set_value}
 use Rattle.int_core.specs.Rows.{get, set, kept, has_row, is_filled, is_cleared, border}
 use Rattle.int_core.specs.Value.{nil, boolean, integer, string, primitive, a_table, a_function, a_coroutine, Value, known, object, same, is_nil, table_values, bind, greatest_string}
 use Rattle.int_core.specs.Heap.{Table, Heap, raw_get, raw_set, metatable_of, filled}
-use Rattle.int_core.specs.Operations.{Event, of_call, of_index, of_newindex, of_len, of_eq, of_concat, handler_in, handler_of, is_function, Settled, found, ask, fault, asked, greatest_chain, indexed, index_of, set_raw, stored, store_of, Callee, callee, not_callable, callee_of, arithmetic_on, joined, concat_on, raw_length, length_on, truth, equal_on, ordered, computed, number_in, text_of, of_type, by_zero, cannot_compare, event_name, Operation, index, store, arithmetic, concat, length', equal, less, less_equal, does, of_lt, before, of_le}
+use Rattle.int_core.specs.Operations.{Event, of_call, of_index, of_newindex, of_len, of_eq, of_concat, handler_in, handler_of, is_function, Settled, found, ask, fault, cannot_arise, asked, greatest_chain, indexed, index_of, set_raw, stored, store_of, Callee, callee, not_callable, callee_of, arithmetic_on, joined, concat_on, raw_length, length_on, truth, equal_on, ordered, computed, number_in, text_of, of_type, by_zero, cannot_compare, event_name, Operation, index, store, arithmetic, concat, length', equal, less, less_equal, operands, does, of_lt, before, of_le}
 use Rattle.machine_sound.specs.Sound.{Each, Sizes, Valid, OptionOk, TableOk}
-use Rattle.machine_sound.proofs.Lists.{each_none, each_cons, each_tail, each_one, each_push, each_filter, each_set, length_set}
+use Rattle.machine_sound.proofs.Lists.{each_none, each_cons, each_tail, each_one, each_push, each_filter, each_set, length_set, get_there}
 use Rattle.machine_sound.proofs.Values.{le_of}
 
 abbrev pub RowOk : Sizes → Value × Value → Type 0
@@ -108,6 +108,7 @@ module _ (z : Sizes) (H : Heap) (h : HeapOk z H) where
   SettledOk (found K vs) = HeapStays z H K × Each (Valid z) vs
   SettledOk (ask f vs) = Valid z f × Each (Valid z) vs
   SettledOk (fault text) = Unit {0}
+  SettledOk cannot_arise = ⊥
 
   abbrev pub two : (v w : Value) → Valid z v → Valid z w → Each (Valid z) (v ∷ w ∷ [])
   two v w a b = each_cons (Valid z) v (w ∷ []) a (each_one (Valid z) w b)
@@ -212,23 +213,23 @@ module _ (z : Sizes) (H : Heap) (h : HeapOk z H) where
   concat_ok None t l r a b = asks_ok of_concat l r _ a b tt
   concat_ok (Some s) None l r a b = asks_ok of_concat l r _ a b tt
 
-  raw_length_ok : (v : Value) → SettledOk (raw_length H v)
-  raw_length_ok (object a_table m) = from (slice_get H.tables m)
+  raw_length_ok : (v : Value) → Valid z v → SettledOk (raw_length H v)
+  raw_length_ok (object a_table m) a = from (slice_get H.tables m) refl
     where
-      from : (o : Option Table) → SettledOk (elim o [ None ↦ fault (codes "") | Some t ↦ found H (known (integer (pos (border table_values t.rows))) ∷ []) ])
-      from None = tt
-      from (Some t) = found_one (known (integer (pos (border table_values t.rows)))) tt
-  raw_length_ok (object a_function m) = tt
-  raw_length_ok (object a_coroutine m) = tt
-  raw_length_ok (known p) = tt
+      from : (o : Option Table) → slice_get H.tables m ≡ o → SettledOk (elim o [ None ↦ cannot_arise | Some t ↦ found H (known (integer (pos (border table_values t.rows))) ∷ []) ])
+      from None e = let (t, k) = get_there H.tables m (subst (λ n. m < n) (sym h.count) a) in absurd (cc)
+      from (Some t) e = found_one (known (integer (pos (border table_values t.rows)))) tt
+  raw_length_ok (object a_function m) a = tt
+  raw_length_ok (object a_coroutine m) a = tt
+  raw_length_ok (known p) a = tt
 
   length_ok : (v : Value) → Valid z v → SettledOk (length_on H v)
   length_ok (known (string s)) a = found_one (known (integer (pos (length s)))) tt
-  length_ok (known nil) a = asks_ok of_len (known nil) (known nil) (raw_length H (known nil)) a a (raw_length_ok (known nil))
-  length_ok (known (boolean t)) a = asks_ok of_len (known (boolean t)) (known (boolean t)) (raw_length H (known (boolean t))) a a (raw_length_ok (known (boolean t)))
-  length_ok (known (integer t)) a = asks_ok of_len (known (integer t)) (known (integer t)) (raw_length H (known (integer t))) a a (raw_length_ok (known (integer t)))
-  length_ok (known (primitive t)) a = asks_ok of_len (known (primitive t)) (known (primitive t)) (raw_length H (known (primitive t))) a a (raw_length_ok (known (primitive t)))
-  length_ok (object k m) a = asks_ok of_len (object k m) (object k m) (raw_length H (object k m)) a a (raw_length_ok (object k m))
+  length_ok (known nil) a = asks_ok of_len (known nil) (known nil) (raw_length H (known nil)) a a (raw_length_ok (known nil) a)
+  length_ok (known (boolean t)) a = asks_ok of_len (known (boolean t)) (known (boolean t)) (raw_length H (known (boolean t))) a a (raw_length_ok (known (boolean t)) a)
+  length_ok (known (integer t)) a = asks_ok of_len (known (integer t)) (known (integer t)) (raw_length H (known (integer t))) a a (raw_length_ok (known (integer t)) a)
+  length_ok (known (primitive t)) a = asks_ok of_len (known (primitive t)) (known (primitive t)) (raw_length H (known (primitive t))) a a (raw_length_ok (known (primitive t)) a)
+  length_ok (object k m) a = asks_ok of_len (object k m) (object k m) (raw_length H (object k m)) a a (raw_length_ok (object k m) a)
 
   truth_ok : (b : Bool) → SettledOk (truth H b)
   truth_ok b = found_one (known (boolean b)) tt
@@ -247,13 +248,13 @@ module _ (z : Sizes) (H : Heap) (h : HeapOk z H) where
   ordered_ok event f g (known (string m)) (known (string k)) a b = truth_ok (g m k)
   ordered_ok event f g l r a b = asks_ok event l r (fault (cannot_compare l r)) a b tt
 
-  pub does_ok : (op : Operation) (vs : List Value) → Each (Valid z) vs → SettledOk (does op vs H)
-  does_ok index (o ∷ key ∷ []) v = index_ok greatest_chain o key (v 0 o refl) (v 1 key refl)
-  does_ok store (o ∷ key ∷ w ∷ []) v = store_ok greatest_chain o key w (v 0 o refl) (v 1 key refl) (v 2 w refl)
-  does_ok (arithmetic event) (l ∷ r ∷ []) v = arithmetic_ok event (number_in l) (number_in r) l r (v 0 l refl) (v 1 r refl)
-  does_ok concat (l ∷ r ∷ []) v = concat_ok (text_of l) (text_of r) l r (v 0 l refl) (v 1 r refl)
-  does_ok length' (o ∷ []) v = length_ok o (v 0 o refl)
-  does_ok equal (l ∷ r ∷ []) v = equal_ok l r (v 0 l refl) (v 1 r refl)
-  does_ok less (l ∷ r ∷ []) v = ordered_ok of_lt int_lt before l r (v 0 l refl) (v 1 r refl)
-  does_ok less_equal (l ∷ r ∷ []) v = ordered_ok of_le int_le (λ s t. not (before t s)) l r (v 0 l refl) (v 1 r refl)
-  does_ok _ _ v = tt
+  pub does_ok : (op : Operation) (vs : List Value) → Each (Valid z) vs → length vs ≡ operands op → SettledOk (does op vs H)
+  does_ok index (o ∷ key ∷ []) v e = index_ok greatest_chain o key (v 0 o refl) (v 1 key refl)
+  does_ok store (o ∷ key ∷ w ∷ []) v e = store_ok greatest_chain o key w (v 0 o refl) (v 1 key refl) (v 2 w refl)
+  does_ok (arithmetic event) (l ∷ r ∷ []) v e = arithmetic_ok event (number_in l) (number_in r) l r (v 0 l refl) (v 1 r refl)
+  does_ok concat (l ∷ r ∷ []) v e = concat_ok (text_of l) (text_of r) l r (v 0 l refl) (v 1 r refl)
+  does_ok length' (o ∷ []) v e = length_ok o (v 0 o refl)
+  does_ok equal (l ∷ r ∷ []) v e = equal_ok l r (v 0 l refl) (v 1 r refl)
+  does_ok less (l ∷ r ∷ []) v e = ordered_ok of_lt int_lt before l r (v 0 l refl) (v 1 r refl)
+  does_ok less_equal (l ∷ r ∷ []) v e = ordered_ok of_le int_le (λ s t. not (before t s)) l r (v 0 l refl) (v 1 r refl)
+  does_ok _ _ v e = absurd (cc)

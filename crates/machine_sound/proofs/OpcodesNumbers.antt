@@ -248,7 +248,7 @@ before_safe {t = t} vs h f k p =
     subst (λ (o : Option Instruction). Safe (on_lua t) vs (expand (elim o as (λ _. Text) [ None ↦ trap | Some w ↦ to_register (a_of w) (read 0) ]))) (sym f.is_front)
     (ends_write vs (a_of f.instruction) (read 0) h p (front_register h k f) tt)
 
-handled_safe : {t : Top} {w : Instruction} {op : Opcode} (env : List Value) (xs : List Arg) → Here t w op → (f : Front t w op) → is_handler op ≡ true → IsPlain op w → IsTrue (waits_at {V = Arg} for_value op w) → (event : Event) × (event_numbered (c_of w) ≡ Some event) → ArgsOk xs → Safe (on_lua t) env (expand (handled t.code t.pc w (event_numbered (c_of w)) xs))
+handled_safe : {t : Top} {w : Instruction} {op : Opcode} (env : List Value) (xs : List Arg) → Here t w op → (f : Front t w op) → is_handler op ≡ true → IsPlain op w → IsTrue (waits_at {V = Arg} for_value op w) → (event : Event) × (event_numbered (c_of w) ≡ Some event) → ArgsOk xs × (length xs ≡ 2) → Safe (on_lua t) env (expand (handled t.code t.pc w (event_numbered (c_of w)) xs))
 handled_safe {t = t} {w = w} env xs h f k p wait event a =
     subst (λ (o : Option Event). Safe (on_lua t) env (expand (handled t.code t.pc w o xs))) (sym event.1)
     (operate_safe t env (arithmetic event.0) xs for_value (to_register_before t.code t.pc) a (may_wait for_value h p.3 wait refl refl tt) (λ vs. before_safe vs h f k p))
@@ -260,13 +260,13 @@ mm_bin_safe t w h =
       λ x. (
         (sized h refl 1 (b_of w) refl, tt),
         λ y.
-            handled_safe (x ∷ y ∷ []) (read 0 ∷ read 1 ∷ []) h f refl (refl, refl, refl, refl) refl (event_there (c_of w) f.agrees_so) (tt, (tt, tt)),
+            handled_safe (x ∷ y ∷ []) (read 0 ∷ read 1 ∷ []) h f refl (refl, refl, refl, refl) refl (event_there (c_of w) f.agrees_so) ((tt, (tt, tt)), refl),
       ),
     )
 
-swapped_ok : (b : Bool) (x y : Arg) → ArgOk x → ArgOk y → ArgsOk (swapped b x y)
-swapped_ok true x y a b = (b, (a, tt))
-swapped_ok false x y a b = (a, (b, tt))
+swapped_ok : (b : Bool) (x y : Arg) → ArgOk x → ArgOk y → ArgsOk (swapped b x y) × (length (swapped b x y) ≡ 2)
+swapped_ok true x y a b = ((b, (a, tt)), refl)
+swapped_ok false x y a b = ((a, (b, tt)), refl)
 
 pub mm_bin_i_safe : RowSafe MmBinI
 mm_bin_i_safe t w h =
@@ -290,16 +290,16 @@ mm_bin_k_safe t w h =
 -- one operand
 
 pub unm_safe : RowSafe Unm
-unm_safe t w h = ((sized h refl 1 (b_of w) refl, tt), λ v. operate_safe t (v ∷ []) (arithmetic of_unm) (read 0 ∷ read 0 ∷ []) for_value (to_register (a_of w) (read 0)) (tt, (tt, tt)) (may_wait for_value h refl refl refl refl tt) (λ vs. ends_write vs (a_of w) (read 0) h (refl, refl, refl, refl) (reg h 0 (a_of w) refl) tt))
+unm_safe t w h = ((sized h refl 1 (b_of w) refl, tt), λ v. operate_safe t (v ∷ []) (arithmetic of_unm) (read 0 ∷ read 0 ∷ []) for_value (to_register (a_of w) (read 0)) ((tt, (tt, tt)), refl) (may_wait for_value h refl refl refl refl tt) (λ vs. ends_write vs (a_of w) (read 0) h (refl, refl, refl, refl) (reg h 0 (a_of w) refl) tt))
 
 pub bnot_safe : RowSafe BNot
-bnot_safe t w h = ((sized h refl 1 (b_of w) refl, tt), λ v. operate_safe t (v ∷ []) (arithmetic of_bnot) (read 0 ∷ read 0 ∷ []) for_value (to_register (a_of w) (read 0)) (tt, (tt, tt)) (may_wait for_value h refl refl refl refl tt) (λ vs. ends_write vs (a_of w) (read 0) h (refl, refl, refl, refl) (reg h 0 (a_of w) refl) tt))
+bnot_safe t w h = ((sized h refl 1 (b_of w) refl, tt), λ v. operate_safe t (v ∷ []) (arithmetic of_bnot) (read 0 ∷ read 0 ∷ []) for_value (to_register (a_of w) (read 0)) ((tt, (tt, tt)), refl) (may_wait for_value h refl refl refl refl tt) (λ vs. ends_write vs (a_of w) (read 0) h (refl, refl, refl, refl) (reg h 0 (a_of w) refl) tt))
 
 pub not_safe : RowSafe Not
 not_safe t w h = ((sized h refl 1 (b_of w) refl, tt), λ v. ends_write (v ∷ []) (a_of w) (written (boolean (not (holds (shape v))))) h (refl, refl, refl, refl) (reg h 0 (a_of w) refl) tt)
 
 pub len_safe : RowSafe Len
-len_safe t w h = ((sized h refl 1 (b_of w) refl, tt), λ v. operate_safe t (v ∷ []) length' (read 0 ∷ []) for_value (to_register (a_of w) (read 0)) (tt, tt) (may_wait for_value h refl refl refl refl tt) (λ vs. ends_write vs (a_of w) (read 0) h (refl, refl, refl, refl) (reg h 0 (a_of w) refl) tt))
+len_safe t w h = ((sized h refl 1 (b_of w) refl, tt), λ v. operate_safe t (v ∷ []) length' (read 0 ∷ []) for_value (to_register (a_of w) (read 0)) ((tt, tt), refl) (may_wait for_value h refl refl refl refl tt) (λ vs. ends_write vs (a_of w) (read 0) h (refl, refl, refl, refl) (reg h 0 (a_of w) refl) tt))
 
 -- joining
 
@@ -308,7 +308,7 @@ joins_safe {t = t} {w = w} h zero env x b l a = ends_write env (a_of w) x h (ref
 joins_safe {t = t} {w = w} h (suc i) env x b l a = (
   (within (a_of w) i t.code.own.stack t.size l (h.plain refl), tt),
   λ u.
-      operate_safe t (env ++ u ∷ []) concat (read (length env) ∷ x ∷ []) (for_concat i) (joins (a_of w) i (read 0)) (tt, (a, tt)) (may_wait (for_concat i) h refl (le_true (i + 2) (b_of w) (less i (b_of w) b)) refl refl tt)
+      operate_safe t (env ++ u ∷ []) concat (read (length env) ∷ x ∷ []) (for_concat i) (joins (a_of w) i (read 0)) ((tt, (a, tt)), refl) (may_wait (for_concat i) h refl (le_true (i + 2) (b_of w) (less i (b_of w) b)) refl refl tt)
       (λ vs. joins_safe h i vs (read 0) (before i (b_of w) b) (below (a_of w) i t.code.own.stack l) tt),
 )
   where

@@ -93,7 +93,7 @@ get_tab_up_safe t w h = (
   λ o. (
     (con h 0 (c_of w) name refl, tt),
     λ k.
-        operate_safe t (o ∷ known (constant k.found) ∷ []) index (read 0 ∷ read 1 ∷ []) for_value (to_register (a_of w) (read 0)) (tt, (tt, tt)) (may_wait for_value h refl refl refl refl tt)
+        operate_safe t (o ∷ known (constant k.found) ∷ []) index (read 0 ∷ read 1 ∷ []) for_value (to_register (a_of w) (read 0)) ((tt, (tt, tt)), refl) (may_wait for_value h refl refl refl refl tt)
         (λ vs. ends_write vs (a_of w) (read 0) h (refl, refl, refl, refl) (reg h 0 (a_of w) refl) tt),
   ),
 )
@@ -104,7 +104,7 @@ get_table_safe t w h = (
   λ o. (
     (sized h refl 2 (c_of w) refl, tt),
     λ k.
-        operate_safe t (o ∷ k ∷ []) index (read 0 ∷ read 1 ∷ []) for_value (to_register (a_of w) (read 0)) (tt, (tt, tt)) (may_wait for_value h refl refl refl refl tt)
+        operate_safe t (o ∷ k ∷ []) index (read 0 ∷ read 1 ∷ []) for_value (to_register (a_of w) (read 0)) ((tt, (tt, tt)), refl) (may_wait for_value h refl refl refl refl tt)
         (λ vs. ends_write vs (a_of w) (read 0) h (refl, refl, refl, refl) (reg h 0 (a_of w) refl) tt),
   ),
 )
@@ -113,7 +113,7 @@ pub get_i_safe : RowSafe GetI
 get_i_safe t w h = (
   (sized h refl 1 (b_of w) refl, tt),
   λ o.
-      operate_safe t (o ∷ []) index (read 0 ∷ written (integer (pos (c_of w))) ∷ []) for_value (to_register (a_of w) (read 0)) (tt, (tt, tt)) (may_wait for_value h refl refl refl refl tt)
+      operate_safe t (o ∷ []) index (read 0 ∷ written (integer (pos (c_of w))) ∷ []) for_value (to_register (a_of w) (read 0)) ((tt, (tt, tt)), refl) (may_wait for_value h refl refl refl refl tt)
       (λ vs. ends_write vs (a_of w) (read 0) h (refl, refl, refl, refl) (reg h 0 (a_of w) refl) tt),
 )
 
@@ -123,7 +123,7 @@ get_field_safe t w h = (
   λ o. (
     (con h 0 (c_of w) name refl, tt),
     λ k.
-        operate_safe t (o ∷ known (constant k.found) ∷ []) index (read 0 ∷ read 1 ∷ []) for_value (to_register (a_of w) (read 0)) (tt, (tt, tt)) (may_wait for_value h refl refl refl refl tt)
+        operate_safe t (o ∷ known (constant k.found) ∷ []) index (read 0 ∷ read 1 ∷ []) for_value (to_register (a_of w) (read 0)) ((tt, (tt, tt)), refl) (may_wait for_value h refl refl refl refl tt)
         (λ vs. ends_write vs (a_of w) (read 0) h (refl, refl, refl, refl) (reg h 0 (a_of w) refl) tt),
   ),
 )
@@ -144,7 +144,7 @@ set_tab_up_safe t w h = (
     λ k.
         rk_safe t (o ∷ known (constant k.found) ∷ []) w _ (λ e. con h 1 (c_of w) anything (ap (λ (b : Bool). slice_get ((name, b_of w) ∷ (if b then (anything, c_of w) ∷ [] else [])) 1) e))
         (λ e. sized h refl 0 (c_of w) (ap (λ (b : Bool). slice_get (if b then [] else c_of w ∷ []) 0) e))
-        (λ v. operate_safe t (o ∷ known (constant k.found) ∷ v ∷ []) store (read 0 ∷ read 1 ∷ read 2 ∷ []) dropped next (tt, (tt, (tt, tt))) (may_wait dropped h refl refl refl refl tt) (λ vs. ends_next vs h (refl, refl, refl, refl))),
+        (λ v. operate_safe t (o ∷ known (constant k.found) ∷ v ∷ []) store (read 0 ∷ read 1 ∷ read 2 ∷ []) dropped next ((tt, (tt, (tt, tt))), refl) (may_wait dropped h refl refl refl refl tt) (λ vs. ends_next vs h (refl, refl, refl, refl))),
   ),
 )
 
@@ -156,7 +156,7 @@ set_table_safe t w h = (
     λ k.
         rk_safe t (o ∷ k ∷ []) w _ (λ e. con h 0 (c_of w) anything (ap (λ (b : Bool). slice_get (if b then (anything, c_of w) ∷ [] else []) 0) e))
         (λ e. sized h refl 2 (c_of w) (ap (λ (b : Bool). slice_get (a_of w ∷ b_of w ∷ (if b then [] else c_of w ∷ [])) 2) e))
-        (λ v. operate_safe t (o ∷ k ∷ v ∷ []) store (read 0 ∷ read 1 ∷ read 2 ∷ []) dropped next (tt, (tt, (tt, tt))) (may_wait dropped h refl refl refl refl tt) (λ vs. ends_next vs h (refl, refl, refl, refl))),
+        (λ v. operate_safe t (o ∷ k ∷ v ∷ []) store (read 0 ∷ read 1 ∷ read 2 ∷ []) dropped next ((tt, (tt, (tt, tt))), refl) (may_wait dropped h refl refl refl refl tt) (λ vs. ends_next vs h (refl, refl, refl, refl))),
   ),
 )
 
@@ -166,7 +166,7 @@ set_i_safe t w h = (
   λ o.
       rk_safe t (o ∷ []) w _ (λ e. con h 0 (c_of w) anything (ap (λ (b : Bool). slice_get (if b then (anything, c_of w) ∷ [] else []) 0) e))
       (λ e. sized h refl 1 (c_of w) (ap (λ (b : Bool). slice_get (a_of w ∷ (if b then [] else c_of w ∷ [])) 1) e))
-      (λ v. operate_safe t (o ∷ v ∷ []) store (read 0 ∷ written (integer (pos (b_of w))) ∷ read 1 ∷ []) dropped next (tt, (tt, (tt, tt))) (may_wait dropped h refl refl refl refl tt) (λ vs. ends_next vs h (refl, refl, refl, refl))),
+      (λ v. operate_safe t (o ∷ v ∷ []) store (read 0 ∷ written (integer (pos (b_of w))) ∷ read 1 ∷ []) dropped next ((tt, (tt, (tt, tt))), refl) (may_wait dropped h refl refl refl refl tt) (λ vs. ends_next vs h (refl, refl, refl, refl))),
 )
 
 pub set_field_safe : RowSafe SetField
@@ -177,7 +177,7 @@ set_field_safe t w h = (
     λ k.
         rk_safe t (o ∷ known (constant k.found) ∷ []) w _ (λ e. con h 1 (c_of w) anything (ap (λ (b : Bool). slice_get ((name, b_of w) ∷ (if b then (anything, c_of w) ∷ [] else [])) 1) e))
         (λ e. sized h refl 1 (c_of w) (ap (λ (b : Bool). slice_get (a_of w ∷ (if b then [] else c_of w ∷ [])) 1) e))
-        (λ v. operate_safe t (o ∷ known (constant k.found) ∷ v ∷ []) store (read 0 ∷ read 1 ∷ read 2 ∷ []) dropped next (tt, (tt, (tt, tt))) (may_wait dropped h refl refl refl refl tt) (λ vs. ends_next vs h (refl, refl, refl, refl))),
+        (λ v. operate_safe t (o ∷ known (constant k.found) ∷ v ∷ []) store (read 0 ∷ read 1 ∷ read 2 ∷ []) dropped next ((tt, (tt, (tt, tt))), refl) (may_wait dropped h refl refl refl refl tt) (λ vs. ends_next vs h (refl, refl, refl, refl))),
   ),
 )
 
@@ -206,5 +206,5 @@ self_safe t w h = (
   λ o.
       rk_safe t (o ∷ []) w _ (λ e. con h 0 (c_of w) name (ap (λ (b : Bool). slice_get (if b then (name, c_of w) ∷ [] else []) 0) e))
       (λ e. sized h refl 2 (c_of w) (ap (λ (b : Bool). slice_get ((a_of w + 1) ∷ b_of w ∷ (if b then [] else c_of w ∷ [])) 2) e))
-      (λ k. ((tt, (tt, tt)), λ e. self_ends t w o k h e)),
+      (λ k. (((tt, (tt, tt)), refl), λ e. self_ends t w o k h e)),
 )

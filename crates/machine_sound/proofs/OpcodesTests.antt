@@ -3,7 +3,7 @@ use Rattle.std.proofs.Common.{ℕ, suc, ◌≡◌, ◌<◌, ◌≤◌, ◌+◌, 
 use Rattle.std.specs.Prelude.{ℤ, pos, negsuc, ◌+ℤ◌, ◌-ℤ◌, slice_get, cond, IsTrue, codes}
 use Rattle.int_core.specs.Value.{Value, known, object, nil, is_known, is_object, shape, holds, same_truth, same_integer, same_plain}
 use Rattle.int_core.specs.Arithmetic.{add, sub}
-use Rattle.int_core.specs.Operations.{Operation, equal, less, less_equal}
+use Rattle.int_core.specs.Operations.{Operation, operands, equal, less, less_equal}
 use Rattle.code_core.specs.declared.opcode.Opcode.{Opcode}
 use Rattle.code_core.specs.declared.opcode.Opcode.TheVariants.{Jmp, Eq, Lt, Le, EqK, EqI, LtI, LeI, GtI, GeI, Test, TestSet, ForLoop, ForPrep, TForPrep, TForLoop, Tbc, Close}
 use Rattle.code_core.specs.declared.instruction.Instruction.{Instruction}
@@ -34,35 +34,35 @@ tested_safe {t = t} env h e p truth k = from (same_truth truth k)
 pub decides_safe : {t : Top} {w : Instruction} {op : Opcode} (vs : List Value) → Here t w op → second_half op w ≡ Some Jmp → IsPlain op w → Safe (on_lua t) vs (expand (truth_decides w))
 decides_safe {w = w} vs h e p = ((tt, tt), λ _. tested_safe (vs ++ []) h e p (holds (shape (arg vs (read 0)))) (k_of w))
 
-compares_safe : {t : Top} {w : Instruction} {op : Opcode} (env : List Value) (operation : Operation) (x y : Arg) → Here t w op → second_half op w ≡ Some Jmp → IsPlain op w → IsTrue (waits_at {V = Arg} for_truth op w) → ArgsOk (x ∷ y ∷ []) → Safe (on_lua t) env (expand (compares operation x y w))
+compares_safe : {t : Top} {w : Instruction} {op : Opcode} (env : List Value) (operation : Operation) (x y : Arg) → Here t w op → second_half op w ≡ Some Jmp → IsPlain op w → IsTrue (waits_at {V = Arg} for_truth op w) → ArgsOk (x ∷ y ∷ []) × (2 ≡ operands operation) → Safe (on_lua t) env (expand (compares operation x y w))
 compares_safe {t = t} {w = w} env operation x y h e p f a = operate_safe t env operation (x ∷ y ∷ []) for_truth (truth_decides w) a (may_wait for_truth h p.3 f refl refl tt) (λ vs. decides_safe vs h e p)
 
 pub eq_safe : RowSafe Eq
-eq_safe t w h = ((sized h refl 0 (a_of w) refl, tt), λ x. ((sized h refl 1 (b_of w) refl, tt), λ y. compares_safe (x ∷ y ∷ []) equal (read 0) (read 1) h refl (refl, refl, refl, refl) refl (tt, (tt, tt))))
+eq_safe t w h = ((sized h refl 0 (a_of w) refl, tt), λ x. ((sized h refl 1 (b_of w) refl, tt), λ y. compares_safe (x ∷ y ∷ []) equal (read 0) (read 1) h refl (refl, refl, refl, refl) refl ((tt, (tt, tt)), refl)))
 
 pub lt_safe : RowSafe Lt
-lt_safe t w h = ((sized h refl 0 (a_of w) refl, tt), λ x. ((sized h refl 1 (b_of w) refl, tt), λ y. compares_safe (x ∷ y ∷ []) less (read 0) (read 1) h refl (refl, refl, refl, refl) refl (tt, (tt, tt))))
+lt_safe t w h = ((sized h refl 0 (a_of w) refl, tt), λ x. ((sized h refl 1 (b_of w) refl, tt), λ y. compares_safe (x ∷ y ∷ []) less (read 0) (read 1) h refl (refl, refl, refl, refl) refl ((tt, (tt, tt)), refl)))
 
 pub le_safe : RowSafe Le
-le_safe t w h = ((sized h refl 0 (a_of w) refl, tt), λ x. ((sized h refl 1 (b_of w) refl, tt), λ y. compares_safe (x ∷ y ∷ []) less_equal (read 0) (read 1) h refl (refl, refl, refl, refl) refl (tt, (tt, tt))))
+le_safe t w h = ((sized h refl 0 (a_of w) refl, tt), λ x. ((sized h refl 1 (b_of w) refl, tt), λ y. compares_safe (x ∷ y ∷ []) less_equal (read 0) (read 1) h refl (refl, refl, refl, refl) refl ((tt, (tt, tt)), refl)))
 
 pub eq_k_safe : RowSafe EqK
-eq_k_safe t w h = ((sized h refl 0 (a_of w) refl, tt), λ x. ((con h 0 (b_of w) anything refl, tt), λ c. compares_safe (x ∷ known (constant c.found) ∷ []) equal (read 0) (read 1) h refl (refl, refl, refl, refl) refl (tt, (tt, tt))))
+eq_k_safe t w h = ((sized h refl 0 (a_of w) refl, tt), λ x. ((con h 0 (b_of w) anything refl, tt), λ c. compares_safe (x ∷ known (constant c.found) ∷ []) equal (read 0) (read 1) h refl (refl, refl, refl, refl) refl ((tt, (tt, tt)), refl)))
 
 pub eq_i_safe : RowSafe EqI
-eq_i_safe t w h = ((sized h refl 0 (a_of w) refl, tt), λ x. compares_safe (x ∷ []) equal (read 0) (with_number w) h refl (refl, refl, refl, refl) refl (tt, (tt, tt)))
+eq_i_safe t w h = ((sized h refl 0 (a_of w) refl, tt), λ x. compares_safe (x ∷ []) equal (read 0) (with_number w) h refl (refl, refl, refl, refl) refl ((tt, (tt, tt)), refl))
 
 pub lt_i_safe : RowSafe LtI
-lt_i_safe t w h = ((sized h refl 0 (a_of w) refl, tt), λ x. compares_safe (x ∷ []) less (read 0) (with_number w) h refl (refl, refl, refl, refl) refl (tt, (tt, tt)))
+lt_i_safe t w h = ((sized h refl 0 (a_of w) refl, tt), λ x. compares_safe (x ∷ []) less (read 0) (with_number w) h refl (refl, refl, refl, refl) refl ((tt, (tt, tt)), refl))
 
 pub le_i_safe : RowSafe LeI
-le_i_safe t w h = ((sized h refl 0 (a_of w) refl, tt), λ x. compares_safe (x ∷ []) less_equal (read 0) (with_number w) h refl (refl, refl, refl, refl) refl (tt, (tt, tt)))
+le_i_safe t w h = ((sized h refl 0 (a_of w) refl, tt), λ x. compares_safe (x ∷ []) less_equal (read 0) (with_number w) h refl (refl, refl, refl, refl) refl ((tt, (tt, tt)), refl))
 
 pub gt_i_safe : RowSafe GtI
-gt_i_safe t w h = ((sized h refl 0 (a_of w) refl, tt), λ x. compares_safe (x ∷ []) less (with_number w) (read 0) h refl (refl, refl, refl, refl) refl (tt, (tt, tt)))
+gt_i_safe t w h = ((sized h refl 0 (a_of w) refl, tt), λ x. compares_safe (x ∷ []) less (with_number w) (read 0) h refl (refl, refl, refl, refl) refl ((tt, (tt, tt)), refl))
 
 pub ge_i_safe : RowSafe GeI
-ge_i_safe t w h = ((sized h refl 0 (a_of w) refl, tt), λ x. compares_safe (x ∷ []) less_equal (with_number w) (read 0) h refl (refl, refl, refl, refl) refl (tt, (tt, tt)))
+ge_i_safe t w h = ((sized h refl 0 (a_of w) refl, tt), λ x. compares_safe (x ∷ []) less_equal (with_number w) (read 0) h refl (refl, refl, refl, refl) refl ((tt, (tt, tt)), refl))
 
 pub test_safe : RowSafe Test
 test_safe t w h = ((sized h refl 0 (a_of w) refl, tt), λ x. tested_safe (x ∷ []) h refl (refl, refl, refl, refl) (holds (shape x)) (k_of w))

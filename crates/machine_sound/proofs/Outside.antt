@@ -3,14 +3,14 @@ use Rattle.std.proofs.Common.{ℕ, zero, suc, ◌<◌, ◌≡◌, List, [], ◌�
 use Rattle.std.specs.Prelude.{slice_get, slice_set, not}
 use Rattle.int_core.specs.Value.{Value, known, object, a_table, a_function, a_coroutine, is_object, shape, last, is_nil}
 use Rattle.int_core.specs.Heap.{Table, Heap, filled, filled_table, add_table}
-use Rattle.int_core.specs.Operations.{Operation, Settled, found, ask, fault, does, handler_in, of_close}
+use Rattle.int_core.specs.Operations.{Operation, Settled, found, ask, fault, cannot_arise, does, handler_in, of_close}
 use Rattle.machine_core.specs.World.{Function, World, place_of}
 use Rattle.machine_core.specs.Text.{Arg, read, written, arg, args_of, Quick, make_table, fill_table, pay}
 use Rattle.machine_core.specs.Moves.{outside, settle, find_close, is_closable, take_moving, Made, made, move, do_outside, settled}
 use Rattle.machine_sound.specs.Sound.{Each, sizes, Valid, TableOk, FunctionOk, CoroutineOk, CellOk, Solid, Top, RunsOrWaits, TopIs}
 use Rattle.machine_sound.specs.Safe.{on_lua, Is, TopReady, QuickReady, has_found, asks_for, fails_with, MoveGood}
 use Rattle.machine_sound.proofs.Lists.{each_none, each_cons, each_one, each_push, each_set, each_drop, each_on, bind_at, get_there, length_set}
-use Rattle.machine_sound.proofs.Values.{args_valid, arg_valid, nth_ok}
+use Rattle.machine_sound.proofs.Values.{args_valid, arg_valid, count_args, nth_ok}
 use Rattle.machine_sound.proofs.Grow.{Grows, grows_self, values_on, table_on, function_on, coroutine_on, cell_on, roots_on, lua_waits_on, each_waits_on}
 use Rattle.machine_sound.proofs.Heaps.{HeapOk, HeapStays, does_ok, handler_ok, filled_ok, SettledOk}
 use Rattle.machine_sound.proofs.Frames.{the_place, place_is}
@@ -99,7 +99,7 @@ stays_self_ok n W moving fuel s m = stays_ok n W W.heap moving fuel s (record { 
 -- operations
 
 pub settle_move : (n : ℕ) (op : Operation) (xs : List Arg) (t : Top) (env : List Value) (W : World) → Is n (on_lua t) env W → TopReady t env (settle op xs) → MoveGood n (on_lua t) env (settle op xs) W
-settle_move n op xs t env W i r = from (does op (args_of env xs) W.heap) refl (does_ok (sizes n W) W.heap (heap_of n W i.solid) op (args_of env xs) (args_valid (sizes n W) env xs i.valid r))
+settle_move n op xs t env W i r = from (does op (args_of env xs) W.heap) refl (does_ok (sizes n W) W.heap (heap_of n W i.solid) op (args_of env xs) (args_valid (sizes n W) env xs i.valid r.0) (count_args env xs ∙ r.1))
   where
     is : (s : Settled) → does op (args_of env xs) W.heap ≡ s → move (settle op xs) env W ≡ settled W (the_place n t W i.phase) s
     is s e = bind_at (λ p. settled W p (does op (args_of env xs) W.heap)) (place_of W) (the_place n t W i.phase) (place_is n t W i.phase) ∙ ap (settled W (the_place n t W i.phase)) e
@@ -114,6 +114,7 @@ settle_move n op xs t env W i r = from (does op (args_of env xs) W.heap) refl (d
           holds = goes_outside n t env vs W K W.functions W.moving W.fuel o i (values_on (sizes n W) (sizes n (record W { heap = K })) o.grows vs k.1);
         }
     from (ask f vs) e k = record { event = asks_for f vs; world = W; is = is (ask f vs) e; holds = goes_still n t env (f ∷ vs) W i (each_cons (Valid (sizes n W)) f vs k.0 k.1) }
+    from cannot_arise e k = absurd k
     from (fault text) e k = record { event = fails_with text; world = W; is = is (fault text) e; holds = goes_still n t env [] W i (each_none (Valid (sizes n W))) }
 
 pub find_close_move : (n : ℕ) (v e : Arg) (t : Top) (env : List Value) (W : World) → Is n (on_lua t) env W → TopReady t env (find_close v e) → MoveGood n (on_lua t) env (find_close v e) W

@@ -12,10 +12,10 @@ use Rattle.code_core.specs.Check.{CodeIsChecked, at, there, is_same, Mark, fixed
 use Rattle.machine_core.specs.World.{Wait}
 use Rattle.machine_core.specs.Text.{Arg, read, Own, Text, go_by, operate}
 use Rattle.machine_core.specs.InstructionRows.{next, skip, to_register}
-use Rattle.machine_core.specs.Moves.{CallShape, is_entered, is_primitive, not_paid, not_entered, place_from, is_found, only, is_asked, is_fault}
+use Rattle.machine_core.specs.Moves.{settle, CallShape, is_entered, is_primitive, not_paid, not_entered, place_from, is_found, only, is_asked, is_fault}
 use Rattle.machine_core.specs.FrameRows.{expand, raises, call_row, after_call}
 use Rattle.machine_sound.specs.Sound.{Top, waits_at, waiting_size, kept_below, is_extra, MarkFits, Fits}
-use Rattle.machine_sound.specs.Safe.{on_lua, ArgOk, ArgsOk, WaitArgOk, HasPlace, WaitsAs, MayEnter, SettledEvent, has_found, asks_for, fails_with, Safe, after_entering, after_all, settled_values, settled_told}
+use Rattle.machine_sound.specs.Safe.{on_lua, TopReady, ArgOk, ArgsOk, WaitArgOk, HasPlace, WaitsAs, MayEnter, SettledEvent, has_found, asks_for, fails_with, Safe, after_entering, after_all, settled_values, settled_told}
 use Rattle.machine_sound.proofs.Lists.{get_within}
 use Rattle.machine_sound.proofs.Values.{lt_of, both_of, all_get}
 use Rattle.machine_sound.proofs.Rules.{rules_at, opcode_there, or_of, same_opcode, extra_behind, extra_is}
@@ -179,7 +179,7 @@ drop_front [] ys = refl
 drop_front (x ∷ xs) ys = drop_front xs ys
 
 -- an operation that is settled at once, asks for a handler, or fails
-pub operate_safe : (t : Top) (env : List Value) (op : Operation) (xs : List Arg) (wait : Wait Arg) (rest : Text) → ArgsOk xs → WaitsAs wait t → ((vs : List Value) → Safe (on_lua t) vs (expand rest)) → Safe (on_lua t) env (expand (operate op xs wait [] rest))
+pub operate_safe : (t : Top) (env : List Value) (op : Operation) (xs : List Arg) (wait : Wait Arg) (rest : Text) → TopReady t env (settle op xs) → WaitsAs wait t → ((vs : List Value) → Safe (on_lua t) vs (expand rest)) → Safe (on_lua t) env (expand (operate op xs wait [] rest))
 operate_safe t env op xs wait rest a w k = (a, λ e. ends e)
   where
     ends : (e : SettledEvent) → Safe (on_lua t) (env ++ settled_values e) (elim (settled_told e) [

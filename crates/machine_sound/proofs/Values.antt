@@ -123,6 +123,10 @@ pub args_valid : (z : Sizes) (env : List Value) (xs : List Arg) → Each (Valid 
 args_valid z env [] h k = each_none (Valid z)
 args_valid z env (x ∷ xs) h k = each_cons (Valid z) (arg env x) (args_of env xs) (arg_valid z env x h k.0) (args_valid z env xs h k.1)
 
+pub count_args : (env : List Value) (xs : List Arg) → length (args_of env xs) ≡ length xs
+count_args env [] = refl
+count_args env (x ∷ xs) = ap suc (count_args env xs)
+
 -- a test that holds of all items holds of each
 pub all_get : {A : Type 0} (test : A → Bool) (xs : List A) → IsTrue (list_all test xs) → Each (λ x. IsTrue (test x)) xs
 all_get test [] h = each_none (λ x. IsTrue (test x))

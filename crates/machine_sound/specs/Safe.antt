@@ -1,5 +1,6 @@
 -- Rows that never trap, by recursion over the row: what each move needs (`Ready`), what may come of it (`Event`), and what is known behind it.
 use Rattle.std.specs.Prelude.{ℕ, ◌+◌, ◌-◌, ◌<◌, ◌≤◌, ◌≡◌, ◌⊎◌, ℤ, pos, Bool, true, false, cond, max, List, [], ◌∷◌, ◌++◌, length, drop, Option, Some, None, slice_get, IsTrue, IsSome}
+use Rattle.int_core.specs.Operations.{operands}
 use Rattle.int_core.specs.Value.{Plain, nil, boolean, integer, string, primitive, Value, known, object, a_table, a_function, a_coroutine, Shape, is_known, is_object, shape, greatest_string, last}
 use Rattle.code_core.specs.declared.opcode.Opcode.{Opcode}
 use Rattle.code_core.specs.declared.instruction.Instruction.{Instruction}
@@ -286,7 +287,7 @@ TopReady t env (on_own m) = OwnReady t m × IfChanged m t.runs
 TopReady t env (move_pc z) = IsTrue t.runs × Lands t z
 TopReady t env (open_register r) = r < t.size × r < t.cells
 TopReady t env (outside q) = QuickReady t env q
-TopReady t env (settle op xs) = ArgsOk xs
+TopReady t env (settle op xs) = ArgsOk xs × (length xs ≡ operands op)
 TopReady t env (enter f slot wait prepared) = MayEnter t env f wait prepared
 TopReady t env (enter_tail f slot) = ArgOk f
 TopReady t env (await f slot wait prepared) = MayEnter t env f wait prepared

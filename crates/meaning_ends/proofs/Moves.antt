@@ -3,7 +3,7 @@ use Rattle.std.proofs.Common.{◌≡◌, ℕ, zero, suc, ◌+◌, ◌*◌, ◌<�
 use Rattle.std.specs.Prelude.{ℤ, nat_lt, slice_get, slice_set, drop, codes}
 use Rattle.int_core.specs.Value.{Value, known, nil, primitive, object, a_function, a_coroutine, is_nil, nth}
 use Rattle.int_core.specs.Heap.{filled_table}
-use Rattle.int_core.specs.Operations.{Callee, callee, not_callable, callee_of, greatest_chain, Settled, found, ask, fault, does, handler_in, of_close, is_function}
+use Rattle.int_core.specs.Operations.{Callee, callee, not_callable, callee_of, greatest_chain, Settled, found, ask, fault, cannot_arise, does, handler_in, of_close, is_function}
 use Rattle.int_core.specs.Ask.{faulted, left, IsLeft, Ask, reads_upvalue, writes_upvalue, makes_table, makes_function, fills_table, pays, opens, operates, calls, calls_last, marks, closes, raises, leaves, returns, throws, Answer, Next, goes_on, says, stuck}
 use Rattle.tree_core.specs.Tree.{Body}
 use Rattle.tree_activation.specs.Work.{Celling, State}
@@ -229,11 +229,12 @@ module _ (celling : Celling) where
       calls_go b n (on_frames W below) f vs (λ why V. answered_at_once V asker 0 (faulted why) below) h (m, p)
       (λ why fuel le. on_goes b n m top (record W { frames = below; fuel = fuel }) asker _ below le p all room)
 
-  settled_goes : (b n m top : ℕ) (W : Run) (asker : Asker State) (below : List (Frame State)) (o : Settled) → W.fuel ≤ b → Fits W.chain below W.coroutines m
+  settled_goes : (b n m top : ℕ) (W : Run) (asker : Asker State) (below : List (Frame State)) (o : Settled) → W.fuel ≤ b → CanEnd W → Fits W.chain below W.coroutines m
       → All top asker → 4 * top + 2 + m ≤ n → Goes b n (settled system W asker below o)
-  settled_goes b n m top W asker below (found H vs) h p all room = on_goes b n m top (record W { heap = H }) asker _ below h p all room
-  settled_goes b n m top W asker below (ask g vs) h p all room = calls_for_goes b n m top W asker below g vs h p all room
-  settled_goes b n m top W asker below (fault why) h p all room = on_goes b n m top W asker _ below h p all room
+  settled_goes b n m top W asker below (found H vs) h can p all room = on_goes b n m top (record W { heap = H }) asker _ below h p all room
+  settled_goes b n m top W asker below (ask g vs) h can p all room = calls_for_goes b n m top W asker below g vs h p all room
+  settled_goes b n m top W asker below (fault why) h can p all room = on_goes b n m top W asker _ below h p all room
+  settled_goes b n m top W asker below cannot_arise h can p all room = has_end refl can
 
   unit_goes : (b n m fuel : ℕ) (W : Run) (asker : Asker State) (below : List (Frame State)) → fuel ≤ b → CanEnd W → Fits W.chain below W.coroutines m → Goes b n (pays_unit fuel W asker below)
   unit_goes b n m zero W asker below h can p = has_end refl can
@@ -264,7 +265,7 @@ module _ (celling : Celling) where
       if_there b n (filled_table W.heap t last vs) _ _ (has_end refl can) (λ H. on_goes b n m top (record W { heap = H }) asker _ below h p (λ x. some x tt) room)
   handle_goes b n m top pays W asker below h can p some room = unit_goes b n m W.fuel W asker below h can p
   handle_goes b n m top (opens v) W asker below h can p some room = on_goes b n m top (record W { cells = W.cells ++ v ∷ [] }) asker _ below h p (λ x. some x tt) room
-  handle_goes b n m top (operates op vs) W asker below h can p some room = settled_goes b n m top W asker below (does op vs W.heap) h p (λ x. some x tt) room
+  handle_goes b n m top (operates op vs) W asker below h can p some room = settled_goes b n m top W asker below (does op vs W.heap) h can p (λ x. some x tt) room
   handle_goes b n m top (calls f vs) W asker below h can p some room = calls_for_goes b n m top W asker below f vs h p (λ x. some x tt) room
   handle_goes b n m top (calls_last f vs) W asker below h can p some room = in_place_goes b n m top W asker below f vs h p (λ x. some x tt) room
   handle_goes b n m top (marks v name) W asker below h can p some room =

@@ -3,7 +3,7 @@ use Rattle.std.proofs.Common.{◌≡◌, ℕ, zero, suc, Bool, List, [], ◌∷�
 use Rattle.std.specs.Prelude.{slice_set, map, option_map, codes}
 use Rattle.int_core.specs.Value.{Value, object, a_table, a_function, is_nil, nth, bind}
 use Rattle.int_core.specs.Heap.{Heap, filled_table, add_table}
-use Rattle.int_core.specs.Operations.{Settled, found as settled_as, ask, fault, does, handler_in, of_close}
+use Rattle.int_core.specs.Operations.{Settled, found as settled_as, ask, fault, cannot_arise, does, handler_in, of_close}
 use Rattle.int_core.specs.Ask.{CellName, of_local, of_upvalue, returns, throws, Ask, reads_upvalue, writes_upvalue, makes_table, makes_function, fills_table, pays, opens, operates, calls, calls_last, marks, closes, raises, leaves, Reply, values, faulted, Answer, AskLike, FitsAsk, IsReplyTo, IsLeft, IsQuiet}
 use Rattle.lua_meaning.specs.World.{System, Function, Asker, Frame, waiting, raising, World, on_frames, second, cell_of, answered, answered_at_once}
 use Rattle.lua_meaning.specs.Asks.{one, none, cells_named, of_maker, made_in, gets_function, pays_unit, calls_for, calls_in_place, settled, handle}
@@ -87,6 +87,7 @@ module _ {A B S T : Type 0} (Sa : System A S) (Sb : System B T) (R : Bool → A 
       answered_out Sa Sb R Q asks begins (Any Sa Sb R Q) (record W { heap = H }) bs xss xs k g (values vs) below ys (heap_like W bs xss xs H like) asker tt rest
   settled_out W bs xss xs k g below ys (ask h vs) like asker rest = calls_for_out W bs xss xs k g below ys h vs like asker rest
   settled_out W bs xss xs k g below ys (fault why) like asker rest = answered_out Sa Sb R Q asks begins (Any Sa Sb R Q) W bs xss xs k g (faulted why) below ys like asker tt rest
+  settled_out W bs xss xs k g below ys cannot_arise like asker rest = now_out Sa Sb R Q W bs xss xs _ like
 
   pub opt_out : {C : Type 0} → (o p : Option C) (X : World A S) (Y : World B T) (F : C → World A S) (G : C → World B T) → p ≡ o → Both X Y → ((c : C) → Both (F c) (G c))
       → Both (elim o as (λ _. World A S) [ None ↦ X | Some c ↦ F c ]) (elim p as (λ _. World B T) [ None ↦ Y | Some c ↦ G c ])
