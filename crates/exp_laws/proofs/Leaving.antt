@@ -13,10 +13,11 @@ use Rattle.code_core.specs.Instruction.{opcode_of}
 use Rattle.machine_core.specs.World as world
 use Rattle.machine_core.specs.World.{leaving}
 use Rattle.machine_core.specs.Text as text
-use Rattle.machine_core.specs.Text.{Text, blanked, is_pending, last_pending, value_if, is_there, close_cells, keep_pending, done}
+use Rattle.machine_core.specs.Text.{Text, blanked, is_pending, last_pending, without_pending, value_if, is_there, close_cells, keep_pending, done}
 use Rattle.machine_core.specs.InstructionRows.{fails, rest_at, rest_by, left_so, after, told_values}
 use Rattle.machine_core.specs.Talk as code
 use Rattle.machine_core.specs.Talk.{talk, talk_step, says_so, heard, before, amid, captured_done}
+use Rattle.machine_core.proofs.Pending.{last_from, without_from}
 use Rattle.list_laws.proofs.Ends.{last_is, without_last_is}
 use Rattle.list_laws.proofs.Items.{get_new, length_more}
 use Rattle.list_laws.proofs.Tests.{eq_refl, eq_true, lt_not, or_right}
@@ -66,12 +67,6 @@ marked_more (q ∷ ps) p e = ap (λ l. cond q.needed (q.number ∷ l) l) (marked
 pub marked_fewer : (ps : List Pending) (p : Pending) → p.needed ≡ false → marked_in (ps ++ p ∷ []) ≡ marked_in ps
 marked_fewer [] p e = ap (λ b. cond b (p.number ∷ []) []) e
 marked_fewer (q ∷ ps) p e = ap (λ l. cond q.needed (q.number ∷ l) l) (marked_fewer ps p e)
-
-pub last_marked : (ms : List ℕ) (q : ℕ) → last_pending 0 (ms ++ q ∷ []) ≡ Some q
-last_marked ms q =
-    let e : length (ms ++ q ∷ []) - 1 ≡ length ms = (let l = length_more ms q in omega (arith, l)) in
-    ap (λ o. elim o as (λ _. Option ℕ) [ None ↦ None | Some r ↦ cond (nat_le 0 r) (Some r) None ]) (ap (slice_get (ms ++ q ∷ [])) e ∙ get_new ms q)
-    ∙ ap (λ b. cond b (Some q) None) (le-leb 0 q (omega arith))
 
 or_more : (b c d : Bool) → (c ≡ true → d ≡ true) → (b || c) ≡ true → (b || d) ≡ true
 or_more true c d f e = refl
@@ -145,8 +140,8 @@ module _ (S : Setting) where
   fails_some : (e : Value) (ms : List ℕ) (q : ℕ) (a : world.Activation) (c : Captured) → a.pending ≡ ms ++ q ∷ []
       → talk S.code fails (e ∷ []) a c ≡ says_so (closes (nth a.registers q) e) S.code (after_closing ms a) (cut a.registers c) (λ x b d. heard (leaving e) S.code x b d)
   fails_some e ms q a c is =
-      let there : last_pending 0 a.pending ≡ Some q = ap (last_pending 0) is ∙ last_marked ms q in
-      let fewer : cond (is_there (last_pending 0 a.pending)) (take (length a.pending - 1) a.pending) a.pending ≡ ms = ap (λ o. cond (is_there o) (take (length a.pending - 1) a.pending) a.pending) there ∙ ap without_last is ∙ without_last_is ms q in
+      let there : last_pending 0 a.pending ≡ Some q = ap (last_pending 0) is ∙ last_from 0 ms q (omega arith) in
+      let fewer : without_pending 0 a.pending ≡ ms = ap (without_pending 0) is ∙ without_from 0 ms q (omega arith) in
       ap (λ o. talk S.code (closing_text o) (e ∷ value_if a.registers o) a c) there
       ∙ ap (λ l. says_so (closes (nth a.registers q) e) S.code (after_closing l a) (cut a.registers c) (λ x b d. heard (leaving e) S.code x b d)) fewer
 

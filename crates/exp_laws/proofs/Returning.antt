@@ -13,11 +13,12 @@ use Rattle.code_core.specs.Instruction.{opcode_of, a_of}
 use Rattle.machine_core.specs.World as world
 use Rattle.machine_core.specs.World.{returning}
 use Rattle.machine_core.specs.Text as text
-use Rattle.machine_core.specs.Text.{Text, read, written, own, read_registers, blanked, behind, is_pending, last_pending, value_if, is_there}
+use Rattle.machine_core.specs.Text.{Text, read, written, own, read_registers, blanked, behind, is_pending, last_pending, without_pending, value_if, is_there}
 use Rattle.machine_core.specs.InstructionRows.{rest_at, rest_by, returned_so, after, told_values}
 use Rattle.machine_core.specs.InstructionRows as rows
 use Rattle.machine_core.specs.Talk as code
 use Rattle.machine_core.specs.Talk.{talk, talk_step, says_so, heard, amid}
+use Rattle.machine_core.proofs.Pending.{last_from, without_from}
 use Rattle.list_laws.proofs.Items.{append_nil, length_more}
 use Rattle.list_laws.proofs.Ends.{without_last_is, Snoc, empty, with_last, snoc}
 use Rattle.list_laws.proofs.Tests.{lt_true, or_left, or_right, both_true}
@@ -28,7 +29,7 @@ use Rattle.exp_laws.proofs.Talking.{Here, Agree, go_left, both_ask, of_tree, of_
 use Rattle.exp_laws.proofs.Lists.{Holds, range_held}
 use Rattle.exp_laws.proofs.Steps.{own_step}
 use Rattle.list_laws.proofs.Held.{none_below, brought_none}
-use Rattle.exp_laws.proofs.Leaving.{gone_all, length_blanked, blanked_keeps, marked_more, marked_fewer, last_marked, is_pending_last, is_pending_more, Left, left_from, cut, cut_same, leave_one, leaves_so, faults_so}
+use Rattle.exp_laws.proofs.Leaving.{gone_all, length_blanked, blanked_keeps, marked_more, marked_fewer, is_pending_last, is_pending_more, Left, left_from, cut, cut_same, leave_one, leaves_so, faults_so}
 
 behind_most : (from count i : ℕ) → i < count → from + i < behind from count
 behind_most from zero i h = absurd (omega arith)
@@ -89,8 +90,8 @@ module _ (S : Setting) (from : ℕ) (vs : List Value) where
   returns_some : (had : List Value) (ms : List ℕ) (q : ℕ) (a : world.Activation) (c : Captured) → a.pending ≡ ms ++ q ∷ []
       → talk S.code (rows.returns from count) had a c ≡ says_so (closes (nth a.registers q) (known nil)) S.code (after_closing ms a) (cut S a.registers c) (λ x b d. heard (returning count) S.code x b d)
   returns_some had ms q a c is =
-      let there : last_pending 0 a.pending ≡ Some q = ap (last_pending 0) is ∙ last_marked ms q in
-      let fewer : cond (is_there (last_pending 0 a.pending)) (take (length a.pending - 1) a.pending) a.pending ≡ ms = ap (λ o. cond (is_there o) (take (length a.pending - 1) a.pending) a.pending) there ∙ ap without_last is ∙ without_last_is ms q in
+      let there : last_pending 0 a.pending ≡ Some q = ap (last_pending 0) is ∙ last_from 0 ms q (omega arith) in
+      let fewer : without_pending 0 a.pending ≡ ms = ap (without_pending 0) is ∙ without_from 0 ms q (omega arith) in
       ap (λ o. talk S.code (closing_text (length had) o) (had ++ value_if a.registers o) a c) there
       ∙ ap₂ (λ v l. says_so (closes v (known nil)) S.code (after_closing l a) (cut S a.registers c) (λ x b d. heard (returning count) S.code x b d)) (last_nth had (nth a.registers q)) fewer
 

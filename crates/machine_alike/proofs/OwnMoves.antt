@@ -6,7 +6,7 @@ use Rattle.code_core.specs.Prototype.{Prototype}
 use Rattle.code_core.specs.Check.{fixed, open_from, mark}
 use Rattle.int_core.specs.Value.{a_coroutine, Value, known, nil, integer, boolean, is_known, nth, range, write, write_all}
 use Rattle.machine_core.specs.World.{Activation, Cell}
-use Rattle.machine_core.specs.Text.{behind, Arg, read, written, arg, args_of, Own, read_register, read_registers, read_list, read_constant, read_varargs, see, write_register, write_registers, write_list, write_nils, end_list, cut_from, close_cells, mark_pending, see_pending, take_pending, drop_pending, keep_results, keep_pending, constant, list_end, list_values, last_pending, value_if, is_there, blanked, is_pending, nils, reads, tells, effect, fits, done}
+use Rattle.machine_core.specs.Text.{behind, Arg, read, written, arg, args_of, Own, read_register, read_registers, read_list, read_constant, read_varargs, see, write_register, write_registers, write_list, write_nils, end_list, cut_from, close_cells, mark_pending, see_pending, take_pending, drop_pending, keep_results, keep_pending, constant, list_end, list_values, last_pending, without_pending, value_if, is_there, blanked, is_pending, nils, reads, tells, effect, fits, done}
 use Rattle.machine_core.specs.Moves.{cells_after, cells_done}
 use Rattle.machine_alike.specs.Agree.{Pairs, SameNumber, SameValue, same_known, SameValues, SameActivation, Objects, SameObjects}
 use Rattle.machine_alike.proofs.Pairwise.{zip_length, zip_take, zip_drop, cond_rel}
@@ -152,7 +152,7 @@ module _ (p : Pairs) where
   effect_same end_list code env other a b s h = with_registers a b _ _ 0 0 h (zip_take (SameValue p) code.own.stack a.registers b.registers h.registers) refl
   effect_same (cut_from r) code env other a b s h = with_registers a b _ _ 0 0 h (blanked_same (λ i. nat_lt i r) 0 code.own.stack a.registers b.registers h.registers) refl
   effect_same (mark_pending r) code env other a b s h = with_pending a b (λ pending. pending ++ r ∷ []) h
-  effect_same (take_pending r) code env other a b s h = with_pending a b (λ pending. cond (is_there (last_pending r pending)) (take (length pending - 1) pending) pending) h
+  effect_same (take_pending r) code env other a b s h = with_pending a b (without_pending r) h
   effect_same (drop_pending r) code env other a b s h = with_pending a b (λ pending. filter (λ q. nat_lt q r) pending) h
   effect_same (keep_results from count) code env other a b s h = with_registers a b _ _ 0 0 h (blanked_by (λ pending i. is_pending pending i || (nat_le from i && nat_lt i (from + count))) (max code.own.stack (behind from count)) a b h) refl
   effect_same keep_pending code env other a b s h = with_registers a b _ _ 0 0 h (blanked_by is_pending code.own.stack a b h) refl

@@ -6,3 +6,4 @@ pub mod BothReadings
 pub mod MachineEdges
 pub mod RowsFit
 pub mod RowsOpen
+pub mod Pending

@@ -3,7 +3,7 @@ use Rattle.std.proofs.Common.{◌≡◌, ap, ℕ, zero, suc, ◌+◌, true, fals
 use Rattle.std.specs.Prelude.{pos, codes, nat_le}
 use Rattle.std.specs.Int.{int_wrap}
 use Rattle.std.specs.Fmt.{digits}
-use Rattle.code_core.specs.declared.opcode.Opcode.TheVariants.{GetUpval, GetTable, NewTable, OpSelf, Call, Tbc, Return0, Return1, ForPrep, SetList, ExtraArg}
+use Rattle.code_core.specs.declared.opcode.Opcode.TheVariants.{GetUpval, GetTable, NewTable, OpSelf, Call, Close, Tbc, Return0, Return1, ForPrep, SetList, ExtraArg}
 use Rattle.code_core.specs.Opcode.{opcodes, number_of}
 use Rattle.code_core.specs.Instruction.{abc, abx, op_ax}
 use Rattle.code_core.specs.Prototype.{Prototype, prototypes}
@@ -29,6 +29,15 @@ call_drops_pending : runs 40 (started 1 (function drops (0 ∷ 1 ∷ 2 ∷ []) �
     (record { rows = []; metatable = Some 1 } ∷ record { rows = (text (codes "__close"), object a_function 1) ∷ []; metatable = None } ∷ []) []) ≡ Some (main_returned, [], 0)
 unfolding opcodes number_of int_wrap put_frames put_top push pop write_cell with_own put_coroutine back_to_resumer raw_set woken
 call_drops_pending = refl
+
+-- CLOSE 1 closes register 1, though register 0 was marked after it; the call at register 0 then takes that one off the list
+abbrev closes_above : Prototype
+closes_above = plain 3 (abc GetUpval 1 1 0 false ∷ abc Tbc 1 0 0 false ∷ abc GetUpval 0 1 0 false ∷ abc Tbc 0 0 0 false ∷ abc Close 1 0 0 false ∷ abc GetUpval 0 2 0 false ∷ abc Call 0 1 1 false ∷ abc Return0 0 0 0 false ∷ [])
+
+close_looks_past_lower : runs 40 (started 2 (function closes_above (0 ∷ 1 ∷ 2 ∷ []) ∷ function nothing [] ∷ []) (closed (known nil) ∷ closed (object a_table 0) ∷ closed (object a_function 1) ∷ [])
+    (record { rows = []; metatable = Some 1 } ∷ record { rows = (text (codes "__close"), object a_function 1) ∷ []; metatable = None } ∷ []) []) ≡ Some (main_returned, [], 0)
+unfolding opcodes number_of int_wrap put_frames put_top push pop write_cell with_own put_coroutine back_to_resumer raw_set woken
+close_looks_past_lower = refl
 
 -- EXTRAARG counts 256 for each of its units: the item behind index 2 + 256 is at 259
 abbrev fills : Prototype

@@ -61,9 +61,10 @@ abbrev pub list_values : ℕ → List Value → Option ℕ → List Value
 list_values from registers None = []
 list_values from registers (Some end) = range from (end - from) registers
 
--- the last pending register, where it is at r or above
+-- the last of the pending registers at r or above, whatever was marked after it
 abbrev pub last_pending : ℕ → List ℕ → Option ℕ
-last_pending r pending = elim (slice_get pending (length pending - 1)) [ None ↦ None | Some q ↦ cond (nat_le r q) (Some q) None ]
+last_pending r [] = None
+last_pending r (q ∷ pending) = elim (last_pending r pending) [ Some p ↦ Some p | None ↦ cond (nat_le r q) (Some q) None ]
 
 abbrev pub value_if : List Value → Option ℕ → List Value
 value_if registers None = []
@@ -72,6 +73,11 @@ value_if registers (Some r) = nth registers r ∷ []
 abbrev pub is_there : {A : Type 0} → Option A → Bool
 is_there None = false
 is_there (Some _) = true
+
+-- the pending registers but that one
+abbrev pub without_pending : ℕ → List ℕ → List ℕ
+without_pending r [] = []
+without_pending r (q ∷ pending) = cond (is_there (last_pending r pending)) (q ∷ without_pending r pending) (cond (nat_le r q) pending (q ∷ pending))
 
 -- a number of registers from i on, where all but some are nil
 abbrev pub blanked : (ℕ → Bool) → ℕ → ℕ → List Value → List Value
@@ -118,8 +124,7 @@ effect (write_nils at count) p env own = record own { registers = write_all at (
 effect end_list p env own = record own { registers = take p.own.stack own.registers; opened = 0 }
 effect (cut_from r) p env own = record own { registers = blanked (λ i. nat_lt i r) 0 p.own.stack own.registers; opened = 0 }
 effect (mark_pending r) p env own = record own { pending = own.pending ++ r ∷ [] }
-effect (take_pending r) p env own =
-    record own { pending = cond (is_there (last_pending r own.pending)) (take (length own.pending - 1) own.pending) own.pending }
+effect (take_pending r) p env own = record own { pending = without_pending r own.pending }
 effect (drop_pending r) p env own = record own { pending = filter (λ q. nat_lt q r) own.pending }
 effect (keep_results from count) p env own =
     record own {

@@ -8,7 +8,7 @@ use Rattle.code_core.specs.Check.{mark, fixed, open_from}
 use Rattle.int_core.specs.Value.{Value, Shape, is_known, integer, known, nil, nth, range, write, write_all, shape}
 use Rattle.int_core.specs.Ask.{Captured, held_below, gone_from}
 use Rattle.machine_core.specs.World.{Function, Cell, Activation, Frame, close_from}
-use Rattle.machine_core.specs.Text.{arg, Own, read_register, read_registers, read_list, read_constant, read_varargs, see, write_register, write_registers, write_list, write_nils, end_list, cut_from, close_cells, mark_pending, see_pending, take_pending, drop_pending, keep_results, keep_pending, reads, tells, effect, fits, done, blanked, nils, is_pending, is_there, list_end, list_values, last_pending, value_if, behind}
+use Rattle.machine_core.specs.Text.{arg, Own, read_register, read_registers, read_list, read_constant, read_varargs, see, write_register, write_registers, write_list, write_nils, end_list, cut_from, close_cells, mark_pending, see_pending, take_pending, drop_pending, keep_results, keep_pending, reads, tells, effect, fits, done, blanked, nils, is_pending, is_there, list_end, list_values, last_pending, without_pending, value_if, behind}
 use Rattle.machine_core.specs.Moves.{cells_after, cells_done}
 use Rattle.machine_core.specs.Talk.{captured_after, captured_done}
 use Rattle.machine_core.specs.TalkRun.{TalkFrame, shared_in}
@@ -191,7 +191,7 @@ module _ (p : Prototype) (env : List Value) (a a' : Activation) (e : Alike a a')
   effect_alike (mark_pending r) = record { fixed = record { pc = e.fixed.pc; varargs = e.fixed.varargs; pending = ap (λ pd. pd ++ r ∷ []) e.fixed.pending; opened = e.fixed.opened }; values = e.values; size = e.size }
   effect_alike (see_pending r) = e
   effect_alike (take_pending r) = record {
-    fixed = record { pc = e.fixed.pc; varargs = e.fixed.varargs; pending = ap (λ (pd : List ℕ). cond (is_there (last_pending r pd)) (take (length pd - 1) pd) pd) e.fixed.pending; opened = e.fixed.opened };
+    fixed = record { pc = e.fixed.pc; varargs = e.fixed.varargs; pending = ap (without_pending r) e.fixed.pending; opened = e.fixed.opened };
     values = e.values;
     size = e.size;
   }

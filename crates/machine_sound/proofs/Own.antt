@@ -1,15 +1,15 @@
 -- Moves on the own activation keep what is known of it.
 use Rattle.std.proofs.Common.{ℕ, zero, suc, ◌+◌, ◌-◌, ◌<◌, ◌≤◌, ◌≡◌, List, [], ◌∷◌, ◌++◌, Some, refl, subst, sym, ap, ◌∙◌, length, take, drop, arith, Bool, true, false}
-use Rattle.std.specs.Prelude.{slice_get, cond, max, nat_eq, nat_lt, not, ◌&&◌, IsSome, filter}
+use Rattle.std.specs.Prelude.{slice_get, cond, max, nat_eq, nat_le, nat_lt, not, ◌&&◌, IsSome, filter}
 use Rattle.std.proofs.lemmas.Bool.Decides.{nat_tests}
 use Rattle.int_core.specs.Value.{Value, known, nil, nth, range, write, write_all}
 use Rattle.code_core.specs.Prototype.{Prototype}
 use Rattle.machine_core.specs.World.{Cell, closed, open_at, Activation, close_from, find_open}
-use Rattle.machine_core.specs.Text.{arg, behind, Own, read_register, read_registers, read_list, read_constant, read_varargs, see, write_register, write_registers, write_list, write_nils, end_list, cut_from, close_cells, mark_pending, see_pending, take_pending, drop_pending, keep_results, keep_pending, effect, done, nils, blanked, last_pending, is_there, is_pending}
+use Rattle.machine_core.specs.Text.{arg, behind, Own, read_register, read_registers, read_list, read_constant, read_varargs, see, write_register, write_registers, write_list, write_nils, end_list, cut_from, close_cells, mark_pending, see_pending, take_pending, drop_pending, keep_results, keep_pending, effect, done, nils, blanked, last_pending, without_pending, is_there, is_pending}
 use Rattle.machine_core.specs.Moves.{cells_after, cells_done}
 use Rattle.machine_sound.specs.Sound.{Each, Sizes, Valid, Top}
 use Rattle.machine_sound.specs.Safe.{stack_of, OwnReady, after_own, AllReady, after_all}
-use Rattle.machine_sound.proofs.Lists.{each_none, each_cons, each_push, each_take, each_drop, each_filter}
+use Rattle.machine_sound.proofs.Lists.{each_none, each_cons, each_tail, each_push, each_take, each_drop, each_filter}
 use Rattle.machine_sound.proofs.Values.{nth_ok, each_range, each_write, each_write_all, each_nils, each_blanked, length_range, length_write, length_write_all, length_nils, length_blanked, length_front, arg_valid}
 
 -- what is known of an activation while moves are made, and of the cells
@@ -74,9 +74,14 @@ filtered r (q ∷ qs) = pick (nat_lt q r) refl (filtered r qs)
     pick true e h = each_cons (λ q. q < r) q (filter (λ q. nat_lt q r) qs) (grind (arith, nat_tests)) h
     pick false e h = h
 
-each_taken : (P : ℕ → Type 0) (b : Bool) (n : ℕ) (qs : List ℕ) → Each P qs → Each P (cond b (take n qs) qs)
-each_taken P true n qs h = each_take P n qs h
-each_taken P false n qs h = h
+each_left : (P : ℕ → Type 0) (r : ℕ) (qs : List ℕ) → Each P qs → Each P (without_pending r qs)
+each_left P r [] h = h
+each_left P r (q ∷ qs) h = pick (is_there (last_pending r qs)) (nat_le r q) (each_left P r qs (each_tail P q qs h))
+  where
+    pick : (b c : Bool) → Each P (without_pending r qs) → Each P (cond b (q ∷ without_pending r qs) (cond c qs (q ∷ qs)))
+    pick true c k = each_cons P q (without_pending r qs) (h zero q refl) k
+    pick false true k = each_tail P q qs h
+    pick false false k = h
 
 module _ (z : Sizes) (old : List Cell) (p : Prototype) (co k : ℕ) (env : List Value) (valid : Each (Valid z) env) where
   abbrev pub Known : Top → Activation → List Cell → Type 0
@@ -214,9 +219,7 @@ module _ (z : Sizes) (old : List Cell) (p : Prototype) (co k : ℕ) (env : List 
       let all = each_push (λ r. r < p.own.stack) own.pending r h.pending (let l = c.1 in omega arith) in
       other_pending t own cells h (stack_of t) (own.pending ++ r ∷ []) (subst (λ n. Each (λ r. r < n) (own.pending ++ r ∷ [])) (sym q) all) all
   own_good (take_pending r) t own cells c h =
-      other_pending t own cells h t.pending (cond (is_there (last_pending r own.pending)) (take (length own.pending - 1) own.pending) own.pending)
-      (each_taken (λ r. r < t.pending) (is_there (last_pending r own.pending)) (length own.pending - 1) own.pending h.bound)
-      (each_taken (λ r. r < p.own.stack) (is_there (last_pending r own.pending)) (length own.pending - 1) own.pending h.pending)
+      other_pending t own cells h t.pending (without_pending r own.pending) (each_left (λ r. r < t.pending) r own.pending h.bound) (each_left (λ r. r < p.own.stack) r own.pending h.pending)
   own_good (drop_pending r) t own cells c h =
       other_pending t own cells h r (filter (λ q. nat_lt q r) own.pending) (filtered r own.pending) (each_filter (λ q. q < p.own.stack) (λ q. nat_lt q r) own.pending h.pending)
   own_good (keep_results from count) t own cells c h =

@@ -112,11 +112,6 @@ pub closes_next : (p : Prototype) (e : Value) (q : ℕ) (a : Activation) (c : Ca
     ≡ says_so (closes (nth a.registers q) e) p (done left_so p [] a) (captured_done left_so p [] a c) (λ x b d. heard (leaving e) p x b d)
 closes_next p e q a c is = ap (λ o. talk p (closing_text o) (e ∷ value_if a.registers o) a c) is
 
--- one fewer is pending then
-pub one_fewer : (p : Prototype) (a : Activation) (q n : ℕ) → last_pending 0 a.pending ≡ Some q → length a.pending ≡ suc n → length (done left_so p [] a).pending ≡ n
-one_fewer p a q n is count =
-    ap (λ o. length (cond (is_there o) (take (length a.pending - 1) a.pending) a.pending)) is ∙ (let l = length-take (length a.pending - 1) a.pending in omega (arith, l, count))
-
 -- an activation that waits to be left goes on by leaving, or the code breaks a rule
 pub data Rests (e : Value) (p : Prototype) (pc : ℕ) : Type 0 where
   goes_so : rest_at {V = Value} (leaving e) p pc ≡ fails → Rests e p pc

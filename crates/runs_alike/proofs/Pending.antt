@@ -23,7 +23,8 @@ use Rattle.list_laws.proofs.Items.{length_more}
 use Rattle.code_means.proofs.Same.{NoOwn, like_no_own, known_no_own}
 use Rattle.runs_alike.proofs.AllAsks.{asks_once, Talk, Made, all_same}
 use Rattle.runs_alike.proofs.TreeLeft.{IsLeaving}
-use Rattle.runs_alike.proofs.CodeLeft.{leaves_last, closes_next, one_fewer, Rests, goes_so, breaks_rule, rests}
+use Rattle.machine_core.proofs.Pending.{one_fewer}
+use Rattle.runs_alike.proofs.CodeLeft.{leaves_last, closes_next, Rests, goes_so, breaks_rule, rests}
 use Rattle.runs_alike.proofs.CodeLeft as code
 use Rattle.list_laws.proofs.Held.{brought_none}
 
@@ -202,7 +203,7 @@ module _ (l : Bool) (body : Body) (p : Prototype) where
             → ((a' : tree.Activation) (b' : machine.Activation) (c' : Captured) → length b'.pending ≡ n → Talk l body p (left_at line e a') (amid fails (d ∷ []) b' c') → codes.closed_of p n b' ≡ closed_of a'.locals a'.pending)
             → elim o as (λ _. List Value) [ None ↦ [] | Some r ↦ nth b.registers r ∷ codes.closed_of p n (done left_so p [] b) ] ≡ closed_of a.locals a.pending
         by None is more = sym (leaves_too line e d a b c same is)
-        by (Some q) is more = closes_too n line e d q a b c same is (λ a' b' c' less talks. more a' b' c' (ap (λ ms. length ms) less ∙ one_fewer p b q n is count) talks)
+        by (Some q) is more = closes_too n line e d q a b c same is (λ a' b' c' less talks. more a' b' c' (ap (λ ms. length ms) less ∙ (let l = one_fewer 0 b.pending q is in omega (arith, l, count))) talks)
 
   pub left_alike : (s : TreeState) (t : CodeState) → IsLeaving s → code.IsLeaving t → Talk l body p s t → codes.to_close p t ≡ to_close s
   left_alike s t h k same =
