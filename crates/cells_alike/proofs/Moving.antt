@@ -4,11 +4,12 @@ use Rattle.std.proofs.lemmas.List.{length-map}
 use Rattle.std.proofs.lemmas.Option.{slice_get-map}
 use Rattle.std.specs.Prelude.{slice_get, slice_set, map, option_map, nat_le, unwrap_or}
 use Rattle.int_core.specs.Value.{nil, Value, known, bind}
+use Rattle.int_core.specs.Limits.{greatest_depth, limited, position}
 use Rattle.tree_core.specs.Tree.{Body}
 use Rattle.tree_activation.specs.Work.{State, when_declared, when_captured}
 use Rattle.tree_activation.specs.Asking.{to_close}
 use Rattle.int_core.specs.Ask.{left}
-use Rattle.lua_meaning.specs.World.{Function, Now, gives_back, raises_error, ends, broken, World, now_in, breaks, has_room, runs_main, greatest_depth, position, position_of, positions_of, where_among, where_at, limited, raises_text, shared_out}
+use Rattle.lua_meaning.specs.World.{Function, Now, gives_back, raises_error, ends, broken, World, now_in, breaks, has_room, runs_main, position_of, positions_of, where_among, where_at, raises_text, shared_out}
 use Rattle.lua_meaning.specs.World.{yielded, returned, failed_with}
 use Rattle.lua_meaning.specs.Calls.{truth, frames_in, back_to, leaves_coroutine, left_now, pending_of, pending_in, all_pending, returns_all, fails_all, yields}
 use Rattle.lua_meaning.specs.TreeMeaning.{trees}

@@ -4,12 +4,13 @@ use Rattle.std.proofs.lemmas.List.{length-map}
 use Rattle.std.proofs.lemmas.Option.{slice_get-map}
 use Rattle.std.specs.Prelude.{ℤ, pos, slice_get, map, option_map, drop, codes}
 use Rattle.int_core.specs.Value.{Value, known, string, object, a_table, a_function, a_coroutine, nth}
+use Rattle.int_core.specs.Limits.{limited}
 use Rattle.int_core.specs.Operations.{is_function}
 use Rattle.int_core.specs.Ask.{Ask, reads_upvalue, writes_upvalue, makes_table, makes_function, fills_table, pays, opens, operates, calls, calls_last, marks, closes, raises, leaves, Answer, Next, goes_on, says, stuck}
 use Rattle.tree_core.specs.Tree.{Body}
 use Rattle.tree_activation.specs.Work.{State}
 use Rattle.tree_activation.specs.Activation.{step}
-use Rattle.lua_meaning.specs.World.{System, Function, Frame, Coroutine, Now, talks, gives_back, raises_error, unwinds, calls_primitive, ends, World, now_in, breaks, limited, second, without_name, as_known, shared_in}
+use Rattle.lua_meaning.specs.World.{System, Function, Frame, Coroutine, Now, talks, gives_back, raises_error, unwinds, calls_primitive, ends, World, now_in, breaks, second, without_name, as_known, shared_in}
 use Rattle.lua_meaning.specs.Calls.{text, truth}
 use Rattle.lua_meaning.specs.Asks.{none as no_values, handle, turns, talks_on}
 use Rattle.lua_meaning.specs.Primitives.{Primitive, lua_error, lua_pcall, lua_xpcall, coroutine_close, coroutine_create, coroutine_isyieldable, coroutine_resume, coroutine_running, coroutine_status, coroutine_yield, prelude_out, Done, done, wrong_type, name_in, row}

@@ -8,7 +8,8 @@ use Rattle.byteorder.specs.Endian.{little_number, little_bytes}
 use Rattle.byteorder.specs.Numbers.{little_number-reads_back, length-bytes_low_first}
 use Rattle.code_core.proofs.CheckedLemmas.{rest_of, first_of_two}
 use Rattle.int_core.specs.Value.{greatest_string}
-use Rattle.code_core.specs.Writable.{number_fits, string_fits, name_fits, constant_fits, upvalue_fits, line_fits, local_fits, word_fits, change_fits, byte_fits, signed_fits}
+use Rattle.int_core.specs.Limits.{string_fits}
+use Rattle.code_core.specs.Writable.{number_fits, name_fits, constant_fits, upvalue_fits, line_fits, local_fits, word_fits, change_fits, byte_fits, signed_fits}
 use Rattle.code_core.specs.declared.instruction.Instruction.{Instruction}
 use Rattle.code_core.specs.declared.proto.Const.{Const}
 use Rattle.code_core.specs.declared.proto.Const.TheVariants.{Nil, False, True, Int, Str}

@@ -1,10 +1,11 @@
 -- What a tree writes fits: its lines have 31 bits, its integers 64, and its strings and names at most 16,777,216 bytes. The tree's places do not matter.
 use Rattle.std.specs.Prelude.{ℕ, ◌<◌, ◌^◌, List, [], ◌∷◌, IsTrue}
+use Rattle.int_core.specs.Limits.{string_fits}
 use Rattle.tree_core.specs.declared.name.Name.{Name}
 use Rattle.tree_core.specs.declared.name.Declared.{Declared}
 use Rattle.tree_core.specs.declared.name.UpName.{UpName}
 use Rattle.tree_core.specs.Tree.{Block, Falls, Returns, Body, BodyOf, Stats, EndStats, MoreStats, Stat, Empty, Local, LocalFunction, Assign, CallStat, Do, While, Repeat, If, IfElse, NumFor, NumForStep, GenFor, Label, Goto, Break, Arms, EndArms, MoreArms, Exp, Nil, True, False, Int, Str, Vararg, Function, Var, Index, Call, Method, Unary, Binary, And, Or, Paren, Table, Exps, EndExps, MoreExps, Fields, EndFields, MoreFields, Item, Keyed}
-use Rattle.code_core.specs.Writable.{number_fits, string_fits, signed_fits}
+use Rattle.code_core.specs.Writable.{number_fits, signed_fits}
 
 abbrev pub LineFits : ℕ → Type 0
 LineFits line = IsTrue (number_fits line)

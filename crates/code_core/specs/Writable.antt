@@ -2,7 +2,7 @@
 -- keeps in a fixed width fit it, as the types of a prototype's fields make sure.
 use Rattle.std.specs.Prelude.{ℕ, ℤ, pos, negsuc, ◌+◌, ◌^◌, suc, Bool, true, ◌&&◌, ◌||◌, max, List, Option, Some, None, length, nat_lt, nat_le, is_some, is_none, IsTrue}
 use Rattle.std.specs.List.{list_all}
-use Rattle.int_core.specs.Value.{greatest_string}
+use Rattle.int_core.specs.Limits.{string_fits}
 use Rattle.code_core.specs.declared.instruction.Instruction.{Instruction}
 use Rattle.code_core.specs.declared.proto.Const.{Const}
 use Rattle.code_core.specs.declared.proto.Const.TheVariants.{Int, Str}
@@ -19,9 +19,6 @@ number_fits n = nat_lt n (2 ^ 31)
 
 abbrev pub list_fits : {A : Type 0} → List A → Bool
 list_fits xs = number_fits (length xs)
-
-abbrev pub string_fits : List ℕ → Bool
-string_fits bytes = nat_le (length bytes) greatest_string
 
 abbrev pub name_fits : Option (List ℕ) → Bool
 name_fits None = true

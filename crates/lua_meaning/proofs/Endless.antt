@@ -3,13 +3,14 @@ use Rattle.std.proofs.Common.{◌≡◌, ℕ, zero, suc, ◌+◌, true, false, c
 use Rattle.std.specs.Fmt.{digits}
 use Rattle.std.specs.Prelude.{pos, nat_le, slice_set, codes}
 use Rattle.int_core.specs.Value.{Value, known, object, a_table, a_function, integer, nth}
+use Rattle.int_core.specs.Limits.{greatest_depth, stack_overflow}
 use Rattle.int_core.specs.Ask.{faulted, shared_by, gone_from}
 use Rattle.tree_core.specs.declared.operator.BinOp.TheVariants.{Add}
 use Rattle.tree_core.specs.Tree.{Body, Stat, EndExps, EndStats}
 use Rattle.tree_activation.specs.Work.{Celling, when_declared, when_captured, give, over, falls_off, for_return, left_of, listed, dropped, in_block, end_of_body, Activation, State}
 use Rattle.tree_activation.specs.Activation.{start}
 use Rattle.tree_activation.specs.Asking.{told, heard}
-use Rattle.lua_meaning.specs.World.{Function, Asker, Frame, talking, waiting, raising, protected, returned, failed_with, spent, Now, talks, raises_error, unwinds, ends, World, now_in, shared_in, stack_overflow, greatest_depth, answered}
+use Rattle.lua_meaning.specs.World.{Function, Asker, Frame, talking, waiting, raising, protected, returned, failed_with, spent, Now, talks, raises_error, unwinds, ends, World, now_in, shared_in, answered}
 use Rattle.lua_meaning.specs.Calls.{raised_to, text, truth}
 use Rattle.lua_meaning.specs.Step.{ticks}
 use Rattle.lua_meaning.specs.Meaning.{begun}

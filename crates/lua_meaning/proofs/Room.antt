@@ -2,10 +2,11 @@
 use Rattle.std.proofs.Common.{◌≡◌, ℕ, false, cond, List, ◌∷◌, None, ap}
 use Rattle.std.specs.Prelude.{option_map}
 use Rattle.int_core.specs.Value.{bind}
+use Rattle.int_core.specs.Limits.{stack_overflow}
 use Rattle.int_core.specs.Ask.{CellName, of_upvalue}
 use Rattle.tree_core.specs.Tree.{Body}
 use Rattle.tree_activation.specs.Work.{Celling, State}
-use Rattle.lua_meaning.specs.World.{Frame, suspended, dead, World, has_room, stack_overflow, cell_of, raises_text}
+use Rattle.lua_meaning.specs.World.{Frame, suspended, dead, World, has_room, cell_of, raises_text}
 use Rattle.lua_meaning.specs.Calls.{put_coroutine, all_pending, closes_on, closes_coroutine}
 use Rattle.lua_meaning.specs.Asks.{cells_named}
 use Rattle.lua_meaning.specs.TreeMeaning.{trees}

@@ -3,9 +3,10 @@ use Rattle.std.proofs.Common.{◌≡◌, ℕ, zero, suc, ◌+◌, ◌-◌, ◌*�
 use Rattle.std.proofs.lemmas.Bool.{le-leb, lt-leb}
 use Rattle.std.specs.Prelude.{nat_le, option_map, codes}
 use Rattle.int_core.specs.Value.{Value}
+use Rattle.int_core.specs.Limits.{greatest_depth}
 use Rattle.tree_core.specs.Tree.{Body}
 use Rattle.tree_activation.specs.Work.{Celling, when_declared, when_captured, State}
-use Rattle.lua_meaning.specs.World.{raises_error, unwinds, now_in, runs_main, greatest_depth}
+use Rattle.lua_meaning.specs.World.{raises_error, unwinds, now_in, runs_main}
 use Rattle.lua_meaning.specs.Calls.{raised_to}
 use Rattle.lua_meaning.specs.Step.{has_ended, tick}
 use Rattle.lua_meaning.specs.Meaning.{Meaning, has_returned, has_failed, has_spent, at_end, suspends}

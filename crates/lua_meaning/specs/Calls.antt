@@ -2,9 +2,10 @@
 -- (Lua 5.4 manual, 2.3, 2.6 and 3.3.8).
 use Rattle.std.specs.Prelude.{ℕ, zero, suc, Bool, true, false, cond, List, [], ◌∷◌, ◌++◌, length, Option, Some, None, nat_lt, slice_get, slice_set, codes}
 use Rattle.int_core.specs.Value.{nil, boolean, string, primitive, a_function, Value, known, object, nth}
+use Rattle.int_core.specs.Limits.{greatest_resumes, stack_overflow}
 use Rattle.int_core.specs.Operations.{Callee, callee, not_callable, callee_of, greatest_chain, handler_in, of_close}
 use Rattle.int_core.specs.Ask.{values, left}
-use Rattle.lua_meaning.specs.World.{System, Function, Asker, Frame, talking, waiting, raising, protected, handled_by, handling, closing, Coroutine, fresh, suspended, running, normal, dead, failed, yielded, returned, failed_with, spent, talks, gives_back, unwinds, calls_primitive, ends, World, now_in, breaks, stack_overflow, has_room, on_frames, runs_main, raises_text, shared_out, answered}
+use Rattle.lua_meaning.specs.World.{System, Function, Asker, Frame, talking, waiting, raising, protected, handled_by, handling, closing, Coroutine, fresh, suspended, running, normal, dead, failed, yielded, returned, failed_with, spent, talks, gives_back, unwinds, calls_primitive, ends, World, now_in, breaks, has_room, on_frames, runs_main, raises_text, shared_out, answered}
 
 abbrev pub text : List ℕ → Value
 text bytes = known (string bytes)
@@ -55,10 +56,6 @@ error_or_nil (Some e) = e
 abbrev pub all_closed : {F S : Type 0} → World F S → Option Value → World F S
 all_closed W None = now_in W (gives_back (truth true ∷ []))
 all_closed W (Some e) = now_in W (gives_back (truth false ∷ e ∷ []))
-
--- the most coroutines that resume each other, besides the main one
-abbrev pub greatest_resumes : ℕ
-greatest_resumes = 200
 
 abbrev pub refuses : {F S : Type 0} → World F S → List ℕ → World F S
 refuses W why = now_in W (gives_back (truth false ∷ text why ∷ []))

@@ -1,8 +1,9 @@
 -- What is proved of the meaning as such.
 use Rattle.std.specs.Prelude.{◌≡◌, ℕ, ◌≤◌, true, List, [], ◌∷◌, ◌++◌, length, Some}
+use Rattle.int_core.specs.Limits.{greatest_depth}
 use Rattle.tree_core.specs.Tree.{Body}
 use Rattle.tree_activation.specs.Work.{Celling, State}
-use Rattle.lua_meaning.specs.World.{World, Coroutine, greatest_depth}
+use Rattle.lua_meaning.specs.World.{World, Coroutine}
 use Rattle.lua_meaning.specs.Calls.{frames_in}
 use Rattle.lua_meaning.specs.Step.{has_ended, ticks}
 use Rattle.lua_meaning.specs.Meaning.{Script, Meaning, is_suspended, behind, IsMeaning, IsOnward}

@@ -1,8 +1,9 @@
 -- The primitives that move frames and coroutines or print, and the step of a world.
 use Rattle.std.specs.Prelude.{ℕ, zero, suc, ℤ, pos, Bool, true, false, cond, List, [], ◌∷◌, ◌++◌, length, drop, Option, Some, None, slice_get, codes}
 use Rattle.int_core.specs.Value.{string, a_coroutine, Value, known, object, is_nil, nth}
+use Rattle.int_core.specs.Limits.{limited}
 use Rattle.int_core.specs.Operations.{is_function, number_in}
-use Rattle.lua_meaning.specs.World.{System, protected, handled_by, Coroutine, fresh, suspended, running, normal, dead, failed, Now, talks, gives_back, raises_error, unwinds, calls_primitive, ends, World, now_in, breaks, limited, where_at, raises_text}
+use Rattle.lua_meaning.specs.World.{System, protected, handled_by, Coroutine, fresh, suspended, running, normal, dead, failed, Now, talks, gives_back, raises_error, unwinds, calls_primitive, ends, World, now_in, breaks, where_at, raises_text}
 use Rattle.lua_meaning.specs.Calls.{text, truth, calls_over, handed, raised_to, unwound, resumes, yields, closes_coroutine}
 use Rattle.lua_meaning.specs.Asks.{talks_on}
 use Rattle.lua_meaning.specs.Primitives.{Primitive, lua_error, lua_pcall, lua_xpcall, coroutine_close, coroutine_create, coroutine_isyieldable, coroutine_resume, coroutine_running, coroutine_status, coroutine_yield, prelude_out, Done, done, refused, wrong_type, name_in, row}

@@ -1,7 +1,8 @@
 -- The worlds in which activations talk: functions, cells, coroutines, and the chain of coroutines that resumed each other (Lua 5.4 manual,
 -- 2.1, 2.6 and 3.5). What a function is made of, F, and what the state of an activation is, S, is left open.
-use Rattle.std.specs.Prelude.{ℕ, zero, suc, ◌+◌, ◌==◌, Bool, true, false, cond, ◌||◌, List, [], ◌∷◌, ◌++◌, length, map, Option, Some, None, nat_le, slice_get, slice_set, codes, decimal}
-use Rattle.int_core.specs.Value.{greatest_string, string, Value, known, nth, bind}
+use Rattle.std.specs.Prelude.{ℕ, zero, suc, ◌+◌, Bool, true, false, cond, List, [], ◌∷◌, ◌++◌, length, map, Option, Some, None, nat_le, slice_get, slice_set, codes, decimal}
+use Rattle.int_core.specs.Value.{Value, nth, bind}
+use Rattle.int_core.specs.Limits.{greatest_depth, limited, position}
 use Rattle.int_core.specs.Heap.{Heap}
 use Rattle.int_core.specs.Ask.{Ask, marks, goes_on, says, stuck, Reply, Answer, Next}
 
@@ -86,13 +87,6 @@ breaks W = now_in W (ends broken)
 
 -- frames
 
--- the most frames of a coroutine
-abbrev pub greatest_depth : ℕ
-greatest_depth = 100000
-
-abbrev pub stack_overflow : List ℕ
-stack_overflow = codes "stack overflow"
-
 abbrev pub has_room : {F S : Type 0} → World F S → Bool
 has_room W = nat_le (length W.frames + 1) greatest_depth
 
@@ -123,17 +117,6 @@ cell_of W f u = bind (slice_get W.functions f) (λ g. slice_get g.cells u)
 
 -- positions in error texts
 
--- a source's name stands without its first `@` or `=`
-abbrev pub is_mark : ℕ → Bool
-is_mark c = (c == 64) || (c == 61)
-
-abbrev pub source_name : List ℕ → List ℕ
-source_name [] = []
-source_name (c ∷ name) = cond (is_mark c) name (c ∷ name)
-
-abbrev pub position : List ℕ → ℕ → List ℕ
-position source line = source_name source ++ codes ":" ++ decimal line ++ codes ": "
-
 -- the position of a frame, where it is of a function whose lines are known
 abbrev pub position_of : {F S : Type 0} → World F S → Frame S → Option (List ℕ)
 position_of W (waiting asker) = bind (slice_get W.functions asker.function) (λ f. bind asker.line (λ line. Some (position f.source line)))
@@ -153,9 +136,6 @@ positions_of W (f ∷ frames) = position_of W f ∷ positions_of W frames
 
 abbrev pub where_at : {F S : Type 0} → World F S → ℕ → List ℕ
 where_at W n = where_among W n (positions_of W W.frames)
-
-abbrev pub limited : List ℕ → Value
-limited text = cond (nat_le (length text) greatest_string) (known (string text)) (known (string (codes "resulting string too large")))
 
 -- a text raised as an error begins with the position of the nearest such frame
 abbrev pub blamed : {F S : Type 0} → World F S → List ℕ → Value

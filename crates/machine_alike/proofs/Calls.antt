@@ -2,12 +2,12 @@
 use Rattle.std.proofs.Common.{ℕ, zero, suc, ◌≡◌, List, [], ◌∷◌, ◌++◌, Option, Some, None, refl, subst, ap, ◌∙◌, drop, Bool, not, cond}
 use Rattle.std.specs.Prelude.{slice_get, nat_eq, reverse, filter_map, codes, decimal}
 use Rattle.code_core.specs.Prototype.{Prototype}
-use Rattle.code_core.specs.Writable.{string_fits}
+use Rattle.int_core.specs.Limits.{limited, source_name, stack_overflow, string_fits}
 use Rattle.int_core.specs.Value.{nil, boolean, integer, string, primitive, a_table, a_function, a_coroutine, Value, known, bind, last}
 use Rattle.int_core.specs.Operations.{Callee, callee_of, greatest_chain, handler_in, of_close}
 use Rattle.machine_core.specs.World.{Function, Wait, running, for_call, for_iterator, for_value, for_truth, dropped, for_concat, for_close, returning, leaving, LuaFrame, Frame, lua, World, Stack, stack_of, Place}
 use Rattle.machine_core.specs.Text.{Arg, arg, Own, close_cells, keep_pending, Given, results, thrown, given_values}
-use Rattle.machine_core.specs.Moves.{without_mark, line_of, frame_place, where_text, limited, placed, blamed, stack_overflow, made, enter, enter_tail, await, find_close, is_closable, begin_leaving, leave_frame, CallShape, is_entered, is_primitive, not_paid, not_entered, TopShape, no_top, named, new_frame, has_room, enters, enters_paid, called, popped, called_tail, runs_main, top_shape, top_now}
+use Rattle.machine_core.specs.Moves.{line_of, frame_place, where_text, placed, blamed, made, enter, enter_tail, await, find_close, is_closable, begin_leaving, leave_frame, CallShape, is_entered, is_primitive, not_paid, not_entered, TopShape, no_top, named, new_frame, has_room, enters, enters_paid, called, popped, called_tail, runs_main, top_shape, top_now}
 use Rattle.machine_alike.specs.Agree.{Pairs, SameNumber, Each, SameValue, same_known, same_object, SameValues, SameFunction, SameWait, same_running, same_for_call, same_for_iterator, same_for_value, same_for_truth, same_dropped, same_for_concat, same_for_close, same_returning, same_leaving, SameLuaFrame, SameFrame, same_lua, same_pcall, same_xpcall, same_handler, same_closing, AgreeInTurn}
 use Rattle.machine_alike.specs.Laws.{MadeAlike, Alike, Keeps}
 use Rattle.machine_alike.proofs.Pairwise.{each_bind, zip_found, zip_reverse, zip_last, zip_length, zip_drop, cond_rel}
@@ -93,7 +93,7 @@ is_closable_keeps v p env other W X s g =
 -- where an error was raised
 
 abbrev place_text : Prototype → ℕ → Option (List ℕ)
-place_text code pc = bind code.own.source (λ name. bind (line_of code pc) (λ line. Some (without_mark name ++ codes ":" ++ decimal line ++ codes ": ")))
+place_text code pc = bind code.own.source (λ name. bind (line_of code pc) (λ line. Some (source_name name ++ codes ":" ++ decimal line ++ codes ": ")))
 
 lua_place : (p : Pairs) (W X : World) (f g : LuaFrame) → AgreeInTurn p W X → SameLuaFrame p f g → frame_place W (lua f) ≡ frame_place X (lua g)
 lua_place p W X f g a h = by (slice_get W.functions f.function) (slice_get X.functions g.function) (function_at p W X a f.function g.function h.function)

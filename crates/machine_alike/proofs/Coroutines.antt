@@ -3,9 +3,10 @@ use Rattle.std.proofs.Common.{ℕ, suc, ◌≡◌, List, [], ◌∷◌, ◌++◌
 use Rattle.std.specs.Prelude.{slice_get, nat_lt, ◌&&◌, flat_map}
 use Rattle.std.specs.List.{AllZip}
 use Rattle.int_core.specs.Value.{a_table, a_function, a_coroutine, Value, nth, bind, last, without_last}
+use Rattle.int_core.specs.Limits.{greatest_resumes, stack_overflow}
 use Rattle.machine_core.specs.World.{Frame, closing, Coroutine, suspended, in_progress, normal, dead, failed, World, Stack, stack_of, Cell, push, frames_of}
 use Rattle.machine_core.specs.Text.{Arg, arg}
-use Rattle.machine_core.specs.Moves.{stack_overflow, greatest_resumes, Made, made, end_coroutine, fail_coroutine, suspend, resume, begin_closing, CallShape, is_entered, not_entered, ResumeShape, resumed, refused, enters, runs_main, has_room, pending_values, all_closed_from, put_coroutine, awake, back_to_resumer, ends_as, starts_in, can_start, resumes, closes_in, closes_coroutine, coroutine_number}
+use Rattle.machine_core.specs.Moves.{Made, made, end_coroutine, fail_coroutine, suspend, resume, begin_closing, CallShape, is_entered, not_entered, ResumeShape, resumed, refused, enters, runs_main, has_room, pending_values, all_closed_from, put_coroutine, awake, back_to_resumer, ends_as, starts_in, can_start, resumes, closes_in, closes_coroutine, coroutine_number}
 use Rattle.machine_alike.specs.Agree.{Pairs, SameNumber, Each, SameValue, same_known, same_object, SameValues, SameFrame, same_lua, same_pcall, same_xpcall, same_handler, same_closing, SameFrames, SameCoroutine, same_fresh, same_suspended, same_in_progress, same_normal, same_dead, same_failed, Objects, SameObjects, objects_of, AgreeInTurn}
 use Rattle.machine_alike.specs.Laws.{MadeAlike, Alike, Keeps}
 use Rattle.machine_alike.proofs.Pairwise.{each_bind, zip_append, zip_length, zip_last, zip_drop, zip_without_last, zip_parts, cond_rel}

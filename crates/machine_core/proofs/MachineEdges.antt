@@ -8,9 +8,10 @@ use Rattle.code_core.specs.Opcode.{opcodes, number_of}
 use Rattle.code_core.specs.Instruction.{abc, abx, op_ax}
 use Rattle.code_core.specs.Prototype.{Prototype, prototypes}
 use Rattle.int_core.specs.Value.{boolean, a_table, a_function, a_coroutine, Value, known, object, nil}
+use Rattle.int_core.specs.Limits.{greatest_depth, stack_overflow}
 use Rattle.int_core.specs.Heap.{raw_set}
 use Rattle.machine_core.specs.World.{put_frames, put_top, push, pop, write_cell, closed, Frame, pcall, Coroutine, fresh, in_progress, normal, World, Stack}
-use Rattle.machine_core.specs.Moves.{with_own, put_coroutine, back_to_resumer, greatest_depth, stack_overflow, not_entered, resumed, made, move, push_frame, push_all, over_pcall, has_room, closes_coroutine, Ending, go, returned, spent, main_returned, main_failed, Outcome, trapped, ends, run}
+use Rattle.machine_core.specs.Moves.{with_own, put_coroutine, back_to_resumer, not_entered, resumed, made, move, push_frame, push_all, over_pcall, has_room, closes_coroutine, Ending, go, returned, spent, main_returned, main_failed, Outcome, trapped, ends, run}
 use Rattle.machine_core.specs.MachineStep.{woken, resume_row, steps}
 use Rattle.machine_core.proofs.Machine.{primitives, code, plain, int, text, started, runs, load, log_in, fails, result}
 use Rattle.machine_core.proofs.MachineErrors.{base, function, closing_world, suspended_world}

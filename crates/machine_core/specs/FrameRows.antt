@@ -2,10 +2,11 @@
 -- moves between coroutines; and the machine's step (ldo.c, lcorolib.c of Lua 5.4; Lua 5.4 manual, 2.3, 2.6 and 3.3.8).
 use Rattle.std.specs.Prelude.{ℕ, suc, true, false, cond, List, [], ◌∷◌, ◌++◌, codes}
 use Rattle.int_core.specs.Value.{boolean, string}
+use Rattle.int_core.specs.Limits.{stack_overflow}
 use Rattle.machine_core.specs.World.{Wait}
 use Rattle.machine_core.specs.Text.{Arg, read, written, Own, Quick, pay, Text, go_by, own, open_cell, quick, operate, call, tail_call, close, closable, raise, leave, trap, Given, results, thrown}
 use Rattle.machine_core.specs.InstructionRows.{fails}
-use Rattle.machine_core.specs.Moves.{Over, over_handler, Move, on_own, move_pc, open_register, outside, settle, enter, enter_tail, await, find_close, is_closable, begin_leaving, leave_frame, take_moving, give, give_with, blame, push_frame, call_value, see_top, see_catcher, pop_frame, take_closing, set_error, end_coroutine, fail_coroutine, is_found, is_asked, is_fault, CallShape, is_entered, is_primitive, not_paid, not_entered, TopShape, lua_top, pcall_top, xpcall_top, handler_top, closing_top, no_top, ClosingShape, one_left, all_closed, closed_with_error, stack_overflow, go, returned, asks, calls_primitive, raised, unwinding, spent, main_returned, main_failed, Row, traps, stop, only, act}
+use Rattle.machine_core.specs.Moves.{Over, over_handler, Move, on_own, move_pc, open_register, outside, settle, enter, enter_tail, await, find_close, is_closable, begin_leaving, leave_frame, take_moving, give, give_with, blame, push_frame, call_value, see_top, see_catcher, pop_frame, take_closing, set_error, end_coroutine, fail_coroutine, is_found, is_asked, is_fault, CallShape, is_entered, is_primitive, not_paid, not_entered, TopShape, lua_top, pcall_top, xpcall_top, handler_top, closing_top, no_top, ClosingShape, one_left, all_closed, closed_with_error, go, returned, asks, calls_primitive, raised, unwinding, spent, main_returned, main_failed, Row, traps, stop, only, act}
 
 abbrev pub then : Move → Row → Row
 then m r = act m (λ _ _. r)

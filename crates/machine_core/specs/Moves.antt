@@ -1,21 +1,17 @@
 -- Rows over whole worlds: moves one after another, where the next one hangs on what was told so far. No move tells an object's number.
 -- A row traps exactly where a move names what is not there.
-use Rattle.std.specs.Prelude.{ℕ, zero, suc, ◌+◌, ℤ, pos, negsuc, ◌+ℤ◌, Bool, true, false, cond, not, ◌&&◌, List, [], ◌∷◌, ◌++◌, length, take, drop, map, reverse, filter_map, flat_map, Option, Some, None, nat_eq, nat_lt, nat_le, slice_get, slice_set, codes, decimal}
+use Rattle.std.specs.Prelude.{ℕ, zero, suc, ◌+◌, ℤ, pos, negsuc, ◌+ℤ◌, Bool, true, false, cond, not, ◌&&◌, List, [], ◌∷◌, ◌++◌, length, take, drop, map, reverse, filter_map, flat_map, Option, Some, None, nat_eq, nat_lt, nat_le, slice_get, slice_set, codes}
 use Rattle.int_core.specs.Heap.{add_table, filled_table}
 use Rattle.code_core.specs.declared.proto.UpDesc.{UpDesc}
 use Rattle.code_core.specs.Prototype.{Prototype, list_of}
 use Rattle.code_core.specs.Check.{lines_from, at}
-use Rattle.code_core.specs.Writable.{string_fits}
+use Rattle.int_core.specs.Limits.{limited, position, greatest_depth, greatest_resumes, stack_overflow}
 use Rattle.int_core.specs.Value.{nil, string, primitive, a_table, a_function, a_coroutine, Value, known, object, Shape, shape, is_nil, nth, bind, last, without_last}
 use Rattle.machine_core.specs.World.{Cell, open_at, Wait, running, for_call, for_iterator, for_value, for_truth, dropped, for_concat, for_close, returning, leaving, Activation, Frame, lua, pcall, xpcall, handler, closing, Coroutine, fresh, suspended, in_progress, normal, dead, failed, World, Stack, stack_of, Place, place_of, put_top, push, pop, read_cell, write_cell, find_open, close_from, frames_of}
 use Rattle.int_core.specs.Operations.{Operation, Settled, found, ask, fault, cannot_arise, does, Callee, callee, not_callable, callee_of, greatest_chain, handler_in, of_close}
 use Rattle.machine_core.specs.Text.{Arg, arg, args_of, Own, close_cells, keep_pending, reads, tells, effect, fits, done, Quick, read_upvalue, write_upvalue, make_table, make_function, fill_table, pay, Given, given_values}
 
 -- where an error was raised
-
-abbrev pub without_mark : List ℕ → List ℕ
-without_mark [] = []
-without_mark (c ∷ name) = cond (nat_eq c 64) name (cond (nat_eq c 61) name (c ∷ name))
 
 abbrev pub line_of : Prototype → ℕ → Option ℕ
 line_of p pc = bind (bind (slice_get (lines_from p.own.abs_lines 0 (Some (pos p.own.line_defined)) p.own.line_info) pc) (λ line. line)) (λ line.
@@ -24,15 +20,12 @@ line_of p pc = bind (bind (slice_get (lines_from p.own.abs_lines 0 (Some (pos p.
 -- `NAME:LINE: `, where the frame is one of a function with lines
 abbrev pub frame_place : World → Frame → Option (List ℕ)
 frame_place W (lua f) = bind (slice_get W.functions f.function) (λ g. bind g.code.own.source (λ name. bind (line_of g.code f.own.pc) (λ line.
-    Some (without_mark name ++ codes ":" ++ decimal line ++ codes ": "))))
+    Some (position name line))))
 frame_place W _ = None
 
 -- that of the nth such frame from the top of the running coroutine, counted from 0
 abbrev pub where_text : World → (level : ℕ) → List ℕ
 where_text W level = elim (bind (stack_of W) (λ s. slice_get (filter_map (frame_place W) (reverse s.frames)) level)) [ None ↦ [] | Some text ↦ text ]
-
-abbrev pub limited : List ℕ → Value
-limited text = known (string (cond (string_fits text) text (codes "resulting string too large")))
 
 abbrev pub blamed : World → List ℕ → Value
 blamed W text = limited (where_text W 0 ++ text)
@@ -41,15 +34,6 @@ blamed W text = limited (where_text W 0 ++ text)
 abbrev pub placed : World → (level : ℕ) → Value → Value
 placed W level (known (string text)) = limited (where_text W level ++ text)
 placed W level v = v
-
-abbrev pub stack_overflow : List ℕ
-stack_overflow = codes "stack overflow"
-
-abbrev pub greatest_depth : ℕ
-greatest_depth = 100000
-
-abbrev pub greatest_resumes : ℕ
-greatest_resumes = 200
 
 -- a frame that a row pushes, over which a value is then called
 pub data Over : Type 0 where

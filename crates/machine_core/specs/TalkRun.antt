@@ -1,13 +1,13 @@
 -- Whole runs of talking activations in one coroutine: who answers each ask. Cells are values by number, frames are listed from the top, and
 -- of a `World` only tables, metatables, functions and the budget are looked at.
-use Rattle.std.specs.Prelude.{ℕ, zero, suc, ◌+◌, ℤ, pos, Bool, true, false, cond, List, [], ◌∷◌, ◌++◌, length, drop, filter_map, Option, Some, None, nat_le, slice_get, slice_set, codes, decimal}
+use Rattle.std.specs.Prelude.{ℕ, zero, suc, ◌+◌, ℤ, pos, Bool, true, false, cond, List, [], ◌∷◌, ◌++◌, length, drop, filter_map, Option, Some, None, nat_le, slice_get, slice_set, codes}
 use Rattle.code_core.specs.Prototype.{Prototype}
 use Rattle.int_core.specs.Value.{boolean, string, primitive, a_table, a_function, Value, known, object, Shape, shape, is_nil, nth, bind}
 use Rattle.machine_core.specs.World.{World}
 use Rattle.int_core.specs.Operations.{Settled, found, ask, fault, cannot_arise, does, Callee, callee, not_callable, callee_of, greatest_chain, handler_in, of_close}
 use Rattle.int_core.specs.Ask.{Reply, values, faulted, left, CellName, of_local, of_upvalue, returns, throws, Ask, reads_upvalue, writes_upvalue, makes_table, makes_function, fills_table, pays, opens, operates, calls, calls_last, marks, closes, raises, leaves, Answer, Next, goes_on, says, stuck}
 use Rattle.int_core.specs.Heap.{add_table, filled_table}
-use Rattle.machine_core.specs.Moves.{without_mark, limited, stack_overflow, greatest_depth}
+use Rattle.int_core.specs.Limits.{greatest_depth, limited, position, stack_overflow}
 use Rattle.machine_core.specs.MachineStep.{wrong_type, level_in}
 use Rattle.machine_core.specs.Talk.{State, talk_step, talk_start}
 
@@ -53,7 +53,7 @@ answered T f shared k cell reply below =
 -- where an error was raised: the place of the nearest activation that waits and has one
 abbrev pub place_text : Talks → TalkFrame → Option (List ℕ)
 place_text T (waiting f line shared k) = bind (slice_get T.world.functions f) (λ g. bind g.code.own.source (λ name. bind line (λ line.
-    Some (without_mark name ++ codes ":" ++ decimal line ++ codes ": "))))
+    Some (position name line))))
 place_text T _ = None
 
 -- levels are counted from 0

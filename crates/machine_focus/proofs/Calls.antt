@@ -3,13 +3,14 @@ use Rattle.std.proofs.Common.{◌≡◌, ℕ, zero, suc, ◌+◌, ◌<◌, List,
 use Rattle.std.specs.Prelude.{cond, slice_get, slice_set, nat_le}
 use Rattle.code_core.specs.Prototype.{Prototype}
 use Rattle.int_core.specs.Heap.{Heap}
+use Rattle.int_core.specs.Limits.{greatest_depth}
 use Rattle.int_core.specs.Value.{Value, object, a_function, bind, last}
 use Rattle.int_core.specs.Operations.{callee, callee_of, greatest_chain}
 use Rattle.machine_core.specs.World.{Function, Cell, Wait, for_call, Activation, LuaFrame, Frame, lua, in_progress, World, Stack, running_frames, stack_of, put_frames, put_top, push, pop, close_from}
 use Rattle.machine_core.specs.Text.{Arg, arg, Own, done, call, leave, results}
 use Rattle.machine_core.specs.InstructionRows.{rest_at}
 use Rattle.machine_core.specs.FrameRows.{by_asking, expand, goes_on_by, after_call, after_leaving}
-use Rattle.machine_core.specs.Moves.{lua_top, top_shape, top_now, leave_frame, popped, enter, Made, made, CallShape, is_entered, called, enters, enters_paid, has_room, push_all, new_frame, greatest_depth, with_own, cells_done, named, move, on_own, Ending, go, Row, act, stop, Outcome, ends, trapped, run}
+use Rattle.machine_core.specs.Moves.{lua_top, top_shape, top_now, leave_frame, popped, enter, Made, made, CallShape, is_entered, called, enters, enters_paid, has_room, push_all, new_frame, with_own, cells_done, named, move, on_own, Ending, go, Row, act, stop, Outcome, ends, trapped, run}
 use Rattle.machine_core.specs.MachineStep.{woken, frame_step, lua_step, from_world, step, steps, and_then}
 use Rattle.machine_sound.proofs.Lists.{last_push, without_push, get_set_same, get_there}
 use Rattle.machine_focus.specs.Focus.{Context, Held, top, world, place, Stands, local, stacked}
@@ -50,8 +51,8 @@ module _ (b : World) (co : ℕ) (chain : last b.chain ≡ Some co) (there : co <
   pub entered_is : (fs : List Frame) (n : ℕ) (q : Function) (vs : List Value) → slice_get b.functions n ≡ Some q → nat_le (length fs + 1) greatest_depth ≡ true
       → enters (stacked b co fs H ws fuel mv) (object a_function n) vs ≡ made (stacked b co (fs ++ new_frame n q.code vs ∷ []) H ws fuel mv) [] is_entered
   entered_is fs n q vs f r =
-      ap (λ o. bind o (λ f. cond (has_room (stacked b co fs H ws fuel mv) 1) (made (push_all (stacked b co fs H ws fuel mv) (new_frame n f.code vs ∷ [])) [] is_entered) (made (stacked b co fs H ws fuel mv) [] (Rattle.machine_core.specs.Moves.not_entered Rattle.machine_core.specs.Moves.stack_overflow)))) f
-      ∙ ap (λ t. cond t (made (push_all (stacked b co fs H ws fuel mv) (new_frame n q.code vs ∷ [])) [] is_entered) (made (stacked b co fs H ws fuel mv) [] (Rattle.machine_core.specs.Moves.not_entered Rattle.machine_core.specs.Moves.stack_overflow))) (room_is fs 1 ∙ r)
+      ap (λ o. bind o (λ f. cond (has_room (stacked b co fs H ws fuel mv) 1) (made (push_all (stacked b co fs H ws fuel mv) (new_frame n f.code vs ∷ [])) [] is_entered) (made (stacked b co fs H ws fuel mv) [] (Rattle.machine_core.specs.Moves.not_entered Rattle.int_core.specs.Limits.stack_overflow)))) f
+      ∙ ap (λ t. cond t (made (push_all (stacked b co fs H ws fuel mv) (new_frame n q.code vs ∷ [])) [] is_entered) (made (stacked b co fs H ws fuel mv) [] (Rattle.machine_core.specs.Moves.not_entered Rattle.int_core.specs.Limits.stack_overflow))) (room_is fs 1 ∙ r)
       ∙ ap (λ W. made W [] is_entered) (push_is fs (new_frame n q.code vs))
 
 callee_is : (links : ℕ) (H : Heap) (n : ℕ) (vs : List Value) → callee_of links H (object a_function n) vs ≡ callee (object a_function n) vs

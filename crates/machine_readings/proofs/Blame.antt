@@ -6,9 +6,9 @@ use Rattle.int_core.specs.Value.{nil, boolean, integer, primitive, Value, known,
 use Rattle.int_core.specs.Heap.{Heap}
 use Rattle.int_core.specs.Ask.{Answer}
 use Rattle.machine_core.specs.Talk.{State}
-use Rattle.code_core.specs.Writable.{string_fits}
+use Rattle.int_core.specs.Limits.{limited, source_name, string_fits}
 use Rattle.machine_core.specs.World.{Function, Cell, LuaFrame, Frame, lua, pcall, xpcall, handler, World}
-use Rattle.machine_core.specs.Moves.{frame_place, limited, placed, blamed, without_mark, line_of}
+use Rattle.machine_core.specs.Moves.{frame_place, placed, blamed, line_of}
 use Rattle.machine_core.specs.TalkRun.{TalkFrame, waiting, protected, handled_by, handling, Now, Talks, place_text, blamed as talk_blamed, placed as talk_placed}
 use Rattle.list_laws.proofs.Ends.{upward}
 use Rattle.list_laws.specs.Held.{Held}
@@ -24,12 +24,12 @@ reverse_upward (x ∷ xs) = reverse-append (upward xs) (x ∷ []) ∙ ap (λ ys.
 pub place_alike : (W : World) (T : Talks) (fs : List Function) → W.functions ≡ fs → T.world.functions ≡ fs → (f : ℕ) (fr : LuaFrame) (line : Option ℕ) (shared : List (ℕ × Value)) (k : Answer → State) (g : Function) → f ≡ fr.function → slice_get fs fr.function ≡ Some g → line ≡ line_of g.code fr.own.pc
     → frame_place W (lua fr) ≡ place_text T (waiting f line shared k)
 place_alike W T fs eW eT f fr line shared k g e d l =
-    ap (λ fs. bind (slice_get fs fr.function) (λ g. bind g.code.own.source (λ name. bind (line_of g.code fr.own.pc) (λ line. Some (without_mark name ++ codes ":" ++ decimal line ++ codes ": "))))) eW
-    ∙ ap (λ o. bind o (λ g. bind g.code.own.source (λ name. bind (line_of g.code fr.own.pc) (λ line. Some (without_mark name ++ codes ":" ++ decimal line ++ codes ": "))))) d
-    ∙ ap (λ x. bind g.code.own.source (λ name. bind x (λ line. Some (without_mark name ++ codes ":" ++ decimal line ++ codes ": ")))) (sym l)
-    ∙ ap (λ o. bind o (λ g. bind g.code.own.source (λ name. bind line (λ line. Some (without_mark name ++ codes ":" ++ decimal line ++ codes ": "))))) (sym d)
-    ∙ ap (λ f. bind (slice_get fs f) (λ g. bind g.code.own.source (λ name. bind line (λ line. Some (without_mark name ++ codes ":" ++ decimal line ++ codes ": "))))) (sym e)
-    ∙ ap (λ fs. bind (slice_get fs f) (λ g. bind g.code.own.source (λ name. bind line (λ line. Some (without_mark name ++ codes ":" ++ decimal line ++ codes ": "))))) (sym eT)
+    ap (λ fs. bind (slice_get fs fr.function) (λ g. bind g.code.own.source (λ name. bind (line_of g.code fr.own.pc) (λ line. Some (source_name name ++ codes ":" ++ decimal line ++ codes ": "))))) eW
+    ∙ ap (λ o. bind o (λ g. bind g.code.own.source (λ name. bind (line_of g.code fr.own.pc) (λ line. Some (source_name name ++ codes ":" ++ decimal line ++ codes ": "))))) d
+    ∙ ap (λ x. bind g.code.own.source (λ name. bind x (λ line. Some (source_name name ++ codes ":" ++ decimal line ++ codes ": ")))) (sym l)
+    ∙ ap (λ o. bind o (λ g. bind g.code.own.source (λ name. bind line (λ line. Some (source_name name ++ codes ":" ++ decimal line ++ codes ": "))))) (sym d)
+    ∙ ap (λ f. bind (slice_get fs f) (λ g. bind g.code.own.source (λ name. bind line (λ line. Some (source_name name ++ codes ":" ++ decimal line ++ codes ": "))))) (sym e)
+    ∙ ap (λ fs. bind (slice_get fs f) (λ g. bind g.code.own.source (λ name. bind line (λ line. Some (source_name name ++ codes ":" ++ decimal line ++ codes ": "))))) (sym eT)
 
 pair_alike : (W : World) (T : Talks) (fs : List Function) → W.functions ≡ fs → T.world.functions ≡ fs → (lax : Bool) (vs : List Value) (m : Frame) (t : TalkFrame) (h : Held) → Pair lax fs vs m t h → frame_place W m ≡ place_text T t
 pair_alike W T fs eW eT lax vs (lua fr) (waiting f line shared k) h q = let a = q.1 in place_alike W T fs eW eT f fr line shared k a.g a.number a.function (a.at_line ∙ ap (line_of a.g.code) a.fixed.pc)

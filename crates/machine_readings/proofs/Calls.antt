@@ -3,10 +3,11 @@ use Rattle.std.proofs.Common.{ℕ, zero, suc, ◌+◌, ◌<◌, ◌≤◌, ◌�
 use Rattle.std.specs.Prelude.{slice_get, cond, nat_le}
 use Rattle.std.proofs.lemmas.Bool.Decides.{nat_tests}
 use Rattle.int_core.specs.Value.{Value, known, object, nil, boolean, integer, string, primitive, a_table, a_function, a_coroutine, bind}
+use Rattle.int_core.specs.Limits.{greatest_depth, stack_overflow}
 use Rattle.int_core.specs.Heap.{Heap}
 use Rattle.int_core.specs.Operations.{Callee, callee, not_callable}
 use Rattle.machine_core.specs.World.{Function, Cell, Frame, World}
-use Rattle.machine_core.specs.Moves.{Made, made, CallShape, is_entered, is_primitive, not_paid, not_entered, stack_overflow, greatest_depth, enters, enters_paid, new_frame, go, spent, calls_primitive, Row, stop, Outcome, trapped, run}
+use Rattle.machine_core.specs.Moves.{Made, made, CallShape, is_entered, is_primitive, not_paid, not_entered, enters, enters_paid, new_frame, go, spent, calls_primitive, Row, stop, Outcome, trapped, run}
 use Rattle.machine_core.specs.Talk.{talk_start}
 use Rattle.machine_core.specs.TalkRun.{TalkFrame, Now, Talks, called, entered, has_room}
 use Rattle.machine_readings.proofs.Sim.{Stacks, Working, alike_refl, below_talks}

@@ -2,13 +2,14 @@
 use Rattle.std.proofs.Common.{ℕ, suc, ◌+◌, ◌<◌, ◌≤◌, ◌≡◌, List, [], ◌∷◌, ◌++◌, length, drop, Option, refl, sym, ap, subst, ◌∙◌, arith, Bool, true, false}
 use Rattle.std.specs.Prelude.{cond, nat_le}
 use Rattle.int_core.specs.Value.{Value, bind}
+use Rattle.int_core.specs.Limits.{greatest_depth, stack_overflow}
 use Rattle.int_core.specs.Heap.{Heap}
 use Rattle.int_core.specs.Operations.{callee_of, greatest_chain}
 use Rattle.int_core.specs.Ask.{Answer, Reply, brought}
 use Rattle.machine_core.specs.World.{Function, Cell, Wait, LuaFrame, Frame, lua, handler, World}
 use Rattle.machine_core.specs.Text.{Arg, arg, Text}
 use Rattle.machine_core.specs.InstructionRows.{after, told_values}
-use Rattle.machine_core.specs.Moves.{Made, made, CallShape, not_entered, Over, frame_over, push_frame, give_with, asks, see_top, pop_frame, act, move, has_room, called, push_all, stack_overflow, greatest_depth, go, spent, calls_primitive, raised, unwinding, Row, stop, ends, run, top_now}
+use Rattle.machine_core.specs.Moves.{Made, made, CallShape, not_entered, Over, frame_over, push_frame, give_with, asks, see_top, pop_frame, act, move, has_room, called, push_all, go, spent, calls_primitive, raised, unwinding, Row, stop, ends, run, top_now}
 use Rattle.machine_core.specs.FrameRows.{by_asking, goes_on_by, after_asked, refused_under, hand_over, handed, blames, gives_up}
 use Rattle.machine_core.specs.Talk.{State, amid}
 use Rattle.machine_core.specs.TalkRun.{TalkFrame, talking, waiting, Now, talks, Talks, raising, shared_out, answered, calls_over, calls_value, error_in_handler, returning as talk_returning, unwinding as talk_unwinding, blames as talk_blames}

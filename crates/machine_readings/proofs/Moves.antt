@@ -4,11 +4,12 @@ use Rattle.std.proofs.Math.Path.{fun_ext}
 use Rattle.std.specs.Prelude.{ℤ, slice_get, drop, cond, nat_lt, nat_le}
 use Rattle.code_core.specs.Check.{at}
 use Rattle.int_core.specs.Value.{Value, object, a_function, bind}
+use Rattle.int_core.specs.Limits.{greatest_depth, stack_overflow}
 use Rattle.int_core.specs.Heap.{Heap}
 use Rattle.int_core.specs.Operations.{Operation, does, callee_of, greatest_chain}
 use Rattle.machine_core.specs.World.{Function, Cell, Wait, leaving, Activation, Frame, lua, World, find_open, close_from}
 use Rattle.machine_core.specs.Text.{Arg, arg, args_of, Own, close_cells, keep_pending, reads, tells, effect, fits, done, Quick, Given, given_values}
-use Rattle.machine_core.specs.Moves.{on_own, move_pc, open_register, outside, settle, enter, enter_tail, await, begin_leaving, leave_frame, Made, made, CallShape, is_entered, not_entered, move, with_own, cells_after, cells_done, do_own, moved_pc, do_outside, settled, enters, enters_paid, called_tail, popped, top_now, has_room, greatest_depth, stack_overflow, named, place_from, opened_cells, blamed, new_frame}
+use Rattle.machine_core.specs.Moves.{on_own, move_pc, open_register, outside, settle, enter, enter_tail, await, begin_leaving, leave_frame, Made, made, CallShape, is_entered, not_entered, move, with_own, cells_after, cells_done, do_own, moved_pc, do_outside, settled, enters, enters_paid, called_tail, popped, top_now, has_room, named, place_from, opened_cells, blamed, new_frame}
 use Rattle.machine_readings.proofs.Worlds.{mk, frame, place, shape_of, put_top_is, pop_is, push_is, room_is, top_is, place_is}
 
 module _ (b : World) (H : Heap) (fs : List Function) (ws : List Cell) (mv : List Value) (fuel : ℕ) (ms : List Frame) (n : ℕ) (w : Wait Value) (a : Activation) (g : Function) where

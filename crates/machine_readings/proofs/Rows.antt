@@ -5,13 +5,14 @@ use Rattle.code_core.specs.declared.instruction.Instruction.{Instruction}
 use Rattle.code_core.specs.Check.{at}
 use Rattle.code_core.specs.Prototype.{Prototype}
 use Rattle.int_core.specs.Value.{Value, bind, nth, Shape, is_nil}
+use Rattle.int_core.specs.Limits.{greatest_depth, stack_overflow}
 use Rattle.int_core.specs.Heap.{Heap}
 use Rattle.int_core.specs.Operations.{Operation, Settled, found, ask, fault, cannot_arise, does, callee_of, Callee, callee, not_callable, greatest_chain, handler_in, of_close}
 use Rattle.int_core.specs.Ask.{Captured, Next, goes_on, says, stuck, values, faulted, cell_held, brought, shared_by, leaves, calls_last}
 use Rattle.machine_core.specs.World.{Function, Cell, open_at, Wait, Activation, Frame, lua, pcall, xpcall, handler, closing, World, find_open, close_from}
 use Rattle.machine_core.specs.Text.{Arg, arg, args_of, read, Own, reads, tells, effect, fits, done, Given, results, thrown, Text, go_by, own, open_cell, quick, operate, call, tail_call, close, closable, raise, leave, trap}
 use Rattle.machine_core.specs.InstructionRows.{rest_at, told_values}
-use Rattle.machine_core.specs.Moves.{Made, made, on_own, move_pc, open_register, settle, enter, enter_tail, await, find_close, is_closable, leave_frame, opened_cells, place_from, cells_after, cells_done, named, enters, enters_paid, called_tail, settled, is_found, is_asked, is_fault, SettledShape, CallShape, not_entered, not_paid, greatest_depth, stack_overflow, go, returned, asks, unwinding, spent, Row, stop, only, act, Outcome, trapped, ends, run}
+use Rattle.machine_core.specs.Moves.{Made, made, on_own, move_pc, open_register, settle, enter, enter_tail, await, find_close, is_closable, leave_frame, opened_cells, place_from, cells_after, cells_done, named, enters, enters_paid, called_tail, settled, is_found, is_asked, is_fault, SettledShape, CallShape, not_entered, not_paid, go, returned, asks, unwinding, spent, Row, stop, only, act, Outcome, trapped, ends, run}
 use Rattle.machine_core.specs.FrameRows.{When, at_once, by_asking, expand_by, calls_row, prepares, raises, after_call, after_leaving, handed}
 use Rattle.machine_core.specs.RowFits.{IsWaiting}
 use Rattle.machine_core.specs.Talk.{State, before, amid, talk, says_so, captured_after, captured_done, marked}

@@ -3,10 +3,11 @@ use Rattle.std.proofs.Common.{ℕ, suc, ◌<◌, ◌≤◌, ◌≡◌, ◌⊎◌
 use Rattle.std.specs.Prelude.{slice_get}
 use Rattle.std.proofs.lemmas.Option.{slice_get_within}
 use Rattle.int_core.specs.Value.{Value, nth}
+use Rattle.int_core.specs.Limits.{greatest_depth}
 use Rattle.int_core.specs.Ask.{Reply, Answer, IsLeft, shared_by, brought}
 use Rattle.machine_core.specs.World.{Function, Cell, closed, open_at, Activation, LuaFrame, Frame, lua, pcall, xpcall, handler}
 use Rattle.machine_core.specs.InstructionRows.{after, told_values}
-use Rattle.machine_core.specs.Moves.{line_of, greatest_depth}
+use Rattle.machine_core.specs.Moves.{line_of}
 use Rattle.machine_core.specs.RowFits.{IsWaiting}
 use Rattle.machine_core.specs.Talk.{State, amid}
 use Rattle.machine_core.specs.TalkRun.{TalkFrame, waiting, protected, handled_by, handling, shared_in}

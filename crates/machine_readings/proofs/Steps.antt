@@ -3,12 +3,13 @@ use Rattle.std.specs.Prelude.{ℤ, pos, negsuc, map, slice_get}
 use Rattle.std.proofs.Common.{Option, ℕ, zero, suc, ◌<◌, ◌≤◌, ◌≡◌, List, [], ◌∷◌, ◌++◌, length, drop, Some, None, refl, sym, ap, subst, ◌∙◌, arith, Bool, true, false}
 use Rattle.code_core.specs.Prototype.{Prototype}
 use Rattle.int_core.specs.Value.{Value, known, boolean, Shape, shape, bind, nth}
+use Rattle.int_core.specs.Limits.{greatest_depth, stack_overflow}
 use Rattle.int_core.specs.Heap.{Heap}
 use Rattle.int_core.specs.Ask.{values, left}
 use Rattle.machine_core.specs.World.{Function, Cell, closed, open_at, Wait, running, for_call, for_iterator, for_value, for_truth, dropped, for_concat, for_close, returning, leaving, LuaFrame, Frame, lua, pcall, xpcall, handler, World}
 use Rattle.machine_core.specs.Text.{read, written}
 use Rattle.machine_core.specs.InstructionRows.{text_at, after, told_values, fails}
-use Rattle.machine_core.specs.Moves.{Made, made, TopShape, take_moving, give, see_top, see_catcher, stack_overflow, placed, over_pcall, over_xpcall, over_handler, end_coroutine, move, top_shape, catcher, handler_value, greatest_depth, Ending, go, returned, asks, calls_primitive, raised, unwinding, spent, main_yielded, main_returned, main_failed, Row, stop, act, Outcome, trapped, ends, run, put_coroutine, back_to_resumer}
+use Rattle.machine_core.specs.Moves.{Made, made, TopShape, take_moving, give, see_top, see_catcher, placed, over_pcall, over_xpcall, over_handler, end_coroutine, move, top_shape, catcher, handler_value, Ending, go, returned, asks, calls_primitive, raised, unwinding, spent, main_yielded, main_returned, main_failed, Row, stop, act, Outcome, trapped, ends, run, put_coroutine, back_to_resumer}
 use Rattle.machine_core.specs.FrameRows.{at_once, then, expand, goes_on_by, hand_over, gives_up, blames, raised_to, raised_row, caught, unwound, handed_to}
 use Rattle.machine_core.specs.MachineStep.{yield_row, level_in, errs_at, lua_step, woken, top_step, step_by, step}
 use Rattle.machine_core.specs.RowFits.{IsWaiting}

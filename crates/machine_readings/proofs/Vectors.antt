@@ -10,9 +10,10 @@ use Rattle.code_core.specs.Instruction.{abc, abx}
 use Rattle.code_core.specs.Opcode.{opcodes, number_of}
 use Rattle.code_core.specs.Prototype.{Prototype, prototypes}
 use Rattle.int_core.specs.Value.{boolean, integer, string, primitive, a_function, Value, known, object}
+use Rattle.int_core.specs.Limits.{stack_overflow}
 use Rattle.int_core.specs.Heap.{Heap}
 use Rattle.machine_core.specs.World.{Function, closed, World, put_frames, put_top, push, pop, write_cell}
-use Rattle.machine_core.specs.Moves.{go, with_own, put_coroutine, back_to_resumer, stack_overflow}
+use Rattle.machine_core.specs.Moves.{go, with_own, put_coroutine, back_to_resumer}
 use Rattle.machine_core.specs.MachineStep.{steps, and_then, woken}
 use Rattle.machine_core.specs.TalkRun.{TalkFrame, Talks, entered, has_room, talking, talks, ticks}
 use Rattle.machine_core.specs.Talk.{talk_start}

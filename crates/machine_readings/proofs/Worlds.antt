@@ -2,10 +2,11 @@
 use Rattle.std.proofs.Common.{ℕ, ◌+◌, ◌-◌, ◌≡◌, List, [], ◌∷◌, ◌++◌, length, Some, refl, ap, ◌∙◌, arith, true}
 use Rattle.std.specs.Prelude.{slice_get, nat_le}
 use Rattle.int_core.specs.Value.{Value, bind}
+use Rattle.int_core.specs.Limits.{greatest_depth}
 use Rattle.int_core.specs.Heap.{Heap}
 use Rattle.machine_core.specs.World.{Function, Cell, Wait, Activation, LuaFrame, Frame, lua, pcall, xpcall, handler, closing, in_progress, suspended, World, Stack, Place, lua_frame, place_of, put_frames, put_top, push, pop, find_open, close_from}
 use Rattle.machine_core.specs.Text.{Own, done}
-use Rattle.machine_core.specs.Moves.{TopShape, lua_top, pcall_top, xpcall_top, handler_top, closing_top, no_top, cells_done, top_now, top_shape, has_room, greatest_depth, push_all}
+use Rattle.machine_core.specs.Moves.{TopShape, lua_top, pcall_top, xpcall_top, handler_top, closing_top, no_top, cells_done, top_now, top_shape, has_room, push_all}
 use Rattle.machine_core.specs.MachineStep.{top_step, lua_step, woken}
 use Rattle.list_laws.proofs.Ends.{upward, last_is, without_last_is, length_upward}
 

@@ -7,10 +7,10 @@ use Rattle.code_core.specs.declared.opcode.Opcode.{Opcode}
 use Rattle.code_core.specs.declared.instruction.Instruction.{Instruction}
 use Rattle.code_core.specs.Prototype.{Prototype}
 use Rattle.code_core.specs.Check.{at}
-use Rattle.code_core.specs.Writable.{string_fits}
+use Rattle.int_core.specs.Limits.{greatest_depth, string_fits}
 use Rattle.machine_core.specs.World.{Cell, closed, open_at, Wait, running, for_call, for_iterator, for_value, for_truth, dropped, for_concat, for_close, returning, leaving, Activation, Frame, lua, World, Stack, place_of, put_frames, pop, close_from}
 use Rattle.machine_core.specs.Text.{Arg, arg, Own, close_cells, keep_pending, done, Given, results, thrown, given_values}
-use Rattle.machine_core.specs.Moves.{enter, enter_tail, await, begin_leaving, leave_frame, greatest_depth, CallShape, is_entered, is_primitive, not_paid, not_entered, top_shape, top_now, Made, made, move, named, cells_done, with_own, enters, enters_paid, called, popped, called_tail, placed, blamed, where_text}
+use Rattle.machine_core.specs.Moves.{enter, enter_tail, await, begin_leaving, leave_frame, CallShape, is_entered, is_primitive, not_paid, not_entered, top_shape, top_now, Made, made, move, named, cells_done, with_own, enters, enters_paid, called, popped, called_tail, placed, blamed, where_text}
 use Rattle.machine_sound.specs.Sound.{Each, Sizes, sizes, Valid, WaitOk, waits_at, waiting_size, kept_below, FrameOk, LuaWaits, FrameWaits, registers_in, registers_of, Solid, Top, RunsOrWaits, TopIs, StackWaits}
 use Rattle.machine_sound.specs.Safe.{on_lua, waiting, Is, IsPhase, TopReady, WaitArgOk, GivenOk, WaitsAs, after_all, after_entering, after_tail, MoveGood, AllReady}
 use Rattle.machine_sound.proofs.Lists.{each_none, each_cons, each_one, each_push, each_front, each_drop, each_on, bind_at, without_push}

@@ -3,7 +3,7 @@ use Rattle.std.proofs.Common.{ℕ, suc, ◌+◌, ◌-◌, ◌<◌, ◌≤◌, �
 use Rattle.std.specs.Prelude.{slice_get, slice_set}
 use Rattle.std.proofs.lemmas.Bool.{cases_eq}
 use Rattle.int_core.specs.Value.{last}
-use Rattle.machine_core.specs.Moves.{greatest_resumes}
+use Rattle.int_core.specs.Limits.{greatest_resumes}
 use Rattle.machine_sound.specs.Sound.{Standing, runs, resumed_another, apart, ChainOk}
 use Rattle.machine_sound.proofs.Lists.{get_set_same, get_set_other, get_push_old, get_push_new, push_cases, get_within, get_front, some_is}
 

@@ -3,9 +3,10 @@ use Rattle.std.proofs.Common.{ℕ, ◌+◌, ◌<◌, ◌≤◌, ◌≡◌, ⊎_e
 use Rattle.std.specs.Prelude.{slice_get, slice_set, nat_le, codes, flat_map}
 use Rattle.std.proofs.lemmas.Bool.{cases_eq}
 use Rattle.int_core.specs.Value.{Value, greatest_string}
+use Rattle.int_core.specs.Limits.{greatest_depth, stack_overflow}
 use Rattle.machine_core.specs.World.{Cell, closed, open_at, Frame, closing, Coroutine, fresh, suspended, in_progress, normal, dead, failed, World, frames_of, Stack, stack_of, push}
 use Rattle.machine_core.specs.Text.{Arg, arg}
-use Rattle.machine_core.specs.Moves.{begin_closing, greatest_depth, is_entered, not_entered, stack_overflow, top_shape, ResumeShape, resumed, refused, pending_values, all_closed_from, put_coroutine, closes_in, closes_coroutine, coroutine_number, Made, made, move}
+use Rattle.machine_core.specs.Moves.{begin_closing, is_entered, not_entered, top_shape, ResumeShape, resumed, refused, pending_values, all_closed_from, put_coroutine, closes_in, closes_coroutine, coroutine_number, Made, made, move}
 use Rattle.machine_sound.specs.Sound.{Each, sizes, Valid, OptionOk, FrameWaits, AllWait, CoroutineOk, runs, apart, standing, ChainOk, registers_of, CellOk, Solid, StackWaits, registers_in}
 use Rattle.machine_sound.specs.Safe.{waiting, ResumeEvent, after_beginning, MoveGood, IsPhase}
 use Rattle.machine_sound.proofs.Lists.{each_none, each_set, each_push, bind_at, get_set_other, length_set, last_push, map_set, some_is}

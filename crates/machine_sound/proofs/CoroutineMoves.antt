@@ -5,9 +5,10 @@ use Rattle.std.proofs.lemmas.Bool.{cases_eq}
 use Rattle.std.proofs.lemmas.Bool.Decides.{nat_tests}
 use Rattle.std.proofs.lemmas.List.{map-set}
 use Rattle.int_core.specs.Value.{Value, known, object, a_table, a_function, a_coroutine, is_object, shape, bind, last, greatest_string}
+use Rattle.int_core.specs.Limits.{greatest_resumes}
 use Rattle.machine_core.specs.World.{closed, open_at, Frame, lua, pcall, xpcall, handler, closing, Coroutine, fresh, suspended, in_progress, normal, dead, failed, World, Stack, stack_of}
 use Rattle.machine_core.specs.Text.{Arg, read, written, arg}
-use Rattle.machine_core.specs.Moves.{take_moving, see_top, end_coroutine, fail_coroutine, suspend, resume, greatest_resumes, CallShape, is_entered, is_primitive, not_paid, not_entered, TopShape, lua_top, no_top, closing_top, top_shape, top_now, runs_main, resumed, refused, pending_values, all_closed_from, put_coroutine, back_to_resumer, ends_as, starts_in, can_start, resumes, coroutine_number, enters, made, move, pcall_top, xpcall_top, handler_top}
+use Rattle.machine_core.specs.Moves.{take_moving, see_top, end_coroutine, fail_coroutine, suspend, resume, CallShape, is_entered, is_primitive, not_paid, not_entered, TopShape, lua_top, no_top, closing_top, top_shape, top_now, runs_main, resumed, refused, pending_values, all_closed_from, put_coroutine, back_to_resumer, ends_as, starts_in, can_start, resumes, coroutine_number, enters, made, move, pcall_top, xpcall_top, handler_top}
 use Rattle.machine_sound.specs.Sound.{Each, sizes, Valid, FrameOk, FrameWaits, AllWait, CoroutineOk, runs, resumed_another, apart, standing, ChainOk, registers_in, registers_of, CellOk, Solid, Settled, StackWaits}
 use Rattle.machine_sound.specs.Safe.{waiting, in_resumed, between, handing, Is, IsPhase, after_end, after_resuming, after_handing, Ready, MoveGood}
 use Rattle.machine_sound.proofs.Lists.{each_none, each_set, bind_at, get_set_same, get_set_other, length_set, get_map, get_there, last_push, some_is, each_drop}

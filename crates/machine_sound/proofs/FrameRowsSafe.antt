@@ -2,8 +2,9 @@
 use Rattle.std.proofs.Common.{◌≡◌, List, [], ◌∷◌, ◌++◌, Option, Some, None, refl, subst, sym, length, Bool, true, false}
 use Rattle.std.specs.Prelude.{ℕ, zero, suc, ℤ, pos, negsuc, cond}
 use Rattle.int_core.specs.Value.{Value, boolean, a_table, a_function, a_coroutine, Shape, is_known, is_object, shape, greatest_string}
+use Rattle.int_core.specs.Limits.{stack_overflow}
 use Rattle.machine_core.specs.Text.{read, written, arg}
-use Rattle.machine_core.specs.Moves.{stack_overflow, Over, over_pcall, give, asks, main_failed, CallShape, is_entered, is_primitive, not_paid, not_entered, TopShape, lua_top, pcall_top, xpcall_top, handler_top, closing_top, no_top, ResumeShape, resumed, refused, Row, stop, act, see_top, main_returned, give_with, main_yielded, take_moving}
+use Rattle.machine_core.specs.Moves.{Over, over_pcall, give, asks, main_failed, CallShape, is_entered, is_primitive, not_paid, not_entered, TopShape, lua_top, pcall_top, xpcall_top, handler_top, closing_top, no_top, ResumeShape, resumed, refused, Row, stop, act, see_top, main_returned, give_with, main_yielded, take_moving}
 use Rattle.machine_core.specs.FrameRows.{raises, handed, hand_over, error_in_handler, gives_up, raised_to, raised_row, caught, blames, over_frame, refused_under, after_asked, asked_row, closing_by, closing_row, unwound, handed_to}
 use Rattle.machine_core.specs.InstructionRows.{fails}
 use Rattle.machine_core.specs.MachineStep.{pcall_row, xpcall_row, level_in, errs_at, error_row, after_entry, after_resume, resumes, resume_row, yield_row, after_closing, closes_coroutine, close_row}

@@ -14,7 +14,7 @@ use Rattle.code_core.specs.Prototype.{Prototype}
 use Rattle.code_core.specs.Check.{IsChecked, at, Mark, fixed, open_from, mark}
 use Rattle.machine_core.specs.World.{Function, Cell, closed, open_at, Wait, running, for_call, for_iterator, for_value, for_truth, dropped, for_concat, for_close, returning, leaving, LuaFrame, Frame, lua, pcall, xpcall, handler, closing, Coroutine, fresh, suspended, in_progress, normal, dead, failed, World, frames_of, lua_frame, find_open}
 use Rattle.machine_core.specs.Text.{behind}
-use Rattle.machine_core.specs.Moves.{greatest_depth, greatest_resumes}
+use Rattle.int_core.specs.Limits.{greatest_depth, greatest_resumes}
 
 -- what holds of each item of a list
 abbrev pub Each : {A : Type 0} → (A → Type 0) → List A → Type 0

@@ -2,7 +2,8 @@
 use Rattle.std.proofs.Common.{◌≡◌, ℕ, zero, suc, Bool, true, false, cond, List, [], ◌∷◌, ◌++◌, Option, Some, None, refl, sym, ◌∙◌, ap, subst}
 use Rattle.std.specs.Prelude.{slice_get, slice_set}
 use Rattle.int_core.specs.Value.{Value}
-use Rattle.lua_meaning.specs.World.{System, Function, Asker, Frame, talking, waiting, raising, protected, handled_by, handling, closing, Coroutine, fresh, suspended, running, normal, dead, failed, Now, talks, gives_back, raises_error, unwinds, calls_primitive, ends, World, now_in, breaks, on_frames, has_room, runs_main, stack_overflow, position_of, positions_of, where_at, where_among, blamed, raises_text, shared_out, second, given_to, answered, answered_at_once}
+use Rattle.int_core.specs.Limits.{stack_overflow}
+use Rattle.lua_meaning.specs.World.{System, Function, Asker, Frame, talking, waiting, raising, protected, handled_by, handling, closing, Coroutine, fresh, suspended, running, normal, dead, failed, Now, talks, gives_back, raises_error, unwinds, calls_primitive, ends, World, now_in, breaks, on_frames, has_room, runs_main, position_of, positions_of, where_at, where_among, blamed, raises_text, shared_out, second, given_to, answered, answered_at_once}
 use Rattle.lua_meaning.specs.Calls.{frames_in, back_to, returns_all, fails_all, all_pending, yields}
 use Rattle.runs_alike.proofs.Dressed.{Part, state, goes, dress_frame, dress, dress_coroutine, dress_coroutines, dress_world, FrameLike, FramesLike, CoroutineLike, CoroutinesLike, Like, Out, pending_same, length_same}
 
@@ -91,7 +92,7 @@ module _ {A B S T : Type 0} (Sa : System A S) (Sb : System B T) (R : Bool → A 
   where_same m W bs xss xs like = ap (where_among (dress_world W bs xss xs) m) (positions_same W bs xss xs W.frames xs like.frames) ∙ among_same W (dress_world W bs xss xs) m (positions_of W W.frames)
 
   blamed_same : (W : World A S) (bs : List B) (xss : List (List (Part T))) (xs : List (Part T)) (why : List ℕ) → Like Sa Sb R Q W bs xss xs → blamed (dress_world W bs xss xs) why ≡ blamed W why
-  blamed_same W bs xss xs why like = ap (λ place. Rattle.lua_meaning.specs.World.limited (place ++ why)) (where_same 0 W bs xss xs like)
+  blamed_same W bs xss xs why like = ap (λ place. Rattle.int_core.specs.Limits.limited (place ++ why)) (where_same 0 W bs xss xs like)
 
   pub room_same : (W : World A S) (bs : List B) (xss : List (List (Part T))) (xs : List (Part T)) → Like Sa Sb R Q W bs xss xs → has_room (dress_world W bs xss xs) ≡ has_room W
   room_same W bs xss xs like = rw (length_same Sa Sb R Q W.functions bs W.frames xs like.frames) refl

@@ -2,9 +2,10 @@
 use Rattle.std.proofs.Common.{◌≡◌, ℕ, zero, suc, Bool, true, false, List, [], ◌∷◌, ◌++◌, length, Option, Some, None, refl, sym, ◌∙◌, ap, subst, arith}
 use Rattle.std.specs.Prelude.{ℤ, slice_get, drop, codes}
 use Rattle.int_core.specs.Value.{Value, known, string, object, a_table, a_function, a_coroutine, nth}
+use Rattle.int_core.specs.Limits.{limited}
 use Rattle.int_core.specs.Operations.{is_function}
 use Rattle.int_core.specs.Ask.{Answer, IsLeft, FitsAsk, Next, goes_on, says, stuck, on_from, runs, NextLike}
-use Rattle.lua_meaning.specs.World.{System, Function, Frame, talking, protected, handled_by, Coroutine, fresh, suspended, running, normal, dead, failed, talks, gives_back, raises_error, World, now_in, breaks, shared_in, as_known, limited}
+use Rattle.lua_meaning.specs.World.{System, Function, Frame, talking, protected, handled_by, Coroutine, fresh, suspended, running, normal, dead, failed, talks, gives_back, raises_error, World, now_in, breaks, shared_in, as_known}
 use Rattle.lua_meaning.specs.Calls.{text}
 use Rattle.lua_meaning.specs.Asks.{turns}
 use Rattle.lua_meaning.specs.Primitives.{Primitive, lua_error, lua_pcall, lua_xpcall, coroutine_close, coroutine_create, coroutine_isyieldable, coroutine_resume, coroutine_running, coroutine_status, coroutine_yield, prelude_out, Done, done, name_in, row}
