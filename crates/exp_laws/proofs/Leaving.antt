@@ -1,8 +1,8 @@
 -- How an activation is left by an error: its captured locals are cut loose and its variables are closed, on both sides alike.
 use borrow.Author.Tests.{le-leb}
-use Rattle.std.proofs.Common.{◌≡◌, ℕ, zero, suc, ◌+◌, ◌<◌, ◌≤◌, Bool, true, false, cond, ◌||◌, List, [], ◌∷◌, ◌++◌, length, take, Option, Some, None, refl, sym, ap, subst, ◌∙◌, arith, ◌-◌}
-use Rattle.std.specs.Prelude.{nat_eq, nat_le, slice_get}
-use Rattle.int_core.specs.Value.{Value, known, nil, nth, bind, without_last}
+use Rattle.std.proofs.Common.{◌≡◌, ℕ, zero, suc, ◌+◌, ◌<◌, ◌≤◌, Bool, true, false, cond, ◌||◌, List, [], ◌∷◌, ◌++◌, length, Option, Some, None, refl, sym, ap, subst, ◌∙◌, arith}
+use Rattle.std.specs.Prelude.{nat_eq, nat_le}
+use Rattle.int_core.specs.Value.{Value, known, nil, nth, bind}
 use Rattle.int_core.specs.Ask.{closes, raises, leaves, Reply, values, faulted, left, throws, Captured, Answer, IsLeft, held_below, gone_from, shared_by, brought}
 use Rattle.tree_activation.specs.Work.{Control, leave_scope, finish, over, Work, when_captured, Pending}
 use Rattle.tree_activation.specs.Work as tree
@@ -19,7 +19,7 @@ use Rattle.machine_core.specs.Talk as code
 use Rattle.machine_core.specs.Talk.{talk, talk_step, says_so, heard, before, amid, captured_done}
 use Rattle.machine_core.proofs.Pending.{last_from, without_from}
 use Rattle.list_laws.proofs.Ends.{last_is, without_last_is}
-use Rattle.list_laws.proofs.Items.{get_new, length_more}
+use Rattle.list_laws.proofs.Items.{length_more}
 use Rattle.list_laws.proofs.Tests.{eq_refl, eq_true, lt_not, or_right}
 use Rattle.exp_laws.proofs.Registers.{Rel, marked_in, Ascends, held_same}
 use Rattle.exp_laws.specs.Setting.{Setting}

@@ -1,8 +1,8 @@
 -- How an activation returns values: its variables are closed first, the last one first, on both sides alike.
-use Rattle.std.proofs.Common.{◌≡◌, ℕ, zero, suc, ◌+◌, ◌-◌, ◌<◌, ◌≤◌, max, Bool, true, false, cond, ◌||◌, ◌&&◌, List, [], ◌∷◌, ◌++◌, length, take, drop, Option, Some, None, refl, sym, ap, ap₂, ◌∙◌, subst, arith}
+use Rattle.std.proofs.Common.{◌≡◌, ℕ, zero, suc, ◌+◌, ◌<◌, ◌≤◌, max, Bool, true, false, cond, ◌||◌, ◌&&◌, List, [], ◌∷◌, ◌++◌, length, drop, Option, Some, None, refl, sym, ap, ap₂, ◌∙◌, subst, arith}
 use Rattle.std.specs.Prelude.{nat_le, nat_lt}
 use borrow.Author.Tests.{le-leb}
-use Rattle.int_core.specs.Value.{Value, known, nil, nth, without_last}
+use Rattle.int_core.specs.Value.{Value, known, nil, nth}
 use Rattle.int_core.specs.Ask.{closes, leaves, returns, Reply, values, faulted, left, Captured, held_below, gone_from, shared_by, brought}
 use Rattle.tree_activation.specs.Work.{Control, leave_scope, finish, when_captured, Work, Pending}
 use Rattle.tree_activation.specs.Work as tree
@@ -20,7 +20,7 @@ use Rattle.machine_core.specs.Talk as code
 use Rattle.machine_core.specs.Talk.{talk, talk_step, says_so, heard, amid}
 use Rattle.machine_core.proofs.Pending.{last_from, without_from}
 use Rattle.list_laws.proofs.Items.{append_nil, length_more}
-use Rattle.list_laws.proofs.Ends.{without_last_is, Snoc, empty, with_last, snoc}
+use Rattle.list_laws.proofs.Ends.{Snoc, empty, with_last, snoc}
 use Rattle.list_laws.proofs.Tests.{lt_true, or_left, or_right, both_true}
 use Rattle.exp_laws.proofs.Registers.{Rel, marked_in}
 use Rattle.list_laws.proofs.Values.{last_nth, drop_front}

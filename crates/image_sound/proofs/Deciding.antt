@@ -170,6 +170,7 @@ module _ (R : Reader) (code_named : PermKey → Option Prototype) (H : Host) (of
         size = same_number _ _ b.0;
         pending = each_test (λ r. nat_lt r p.0.own.stack) (below p.0.own.stack) f.pending c.0;
         kept = each_test (λ r. nat_lt r (kept_below f.wait w.0 p.0.own.stack)) (below (kept_below f.wait w.0 p.0.own.stack)) f.pending c.1;
+        opened = h.opened;
         registers = each_all item_fits f.registers h.registers;
         varargs = each_all item_fits f.varargs h.varargs;
         error = wait_fits f.wait h.error;

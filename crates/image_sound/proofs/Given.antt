@@ -215,7 +215,7 @@ module _ (R : Reader) where
 
   lua_gives : Gives (lua_format R) (LuaRead R)
   unfolding lua_format
-  lua_gives = case_gives _ _ (λ y h. record { is_function = h.0.0; function = h.0.1; varargs = h.1.1.1.0; registers = h.1.1.1.1.0; error = h.1.1.1.1.1.1 })
+  lua_gives = case_gives _ _ (λ y h. record { is_function = h.0.0; function = h.0.1; varargs = h.1.1.1.0; registers = h.1.1.1.1.0; opened = refl; error = h.1.1.1.1.1.1 })
       (followed_gives (only_gives (is_function_item R)) (λ _. followed_gives (any_gives {F = word}) (λ _. followed_gives (tested_gives _ _ (any_gives {F = byte})) (λ t.
       followed_gives (list_gives item_gives) (λ _. followed_gives (list_gives item_gives) (λ _. followed_gives (any_gives {F = list word}) (λ _. wait_gives t)))))))
 

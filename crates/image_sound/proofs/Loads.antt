@@ -294,6 +294,7 @@ module _ (H : Host) (target : IsTarget H.target H.world) (old : Solid H.primitiv
         fits = subst IsTrue (sym (waits_same f.wait h.opcode h.instruction)) h.fits;
         size = map_length (value_made T rs) f.registers ∙ (h.size ∙ (sym (size_same f.wait h.instruction h.code.own.stack) ∙ ap (waiting_size (wait_made T rs f.wait) h.instruction) (sym e)));
         kept = subst (λ n. Each (λ r. r < n) f.pending) (sym (kept_same f.wait h.instruction h.code.own.stack) ∙ ap (kept_below (wait_made T rs f.wait) h.instruction) (sym e)) h.kept;
+        opened = h.opened;
       }
 
   option_valid : (e : Option Item) → OptionOk (ItemFits H) e → OptionOk (Valid z) (option_map (value_made T rs) e)

@@ -39,6 +39,7 @@ pub record LuaRead (R : Reader) (f : LuaFrameItem) : Type 0 where
   pub function : ItemRead R f.function
   pub varargs : All (ItemRead R) f.varargs
   pub registers : All (ItemRead R) f.registers
+  pub opened : f.opened ≡ 0
   pub error : WaitRead R f.wait
 
 abbrev pub ErrorRead : Reader → Option Item → Type 0

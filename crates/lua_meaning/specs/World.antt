@@ -1,6 +1,6 @@
 -- The worlds in which activations talk: functions, cells, coroutines, and the chain of coroutines that resumed each other (Lua 5.4 manual,
 -- 2.1, 2.6 and 3.5). What a function is made of, F, and what the state of an activation is, S, is left open.
-use Rattle.std.specs.Prelude.{ℕ, zero, suc, ◌+◌, Bool, true, false, cond, List, [], ◌∷◌, ◌++◌, length, map, Option, Some, None, nat_le, slice_get, slice_set, codes, decimal}
+use Rattle.std.specs.Prelude.{ℕ, zero, suc, ◌+◌, Bool, true, false, List, [], ◌∷◌, ◌++◌, length, map, Option, Some, None, nat_le, slice_get, slice_set, codes}
 use Rattle.int_core.specs.Value.{Value, nth, bind}
 use Rattle.int_core.specs.Limits.{greatest_depth, limited, position}
 use Rattle.int_core.specs.Heap.{Heap}

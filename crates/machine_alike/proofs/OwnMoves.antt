@@ -1,5 +1,5 @@
 -- Moves on one activation: what they read, tell and change is the same for activations that are the same.
-use Rattle.std.proofs.Common.{ℕ, zero, suc, ◌+◌, ◌-◌, ◌≡◌, List, [], ◌∷◌, ◌++◌, Option, Some, None, refl, subst, ap, ◌∙◌, length, take, drop, Bool, cond, filter}
+use Rattle.std.proofs.Common.{ℕ, zero, suc, ◌+◌, ◌-◌, ◌≡◌, List, [], ◌∷◌, ◌++◌, Option, Some, None, refl, subst, ap, ◌∙◌, length, drop, Bool, filter}
 use Rattle.std.specs.Prelude.{pos, max, nat_lt, nat_le, slice_get, ◌||◌, ◌&&◌}
 use Rattle.code_core.specs.declared.proto.Const.{Const}
 use Rattle.code_core.specs.Prototype.{Prototype}

@@ -11,7 +11,7 @@ use Rattle.code_core.specs.declared.instruction.Instruction.{Instruction}
 use Rattle.code_core.specs.declared.opcode.Opcode.{Opcode}
 use Rattle.int_core.specs.Value.{Value}
 use Rattle.machine_core.specs.World.{Wait, running, LuaFrame, World, Place}
-use Rattle.machine_core.specs.Moves.{go, Row, ends}
+use Rattle.machine_core.specs.Moves.{go, Row}
 use Rattle.machine_sound.specs.Sound.{Top, Fits, FitsIfRuns, RunsOrWaits, MarkFits, waits_at, sizes}
 use Rattle.machine_sound.specs.Laws.{StepGood}
 use Rattle.machine_sound.proofs.Lists.{some_is}
@@ -34,7 +34,7 @@ pub record Here (c : Context) (h : Held) : Type 0 where
   pub size : c.closure.code.own.stack ≤ length h.own.registers
 
 stack_fits : (m : Mark) (stack size opened : ℕ) → MarkFits m stack size opened → stack ≤ size
-stack_fits fixed stack size opened e = omega arith
+stack_fits fixed stack size opened e = let s = e.0 in omega arith
 stack_fits (open_from r) stack size opened e = omega arith
 
 fits_running : (n : ℕ) (t : Top) (z : LuaFrame) (W : World) → z.wait ≡ running → (b : Bool) → t.runs ≡ b → RunsOrWaits b (sizes n W) z → FitsIfRuns b t → Fits t

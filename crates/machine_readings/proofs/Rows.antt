@@ -5,7 +5,7 @@ use Rattle.code_core.specs.declared.instruction.Instruction.{Instruction}
 use Rattle.code_core.specs.Check.{at}
 use Rattle.code_core.specs.Prototype.{Prototype}
 use Rattle.int_core.specs.Value.{Value, bind, nth, Shape, is_nil}
-use Rattle.int_core.specs.Limits.{greatest_depth, stack_overflow}
+use Rattle.int_core.specs.Limits.{greatest_depth}
 use Rattle.int_core.specs.Heap.{Heap}
 use Rattle.int_core.specs.Operations.{Operation, Settled, found, ask, fault, cannot_arise, does, callee_of, Callee, callee, not_callable, greatest_chain, handler_in, of_close}
 use Rattle.int_core.specs.Ask.{Captured, Next, goes_on, says, stuck, values, faulted, cell_held, brought, shared_by, leaves, calls_last}

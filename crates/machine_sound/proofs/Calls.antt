@@ -140,6 +140,7 @@ module _ (n : ℕ) (t : Top) (env : List Value) (W : World) (i : Is n (on_lua t)
     size = know.size ∙ fit.size ∙ sym (size_named env wait fit.place.instruction (after_all prepared env t).code.own.stack) ∙ ap (λ (p : Prototype). waiting_size (named env wait) fit.place.instruction p.own.stack) know.code;
     kept = each_on (λ r. r < (after_all prepared env t).pending) (λ r. r < kept_below (named env wait) fit.place.instruction h.function.code.own.stack)
         (λ r l. (let a = fit.kept in let b = kept_named env wait fit.place.instruction (after_all prepared env t).code.own.stack in let c = ap (λ (p : Prototype). kept_below (named env wait) fit.place.instruction p.own.stack) know.code in omega arith)) own'.pending know.bound;
+    opened = know.opened ∙ fit.opened;
   }
 
   pub ready_top : TopIs n u ready_world
@@ -395,6 +396,7 @@ begin_leaving_move n text t env W i r =
       fits = refl;
       size = k.size ∙ ap (λ (p : Prototype). p.own.stack) (sym h.code);
       kept = k.pending;
+      opened = k.opened;
     } in
     let top = new_top n t W h i.solid u (leaving e) own' cells' k ok w in
     let V = with_moving P (e ∷ []) P.fuel in

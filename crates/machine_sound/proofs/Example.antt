@@ -166,7 +166,7 @@ world_settled = record {
     captured = each_none (λ r. IsSome (find_open 0 0 r world.cells));
     wait = refl;
   };
-  fits = record { instruction = abx LoadI 0 65542; at_pc = refl; opcode = LoadI; is_opcode = first_opcode; no_extra = refl; fits_mark = refl; cells = omega arith };
+  fits = record { instruction = abx LoadI 0 65542; at_pc = refl; opcode = LoadI; is_opcode = first_opcode; no_extra = refl; fits_mark = (refl, refl); cells = omega arith };
 }
 
 pub world_sound : SoundAfter 6 go world

@@ -90,6 +90,7 @@ module _ (z y : Sizes) (g : Grows z y) where
     fits = h.fits;
     size = h.size;
     kept = h.kept;
+    opened = h.opened;
   }
 
   pub waits_on : (f : Frame) → FrameWaits z f → FrameWaits y f

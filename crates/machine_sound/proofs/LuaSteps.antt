@@ -186,7 +186,7 @@ module _ (n : ℕ) (t : Top) (W : World) (h : TopIs n t W) (s : Solid n W) where
         let c : w.function.code ≡ t.code = ap (λ (f : Function). f.code) e ∙ h.code in
         let at_pc : at t.code t.pc ≡ Some w.instruction = ap (λ p. at p t.pc) (sym c) ∙ ap (at w.function.code) (sym h.pc) ∙ w.at_pc in
         let size : t.size ≡ waiting_size wait w.instruction t.code.own.stack = sym h.size ∙ w.size ∙ ap (λ (p : Prototype). waiting_size wait w.instruction p.own.stack) c in
-        let x = rest_text_safe wait w.opcode woken_top w.instruction vs (record { checked = code_checked; at_pc = at_pc; is_opcode = w.is_opcode; pending = refl; cells = refl; runs = refl }) w.fits size in
+        let x = rest_text_safe wait w.opcode woken_top w.instruction vs (record { checked = code_checked; at_pc = at_pc; is_opcode = w.is_opcode; pending = refl; cells = refl; opened = sym h.opened ∙ w.opened; runs = refl }) w.fits size in
         let ok = (top_ok n t W h s).error in
         let g = grows_then (sizes n W) (sizes n P) (sizes n V) grows_p (moving_grows n P [] P.fuel) in
         let i : Is n (on_lua woken_top) vs V = record { solid = moving_solid n P [] P.fuel solid_p (each_none (Valid (sizes n P))); phase = fuel_top n woken_top P [] P.fuel solid_p top_p (each_none (Valid (sizes n P))); valid = values_on (sizes n W) (sizes n V) g vs (told_ok wait ok) } in

@@ -61,13 +61,13 @@ function_there {t = t} {w = w} {op = op} h l r b = from (takes_list op w) refl
   where
     from : (q : Bool) → takes_list op w ≡ q → r < t.size
     from true e = size_above t w (l e) r b
-    from false e = let s = h.plain e in omega arith
+    from false e = let s = (h.plain e).0 in omega arith
 
 call_ready : {t : Top} {w : Instruction} (env : List Value) (f : Arg) (slot : ℕ) → Here t w Call → MayEnter t env (read 0) for_call (drop_pending (a_of w) ∷ cut_from (a_of w) ∷ [])
 call_ready {t = t} {w = w} env f slot h = record {
   callee = tt;
   prepares = (tt, ((let e = h.cells in omega arith), tt));
-  waits = record { place = moved_place (record t { pending = a_of w; size = t.code.own.stack; opened = 0 }) (place h) refl refl; fits = refl; size = refl; kept = omega arith; error = tt };
+  waits = record { place = moved_place (record t { pending = a_of w; size = t.code.own.stack; opened = 0 }) (place h) refl refl; fits = refl; size = refl; kept = omega arith; opened = refl; error = tt };
 }
 
 pub call_row_safe : ListRowSafe Call
@@ -109,7 +109,7 @@ t_for_call_safe t w h = (
         call_safe t (f ∷ vs) (read 0) 1 for_iterator (drop_pending (a_of w + 4) ∷ cut_from (a_of w + 4) ∷ []) (record {
           callee = tt;
           prepares = (tt, ((let e = h.cells in omega arith), tt));
-          waits = record { place = moved_place (record t { pending = a_of w + 4; size = t.code.own.stack; opened = 0 }) (place h) refl refl; fits = refl; size = refl; kept = omega arith; error = tt };
+          waits = record { place = moved_place (record t { pending = a_of w + 4; size = t.code.own.stack; opened = 0 }) (place h) refl refl; fits = refl; size = refl; kept = omega arith; opened = refl; error = tt };
         }),
   ),
 )
@@ -141,7 +141,7 @@ returns_safe t env count p r l q f = ((tt, tt), λ o. from o)
       λ g. call_safe t ((env ++ v ∷ []) ++ g ∷ arg (env ++ v ∷ []) (read (length env)) ∷ known nil ∷ []) (read (length (env ++ v ∷ []))) (suc (length (env ++ v ∷ []))) (returning count) (returned_so (a_of p.instruction) count) (record {
         callee = tt;
         prepares = (tt, (tt, (omega arith, tt)));
-        waits = record { place = moved_place (record t { cells = 0; captured = []; size = max t.code.own.stack (behind (a_of p.instruction) count); opened = 0 }) p refl refl; fits = f; size = refl; kept = q; error = tt };
+        waits = record { place = moved_place (record t { cells = 0; captured = []; size = max t.code.own.stack (behind (a_of p.instruction) count); opened = 0 }) p refl refl; fits = f; size = refl; kept = q; opened = refl; error = tt };
       }),
     )
 
@@ -170,7 +170,7 @@ pub return_safe : ListRowSafe Return
 return_safe t w h l =
     values_safe t [] (a_of w) (b_of w) (λ _ s. returns (a_of w) (cond (b_of w == 0) (counted s) (return_count Return w)))
     (λ e. some_end t w (l (zero_is (b_of w) e)))
-    (λ n e. given_behind (a_of w) (b_of w) n t.size t.code.own.stack e (h.plain (not_zero (b_of w) n e)) (λ m q. top_there n e m q))
+    (λ n e. given_behind (a_of w) (b_of w) n t.size t.code.own.stack e (h.plain (not_zero (b_of w) n e)).0 (λ m q. top_there n e m q))
     (λ vs s c. from (b_of w) refl vs s c)
   where
     top_there : (n : ℕ) → b_of w ≡ suc n → (m : ℕ) → n ≡ suc m → a_of w + m < t.code.own.stack
@@ -187,4 +187,4 @@ return_safe t w h l =
     from (suc n) e vs s c =
         let k : b_of w - 1 ≡ n = omega arith in
         subst (λ b. Safe (on_lua t) vs (expand (returns (a_of w) (cond b (counted s) (return_count Return w))))) (sym (not_zero (b_of w) n e))
-        (returns_safe t vs (return_count Return w) (place h) h.runs (subst (λ c. behind (a_of w) c ≤ t.size) (sym k) (given_behind (a_of w) (b_of w) n t.size t.code.own.stack e (h.plain (not_zero (b_of w) n e)) (λ m q. top_there n e m q))) (pending_low h) refl)
+        (returns_safe t vs (return_count Return w) (place h) h.runs (subst (λ c. behind (a_of w) c ≤ t.size) (sym k) (given_behind (a_of w) (b_of w) n t.size t.code.own.stack e (h.plain (not_zero (b_of w) n e)).0 (λ m q. top_there n e m q))) (pending_low h) refl)

@@ -61,12 +61,12 @@ pub set_list_safe : ListRowSafe SetList
 set_list_safe t w h l = from (k_of w) refl
   where
     from : (b : Bool) → k_of w ≡ b → Safe (on_lua t) [] (expand (cond b (with_extra t.code t.pc (λ ax. fills w (c_of w + 256 * ax) (pos 2))) (fills w (c_of w) (pos 1))))
-    from false e = fills_safe h l (c_of w) (pos 1) (λ env. next_safe (record t { size = t.code.own.stack; opened = 0 }) env h refl (ap (λ (b : Bool). extra_behind (if b then Some ExtraArg else None)) e) refl refl h.runs refl (let c = h.cells in omega arith))
+    from false e = fills_safe h l (c_of w) (pos 1) (λ env. next_safe (record t { size = t.code.own.stack; opened = 0 }) env h refl (ap (λ (b : Bool). extra_behind (if b then Some ExtraArg else None)) e) refl refl h.runs (refl, refl) (let c = h.cells in omega arith))
     from true e =
         let q : second_half SetList w ≡ Some ExtraArg = ap (λ (b : Bool). (if b then Some ExtraArg else None)) e in
         let s = second_there h ExtraArg q in
         subst (λ (o : Option ℕ). Safe (on_lua t) [] (expand (elim o as (λ _. Text) [ None ↦ trap | Some ax ↦ fills w (c_of w + 256 * ax) (pos 2) ]))) (sym (extra_there s))
-        (fills_safe h l (c_of w + 256 * ax_of s.instruction) (pos 2) (λ env. on_skip (record t { size = t.code.own.stack; opened = 0 }) env h ExtraArg q extra_second refl refl h.runs refl (let c = h.cells in omega arith)))
+        (fills_safe h l (c_of w + 256 * ax_of s.instruction) (pos 2) (λ env. on_skip (record t { size = t.code.own.stack; opened = 0 }) env h ExtraArg q extra_second refl refl h.runs (refl, refl) (let c = h.cells in omega arith)))
 
 -- functions
 
@@ -119,10 +119,10 @@ closure_safe t w h = from (slice_get (list_of t.code.inner) (bx_of w)) refl h.ru
     from None e g = absurd (cc)
     from (Some q) e g =
         let u : Top = record t { captured = with_cells t.captured q.own.upvalues } in
-        opens_safe t q.own.upvalues (quick (make_function (bx_of w)) (λ f. to_register (a_of w) (read f))) (h.plain refl) h.cells g (
+        opens_safe t q.own.upvalues (quick (make_function (bx_of w)) (λ f. to_register (a_of w) (read f))) (h.plain refl).0 h.cells g (
           record { inner = q; there = e; captures = captures_there t.code q.own.upvalues t.captured g },
           λ n.
-              (((let e = h.plain refl in within (a_of w) t.size t.code.own.stack e (reg h 0 (a_of w) refl), tt), h.runs), λ _. on_next u (object a_function n ∷ []) h (refl, refl, refl, refl) refl refl h.runs (h.plain refl) (let e = h.cells in omega arith)),
+              (((let e = (h.plain refl).0 in within (a_of w) t.size t.code.own.stack e (reg h 0 (a_of w) refl), tt), h.runs), λ _. on_next u (object a_function n ∷ []) h (refl, refl, refl, refl) refl refl h.runs (h.plain refl) (let e = h.cells in omega arith)),
         )
       where
         within : (a size stack : ℕ) → size ≡ stack → a < stack → a < size
@@ -132,14 +132,14 @@ closure_safe t w h = from (slice_get (list_of t.code.inner) (bx_of w)) refl h.ru
 
 -- values that come back or are extra go to registers, or become an open list
 pub puts_safe : {t : Top} {w : Instruction} {op : Opcode} (u : Top) (env : List Value) (r c slot : ℕ) → Here t w op → is_return op ≡ false → extra_behind (second_half op w) ≡ false
-    → u.code ≡ t.code → u.pc ≡ t.pc → IsTrue u.runs → u.size ≡ t.code.own.stack → u.cells ≤ t.code.own.stack
+    → u.code ≡ t.code → u.pc ≡ t.pc → IsTrue u.runs → MarkFits fixed t.code.own.stack u.size u.opened → u.cells ≤ t.code.own.stack
     → (c ≡ 0 → opened (opens_list op w) ≡ open_from r) → ((n : ℕ) → c ≡ suc n → opened (opens_list op w) ≡ fixed)
     → (c ≡ 0 → r < u.size) → ((n : ℕ) → c ≡ suc n → behind r n ≤ u.size)
     → Safe (on_lua u) env (expand (write_values r c slot))
 puts_safe {t = t} {w = w} {op = op} u env r zero slot h ret ex q p run s k o f l b = (
   (l refl, run),
   λ _. next_safe (record u { size = max u.size (r + length (drop slot env)); opened = length (drop slot env) }) (env ++ []) h ret ex q p run
-      (subst (λ m. MarkFits m t.code.own.stack (max u.size (r + length (drop slot env))) (length (drop slot env))) (sym (o refl)) (ap (λ n. max n (r + length (drop slot env))) s)) k,
+      (subst (λ m. MarkFits m t.code.own.stack (max u.size (r + length (drop slot env))) (length (drop slot env))) (sym (o refl)) (ap (λ n. max n (r + length (drop slot env))) s.0)) k,
 )
 puts_safe {t = t} {w = w} {op = op} u env r (suc n) slot h ret ex q p run s k o f l b =
     ((b n refl, run), λ _. next_safe u (env ++ []) h ret ex q p run (subst (λ m. MarkFits m t.code.own.stack u.size u.opened) (sym (f n refl)) s) k)

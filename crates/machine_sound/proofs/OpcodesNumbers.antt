@@ -30,7 +30,7 @@ fast_safe {t = t} env h second e i p event r (Some m) (Some k) l = from (compute
   where
     from : (o : Option ℤ) → Safe (on_lua t) env (expand (elim o as (λ _. Text) [ None ↦ raise (by_zero event) | Some k ↦ Rattle.machine_core.specs.InstructionRows.then (write_register r (written (integer k))) skip ]))
     from None = raise_safe t env (by_zero event) (place h)
-    from (Some j) = (((let a = h.plain p.3 in omega arith, tt), h.runs), λ _. ends_skip (env ++ []) h second e i p.3)
+    from (Some j) = (((let a = (h.plain p.3).0 in omega arith, tt), h.runs), λ _. ends_skip (env ++ []) h second e i p.3)
 fast_safe env h second e i p event r None k l = ends_next env h p
 fast_safe env h second e i p event r (Some m) None l = ends_next env h p
 
@@ -306,7 +306,7 @@ len_safe t w h = ((sized h refl 1 (b_of w) refl, tt), λ v. operate_safe t (v �
 pub joins_safe : {t : Top} {w : Instruction} → Here t w Concat → (i : ℕ) (env : List Value) (x : Arg) → i < b_of w → a_of w + i < t.code.own.stack → ArgOk x → Safe (on_lua t) env (expand (joins (a_of w) i x))
 joins_safe {t = t} {w = w} h zero env x b l a = ends_write env (a_of w) x h (refl, refl, refl, refl) (reg h 0 (a_of w) refl) a
 joins_safe {t = t} {w = w} h (suc i) env x b l a = (
-  (within (a_of w) i t.code.own.stack t.size l (h.plain refl), tt),
+  (within (a_of w) i t.code.own.stack t.size l (h.plain refl).0, tt),
   λ u.
       operate_safe t (env ++ u ∷ []) concat (read (length env) ∷ x ∷ []) (for_concat i) (joins (a_of w) i (read 0)) ((tt, (a, tt)), refl) (may_wait (for_concat i) h refl (le_true (i + 2) (b_of w) (less i (b_of w) b)) refl refl tt)
       (λ vs. joins_safe h i vs (read 0) (before i (b_of w) b) (below (a_of w) i t.code.own.stack l) tt),

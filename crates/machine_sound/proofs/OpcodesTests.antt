@@ -188,23 +188,23 @@ closable_safe : (t : Top) (env : List Value) (text : List ℕ) (x : Text) → Ha
 closable_safe t env text x p s true = s
 closable_safe t env text x p s false = raise_safe t (env ++ []) text p
 
-marks_safe : {t : Top} {w : Instruction} {op : Opcode} (r : ℕ) (x : Text) → Here t w op → r < t.size → r < t.code.own.stack → ((u : Top) (env : List Value) → u.code ≡ t.code → u.pc ≡ t.pc → IsTrue u.runs → u.size ≡ t.size → u.cells ≡ t.cells → Safe (on_lua u) env (expand x)) → Safe (on_lua t) [] (expand (marks t.code t.pc r x))
+marks_safe : {t : Top} {w : Instruction} {op : Opcode} (r : ℕ) (x : Text) → Here t w op → r < t.size → r < t.code.own.stack → ((u : Top) (env : List Value) → u.code ≡ t.code → u.pc ≡ t.pc → IsTrue u.runs → u.size ≡ t.size → u.opened ≡ t.opened → u.cells ≡ t.cells → Safe (on_lua u) env (expand x)) → Safe (on_lua t) [] (expand (marks t.code t.pc r x))
 marks_safe {t = t} r x h l b s = ((l, tt), λ v. from v (holds (shape v)))
   where
     from : (v : Value) (q : Bool) → Safe (on_lua t) (v ∷ []) (expand (cond q (Rattle.machine_core.specs.Text.closable (read 0) (variable_name t.code t.pc r) (then (mark_pending r) x)) x))
-    from v true = (tt, λ yes. closable_safe t (v ∷ []) (codes "variable '" ++ variable_name t.code t.pc r ++ codes "' got a non-closable value") (then (mark_pending r) x) (place h) (((l, b), h.runs), λ _. s (record t { pending = t.code.own.stack }) (v ∷ []) refl refl h.runs refl refl) yes)
-    from v false = s t (v ∷ []) refl refl h.runs refl refl
+    from v true = (tt, λ yes. closable_safe t (v ∷ []) (codes "variable '" ++ variable_name t.code t.pc r ++ codes "' got a non-closable value") (then (mark_pending r) x) (place h) (((l, b), h.runs), λ _. s (record t { pending = t.code.own.stack }) (v ∷ []) refl refl h.runs refl refl refl) yes)
+    from v false = s t (v ∷ []) refl refl h.runs refl refl refl
 
 pub tbc_safe : RowSafe Tbc
 tbc_safe t w h = marks_safe (a_of w) next h (sized h refl 0 (a_of w) refl) (reg h 0 (a_of w) refl)
-    (λ u env c p r s k. on_next u env h (refl, refl, refl, refl) c p r (s ∙ h.plain refl) (let e = h.cells in omega arith))
+    (λ u env c p r s o k. on_next u env h (refl, refl, refl, refl) c p r (s ∙ (h.plain refl).0, o ∙ (h.plain refl).1) (let e = h.cells in omega arith))
 
 ahead_one : (pc n : ℕ) → pos pc +ℤ pos (n + 1) ≡ pos (pc + 1 + n)
 ahead_one pc n = grind arith
 
 pub t_for_prep_safe : RowSafe TForPrep
 t_for_prep_safe t w h = marks_safe (a_of w + 3) (go_by (pos (bx_of w + 1))) h (sized h refl 0 (a_of w + 3) refl) (reg h 0 (a_of w + 3) refl)
-    (λ u env c p r s k. on_land u env (pos (bx_of w + 1)) (pos (t.pc + 1 + bx_of w)) h refl (ahead_one t.pc (bx_of w)) c p r (s ∙ h.plain refl) (let e = h.cells in omega arith))
+    (λ u env c p r s o k. on_land u env (pos (bx_of w + 1)) (pos (t.pc + 1 + bx_of w)) h refl (ahead_one t.pc (bx_of w)) c p r (s ∙ (h.plain refl).0, o ∙ (h.plain refl).1) (let e = h.cells in omega arith))
 
 pub t_for_loop_safe : RowSafe TForLoop
 t_for_loop_safe t w h = ((sized h refl 0 (a_of w + 4) refl, tt), λ v. from v)
@@ -235,7 +235,7 @@ pub closes_safe : {t : Top} {w : Instruction} (env : List Value) → Here t w Cl
 closes_safe {t = t} {w = w} env h = ((tt, tt), λ o. from o)
   where
     wait : WaitsAs for_close (record t { cells = a_of w; captured = [] })
-    wait = record { place = moved_place (record t { cells = a_of w; captured = [] }) (place h) refl refl; fits = refl; size = h.plain refl; kept = (let e = h.pending in omega arith); error = tt }
+    wait = record { place = moved_place (record t { cells = a_of w; captured = [] }) (place h) refl refl; fits = refl; size = (h.plain refl).0; kept = (let e = h.pending in omega arith); opened = (h.plain refl).1; error = tt }
 
     from : (o : Option Value) → Safe (on_lua t) (env ++ list_of_option o) (expand (cond (is_there o) (close (read (length env)) (written nil) for_close (close_cells (a_of w) ∷ take_pending (a_of w) ∷ [])) (then (close_cells (a_of w)) next)))
     from None = ((tt, h.runs), λ _. on_next (record t { cells = a_of w; captured = [] }) env h (refl, refl, refl, refl) refl refl h.runs (h.plain refl) (let l = reg h 0 (a_of w) refl in least (a_of w) t.code.own.stack l))

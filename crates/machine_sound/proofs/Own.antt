@@ -1,5 +1,5 @@
 -- Moves on the own activation keep what is known of it.
-use Rattle.std.proofs.Common.{ℕ, zero, suc, ◌+◌, ◌-◌, ◌<◌, ◌≤◌, ◌≡◌, List, [], ◌∷◌, ◌++◌, Some, refl, subst, sym, ap, ◌∙◌, length, take, drop, arith, Bool, true, false}
+use Rattle.std.proofs.Common.{ℕ, zero, suc, ◌+◌, ◌<◌, ◌≤◌, ◌≡◌, List, [], ◌∷◌, ◌++◌, Some, refl, subst, sym, ap, ◌∙◌, length, take, drop, arith, Bool, true, false}
 use Rattle.std.specs.Prelude.{slice_get, cond, max, nat_eq, nat_le, nat_lt, not, ◌&&◌, IsSome, filter}
 use Rattle.std.proofs.lemmas.Bool.Decides.{nat_tests}
 use Rattle.int_core.specs.Value.{Value, known, nil, nth, range, write, write_all}

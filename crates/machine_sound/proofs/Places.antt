@@ -18,13 +18,13 @@ use Rattle.machine_sound.proofs.Rules.{RulesAt, rules_at, opcode_there, or_of, e
 use Rattle.machine_sound.proofs.Lists.{get_there, some_is}
 use Rattle.machine_sound.proofs.Values.{lt_of, le_of, both_of}
 
--- a running frame at an instruction of checked code; where the instruction takes no open list, it has the registers of its code
+-- a running frame at an instruction of checked code; where the instruction takes no open list, it has the registers of its code, and no list
 pub record Here (t : Top) (w : Instruction) (op : Opcode) : Type 0 where
   pub checked : CodeIsChecked t.code
   pub at_pc : at t.code t.pc ≡ Some w
   pub is_opcode : opcode_of w ≡ Some op
   pub rule : RulesAt t.code t.pc w op
-  pub plain : takes_list op w ≡ false → t.size ≡ t.code.own.stack
+  pub plain : takes_list op w ≡ false → MarkFits fixed t.code.own.stack t.size t.opened
   pub pending : t.pending ≡ t.code.own.stack
   pub cells : t.cells ≡ t.code.own.stack
   pub runs : IsTrue t.runs
@@ -68,10 +68,10 @@ pub record Listed (t : Top) (w : Instruction) : Type 0 where
 
 module _ (t : Top) (w : Instruction) (op : Opcode) (c : CodeIsChecked t.code) (a : at t.code t.pc ≡ Some w) (o : opcode_of w ≡ Some op) (f : MarkFits (mark t.code t.pc) t.code.own.stack t.size t.opened) where
   -- where no list is taken there are the registers of the code alone
-  pub plain_there : takes_list op w ≡ false → t.size ≡ t.code.own.stack
+  pub plain_there : takes_list op w ≡ false → MarkFits fixed t.code.own.stack t.size t.opened
   plain_there n = from (mark t.code t.pc) refl f
     where
-      from : (m : Mark) → mark t.code t.pc ≡ m → MarkFits m t.code.own.stack t.size t.opened → t.size ≡ t.code.own.stack
+      from : (m : Mark) → mark t.code t.pc ≡ m → MarkFits m t.code.own.stack t.size t.opened → MarkFits fixed t.code.own.stack t.size t.opened
       from fixed e f = f
       from (open_from r) e f = let k = (taken t.code t.pc r w op c a o e).0 in absurd (cc)
 

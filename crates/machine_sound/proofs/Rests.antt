@@ -44,7 +44,7 @@ fails_safe t env p q = ((tt, tt), λ o. from o)
       λ g. call_safe t ((env ++ v ∷ []) ++ g ∷ arg (env ++ v ∷ []) (read (length env)) ∷ arg (env ++ v ∷ []) (read 0) ∷ []) (read (length (env ++ v ∷ []))) (suc (length (env ++ v ∷ []))) (leaving (read 0)) left_so (record {
         callee = tt;
         prepares = (tt, (tt, (omega arith, tt)));
-        waits = record { place = moved_place (record t { cells = 0; captured = []; size = t.code.own.stack; opened = 0 }) p refl refl; fits = refl; size = refl; kept = q; error = tt };
+        waits = record { place = moved_place (record t { cells = 0; captured = []; size = t.code.own.stack; opened = 0 }) p refl refl; fits = refl; size = refl; kept = q; opened = refl; error = tt };
       }),
     )
 
@@ -55,6 +55,7 @@ pub record Back (t : Top) (w : Instruction) (op : Opcode) : Type 0 where
   pub is_opcode : opcode_of w ≡ Some op
   pub pending : t.pending ≡ t.code.own.stack
   pub cells : t.cells ≡ t.size
+  pub opened : t.opened ≡ 0
   pub runs : IsTrue t.runs
 
 here : {t : Top} {w : Instruction} {op : Opcode} → Back t w op → t.size ≡ t.code.own.stack → Here t w op
@@ -63,7 +64,7 @@ here {t = t} {w = w} {op = op} b s = record {
   at_pc = b.at_pc;
   is_opcode = b.is_opcode;
   rule = rules_at t.code t.pc w op b.checked b.at_pc b.is_opcode;
-  plain = λ _. s;
+  plain = λ _. (s, b.opened);
   pending = b.pending;
   cells = b.cells ∙ s;
   runs = b.runs;
@@ -72,9 +73,9 @@ here {t = t} {w = w} {op = op} b s = record {
 abbrev back_place : {t : Top} {w : Instruction} {op : Opcode} → Back t w op → HasPlace t
 back_place {w = w} {op = op} b = record { instruction = w; at_pc = b.at_pc; opcode = op; is_opcode = b.is_opcode }
 
-call_back : {t : Top} {w : Instruction} (vs : List Value) → Here t w Call → t.size ≡ t.code.own.stack → Safe (on_lua t) vs (expand (write_values (a_of w) (c_of w) 0))
-call_back {t = t} {w = w} vs h s =
-    puts_safe t vs (a_of w) (c_of w) 0 h refl refl refl refl h.runs s (let e = h.cells in omega arith)
+call_back : {t : Top} {w : Instruction} (vs : List Value) → Here t w Call → t.size ≡ t.code.own.stack → t.opened ≡ 0 → Safe (on_lua t) vs (expand (write_values (a_of w) (c_of w) 0))
+call_back {t = t} {w = w} vs h s o =
+    puts_safe t vs (a_of w) (c_of w) 0 h refl refl refl refl h.runs (s, o) (let e = h.cells in omega arith)
     (λ e. ap (λ (b : Bool). opened (if b then Some (a_of w) else None)) (zero_is (c_of w) e))
     (λ n e. ap (λ (b : Bool). opened (if b then Some (a_of w) else None)) (not_zero (c_of w) n e))
     (λ e. (let l = reg h 0 (a_of w) refl in less (a_of w) t.size t.code.own.stack s l))
@@ -99,9 +100,9 @@ call_back {t = t} {w = w} vs h s =
         within : (a m size stack : ℕ) → size ≡ stack → a + m < stack → behind a (suc m) ≤ size
         within a m size stack s l = omega arith
 
-iterator_back : {t : Top} {w : Instruction} (vs : List Value) → Here t w TForCall → t.size ≡ t.code.own.stack → Safe (on_lua t) vs (expand (write_values (a_of w + 4) (c_of w + 1) 0))
-iterator_back {t = t} {w = w} vs h s =
-    puts_safe t vs (a_of w + 4) (c_of w + 1) 0 h refl refl refl refl h.runs s (let e = h.cells in omega arith)
+iterator_back : {t : Top} {w : Instruction} (vs : List Value) → Here t w TForCall → t.size ≡ t.code.own.stack → t.opened ≡ 0 → Safe (on_lua t) vs (expand (write_values (a_of w + 4) (c_of w + 1) 0))
+iterator_back {t = t} {w = w} vs h s o =
+    puts_safe t vs (a_of w + 4) (c_of w + 1) 0 h refl refl refl refl h.runs (s, o) (let e = h.cells in omega arith)
     (λ e. absurd (omega arith)) (λ n e. refl) (λ e. absurd (omega arith))
     (λ n e. there_all n (let k : n ≡ c_of w = omega arith in k))
   where
@@ -141,8 +142,8 @@ self_back {t = t} {w = w} vs h = ends_write vs (a_of w) (read 0) h (refl, refl, 
     below a n l = omega arith
 
 pub rest_safe : (wait : Wait Value) (op : Opcode) (t : Top) (w : Instruction) (vs : List Value) → Back t w op → IsTrue (waits_at wait op w) → t.size ≡ waiting_size wait w t.code.own.stack → Safe (on_lua t) vs (expand (rest wait t.code t.pc op w))
-rest_safe for_call Call t w vs b f s = call_back vs (here b s) s
-rest_safe for_iterator TForCall t w vs b f s = iterator_back vs (here b s) s
+rest_safe for_call Call t w vs b f s = call_back vs (here b s) s b.opened
+rest_safe for_iterator TForCall t w vs b f s = iterator_back vs (here b s) s b.opened
 rest_safe for_value GetTabUp t w vs b f s = value_back vs (here b s) (refl, refl, refl, refl) refl
 rest_safe for_value GetTable t w vs b f s = value_back vs (here b s) (refl, refl, refl, refl) refl
 rest_safe for_value GetI t w vs b f s = value_back vs (here b s) (refl, refl, refl, refl) refl

@@ -15,7 +15,7 @@ use Rattle.machine_core.specs.InstructionRows.{next, skip, to_register}
 use Rattle.machine_core.specs.Moves.{settle, CallShape, is_entered, is_primitive, not_paid, not_entered, place_from, is_found, only, is_asked, is_fault}
 use Rattle.machine_core.specs.FrameRows.{expand, raises, call_row, after_call}
 use Rattle.machine_sound.specs.Sound.{Top, waits_at, waiting_size, kept_below, is_extra, MarkFits, Fits}
-use Rattle.machine_sound.specs.Safe.{on_lua, TopReady, ArgOk, ArgsOk, WaitArgOk, HasPlace, WaitsAs, MayEnter, SettledEvent, has_found, asks_for, fails_with, Safe, after_entering, after_all, settled_values, settled_told}
+use Rattle.machine_sound.specs.Safe.{on_lua, TopReady, ArgOk, WaitArgOk, HasPlace, WaitsAs, MayEnter, SettledEvent, has_found, asks_for, fails_with, Safe, after_entering, after_all, settled_values, settled_told}
 use Rattle.machine_sound.proofs.Lists.{get_within}
 use Rattle.machine_sound.proofs.Values.{lt_of, both_of, all_get}
 use Rattle.machine_sound.proofs.Rules.{rules_at, opcode_there, or_of, same_opcode, extra_behind, extra_is}
@@ -30,11 +30,11 @@ IsPlain op w = (is_return op ≡ false) × (extra_behind (second_half op w) ≡ 
 pub reg : {t : Top} {w : Instruction} {op : Opcode} → Here t w op → (i r : ℕ) → slice_get (registers op w) i ≡ Some r → r < t.code.own.stack
 reg {t = t} {w = w} {op = op} h i r e = lt_of r t.code.own.stack (all_get (λ r. nat_lt r t.code.own.stack) (registers op w) h.rule.registers_there i r e)
 
-pub plain_size : {t : Top} {w : Instruction} {op : Opcode} → Here t w op → takes_list op w ≡ false → t.size ≡ t.code.own.stack
+pub plain_size : {t : Top} {w : Instruction} {op : Opcode} → Here t w op → takes_list op w ≡ false → MarkFits fixed t.code.own.stack t.size t.opened
 plain_size h n = h.plain n
 
 pub sized : {t : Top} {w : Instruction} {op : Opcode} → Here t w op → takes_list op w ≡ false → (i r : ℕ) → slice_get (registers op w) i ≡ Some r → r < t.size
-sized h n i r e = let a = h.plain n in let b = reg h i r e in omega arith
+sized h n i r e = let a = (h.plain n).0 in let b = reg h i r e in omega arith
 
 there_within : {A : Type 0} (test : A → Bool) (xs : List A) (n : ℕ) → IsTrue (there test (slice_get xs n)) → n < length xs
 there_within test xs n h = from (slice_get xs n) refl h
@@ -52,10 +52,10 @@ up {t = t} {w = w} {op = op} h i u e = lt_of u (length t.code.own.upvalues) (all
 
 -- the next place
 
-fits_fixed : (m : Mark) (stack size opened : ℕ) → m ≡ fixed → size ≡ stack → MarkFits m stack size opened
+fits_fixed : (m : Mark) (stack size opened : ℕ) → m ≡ fixed → MarkFits fixed stack size opened → MarkFits m stack size opened
 fits_fixed m stack size opened e s = subst (λ m. MarkFits m stack size opened) (sym e) s
 
-pub on_next : {t : Top} {w : Instruction} {op : Opcode} (u : Top) (env : List Value) → Here t w op → IsPlain op w → u.code ≡ t.code → u.pc ≡ t.pc → IsTrue u.runs → u.size ≡ t.code.own.stack → u.cells ≤ t.code.own.stack → Safe (on_lua u) env (expand next)
+pub on_next : {t : Top} {w : Instruction} {op : Opcode} (u : Top) (env : List Value) → Here t w op → IsPlain op w → u.code ≡ t.code → u.pc ≡ t.pc → IsTrue u.runs → MarkFits fixed t.code.own.stack u.size u.opened → u.cells ≤ t.code.own.stack → Safe (on_lua u) env (expand next)
 on_next {t = t} {w = w} {op = op} u env h p c q r s k = next_safe u env h p.0 p.1 c q r (fits_fixed (opened (opens op w)) t.code.own.stack u.size u.opened p.2 s) k
 
 pub ends_next : {t : Top} {w : Instruction} {op : Opcode} (env : List Value) → Here t w op → IsPlain op w → Safe (on_lua t) env (expand next)
@@ -63,7 +63,7 @@ ends_next {t = t} env h p = on_next t env h p refl refl h.runs (h.plain p.3) (le
 
 -- a register is written, and on
 pub ends_write : {t : Top} {w : Instruction} {op : Opcode} (env : List Value) (r : ℕ) (x : Arg) → Here t w op → IsPlain op w → r < t.code.own.stack → ArgOk x → Safe (on_lua t) env (expand (to_register r x))
-ends_write {t = t} env r x h p l a = (((let e = h.plain p.3 in omega arith, a), h.runs), λ _. ends_next (env ++ []) h p)
+ends_write {t = t} env r x h p l a = (((let e = (h.plain p.3).0 in omega arith, a), h.runs), λ _. ends_next (env ++ []) h p)
 
 -- pairs
 
@@ -95,7 +95,7 @@ abbrev pub IsSecond : Opcode → Type 0
 IsSecond second = (v : Instruction) → (is_return second ≡ false) × (extra_behind (second_half second v) ≡ false) × (opened (opens second v) ≡ fixed)
 
 -- past the second half
-pub on_skip : {t : Top} {w : Instruction} {op : Opcode} (u : Top) (env : List Value) → Here t w op → (second : Opcode) → second_half op w ≡ Some second → IsSecond second → u.code ≡ t.code → u.pc ≡ t.pc → IsTrue u.runs → u.size ≡ t.code.own.stack → u.cells ≤ t.code.own.stack → Safe (on_lua u) env (expand skip)
+pub on_skip : {t : Top} {w : Instruction} {op : Opcode} (u : Top) (env : List Value) → Here t w op → (second : Opcode) → second_half op w ≡ Some second → IsSecond second → u.code ≡ t.code → u.pc ≡ t.pc → IsTrue u.runs → MarkFits fixed t.code.own.stack u.size u.opened → u.cells ≤ t.code.own.stack → Safe (on_lua u) env (expand skip)
 on_skip {t = t} {w = w} {op = op} u env h second e i c q r s k =
     let v = second_there h second e in
     let j = i v.instruction in
@@ -137,7 +137,7 @@ fixed_of fixed h = refl
 fixed_of (open_from r) h = absurd (cc)
 
 -- a jump to the instruction's target
-pub on_land : {t : Top} {w : Instruction} {op : Opcode} (u : Top) (env : List Value) (d z : ℤ) → Here t w op → target t.pc op w ≡ Some z → pos t.pc +ℤ d ≡ z → u.code ≡ t.code → u.pc ≡ t.pc → IsTrue u.runs → u.size ≡ t.code.own.stack → u.cells ≤ t.code.own.stack → Safe (on_lua u) env (expand (go_by d))
+pub on_land : {t : Top} {w : Instruction} {op : Opcode} (u : Top) (env : List Value) (d z : ℤ) → Here t w op → target t.pc op w ≡ Some z → pos t.pc +ℤ d ≡ z → u.code ≡ t.code → u.pc ≡ t.pc → IsTrue u.runs → MarkFits fixed t.code.own.stack u.size u.opened → u.cells ≤ t.code.own.stack → Safe (on_lua u) env (expand (go_by d))
 on_land {t = t} {w = w} {op = op} u env d z h e q c p r s k =
     let l = lands_at t.code z h.checked (subst (λ o. IsTrue (is_landing t.code o)) e h.rule.landing) in
     let lf = (both_of (is_taken t.code t.pc (leaves w)) _ h.rule.lists).1 in
@@ -193,4 +193,4 @@ operate_safe t env op xs wait rest a w k = (a, λ e. ends e)
 
 -- the frame may wait where it stands
 pub may_wait : {t : Top} {w : Instruction} {op : Opcode} (wait : Wait Arg) → Here t w op → takes_list op w ≡ false → IsTrue (waits_at wait op w) → waiting_size wait w t.code.own.stack ≡ t.code.own.stack → kept_below wait w t.code.own.stack ≡ t.code.own.stack → WaitArgOk wait → WaitsAs wait t
-may_wait {t = t} wait h n f s k e = record { place = place h; fits = f; size = h.plain n ∙ sym s; kept = (let a = h.pending in omega arith); error = e }
+may_wait {t = t} wait h n f s k e = record { place = place h; fits = f; size = (h.plain n).0 ∙ sym s; kept = (let a = h.pending in omega arith); opened = (h.plain n).1; error = e }

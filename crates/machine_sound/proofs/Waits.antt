@@ -156,7 +156,7 @@ module _ (n : ℕ) (P : World) (s : Solid n P) (h : StackWaits n P) (vs : List V
             captured = each_none (λ r. IsSome (find_open h.coroutine (length h.frames) r V.cells));
             wait = refl;
           };
-          fits = record { instruction = w.0; at_pc = w.1; opcode = op.0; is_opcode = op.1; no_extra = first_no_extra g.code w.0 op.0 (s.functions m g there).code.code w.1 op.1; fits_mark = refl; cells = omega arith };
+          fits = record { instruction = w.0; at_pc = w.1; opcode = op.0; is_opcode = op.1; no_extra = first_no_extra g.code w.0 op.0 (s.functions m g there).code.code w.1 op.1; fits_mark = (refl, refl); cells = omega arith };
         }
 
     entered : Entered n P (length h.frames) (made (push_all P (new_frame m g.code vs ∷ [])) [] is_entered)

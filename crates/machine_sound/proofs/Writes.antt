@@ -112,6 +112,7 @@ written_waits z l r v b h = record {
   fits = h.fits;
   size = written_size l r v b ∙ h.size;
   kept = h.kept;
+  opened = h.opened;
 }
 
 standing_same : (c : Coroutine) (fs gs : List Frame) → frames_of c ≡ Some fs → standing (with_frames c gs) ≡ standing c

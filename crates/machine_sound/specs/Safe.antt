@@ -198,6 +198,7 @@ pub record WaitsAs (wait : Wait Arg) (t : Top) : Type 0 where
   pub fits : IsTrue (waits_at wait place.opcode place.instruction)
   pub size : t.size ≡ waiting_size wait place.instruction (stack_of t)
   pub kept : t.pending ≤ kept_below wait place.instruction (stack_of t)
+  pub opened : t.opened ≡ 0
   pub error : WaitArgOk wait
 
 pub record MayEnter (t : Top) (env : List Value) (f : Arg) (wait : Wait Arg) (prepared : List Own) : Type 0 where

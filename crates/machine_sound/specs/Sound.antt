@@ -137,7 +137,7 @@ kept_below for_call w stack = a_of w
 kept_below for_iterator w stack = a_of w + 4
 kept_below _ w stack = stack
 
--- a frame fits its wait
+-- a frame fits its wait, and has no open list
 pub record LuaWaits (z : Sizes) (f : LuaFrame) : Type 0 where
   pub function : Function
   pub there : slice_get z.functions f.function ≡ Some function
@@ -148,6 +148,7 @@ pub record LuaWaits (z : Sizes) (f : LuaFrame) : Type 0 where
   pub fits : IsTrue (waits_at f.wait opcode instruction)
   pub size : length f.own.registers ≡ waiting_size f.wait instruction function.code.own.stack
   pub kept : Each (λ r. r < kept_below f.wait instruction function.code.own.stack) f.own.pending
+  pub opened : f.own.opened ≡ 0
 
 abbrev pub FrameWaits : Sizes → Frame → Type 0
 FrameWaits z (lua f) = LuaWaits z f
@@ -266,9 +267,9 @@ pub record TopIs (primitives : ℕ) (t : Top) (W : World) : Type 0 where
   pub captured : Each (λ r. IsSome (find_open coroutine (length base) r W.cells)) t.captured
   pub wait : RunsOrWaits t.runs (sizes primitives W) top
 
--- the registers of a running frame are those of its code, and an open list may stand past them
+-- the registers of a running frame are those of its code, and an open list may stand past them; where there is none it has no values
 abbrev pub MarkFits : Mark → (stack size opened : ℕ) → Type 0
-MarkFits fixed stack size opened = size ≡ stack
+MarkFits fixed stack size opened = (size ≡ stack) × (opened ≡ 0)
 MarkFits (open_from r) stack size opened = size ≡ max stack (r + opened)
 
 abbrev pub is_extra : Opcode → Bool

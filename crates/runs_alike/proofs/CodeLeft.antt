@@ -1,5 +1,5 @@
 -- An activation of code that is left from above while it waits goes on by closing what it has pending, and leaves.
-use Rattle.std.proofs.Common.{◌≡◌, ℕ, suc, ◌-◌, Bool, true, false, cond, List, [], ◌∷◌, ◌++◌, length, take, Option, Some, None, refl, ◌∙◌, ap, arith, length-take}
+use Rattle.std.proofs.Common.{◌≡◌, ℕ, Bool, true, false, cond, List, [], ◌∷◌, ◌++◌, length, Option, Some, None, refl, ◌∙◌, ap}
 use Rattle.std.specs.Prelude.{slice_get}
 use Rattle.int_core.specs.Value.{Value, nth, bind}
 use Rattle.int_core.specs.Ask.{CellName, Ask, makes_function, closes, leaves, throws, left, Reply, IsReplyTo, Next, goes_on, says, stuck, Captured, cell_held, held_below, brought}

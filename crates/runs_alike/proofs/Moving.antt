@@ -3,7 +3,7 @@ use Rattle.std.proofs.Common.{◌≡◌, ℕ, zero, suc, Bool, true, false, cond
 use Rattle.std.specs.Prelude.{slice_get, slice_set}
 use Rattle.int_core.specs.Value.{Value}
 use Rattle.int_core.specs.Limits.{stack_overflow}
-use Rattle.lua_meaning.specs.World.{System, Function, Asker, Frame, talking, waiting, raising, protected, handled_by, handling, closing, Coroutine, fresh, suspended, running, normal, dead, failed, Now, talks, gives_back, raises_error, unwinds, calls_primitive, ends, World, now_in, breaks, on_frames, has_room, runs_main, position_of, positions_of, where_at, where_among, blamed, raises_text, shared_out, second, given_to, answered, answered_at_once}
+use Rattle.lua_meaning.specs.World.{System, Function, Frame, talking, waiting, raising, protected, handled_by, handling, closing, Coroutine, fresh, suspended, running, normal, dead, failed, Now, gives_back, raises_error, World, now_in, on_frames, has_room, runs_main, position_of, positions_of, where_at, where_among, blamed, raises_text}
 use Rattle.lua_meaning.specs.Calls.{frames_in, back_to, returns_all, fails_all, all_pending, yields}
 use Rattle.runs_alike.proofs.Dressed.{Part, state, goes, dress_frame, dress, dress_coroutine, dress_coroutines, dress_world, FrameLike, FramesLike, CoroutineLike, CoroutinesLike, Like, Out, pending_same, length_same}
 
