@@ -30,7 +30,7 @@ use Rattle.exp_laws.specs.Setting.{Setting}
 use Rattle.exp_laws.proofs.Talking.{Agree, go_left, go_right, of_tree, of_code}
 use Rattle.exp_laws.proofs.Placing.{HasAt, has_front, has_back}
 use Rattle.exp_laws.specs.Placed.{IsPlaced}
-use Rattle.code_of.specs.Rooms.{room_of, room_of_name, room_of_self, room_of_list, room_of_values}
+use Rattle.code_of.specs.Rooms.{room_of, room_of_name, room_of_list, room_of_values}
 use Rattle.exp_laws.proofs.Going.{Goes, next_there}
 use Rattle.exp_laws.proofs.Tests.{test_on, test_past, jump_step}
 use Rattle.stat_laws.proofs.Closing.{AllBelow, ends_goes}
@@ -78,7 +78,7 @@ module _ (S : Setting) where
       room_of_some (GlobalOf u) text = global_some (nat_lt (number_in S.code.own.constants (StrConst text)) 256)
   room_any (Index l o key) field some = or_max (room_of S.code.own.constants o 2) (1 + room_of S.code.own.constants key 2) (room_any o 2 (omega arith))
   room_any (Call l f es) field some = or_max (room_of S.code.own.constants f 2) (max (room_of_list S.code.own.constants 1 es None) (room_of_values field)) (room_any f 2 (omega arith))
-  room_any (Method l o name es) field some = or_max (room_of S.code.own.constants o 2) (max (max (room_of_self S.code.own.constants name.text) (room_of_list S.code.own.constants 2 es None)) (room_of_values field)) (room_any o 2 (omega arith))
+  room_any (Method l o name es) field some = or_max (room_of S.code.own.constants o 2) _ (room_any o 2 (omega arith))
   room_any (Unary l op e) field some = room_any e 2 (omega arith)
   room_any (Binary l op e d) field some = or_max (room_of S.code.own.constants e 2) (1 + room_of S.code.own.constants d 2) (room_any e 2 (omega arith))
   room_any (And l e d) field some = or_max (room_of S.code.own.constants e 2) (room_of S.code.own.constants d 2) (room_any e 2 (omega arith))
