@@ -1,0 +1,106 @@
+-- What contracts see of a coroutine's stack: its frames from the bottom, with the values that are kept, and its open cells in the order of
+-- their frames and registers. `frames` reads them as the machine's frames, by what the kept values stand for.
+use Rattle.std.specs.Prelude.{◌≡◌, ℕ, List, [], ◌∷◌, ◌++◌, map, Option, Some, None, slice_get}
+use Rattle.int_core.specs.Value.{Value, known, nil, last}
+use Rattle.machine_core.specs.World.{Wait, running, for_call, for_iterator, for_value, for_truth, dropped, for_concat, for_close, returning, leaving, LuaFrame, Frame, lua, pcall, xpcall, handler, closing}
+use Rattle.table_core.specs.declared.value.Value.{Value as Kept}
+use Rattle.table_core.specs.declared.value.Value.TheVariants.{Nil}
+use Rattle.lua_stack.specs.declared.frame.Wait.{Wait as KeptWait}
+use Rattle.lua_stack.specs.declared.frame.Wait.TheVariants.{Running, ForCall, ForIterator, ForValue, ForTruth, Dropped, ForConcat, ForClose, Returning, Leaving}
+use Rattle.lua_stack.specs.declared.frame.OpenCell.{OpenCell}
+use Rattle.lua_stack.specs.declared.frame.Top.{Top}
+use Rattle.lua_stack.specs.declared.frame.Top.TheVariants.{None as NoTop, Lua as TopLua, Pcall as TopPcall, Xpcall as TopXpcall, Handler as TopHandler, Closing as TopClosing}
+
+pub record KeptLua : Type 0 where
+  pub function : ℕ
+  pub wait : KeptWait
+  pub pc : ℕ
+  pub registers : List Kept
+  pub varargs : List Kept
+  pub pending : List ℕ
+  pub opened : ℕ
+
+pub data KeptFrame : Type 0 where
+  kept_lua : KeptLua → KeptFrame
+  kept_pcall : KeptFrame
+  kept_xpcall : (message_handler : Kept) → KeptFrame
+  kept_handler : KeptFrame
+  kept_closing : (error : Option Kept) → (left : List Kept) → KeptFrame
+
+pub record KeptStack : Type 0 where
+  pub frames : List KeptFrame
+  pub open_cells : List OpenCell
+
+module _ (value : Kept → Value) where
+  abbrev pub wait_of : KeptWait → Wait Value
+  wait_of Running = running
+  wait_of ForCall = for_call
+  wait_of ForIterator = for_iterator
+  wait_of ForValue = for_value
+  wait_of ForTruth = for_truth
+  wait_of Dropped = dropped
+  wait_of (ForConcat left) = for_concat left
+  wait_of ForClose = for_close
+  wait_of (Returning count) = returning count
+  wait_of (Leaving error) = leaving (value error)
+
+  abbrev pub lua_of : KeptLua → LuaFrame
+  lua_of t = record {
+    function = t.function;
+    wait = wait_of t.wait;
+    own = record { pc = t.pc; registers = map value t.registers; varargs = map value t.varargs; pending = t.pending; opened = t.opened };
+  }
+
+  abbrev pub error_of : Option Kept → Option Value
+  error_of None = None
+  error_of (Some e) = Some (value e)
+
+  abbrev pub frame_of : KeptFrame → Frame
+  frame_of (kept_lua t) = lua (lua_of t)
+  frame_of kept_pcall = pcall
+  frame_of (kept_xpcall h) = xpcall (value h)
+  frame_of kept_handler = handler
+  frame_of (kept_closing error left) = closing (error_of error) (map value left)
+
+  -- the machine's frames, from the bottom
+  abbrev pub frames : KeptStack → List Frame
+  frames s = map frame_of s.frames
+
+-- a way to read kept values, which reads nil as nil
+pub record Reading : Type 0 where
+  pub value : Kept → Value
+  pub nil_is : value Nil ≡ known nil
+
+abbrev pub frames_by : Reading → KeptStack → List Frame
+frames_by r s = frames r.value s
+
+-- the frame on top is a Lua frame
+pub record HasLuaTop (s : KeptStack) : Type 0 where
+  pub below : List KeptFrame
+  pub top : KeptLua
+  pub is : s.frames ≡ below ++ kept_lua top ∷ []
+
+-- a register of a frame has a cell, which is open
+pub record IsOpen (s : KeptStack) (frame register : ℕ) : Type 0 where
+  pub at : ℕ
+  pub cell : OpenCell
+  pub found : slice_get s.open_cells at ≡ Some cell
+  pub in_frame : cell.frame ≡ frame
+  pub of_register : cell.register ≡ register
+
+-- The frame on top is a Lua frame and becomes what a change makes of it, by each reading; all else stays
+pub record TopBecomes (old new : KeptStack) (change : (Kept → Value) → LuaFrame → LuaFrame) : Type 0 where
+  pub top : (r : Reading) (below : List Frame) (t : LuaFrame) → frames r.value old ≡ below ++ lua t ∷ [] → frames r.value new ≡ below ++ lua (change r.value t) ∷ []
+  pub cells : new.open_cells ≡ old.open_cells
+
+-- what the frame on top is
+abbrev pub top_is : Option KeptFrame → Top
+top_is None = NoTop
+top_is (Some (kept_lua t)) = TopLua
+top_is (Some kept_pcall) = TopPcall
+top_is (Some (kept_xpcall h)) = TopXpcall h
+top_is (Some kept_handler) = TopHandler
+top_is (Some (kept_closing error left)) = TopClosing
+
+abbrev pub IsTop : KeptStack → Top → Type 0
+IsTop s top = top ≡ top_is (last s.frames)

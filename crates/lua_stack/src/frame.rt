@@ -1,0 +1,91 @@
+// The frames of a stack, and the cells that are open in it.
+use table_core::{CellId, FuncId, Value};
+
+/// For what a Lua frame waits.
+#[derive(Clone, Copy, Debug)]
+pub enum Wait {
+    /// It runs.
+    Running,
+    ForCall,
+    ForIterator,
+    ForValue,
+    ForTruth,
+    /// What comes is dropped.
+    Dropped,
+    /// So many operands are left.
+    ForConcat(usize),
+    ForClose,
+    /// It returns so many results.
+    Returning(usize),
+    /// It is left by an error.
+    Leaving(Value),
+}
+
+/// A cell that is open: its variable still stands in a register of a frame.
+#[derive(Clone, Copy, Debug)]
+pub struct OpenCell {
+    pub cell: CellId,
+    pub frame: usize,
+    pub register: usize,
+}
+
+/// What a call needs to know of a function's code.
+#[derive(Clone, Copy, Debug)]
+pub struct Shape {
+    pub params: usize,
+    pub vararg: bool,
+    /// How many registers it has.
+    pub stack: usize,
+}
+
+/// What frame is on top.
+#[derive(Clone, Copy, Debug)]
+pub enum Top {
+    None,
+    Lua,
+    Pcall,
+    Xpcall(Value),
+    Handler,
+    Closing,
+}
+
+/// Which part of the stack's values a frame has.
+#[derive(Clone, Copy, Debug)]
+pub(crate) struct Window {
+    /// Where its values begin: the arguments beyond the parameters come first.
+    pub(crate) start: usize,
+    /// Where its registers begin.
+    pub(crate) base: usize,
+    /// How many of them are its own. The others are nil.
+    pub(crate) kept: usize,
+    pub(crate) size: usize,
+    /// Where its pending registers begin, and how many there are.
+    pub(crate) marks: usize,
+    pub(crate) marked: usize,
+}
+
+/// What a Lua frame runs, and where it goes on.
+#[derive(Clone, Copy, Debug)]
+pub(crate) struct Running {
+    pub(crate) function: FuncId,
+    pub(crate) wait: Wait,
+    pub(crate) pc: usize,
+    /// How many values the open list in front of pc has.
+    pub(crate) opened: usize,
+}
+
+#[derive(Clone, Copy, Debug)]
+pub(crate) enum Kind {
+    Lua(Running),
+    Pcall,
+    Xpcall(Value),
+    Handler,
+    /// Its values are those that are left to be closed.
+    Closing(Option<Value>),
+}
+
+#[derive(Clone, Copy, Debug)]
+pub(crate) struct Record {
+    pub(crate) kind: Kind,
+    pub(crate) window: Window,
+}

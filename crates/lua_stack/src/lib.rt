@@ -1,0 +1,8 @@
+//! The stack of a coroutine (Lua 5.4's ldo.c): its frames, their registers in one list, and its open cells.
+#![tactic(auto)]
+
+mod frame;
+mod stack;
+
+pub use frame::{OpenCell, Shape, Top, Wait};
+pub use stack::Stack;
