@@ -1,50 +1,69 @@
 -- The frame on top, as the last of the frames.
 use Rattle.std.proofs.Common.{◌≡◌, ℕ, List, [], ◌∷◌, ◌++◌, length, map, Option, Some, None, refl, ap, sym, ◌∙◌, subst}
-use Rattle.int_core.specs.Value.{last}
-use Rattle.list_laws.proofs.Ends.{last_is}
+use Rattle.int_core.specs.Value.{last, without_last}
+use Rattle.list_laws.proofs.Ends.{last_is, without_last_is}
+use Rattle.list_laws.proofs.Items.{some_same}
 use Rattle.lua_stack.specs.declared.frame.Record.{Record}
+use Rattle.lua_stack.specs.declared.frame.Running.{Running}
 use Rattle.lua_stack.specs.declared.frame.OpenCell.{OpenCell}
 use Rattle.lua_stack.specs.declared.frame.Kind.{Kind}
-use Rattle.lua_stack.specs.declared.frame.Kind.TheVariants.{Lua, Pcall, Xpcall, Handler, Closing}
+use Rattle.lua_stack.specs.declared.frame.Kind.TheVariants.{Missing, Lua, Pcall, Xpcall, Handler, Closing}
 use Rattle.lua_stack.specs.declared.frame.Window.{Window}
-use Rattle.table_core.specs.declared.value.Value.{Value as Kept}
-use Rattle.lua_stack.specs.Frames.{KeptFrame, KeptStack, top_is, IsTop}
-use Rattle.lua_stack.specs.declared.stack.Stack.TheInside.{Inside}
 use Rattle.lua_stack.specs.declared.frame.Top.{Top}
-use Rattle.lua_stack.specs.View.{frame_at, frame_in, tops, top_in, seen, IsTopOver}
-use Rattle.lua_stack.specs.declared.frame.Top.TheVariants.{None as NoTop}
+use Rattle.lua_stack.specs.declared.stack.Stack.TheInside.{Inside}
+use Rattle.table_core.specs.declared.value.Value.{Value as Kept}
+use Rattle.lua_stack.specs.Frames.{KeptLua, KeptFrame, kept_lua, KeptStack, HasLuaTop, top_is, IsTop}
+use Rattle.lua_stack.specs.View.{frame_at, lua_at, tops, top_in, seen, NoneUnder, IsStack}
 
 pub map_more : {A B : Type 0} (f : A → B) (xs ys : List A) → map f (xs ++ ys) ≡ map f xs ++ map f ys
 map_more f [] ys = refl
 map_more f (x ∷ xs) ys = ap (λ l. f x ∷ l) (map_more f xs ys)
 
-pub last_frame : (values : List Kept) (pending : List ℕ) (below : List Record) (r : Record) → last (map (frame_at values pending) (below ++ r ∷ [])) ≡ Some (frame_at values pending r)
-last_frame values pending below r =
-    ap last (map_more (frame_at values pending) below (r ∷ [])) ∙ last_is (map (frame_at values pending) below) (frame_at values pending r)
+pub last_same : {A : Type 0} (xs ys : List A) (x y : A) → xs ++ x ∷ [] ≡ ys ++ y ∷ [] → x ≡ y
+last_same xs ys x y e = some_same x y (sym (last_is xs x) ∙ ap last e ∙ last_is ys y)
 
-kind_is : (values : List Kept) (pending : List ℕ) (k : Kind) (w : Window) → top_in k ≡ top_is (Some (frame_in values pending k w))
-kind_is values pending (Lua r) w = refl
-kind_is values pending Pcall w = refl
-kind_is values pending (Xpcall h) w = refl
-kind_is values pending Handler w = refl
-kind_is values pending (Closing e) w = refl
+pub front_same : {A : Type 0} (xs ys : List A) (x y : A) → xs ++ x ∷ [] ≡ ys ++ y ∷ [] → xs ≡ ys
+front_same xs ys x y e = sym (without_last_is xs x) ∙ ap without_last e ∙ without_last_is ys y
 
 abbrev pub shown : Inside → KeptStack
 shown a = seen a.values.items a.pending.items a.below.items a.top a.open_cells.items
 
-some_top : (values : List Kept) (pending : List ℕ) (below : List Record) (top : Option Record) (cells : List OpenCell) (r : Record) → top ≡ Some r → IsTop (seen values pending below top cells) (top_in r.kind)
-some_top values pending below top cells r e =
-    subst (λ top. IsTop (seen values pending below top cells) (top_in r.kind)) (sym e)
-    (kind_is values pending r.kind r.window ∙ ap top_is (sym (last_frame values pending below r)))
+abbrev pub stands : Inside → Type 0
+stands a = IsStack a.values.items a.pending.items a.below.items a.top
 
-no_top : (values : List Kept) (pending : List ℕ) (below : List Record) (top : Option Record) (cells : List OpenCell) → top ≡ None → IsTopOver below top → IsTop (seen values pending below top cells) NoTop
-no_top values pending below top cells e o =
-    let b : below ≡ [] = subst (IsTopOver below) e o in
-    subst (λ top. IsTop (seen values pending below top cells) NoTop) (sym e) (subst (λ below. IsTop (seen values pending below None cells) NoTop) (sym b) refl)
+module _ (values : List Kept) (pending : List ℕ) where
+  pub last_frame : (below : List Record) (r : Record) → last (map (frame_at values pending) (below ++ r ∷ [])) ≡ Some (frame_at values pending r)
+  last_frame below r = ap last (map_more (frame_at values pending) below (r ∷ [])) ∙ last_is (map (frame_at values pending) below) (frame_at values pending r)
 
-pub top_there : (a : Inside) (s : KeptStack) (r : Record) (t : Top) → shown a ≡ s → a.top ≡ Some r → t ≡ top_in r.kind → IsTop s t
-top_there a s r t v e k =
-    subst (λ s. IsTop s t) v (k ∙ some_top a.values.items a.pending.items a.below.items a.top a.open_cells.items r e)
+  pub top_seen : (below : List Record) (kind : Kind) (r : Running) (w : Window) (cells : List OpenCell) → NoneUnder kind below
+      → IsTop (seen values pending below (record { kind = kind; running = r; window = w }) cells) (top_in kind)
+  top_seen below Missing r w cells n = subst (λ below. IsTop (seen values pending below (record { kind = Missing; running = r; window = w }) cells) (top_in Missing)) (sym n) refl
+  top_seen below Lua r w cells n = sym (ap top_is (last_frame below (record { kind = Lua; running = r; window = w })))
+  top_seen below Pcall r w cells n = sym (ap top_is (last_frame below (record { kind = Pcall; running = r; window = w })))
+  top_seen below (Xpcall h) r w cells n = sym (ap top_is (last_frame below (record { kind = Xpcall h; running = r; window = w })))
+  top_seen below Handler r w cells n = sym (ap top_is (last_frame below (record { kind = Handler; running = r; window = w })))
+  top_seen below (Closing e) r w cells n = sym (ap top_is (last_frame below (record { kind = Closing e; running = r; window = w })))
 
-pub top_missing : (a : Inside) (s : KeptStack) → shown a ≡ s → a.top ≡ None → IsTopOver a.below.items a.top → IsTop s NoTop
-top_missing a s v e o = subst (λ s. IsTop s NoTop) v (no_top a.values.items a.pending.items a.below.items a.top a.open_cells.items e o)
+pub top_there : (a : Inside) (s : KeptStack) (t : Top) → shown a ≡ s → stands a → t ≡ top_in a.top.kind → IsTop s t
+top_there a s t v i k =
+    subst (λ s. IsTop s t) v (k ∙ top_seen a.values.items a.pending.items a.below.items a.top.kind a.top.running a.top.window a.open_cells.items i.none)
+
+-- a stack on which a Lua frame stands knows so
+kind_lua : (kind : Kind) → top_in kind ≡ top_in Lua → kind ≡ Lua
+kind_lua Missing e = absurd (cc)
+kind_lua Lua e = refl
+kind_lua Pcall e = absurd (cc)
+kind_lua (Xpcall h) e = absurd (cc)
+kind_lua Handler e = absurd (cc)
+kind_lua (Closing x) e = absurd (cc)
+
+pub lua_on_top : (a : Inside) (s : KeptStack) → shown a ≡ s → stands a → HasLuaTop s → a.top.kind ≡ Lua
+lua_on_top a s v i h =
+    let t : IsTop s (top_in a.top.kind) = top_there a s (top_in a.top.kind) v i refl in
+    kind_lua a.top.kind (t ∙ ap (λ fs. top_is (last fs)) h.is ∙ ap top_is (last_is h.below (kept_lua h.top)))
+
+-- its frames
+pub lua_frames : (values : List Kept) (pending : List ℕ) (below : List Record) (top : Record) → top.kind ≡ Lua
+    → map (frame_at values pending) (below ++ tops top) ≡ map (frame_at values pending) below ++ kept_lua (lua_at values pending top.running top.window) ∷ []
+lua_frames values pending below top e =
+    ap (λ k. map (frame_at values pending) (below ++ tops (record top { kind = k }))) e ∙ map_more (frame_at values pending) below (record top { kind = Lua } ∷ [])

@@ -1,1 +1,4 @@
+pub mod Parts
 pub mod Ends
+pub mod Stacked
+pub mod Tops

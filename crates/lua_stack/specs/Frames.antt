@@ -9,7 +9,7 @@ use Rattle.lua_stack.specs.declared.frame.Wait.{Wait as KeptWait}
 use Rattle.lua_stack.specs.declared.frame.Wait.TheVariants.{Running, ForCall, ForIterator, ForValue, ForTruth, Dropped, ForConcat, ForClose, Returning, Leaving}
 use Rattle.lua_stack.specs.declared.frame.OpenCell.{OpenCell}
 use Rattle.lua_stack.specs.declared.frame.Top.{Top}
-use Rattle.lua_stack.specs.declared.frame.Top.TheVariants.{None as NoTop, Lua as TopLua, Pcall as TopPcall, Xpcall as TopXpcall, Handler as TopHandler, Closing as TopClosing}
+use Rattle.lua_stack.specs.declared.frame.Top.TheVariants.{Missing as TopMissing, Lua as TopLua, Pcall as TopPcall, Xpcall as TopXpcall, Handler as TopHandler, Closing as TopClosing}
 
 pub record KeptLua : Type 0 where
   pub function : ℕ
@@ -66,14 +66,6 @@ module _ (value : Kept → Value) where
   abbrev pub frames : KeptStack → List Frame
   frames s = map frame_of s.frames
 
--- a way to read kept values, which reads nil as nil
-pub record Reading : Type 0 where
-  pub value : Kept → Value
-  pub nil_is : value Nil ≡ known nil
-
-abbrev pub frames_by : Reading → KeptStack → List Frame
-frames_by r s = frames r.value s
-
 -- the frame on top is a Lua frame
 pub record HasLuaTop (s : KeptStack) : Type 0 where
   pub below : List KeptFrame
@@ -88,14 +80,33 @@ pub record IsOpen (s : KeptStack) (frame register : ℕ) : Type 0 where
   pub in_frame : cell.frame ≡ frame
   pub of_register : cell.register ≡ register
 
--- The frame on top is a Lua frame and becomes what a change makes of it, by each reading; all else stays
+-- The frame on top is a Lua frame and becomes what a change makes of it, by each reading of the values; all else stays
 pub record TopBecomes (old new : KeptStack) (change : (Kept → Value) → LuaFrame → LuaFrame) : Type 0 where
-  pub top : (r : Reading) (below : List Frame) (t : LuaFrame) → frames r.value old ≡ below ++ lua t ∷ [] → frames r.value new ≡ below ++ lua (change r.value t) ∷ []
+  pub top : (f : Kept → Value) → f Nil ≡ known nil → (below : List Frame) (t : LuaFrame) → frames f old ≡ below ++ lua t ∷ [] → frames f new ≡ below ++ lua (change f t) ∷ []
   pub cells : new.open_cells ≡ old.open_cells
+
+abbrev pub with_pc : ℕ → LuaFrame → LuaFrame
+with_pc pc t = record t { own = record t.own { pc = pc } }
+
+abbrev pub with_wait : Wait Value → LuaFrame → LuaFrame
+with_wait wait t = record t { wait = wait }
+
+abbrev pub with_opened : ℕ → LuaFrame → LuaFrame
+with_opened opened t = record t { own = record t.own { opened = opened } }
+
+abbrev pub with_registers : List Value → LuaFrame → LuaFrame
+with_registers registers t = record t { own = record t.own { registers = registers } }
+
+abbrev pub with_pending : List ℕ → LuaFrame → LuaFrame
+with_pending pending t = record t { own = record t.own { pending = pending } }
+
+-- what the top frame has, where it is a Lua frame
+abbrev pub OnTop : KeptStack → (KeptLua → Type 0) → Type 0
+OnTop s P = (below : List KeptFrame) (t : KeptLua) → s.frames ≡ below ++ kept_lua t ∷ [] → P t
 
 -- what the frame on top is
 abbrev pub top_is : Option KeptFrame → Top
-top_is None = NoTop
+top_is None = TopMissing
 top_is (Some (kept_lua t)) = TopLua
 top_is (Some kept_pcall) = TopPcall
 top_is (Some (kept_xpcall h)) = TopXpcall h

@@ -41,7 +41,7 @@ pub struct Shape {
 /// What frame is on top.
 #[derive(Clone, Copy, Debug)]
 pub enum Top {
-    None,
+    Missing,
     Lua,
     Pcall,
     Xpcall(Value),
@@ -64,7 +64,7 @@ pub(crate) struct Window {
     pub(crate) marked: usize,
 }
 
-/// What a Lua frame runs, and where it goes on.
+/// What a Lua frame runs, and where it goes on. Of another frame nothing here is read.
 #[derive(Clone, Copy, Debug)]
 pub(crate) struct Running {
     pub(crate) function: FuncId,
@@ -76,7 +76,9 @@ pub(crate) struct Running {
 
 #[derive(Clone, Copy, Debug)]
 pub(crate) enum Kind {
-    Lua(Running),
+    /// There is no frame.
+    Missing,
+    Lua,
     Pcall,
     Xpcall(Value),
     Handler,
@@ -87,5 +89,6 @@ pub(crate) enum Kind {
 #[derive(Clone, Copy, Debug)]
 pub(crate) struct Record {
     pub(crate) kind: Kind,
+    pub(crate) running: Running,
     pub(crate) window: Window,
 }

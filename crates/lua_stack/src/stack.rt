@@ -1,23 +1,23 @@
 // The stack of a coroutine.
 ghost use Rattle.std.specs.Prelude.{◌≡◌, [], length};
-ghost use Rattle.lua_stack.specs.Frames.{IsTop};
+ghost use Rattle.lua_stack.specs.Frames.{HasLuaTop, IsTop, OnTop, TopBecomes, with_pc, with_wait, with_opened, wait_of};
 ghost use Rattle.lua_stack.specs.View.{top_in};
 
-use crate::frame::{Kind, OpenCell, Record, Top};
+use crate::frame::{Kind, OpenCell, Record, Running, Top, Wait, Window};
 use std::alloc::Global;
 use std::marker::Model;
-use table_core::Value;
+use table_core::{FuncId, Value};
 
 /// The frames of a coroutine from the bottom, and the cells that are open in it. Contracts see both as lists.
 #[derive(Drop)]
 pub struct Stack {
     /// The registers of all frames.
-    values: Vec<Value>,
+    pub(crate) values: Vec<Value>,
     /// The pending registers of all frames.
-    pending: Vec<usize>,
-    below: Vec<Record>,
-    top: Option<Record>,
-    open_cells: Vec<OpenCell>,
+    pub(crate) pending: Vec<usize>,
+    pub(crate) below: Vec<Record>,
+    pub(crate) top: Record,
+    pub(crate) open_cells: Vec<OpenCell>,
 }
 
 impl Model for Stack {
@@ -42,18 +42,24 @@ impl Stack {
             values: Vec::new(alloc),
             pending: Vec::new(alloc),
             below: Vec::new(alloc),
-            top: None,
+            top: Record {
+                kind: Kind::Missing,
+                running: Running {
+                    function: FuncId(0),
+                    wait: Wait::Running,
+                    pc: 0,
+                    opened: 0,
+                },
+                window: Window {
+                    start: 0,
+                    base: 0,
+                    kept: 0,
+                    size: 0,
+                    marks: 0,
+                    marked: 0,
+                },
+            },
             open_cells: Vec::new(alloc),
-        }
-    }
-
-    /// How many frames there are.
-    pub fn len(&self) -> usize
-        ensures { result ≡ length self.now.frames }
-    {
-        match self.top {
-            Some(_) => self.below.len() + 1,
-            None => self.below.len(),
         }
     }
 
@@ -61,10 +67,63 @@ impl Stack {
     pub fn top(&self) -> Top
         ensures { IsTop self.now result }
     {
-        match &self.top {
-            None => Top::None,
-            Some(record) => top_of(record.kind),
-        }
+        top_of(self.top.kind)
+    }
+
+    /// The function of the frame on top.
+    pub fn function(&self) -> FuncId
+        requires { HasLuaTop self.now }
+        ensures { OnTop self.now (λ t. result.0 ≡ t.function) }
+    {
+        self.top.running.function
+    }
+
+    /// Where the frame on top is in its code.
+    pub fn pc(&self) -> usize
+        requires { HasLuaTop self.now }
+        ensures { OnTop self.now (λ t. result ≡ t.pc) }
+    {
+        self.top.running.pc
+    }
+
+    /// For what the frame on top waits.
+    pub fn wait(&self) -> Wait
+        requires { HasLuaTop self.now }
+        ensures { OnTop self.now (λ t. result ≡ t.wait) }
+    {
+        self.top.running.wait
+    }
+
+    /// How many values the open list of the frame on top has.
+    pub fn opened(&self) -> usize
+        requires { HasLuaTop self.now }
+        ensures { OnTop self.now (λ t. result ≡ t.opened) }
+    {
+        self.top.running.opened
+    }
+
+    /// Lets the frame on top go on at another place of its code.
+    pub fn set_pc(&mut self, pc: usize)
+        requires { HasLuaTop self.old }
+        ensures { TopBecomes self.old self.new (λ f t. with_pc pc t) }
+    {
+        self.top.running.pc = pc;
+    }
+
+    /// Lets the frame on top wait.
+    pub fn set_wait(&mut self, wait: Wait)
+        requires { HasLuaTop self.old }
+        ensures { TopBecomes self.old self.new (λ f t. with_wait (wait_of f wait) t) }
+    {
+        self.top.running.wait = wait;
+    }
+
+    /// Says how many values the open list of the frame on top has.
+    pub fn set_opened(&mut self, opened: usize)
+        requires { HasLuaTop self.old }
+        ensures { TopBecomes self.old self.new (λ f t. with_opened opened t) }
+    {
+        self.top.running.opened = opened;
     }
 }
 
@@ -73,7 +132,8 @@ fn top_of(kind: Kind) -> Top
     ensures { result ≡ top_in kind }
 {
     match kind {
-        Kind::Lua(_) => Top::Lua,
+        Kind::Missing => Top::Missing,
+        Kind::Lua => Top::Lua,
         Kind::Pcall => Top::Pcall,
         Kind::Xpcall(handler) => Top::Xpcall(handler),
         Kind::Handler => Top::Handler,

@@ -1,0 +1,6 @@
+use Rattle.std.proofs.Common.{refl}
+use Rattle.lua_stack.proofs.Tops.{on_top}
+use Rattle.lua_stack.proofs.stack.Stack.function.Goals as goal
+
+pub returns : goal.returns
+returns c = on_top c.self.inside c.args.self.now _ c.self.view_is c.self.invariant c.requires refl
