@@ -2,3 +2,4 @@ mod Finding
 mod Reading
 mod Equal
 mod Tables
+mod Growing

@@ -33,7 +33,7 @@ pub strings_there : (z : Sizes) (texts : List (List ℕ)) (id : StrId) → Valid
 strings_there z texts id h = let t = string_there z texts id h in slice_get_within texts id.0 t.0 t.1
 
 -- so a new string changes no sound value
-value_stays : (z : Sizes) (texts : List (List ℕ)) (s : List ℕ) (v : Kept) → Valid z (value texts v) → value (texts ++ s ∷ []) v ≡ value texts v
+pub value_stays : (z : Sizes) (texts : List (List ℕ)) (s : List ℕ) (v : Kept) → Valid z (value texts v) → value (texts ++ s ∷ []) v ≡ value texts v
 value_stays z texts s Nil h = refl
 value_stays z texts s (Boolean b) h = refl
 value_stays z texts s (Int n) h = refl

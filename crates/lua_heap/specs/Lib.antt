@@ -1,3 +1,7 @@
 pub mod Strings
 pub mod Reading
+pub mod Codes
+pub mod Plain
+pub mod Changes
+pub mod Opening
 pub mod Law

@@ -1,9 +1,16 @@
-//! The objects of a world: strings, each once for its content (Lua's lstring.c), and what kept values stand for.
+//! The objects of a world: strings, each once for its content (Lua's lstring.c), code, and what kept values stand for.
 #![tactic(auto)]
 
+mod codes;
 pub mod law;
+mod objects;
+mod opening;
 mod strings;
 #[cfg(test)]
 mod tests;
+mod texts;
+mod world;
 
+pub use codes::{Code, Codes};
 pub use strings::Strings;
+pub use world::{Cell, Coro, Func, Mark, Prelude, World};

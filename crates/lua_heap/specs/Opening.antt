@@ -1,0 +1,48 @@
+-- A world in which nothing has run yet.
+use Rattle.std.specs.Prelude.{ℕ, pos, List, [], ◌∷◌, ◌++◌, None, codes, length}
+use Rattle.machine_core.specs.World.{World}
+use Rattle.lua_heap.specs.declared.world.Mark.{Mark}
+use Rattle.lua_heap.specs.declared.world.World.{World as Memory}
+use Rattle.lua_heap.specs.Strings.{interned}
+
+-- the fields of metatables that mean something (Lua 5.4 manual, 2.4), and the one that says how a table is saved
+unfoldable pub first_texts : List (List ℕ)
+first_texts =
+    codes "__add" ∷ codes "__sub" ∷ codes "__mul" ∷ codes "__mod" ∷ codes "__idiv" ∷ codes "__unm"
+    ∷ codes "__band" ∷ codes "__bor" ∷ codes "__bxor" ∷ codes "__shl" ∷ codes "__shr" ∷ codes "__bnot"
+    ∷ codes "__concat" ∷ codes "__len" ∷ codes "__eq" ∷ codes "__lt" ∷ codes "__le" ∷ codes "__index" ∷ codes "__newindex" ∷ codes "__call"
+    ∷ codes "__close" ∷ codes "__tostring" ∷ codes "__name" ∷ codes "__pairs" ∷ codes "__metatable" ∷ codes "__persist" ∷ []
+
+abbrev pub all_interned : List (List ℕ) → List (List ℕ) → List (List ℕ)
+all_interned texts [] = texts
+all_interned texts (text ∷ more) = all_interned (interned texts text) more
+
+-- tables for globals and for the prelude's own variables, and no other object
+abbrev pub opened_world : (fuel : ℕ) → World
+opened_world fuel = record {
+  heap = record { tables = record { rows = []; metatable = None } ∷ record { rows = []; metatable = None } ∷ []; string_metatable = None };
+  functions = [];
+  cells = [];
+  coroutines = [];
+  globals = 0;
+  prelude_environment = 1;
+  prelude_functions = [];
+  special_key = codes "__persist";
+  max_depth = pos 10000;
+  main = None;
+  chain = [];
+  moving = [];
+  printed = [];
+  fuel = fuel;
+}
+
+-- how many objects of each kind there are
+abbrev pub mark_of : Memory → Mark
+mark_of W = record {
+  strings = length W.strings;
+  codes = length W.codes.list.items;
+  tables = length W.tables.objects;
+  funcs = length W.funcs.objects;
+  cells = length W.cells.objects;
+  coros = length W.coros.objects;
+}
