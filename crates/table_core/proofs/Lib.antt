@@ -4,3 +4,4 @@ pub mod BorderLemmas
 pub mod PlaceLemmas
 pub mod NumberedLemmas
 pub mod SplitLemmas
+pub mod DropLemmas

@@ -126,7 +126,7 @@ keyed-written xs keyed keyed' is key v (Some was) first some none same =
 
 -- ---- a new row
 
-pushed-distinct : (rows : Rows) (key v : Value) → IsDistinct value_eq (keys_of rows) → IsAbsent rows key → IsDistinct value_eq (keys_of (rows ++ (key, v) ∷ []))
+pub pushed-distinct : (rows : Rows) (key v : Value) → IsDistinct value_eq (keys_of rows) → IsAbsent rows key → IsDistinct value_eq (keys_of (rows ++ (key, v) ∷ []))
 pushed-distinct rows key v distinct absent = rw (map-append (λ (row : Value × Value). row.0) rows ((key, v) ∷ [])) (IsDistinct-push value_eq-equivalence (keys_of rows) key distinct absent)
 
 pub record IsPushed (xs : List Value) (keyed : Rows) (ys : List Value) (keyed' : Rows) (key v : Value) : Type 0 where
@@ -148,7 +148,7 @@ array-pushed xs keyed is ys key v absent pushed none next room =
       added = added;
     }
 
-first-pushed : (keyed : Rows) (key v next : Value) → slice_get (keys_of keyed) 0 ≢ Some next → (length keyed ≡ 0 → key ≢ next) → slice_get (keys_of (keyed ++ (key, v) ∷ [])) 0 ≢ Some next
+pub first-pushed : (keyed : Rows) (key v next : Value) → slice_get (keys_of keyed) 0 ≢ Some next → (length keyed ≡ 0 → key ≢ next) → slice_get (keys_of (keyed ++ (key, v) ∷ [])) 0 ≢ Some next
 first-pushed [] key v next before other = λ e. other refl (let same : key ≡ next = cc in same)
 first-pushed (row ∷ rows) key v next before other = before
 

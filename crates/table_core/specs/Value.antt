@@ -1,6 +1,5 @@
 -- Which values are equal, and what a table needs of them (Lua 5.4 manual, 2.1 and 3.4.4).
-use Rattle.std.specs.Prelude.{ℕ, ◌+◌, ◌*◌, ◌%◌, ◌^◌, Bool, true, false, ◌==◌}
-use Rattle.std.specs.Int.{w64, cast_unsigned, from_bool}
+use Rattle.std.specs.Prelude.{Bool, true, false, ◌==◌}
 use Rattle.std.specs.Ordering.{int_eq}
 use Rattle.int_core.specs.Rows.{Values}
 use Rattle.table_core.specs.declared.value.Value.{Value}
@@ -24,17 +23,3 @@ is_nil v = value_eq v Nil
 
 abbrev pub lua_values : Values Value
 lua_values = record { same = value_eq; nil = Nil; integer = Int }
-
--- what is hashed of a value: its number and its kind in one word
-abbrev pub coded : ℕ → ℕ → ℕ
-coded number kind = ((number * 8) % 2 ^ 64 + kind) % 2 ^ 64
-
-abbrev pub hash_code : Value → ℕ
-hash_code Nil = 0
-hash_code (Boolean b) = coded (from_bool b) 1
-hash_code (Int n) = coded (cast_unsigned w64 n) 2
-hash_code (Str id) = coded id.0 3
-hash_code (Prim number) = coded number 4
-hash_code (Table id) = coded id.0 5
-hash_code (Func id) = coded id.0 6
-hash_code (Coro id) = coded id.0 7

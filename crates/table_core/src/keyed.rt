@@ -1,10 +1,12 @@
 // Rows found by their keys: a few are looked through one by one, more stand in an index map.
-ghost use Rattle.std.specs.Prelude.{◌≡◌, ◌<◌, Some, [], ◌∷◌, ◌++◌, length, IfSome, IfNone, IfOk, MatchOption, OnOk, OnErr, slice_get};
+ghost use Rattle.std.specs.Prelude.{◌≡◌, ◌<◌, Some, [], ◌∷◌, ◌++◌, filter, length, IfSome, IfNone, IfOk, MatchOption, OnOk, OnErr, slice_get};
 ghost use Rattle.std.specs.List.{IsDistinct};
 ghost use Rattle.std.specs.Map.{keys_of};
+ghost use Rattle.int_core.specs.Rows.{is_filled};
 ghost use Rattle.table_core.specs.Places.{HasKeyAt, HasRow, IsAbsent, IsReplaced};
-ghost use Rattle.table_core.specs.Value.{value_eq};
+ghost use Rattle.table_core.specs.Value.{lua_values, value_eq};
 
+use crate::flat_key::FlatKey;
 use crate::indexed::Indexed;
 use crate::value::Value;
 use std::alloc::{AllocError, Global};
@@ -44,26 +46,12 @@ impl Keyed {
         }
     }
 
-    /// No rows, with room for more than a few.
-    pub(crate) fn with_room(alloc: Global, rows: usize) -> Result<Keyed, AllocError>
-        ensures { IfOk result (λ keyed. keyed ≡ []) }
-    {
-        if rows <= FEW {
-            return Ok(Keyed::new(alloc));
-        }
-        let many = Box::new(alloc, Indexed::with_room(alloc, rows)?)?;
-        Ok(Keyed {
-            few: Vec::new(alloc),
-            many: Some(many),
-        })
-    }
-
     /// The place of a key's row.
     pub(crate) fn find(&self, key: Value) -> Option<usize>
         ensures { MatchOption result (IsAbsent self.now key) (λ at. HasKeyAt self.now key at) }
     {
         match &self.many {
-            Some(many) => many.find(key),
+            Some(many) => many.find(FlatKey::of(key)),
             None => place_among(self.few.as_slice(), key),
         }
     }
@@ -74,7 +62,7 @@ impl Keyed {
         ensures { MatchOption result (IsAbsent self.now key) (λ value. HasRow self.now key value) }
     {
         match &self.many {
-            Some(many) => many.value(key),
+            Some(many) => many.value(FlatKey::of(key)),
             None => value_among(self.few.as_slice(), key),
         }
     }
@@ -87,7 +75,7 @@ impl Keyed {
         ensures same { IfNone result (self.new ≡ self.old) }
     {
         if let Some(many) = &mut self.many {
-            return many.replace(key, value);
+            return many.replace(FlatKey::of(key), value);
         }
         replace_among(&mut self.few, key, value)
     }
@@ -100,16 +88,26 @@ impl Keyed {
         ensures err { OnErr result (self.new ≡ self.old) }
     {
         if let Some(many) = &mut self.many {
-            return many.push(key, value);
+            return many.push(FlatKey::of(key), value);
         }
         if self.few.len() < FEW {
             return push_few(&mut self.few, key, value);
         }
         let mut many = indexed(&self.few)?;
-        many.push(key, value)?;
+        many.push(FlatKey::of(key), value)?;
         self.many = Some(many);
         self.few = Vec::new(*self.few.allocator());
         Ok(())
+    }
+
+    /// Drops the cleared rows where they stand.
+    pub(crate) fn drop_cleared(&mut self)
+        ensures { self.new ≡ filter (is_filled lua_values) self.old }
+    {
+        match &mut self.many {
+            Some(many) => many.drop_cleared(),
+            None => drop_among(&mut self.few),
+        }
     }
 
     /// How many rows there are.
@@ -143,7 +141,7 @@ fn indexed(few: &Vec<(Value, Value)>) -> Result<Box<Indexed>, AllocError>
     let mut many = Box::new(alloc, Indexed::new(alloc))?;
     for at in 0..few.len() {
         let (key, value) = few[at];
-        many.push(key, value)?;
+        many.push(FlatKey::of(key), value)?;
     }
     Ok(many)
 }
@@ -193,6 +191,13 @@ fn set_value(rows: &mut Vec<(Value, Value)>, at: usize, key: Value, value: Value
     ensures { IsReplaced rows.old.items rows.new.items key result value }
 {
     mem::replace(&mut rows[at], (key, value)).1
+}
+
+/// Drops the cleared rows among a few.
+fn drop_among(rows: &mut Vec<(Value, Value)>)
+    ensures { rows.new.items ≡ filter (is_filled lua_values) rows.old.items }
+{
+    rows.retain(|row| !row.1.is_nil());
 }
 
 /// Puts a row last. Room is made for two rows, and then for twice as many.

@@ -2,6 +2,7 @@
 #![tactic(auto)]
 
 mod border;
+mod flat_key;
 mod indexed;
 mod keyed;
 mod rows;

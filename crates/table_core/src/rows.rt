@@ -2,9 +2,9 @@
 ghost use Rattle.std.specs.Prelude.{◌≡◌, ◌≢◌, ◌+◌, ◌-◌, ◌<◌, ◌^◌, pos, false, Some, [], ◌∷◌, ◌++◌, length, filter, position, IfSome, IfNone, IfOk, IsTrue, OnOk, OnErr, OnSome, slice_get};
 ghost use Rattle.std.specs.List.{IsDistinct};
 ghost use Rattle.std.specs.Map.{keys_of, lookup, set_value};
-ghost use Rattle.int_core.specs.Rows.{get, has_row, is_filled};
+ghost use Rattle.int_core.specs.Rows.{get, has_row, is_filled, IsBorder};
 ghost use Rattle.table_core.specs.Places.{IsAbsent, IsNumberedPrefix, IsPlaceOf};
-ghost use Rattle.table_core.specs.Value.{lua_values, value_eq};
+ghost use Rattle.table_core.specs.Value.{is_nil, lua_values, value_eq};
 
 use crate::keyed::Keyed;
 use crate::value::Value;
@@ -109,6 +109,49 @@ impl Rows {
         Ok(numbered + keyed + 1)
     }
 
+    /// Drops the cleared rows, puts a new row last, and answers how many rows there are then.
+    pub(crate) fn insert_dropping(
+        &mut self,
+        key: Value,
+        value: Value,
+        border: usize,
+    ) -> Result<usize, AllocError>
+        requires absent { IsAbsent self.old key }
+        requires filled { is_nil value ≡ false }
+        requires border { IsBorder lua_values self.old border }
+        ensures added { OnOk result (self.new ≡ filter (is_filled lua_values) self.old ++ (key, value) ∷ []) }
+        ensures distinct { OnOk result (IsDistinct value_eq (keys_of self.new)) }
+        ensures len { IfOk result (λ n. n ≡ length self.new) }
+        ensures small { IfOk result (λ n. n < 2 ^ 63) }
+        ensures err { OnErr result (self.new ≡ self.old) }
+    {
+        let numbered = self.array.len();
+        if numbered != border || place_of(key) == border {
+            return self.insert_moved(key, value);
+        }
+        if self.keyed.len() >= MOST - numbered {
+            return Err(AllocError);
+        }
+        self.keyed.push(key, value)?;
+        self.keyed.drop_cleared();
+        Ok(numbered + self.keyed.len())
+    }
+
+    /// Makes the rows anew without those that are cleared, and puts a new row last.
+    fn insert_moved(&mut self, key: Value, value: Value) -> Result<usize, AllocError>
+        requires { IsAbsent self.old key }
+        ensures added { OnOk result (self.new ≡ filter (is_filled lua_values) self.old ++ (key, value) ∷ []) }
+        ensures distinct { OnOk result (IsDistinct value_eq (keys_of self.new)) }
+        ensures len { IfOk result (λ n. n ≡ length self.new) }
+        ensures small { IfOk result (λ n. n < 2 ^ 63) }
+        ensures err { OnErr result (self.new ≡ self.old) }
+    {
+        let mut rows = self.filled()?;
+        let len = rows.insert_last(key, value)?;
+        *self = rows;
+        Ok(len)
+    }
+
     /// The place of a key's row.
     pub(crate) fn find(&self, key: Value) -> Option<usize>
         ensures place { result ≡ position (value_eq key) (keys_of self.now) }
@@ -152,26 +195,18 @@ impl Rows {
         self.array.len()
     }
 
-    /// No rows, with room for half as many as these where they do not begin with an array.
-    fn fresh(&self) -> Result<Rows, AllocError>
-        ensures { IfOk result (λ rows. rows ≡ []) }
+    /// No rows, in memory of the same allocator.
+    fn fresh(&self) -> Rows
+        ensures { result ≡ [] }
     {
-        let alloc = *self.array.allocator();
-        if !self.array.is_empty() {
-            return Ok(Rows::new(alloc));
-        }
-        let keyed = Keyed::with_room(alloc, self.keyed.len() / 2)?;
-        Ok(Rows {
-            array: Vec::new(alloc),
-            keyed,
-        })
+        Rows::new(*self.array.allocator())
     }
 
     /// The rows that are not cleared.
-    pub(crate) fn filled(&self) -> Result<Rows, AllocError>
+    fn filled(&self) -> Result<Rows, AllocError>
         ensures { IfOk result (λ rows. rows ≡ filter (is_filled lua_values) self.now) }
     {
-        let mut rows = self.fresh()?;
+        let mut rows = self.fresh();
         for at in 0..self.len() {
             let (key, value) = self.row(at);
             if value.is_nil() {

@@ -146,26 +146,25 @@ impl Table {
         ensures err { OnErr result (self.new ≡ self.old) }
     {
         if self.rows.len() - self.cleared < self.cleared {
-            return self.append_anew(key, value);
+            return self.append_dropping(key, value);
         }
         self.rows.insert_last(key, value)?;
         self.border = mended(&self.rows, self.border, key, value);
         Ok(())
     }
 
-    /// Makes the rows anew without those that are cleared, and puts a new key last.
-    fn append_anew(&mut self, key: Value, value: Value) -> Result<(), AllocError>
+    /// Puts a new key last in place of the cleared rows.
+    fn append_dropping(&mut self, key: Value, value: Value) -> Result<(), AllocError>
         requires not_nil { key ≢ Value.Nil }
         requires absent { has_row lua_values self.old.rows key ≡ false }
+        requires filled { is_nil value ≡ false }
         ensures ok { OnOk result (self.new.rows ≡ filter (is_filled lua_values) self.old.rows ++ (key, value) ∷ []) }
         ensures metatable { self.new.metatable ≡ self.old.metatable }
         ensures err { OnErr result (self.new ≡ self.old) }
     {
-        let mut rows = self.rows.filled()?;
-        rows.insert_last(key, value)?;
-        self.border = mended(&rows, self.border, key, value);
-        self.cleared = nil_count(value);
-        self.rows = rows;
+        self.rows.insert_dropping(key, value, self.border)?;
+        self.border = mended(&self.rows, self.border, key, value);
+        self.cleared = 0;
         Ok(())
     }
 

@@ -1,11 +1,9 @@
 // A value, which names strings and objects by their numbers, and the values that may be keys.
 ghost use Rattle.std.specs.Prelude.{◌≡◌, ◌≢◌, ◌↔◌, None, IfSome};
 ghost use Rattle.std.proofs.Common.{rules};
-ghost use Rattle.std.specs.Cmp.Rules.{comparing, hashing};
-ghost use Rattle.std.specs.Hash.{u64};
-ghost use Rattle.table_core.specs.Value.{coded, hash_code, is_nil, value_eq};
+ghost use Rattle.std.specs.Cmp.Rules.{comparing};
+ghost use Rattle.table_core.specs.Value.{is_nil, value_eq};
 
-use std::hash::{Hash, Hasher};
 use std::marker::Model;
 
 /// The number of a string.
@@ -72,7 +70,7 @@ impl Eq for Value {
 }
 
 /// A value that may be a key of a table: any but nil (Lua 5.4 manual, 2.1). Contracts see the value.
-#[derive(Debug, Clone, Copy, PartialEq, Eq, Hash)]
+#[derive(Debug, Clone, Copy, PartialEq, Eq)]
 pub struct Key {
     value: Value,
 }
@@ -112,16 +110,6 @@ impl Key {
     }
 }
 
-impl Hash for Value {
-    ghost hash_input = { λ v. u64 (hash_code v) };
-
-    ghost respects_eq = { Prim.search (hashing, rules) };
-
-    fn hash<H: Hasher>(&self, state: &mut H) {
-        state.write_u64(self.hash_code());
-    }
-}
-
 impl Value {
     /// Whether it is nil.
     #[inline(always)]
@@ -130,26 +118,4 @@ impl Value {
     {
         matches!(self, Value::Nil)
     }
-
-    /// A number that tells most values apart, in one word.
-    fn hash_code(self) -> u64
-        ensures { result ≡ hash_code self }
-    {
-        match self {
-            Value::Nil => 0,
-            Value::Bool(b) => coded(u64::from(b), 1),
-            Value::Int(n) => coded(n.cast_unsigned(), 2),
-            Value::Str(id) => coded(id.0 as u64, 3),
-            Value::Prim(number) => coded(u64::from(number), 4),
-            Value::Table(id) => coded(id.0 as u64, 5),
-            Value::Func(id) => coded(id.0 as u64, 6),
-            Value::Coro(id) => coded(id.0 as u64, 7),
-        }
-    }
-}
-
-fn coded(number: u64, kind: u64) -> u64
-    ensures { result ≡ coded number kind }
-{
-    number.wrapping_mul(8).wrapping_add(kind)
 }

@@ -23,7 +23,7 @@ returns-then-len-self-clause-ok c =
     let rows = c.self.inside.rows in
     let crowded : length rows - c.self.inside.cleared < c.self.inside.cleared = omega (arith, c.len.ensures.len, c.if-len-self.true) in
     let is : kept lua_values c.args.self.now.rows ≡ filter (is_filled lua_values) c.args.self.now.rows = rw (← c.self.view_is) (kept-crowded rows c.self.inside.cleared c.self.invariant.0 crowded) in
-    rw is c.append_anew.ensures.ok
+    rw is c.append_dropping.ensures.ok
 
 pub returns-clause-ok : goal.returns-clause-ok
 returns-clause-ok c =
