@@ -11,20 +11,7 @@ use Rattle.code_core.specs.declared.proto.Const.{Const}
 use Rattle.code_core.specs.declared.proto.Const.TheVariants.{Int as IntConst, Str as StrConst}
 use Rattle.code_of.specs.Constants.{same_constant, number_in, with_constant, is_small, of_name, of_exp, of_exps, of_fields, of_field, of_stat, of_arms, of_stats, of_block, Found}
 use Rattle.code_bounds.specs.Constants.{Has, NameHas, ExpHas, ExpsHave, FieldsHave, FieldHas, StatHas, ArmsHave, StatsHave, BlockHas, ConstantsAreNumbered}
-use Rattle.code_of.proofs.Constants.{same_int, same_text}
-
--- the test of constants is equality
-
-same_integer_is : (m n : ℤ) → same_integer m n ≡ true → m ≡ n
-same_integer_is (pos m) (pos n) h = ap pos (eqb-true m n h)
-same_integer_is (negsuc m) (negsuc n) h = ap negsuc (eqb-true m n h)
-same_integer_is (pos m) (negsuc n) h = absurd (cc)
-same_integer_is (negsuc m) (pos n) h = absurd (cc)
-
-same_is : (c x : Const) → same_constant c x ≡ true → c ≡ x
-same_is (IntConst m) (IntConst n) h = ap IntConst (same_integer_is m n h)
-same_is (StrConst s) (StrConst t) h = ap StrConst ((bytes_eq-Decides s t).0 h)
-same_is _ _ h = absurd (cc)
+use Rattle.code_of.proofs.Constants.{same_int, same_text, same_is}
 
 -- of the kinds that trees have
 

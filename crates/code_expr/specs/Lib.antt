@@ -1,3 +1,4 @@
+pub mod Indexed
 pub mod Listing
 pub mod Parts
 pub mod Patches

@@ -1,46 +1,37 @@
 // The constants of a function.
 ghost use Rattle.std.specs.Prelude.{◌≡◌, [], OnOk};
 ghost use Rattle.code_core.specs.declared.proto.Const.TheVariants.{Int, Str};
-ghost use Rattle.code_of.specs.Constants.{number_in, same_constant, with_constant, is_small};
+ghost use Rattle.code_of.specs.Constants.{number_in, with_constant, is_small};
 
 use code_core::Const;
 use int_core::Bytes;
 use std::alloc::{AllocError, Global};
+use std::collections::HashMap;
 use std::marker::Model;
 
 /// The constants of a function, each once. Contracts see the list.
 #[derive(Drop)]
 pub struct Constants {
     list: Vec<Const>,
+    /// The numbers of the strings among them.
+    texts: HashMap<Vec<u8>, usize>,
+    /// The numbers of the integers among them.
+    integers: HashMap<i64, usize>,
 }
 
 impl Model for Constants {
-    ghost use Rattle.std.specs.Prelude.{List};
+    ghost use Rattle.std.specs.Prelude.{List, nat_eq};
+    ghost use Rattle.std.specs.Ordering.{int_eq};
+    ghost use Rattle.std.specs.Cmp.Lexicographic.{pointwise};
+    ghost use Rattle.std.specs.HashMap.{get, get_by};
     ghost use Rattle.code_core.specs.declared.proto.Const.{Const};
+    ghost use Rattle.code_expr.specs.Indexed.{IsIndexed};
 
     ghost Value = { List Const };
 
     ghost view = { λ constants. constants.list.items };
-}
 
-/// Whether a constant is a string.
-fn is_text(constant: &Const, text: &Bytes) -> bool
-    ensures { result ≡ same_constant constant.now (Str text.now) }
-{
-    match constant {
-        Const::Str(bytes) => bytes == text,
-        _ => false,
-    }
-}
-
-/// Whether a constant is an integer.
-fn is_integer(constant: &Const, integer: i64) -> bool
-    ensures { result ≡ same_constant constant.now (Int integer) }
-{
-    match constant {
-        Const::Int(n) => *n == integer,
-        _ => false,
-    }
+    ghost invariant = { λ constants. IsIndexed constants.list.items (λ text. get_by (λ key. pointwise nat_eq text key.items) constants.texts) (get int_eq constants.integers) };
 }
 
 /// Whether LOADI holds an integer, so that it is no constant.
@@ -57,6 +48,8 @@ impl Constants {
     {
         Constants {
             list: Vec::new(alloc),
+            texts: HashMap::new(alloc),
+            integers: HashMap::new(alloc),
         }
     }
 
@@ -72,10 +65,14 @@ impl Constants {
     pub fn add_text(&mut self, alloc: Global, text: &Bytes) -> Result<(), AllocError>
         ensures { OnOk result (self.new ≡ with_constant (Str text.now) self.old) }
     {
-        if self.number_of_text(text) < self.list.len() {
+        let number = self.list.len();
+        if self.number_of_text(text) < number {
             return Ok(());
         }
+        let key = text.as_slice().to_vec(alloc)?;
         let copy = Bytes::of(text.as_slice().to_vec(alloc)?);
+        self.list.reserve(1)?;
+        self.texts.insert(key, number)?;
         self.list.push(Const::Str(copy))?;
         Ok(())
     }
@@ -85,40 +82,33 @@ impl Constants {
     pub(crate) fn add_integer(&mut self, integer: i64) -> Result<(), AllocError>
         ensures { OnOk result (self.new ≡ with_constant (Int integer) self.old) }
     {
-        if self.number_of_integer(integer) < self.list.len() {
+        let number = self.list.len();
+        if self.number_of_integer(integer) < number {
             return Ok(());
         }
+        self.list.reserve(1)?;
+        self.integers.insert(integer, number)?;
         self.list.push(Const::Int(integer))?;
         Ok(())
     }
 
     /// The number of a string, or how many constants there are where it is none of them.
-    #[tactic(auto, using(crate::proofs::Numbers::here, crate::proofs::Numbers::further, crate::proofs::Numbers::nowhere))]
     pub fn number_of_text(&self, text: &Bytes) -> usize
         ensures { result ≡ number_in self.now (Str text.now) }
     {
-        let mut number = 0;
-        while number < self.list.len() {
-            if is_text(&self.list[number], text) {
-                return number;
-            }
-            number += 1;
+        match self.texts.get(text.as_slice()) {
+            Some(number) => *number,
+            None => self.list.len(),
         }
-        number
     }
 
     /// The number of an integer, or how many constants there are where it is none of them.
-    #[tactic(auto, using(crate::proofs::Numbers::here, crate::proofs::Numbers::further, crate::proofs::Numbers::nowhere))]
     pub fn number_of_integer(&self, integer: i64) -> usize
         ensures { result ≡ number_in self.now (Int integer) }
     {
-        let mut number = 0;
-        while number < self.list.len() {
-            if is_integer(&self.list[number], integer) {
-                return number;
-            }
-            number += 1;
+        match self.integers.get(&integer) {
+            Some(number) => *number,
+            None => self.list.len(),
         }
-        number
     }
 }

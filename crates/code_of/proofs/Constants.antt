@@ -1,9 +1,10 @@
 -- Constants by their numbers.
-use Rattle.std.proofs.Common.{◌≡◌, true, ℤ, ℕ, List, refl, pos, negsuc}
+use Rattle.std.proofs.Common.{◌≡◌, true, ℤ, ℕ, List, refl, ap, pos, negsuc}
+use Rattle.code_core.specs.declared.proto.Const.{Const}
 use Rattle.code_core.specs.declared.proto.Const.TheVariants.{Int as IntConst, Str as StrConst}
 use Rattle.code_of.specs.Constants.{same_constant}
 use Rattle.std.proofs.lemmas.Slice.Eq.{bytes_eq-Decides}
-use Rattle.std.proofs.lemmas.Bool.{eq-eqb}
+use Rattle.std.proofs.lemmas.Bool.{eq-eqb, eqb-true}
 use Rattle.int_core.specs.Value.{same_integer}
 
 pub same_integer_self : (m : ℤ) → same_integer m m ≡ true
@@ -15,3 +16,16 @@ same_int z = same_integer_self z
 
 pub same_text : (s : List ℕ) → same_constant (StrConst s) (StrConst s) ≡ true
 same_text s = (bytes_eq-Decides s s).1 refl
+
+-- the test of constants is equality
+
+same_integer_is : (m n : ℤ) → same_integer m n ≡ true → m ≡ n
+same_integer_is (pos m) (pos n) h = ap pos (eqb-true m n h)
+same_integer_is (negsuc m) (negsuc n) h = ap negsuc (eqb-true m n h)
+same_integer_is (pos m) (negsuc n) h = absurd (cc)
+same_integer_is (negsuc m) (pos n) h = absurd (cc)
+
+pub same_is : (c x : Const) → same_constant c x ≡ true → c ≡ x
+same_is (IntConst m) (IntConst n) h = ap IntConst (same_integer_is m n h)
+same_is (StrConst s) (StrConst t) h = ap StrConst ((bytes_eq-Decides s t).0 h)
+same_is _ _ h = absurd (cc)

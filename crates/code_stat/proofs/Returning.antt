@@ -7,10 +7,8 @@ use Rattle.tree_core.specs.declared.name.Name.{Name}
 use Rattle.tree_core.specs.Tree as tree
 use Rattle.tree_core.specs.Plain.{plain_exp, plain_exps}
 use Rattle.code_core.specs.declared.proto.Const.{Const}
-use Rattle.code_core.specs.declared.opcode.Opcode.TheVariants.{OpSelf, TailCall, Return}
-use Rattle.code_core.specs.declared.proto.Const.TheVariants.{Str as StrConst}
-use Rattle.code_of.specs.Coded.{Coded, with_abc, leaving_by}
-use Rattle.code_of.specs.Constants.{loads}
+use Rattle.code_core.specs.declared.opcode.Opcode.TheVariants.{TailCall, Return}
+use Rattle.code_of.specs.Coded.{Coded, leaving_by}
 use Rattle.code_of.specs.Expressions.{made_by, made_in, list_field, exp_code, exps_code}
 use Rattle.code_of.specs.Operators.{self_code}
 use Rattle.code_of.specs.Parts.{call_last, method_last, return_code, values_last}

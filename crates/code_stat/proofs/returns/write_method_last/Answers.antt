@@ -2,7 +2,7 @@ use Rattle.std.proofs.Common.{arith, ◌≡◌, ◌+◌, [], ◌∷◌, ◌++◌
 use Rattle.tree_core.specs.Tree as tree
 use Rattle.tree_core.specs.Plain.{plain_exp, plain_exps}
 use Rattle.code_core.specs.declared.opcode.Opcode.TheVariants.{TailCall, Return}
-use Rattle.code_of.specs.Coded.{with_abc, leaving_by}
+use Rattle.code_of.specs.Coded.{leaving_by}
 use Rattle.code_of.specs.Operators.{self_code}
 use Rattle.code_of.specs.Expressions.{exp_code, exps_code, list_field, made_by, made_in}
 use Rattle.code_expr.specs.Listing.{listed, followed}

@@ -1,4 +1,4 @@
-use Rattle.std.proofs.Common.{rules, ◌≡◌, ◌++◌, [], ◌∙◌, Some, length, map, refl}
+use Rattle.std.proofs.Common.{ap₂, rules, ◌≡◌, ◌++◌, [], ◌∙◌, Some, length, map, refl}
 use Rattle.tree_core.specs.declared.tree.Body.{out-Body}
 use Rattle.code_parts.specs.Scopes.{begun, ended_from}
 use Rattle.code_stat.specs.declared.writer.Writer.{Writer}
@@ -18,7 +18,8 @@ returns-clause-variables c =
     let b = out-Body c.args.body.now in
     let params : c.len-params.result ≡ length b.params.items = search rules in
     let first : Writer = record { emitter = c.put_opening.new.emitter; jumps = c.new-2.result; variables = c.declare_names.new.self; back = c.in_ok-back.back; alloc = c.args.alloc } in
-    let declared : c.declare_names.new.self ≡ [] ++ map (λ name. begun (Some name.text) 0) b.params.items = search rules in
+    let declared : c.declare_names.new.self ≡ [] ++ map (λ name. begun (Some name.text) 0) b.params.items =
+    c.in_ok-declare_names.ensures ∙ ap₂ (λ vs ns. vs ++ map (λ name. begun (Some name.text) 0) ns) c.new-3.ensures c.deref.ensures.value in
     let ended : c.lead_all.new.self.variables ≡ ended_from 0 c.place-end.result c.whole.new.self.variables = c.in_ok-lead_all.ensures.variables ∙ c.in_ok-end_scopes.ensures in
     body_declared c.args.constants c.args.body.now first c.whole.new.self c.lead_all.new.self.variables c.len-params.result c.in_ok-back.back c.place-end.result params c.in_ok-back.ensures (search rules) declared refl
     c.in_ok-whole.ensures.code c.in_ok-whole.ensures.variables c.place-end.ensures ended
