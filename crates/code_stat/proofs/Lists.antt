@@ -43,7 +43,7 @@ none_left xs items i a b falls closing first_closing outer level first_level pas
     (subst (λ l. StatsLeft a b (stats (map plain_stat l)) (stats (map plain_stat xs)) falls closing outer level first_closing first_level passed) (drop_all i items over) u)
 
 pub next_left :
-    (xs items : List Rust.Stat) (i n : ℕ) (x : Rust.Stat) (a b q c : Writer) (settled : List Jump) (falls closing closing' first_closing : Bool) (outer level level' first_level first from place : ℕ) (passed passed' : List Visible)
+    (xs items : List Rust.Stat) (i n : ℕ) (x : Rust.Stat) (a b q c : Writer) (settled : List Jump) (falls closing closing' first_closing : Bool) (outer level level' first_level first from place there : ℕ) (passed passed' : List Visible)
     → items ≡ xs → i < length items → x ≡ slice_index_or items i x → n ≡ i + 1
     → first ≡ length a.jumps.items → from ≡ length b.jumps.items → place ≡ length b.emitter.steps
     → StatsLeft a b (stats (map plain_stat (drop i items))) (stats (map plain_stat xs)) falls closing outer level first_closing first_level passed
@@ -51,11 +51,12 @@ pub next_left :
     → take from settled ≡ take from q.jumps.items
     → ((ahead : List Visible) (reach : Reach) (ys : List Step) → fill (leads_to ahead reach) (drop from settled) ys ≡ fill (arrives (within ahead passed reach)) (drop from q.jumps.items) ys)
     → take first c.jumps.items ≡ take first settled
-    → ((ahead : List Visible) (reach : Reach) (ys : List Step) → fill (leads_to ahead reach) (drop first c.jumps.items) ys ≡ fill (leads_to (ahead_with (plain_stat x) place (level_at (stats (map plain_stat (drop n xs))) falls outer level) ahead) reach) (drop first settled) ys)
+    → there ≡ level_at (stats (map plain_stat (drop n xs))) falls outer level
+    → ((ahead : List Visible) (reach : Reach) (ys : List Step) → fill (leads_to ahead reach) (drop first c.jumps.items) ys ≡ fill (leads_to (ahead_with (plain_stat x) place there ahead) reach) (drop first settled) ys)
     → c.emitter ≡ q.emitter → c.back ≡ q.back
     → passed' ≡ passed_after (plain_stat x) level place passed → level' ≡ level_after (plain_stat x) level → closing' ≡ closing_after (plain_stat x) closing
     → StatsLeft a c (stats (map plain_stat (drop (i + 1) items))) (stats (map plain_stat xs)) falls closing' outer level' first_closing first_level passed'
-next_left xs items i n x a b q c settled falls closing closing' first_closing outer level level' first_level first from place passed passed' items_is inside is n_is first_is from_is place_is u w front1 leads1 front2 leads2 same back passed_is level_is closing_is =
+next_left xs items i n x a b q c settled falls closing closing' first_closing outer level level' first_level first from place there passed passed' items_is inside is n_is first_is from_is place_is u w front1 leads1 front2 there_is leads2 same back passed_is level_is closing_is =
     let s = plain_stat x in
     let ss = stats (map plain_stat (drop (i + 1) items)) in
     let all = stats (map plain_stat xs) in
@@ -69,7 +70,8 @@ next_left xs items i n x a b q c settled falls closing closing' first_closing ou
     (subst (λ m. take m settled ≡ take m q.jumps.items) from_is front1)
     (λ ahead reach ys. subst (λ m. fill (leads_to ahead reach) (drop m settled) ys ≡ fill (arrives (within ahead passed reach)) (drop m q.jumps.items) ys) from_is (leads1 ahead reach ys))
     (subst (λ m. take m c.jumps.items ≡ take m settled) first_is front2)
-    (λ ahead reach ys. subst (λ m. fill (leads_to ahead reach) (drop m c.jumps.items) ys ≡ fill (leads_to (ahead_with s place (level_at (stats (map plain_stat (drop n xs))) falls outer level) ahead) reach) (drop m settled) ys) first_is (leads2 ahead reach ys)
+    (λ ahead reach ys. subst (λ m. fill (leads_to ahead reach) (drop m c.jumps.items) ys ≡ fill (leads_to (ahead_with s place (level_at (stats (map plain_stat (drop n xs))) falls outer level) ahead) reach) (drop m settled) ys) first_is
+    (leads2 ahead reach ys ∙ ap (λ m. fill (leads_to (ahead_with s place m ahead) reach) (drop first settled) ys) there_is)
     ∙ ap₂ (λ l m. fill (leads_to (ahead_with s m (level_at (stats (map plain_stat l)) falls outer level) ahead) reach) (drop (length a.jumps.items) settled) ys) rest place_is)
     same back)))
 

@@ -1,7 +1,7 @@
 -- What is in scope, and which statements are void, one by one.
-use Rattle.std.proofs.Common.{ℕ, ◌+◌, ◌≡◌, ◌≤◌, ◌<◌, Bool, true, false, List, refl, sym, ap, ◌∙◌, length, map, drop}
+use Rattle.std.proofs.Common.{ℕ, zero, suc, ◌+◌, ◌-◌, ◌≡◌, ◌≤◌, ◌<◌, Bool, true, false, List, refl, sym, ap, ◌∙◌, subst, length, map, drop, nat_le, leb-true, leb-false, arith}
 use Rattle.std.specs.Prelude.{slice_index_or, ◌||◌}
-use Rattle.std.proofs.lemmas.List.{drop_all}
+use Rattle.std.proofs.lemmas.List.{drop_all, drop_more}
 use Rattle.tree_core.specs.declared.name.Declared.{Declared}
 use Rattle.tree_core.specs.declared.tree.Stat as Rust
 use Rattle.tree_core.specs.Tree.{Stats, MoreStats, Stat, Empty, Local, LocalFunction, Assign, CallStat, Do, While, Repeat, If, IfElse, NumFor, NumForStep, GenFor, Label, Goto, Break, stats}
@@ -56,17 +56,52 @@ void_stop (Label line name) ss h = absurd (cc)
 void_stop (Goto line name) ss h = refl
 void_stop (Break line) ss h = refl
 
-pub void_further :
-    (list : List Rust.Stat) (i : ℕ) (x : Rust.Stat) (all : Bool) → i < length list → x ≡ slice_index_or list i x → is_void (plain_stat x) ≡ true
-    → are_void (stats (map plain_stat (drop i list))) ≡ all → are_void (stats (map plain_stat (drop (i + 1) list))) ≡ all
-void_further list i x all inside is e known =
-    sym (ap (λ l. are_void (stats (map plain_stat l))) (front list i x inside is) ∙ void_step (plain_stat x) (stats (map plain_stat (drop (i + 1) list))) e) ∙ known
+-- which statements of a list are void to its end
 
-pub void_ends :
-    (list : List Rust.Stat) (i : ℕ) (x : Rust.Stat) (all : Bool) → i < length list → x ≡ slice_index_or list i x → is_void (plain_stat x) ≡ false
-    → are_void (stats (map plain_stat (drop i list))) ≡ all → false ≡ all
-void_ends list i x all inside is e known =
-    sym (ap (λ l. are_void (stats (map plain_stat l))) (front list i x inside is) ∙ void_stop (plain_stat x) (stats (map plain_stat (drop (i + 1) list))) e) ∙ known
+void_behind : (s : Stat) (ss : Stats) → are_void ss ≡ false → are_void (MoreStats s ss) ≡ false
+void_behind s ss h = by (is_void s) refl
+  where
+    by : (b : Bool) → is_void s ≡ b → are_void (MoreStats s ss) ≡ false
+    by true e = void_step s ss e ∙ h
+    by false e = void_stop s ss e
 
-pub void_all : (list : List Rust.Stat) (i : ℕ) (all : Bool) → length list ≤ i → are_void (stats (map plain_stat (drop i list))) ≡ all → true ≡ all
-void_all list i all over known = sym (ap (λ l. are_void (stats (map plain_stat l))) (drop_all i list over)) ∙ known
+abbrev pub VoidFrom : List Rust.Stat → (from i : ℕ) → Type 0
+VoidFrom list from i = are_void (stats (map plain_stat (drop i list))) ≡ nat_le from i
+
+-- from a place on all are void
+abbrev pub AllVoid : List Rust.Stat → ℕ → Type 0
+AllVoid list from = (i : ℕ) → from ≤ i → are_void (stats (map plain_stat (drop i list))) ≡ true
+
+pub void_end : (list : List Rust.Stat) (from : ℕ) → length list ≤ from → AllVoid list from
+void_end list from over i h = ap (λ l. are_void (stats (map plain_stat l))) (drop_all i list (omega (arith, over, h)))
+
+pub void_more : (list : List Rust.Stat) (from : ℕ) (x : Rust.Stat) → 0 < from → from ≤ length list → x ≡ slice_index_or list (from - 1) x → is_void (plain_stat x) ≡ true → AllVoid list from → AllVoid list (from - 1)
+void_more list from x some inside is e all i h = by (nat_le from i) refl
+  where
+    by : (b : Bool) → nat_le from i ≡ b → are_void (stats (map plain_stat (drop i list))) ≡ true
+    by true more = all i (leb-true from i more)
+    by false here =
+        let less = leb-false from i here in
+        let last : i ≡ from - 1 = omega (arith, less, h, some) in
+        ap (λ l. are_void (stats (map plain_stat l))) (front list i x (omega (arith, less, inside)) (subst (λ n. x ≡ slice_index_or list n x) (sym last) is))
+        ∙ void_step (plain_stat x) (stats (map plain_stat (drop (i + 1) list))) e ∙ all (i + 1) (omega (arith, last, some))
+
+-- a statement that is not void stands behind all in front of it
+void_before : (list : List Rust.Stat) (i k : ℕ) (x : Rust.Stat) → i + k < length list → x ≡ slice_index_or list (i + k) x → is_void (plain_stat x) ≡ false → are_void (stats (map plain_stat (drop i list))) ≡ false
+void_before list i zero x inside is e =
+    let last : i + zero ≡ i = omega arith in
+    ap (λ l. are_void (stats (map plain_stat l))) (front list i x (omega (arith, inside)) (subst (λ n. x ≡ slice_index_or list n x) last is)) ∙ void_stop (plain_stat x) (stats (map plain_stat (drop (i + 1) list))) e
+void_before list i (suc k) x inside is e =
+    let next : i + suc k ≡ i + 1 + k = omega arith in
+    ap (λ l. are_void (stats (map plain_stat l))) (drop_more list i x (omega (arith, inside)))
+    ∙ void_behind (plain_stat (slice_index_or list i x)) (stats (map plain_stat (drop (i + 1) list))) (void_before list (i + 1) k x (omega (arith, inside)) (subst (λ n. x ≡ slice_index_or list n x) next is) e)
+
+pub void_ends : (list : List Rust.Stat) (from : ℕ) (x : Rust.Stat) → 0 < from → from ≤ length list → x ≡ slice_index_or list (from - 1) x → is_void (plain_stat x) ≡ false → AllVoid list from → (i : ℕ) → VoidFrom list from i
+void_ends list from x some inside is e all i = by (nat_le from i) refl
+  where
+    by : (b : Bool) → nat_le from i ≡ b → are_void (stats (map plain_stat (drop i list))) ≡ b
+    by true more = all i (leb-true from i more)
+    by false here =
+        let less = leb-false from i here in
+        let last : from - 1 ≡ i + (from - 1 - i) = omega (arith, less, some) in
+        void_before list i (from - 1 - i) x (omega (arith, last, inside, some)) (subst (λ n. x ≡ slice_index_or list n x) last is) e

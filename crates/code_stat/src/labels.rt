@@ -1,15 +1,13 @@
 // Labels (Lua 5.4 manual, 3.3.4).
-ghost use Rattle.std.specs.Prelude.{◌≡◌, List, [], ◌∷◌, map, take, drop, length, OnOk};
-ghost use Rattle.tree_core.specs.Tree.{stats};
+ghost use Rattle.std.specs.Prelude.{◌≡◌, ◌&&◌, List, [], ◌∷◌, cond, nat_le, take, drop, OnOk};
 ghost use Rattle.tree_core.specs.Plain.{plain_stat};
 ghost use Rattle.code_of.specs.Jumps.{Visible, Reach};
 ghost use Rattle.code_of.specs.Statements.{passed_after};
 ghost use Rattle.code_expr.specs.declared.emitter.Step.{Step};
 ghost use Rattle.code_stat.specs.Drafts.{landing, newest_first, leads_to, fill};
-ghost use Rattle.code_stat.specs.Forms.{ahead_with, level_at};
+ghost use Rattle.code_stat.specs.Forms.{ahead_with};
 
 use crate::jumps::{Destination, Jump, Passed, meet_all};
-use crate::scope::level_at;
 use int_core::Bytes;
 use std::alloc::{AllocError, Global};
 use tree_core::{Name, Stat, StatNode};
@@ -21,8 +19,21 @@ pub(crate) struct Frame {
     pub(crate) falls: bool,
     /// How many locals are in scope around it.
     pub(crate) outer: usize,
-    /// How many jumps stand in front of it.
-    pub(crate) first: usize,
+    /// The number of the statement from which on all are void.
+    pub(crate) void_from: usize,
+}
+
+impl Frame {
+    /// How many locals are in scope at a label, for a `goto` that stands before it: those around
+    /// the block where only void statements follow, from the one of number `behind` on.
+    pub(crate) fn level_at(self, behind: usize, level: usize) -> usize
+        ensures { result ≡ cond (self.falls && nat_le self.void_from behind) self.outer level }
+    {
+        if self.falls && self.void_from <= behind {
+            return self.outer;
+        }
+        level
+    }
 }
 
 /// Keeps a label that was passed.
@@ -42,30 +53,28 @@ fn keep(
     Ok(())
 }
 
-/// Lets the jumps of a block lead to a statement that is a label, and keeps the label. The
-/// statements from `behind` on follow it.
+/// Lets the jumps of a block from the first one on lead to a statement that is a label, where
+/// `level` locals are in scope for them, and keeps the label.
 pub(crate) fn meet_label(
     alloc: Global,
     jumps: &mut Vec<Jump>,
     passed: &mut Vec<Passed>,
-    list: &Vec<Stat>,
-    behind: usize,
-    frame: Frame,
-    here: Destination,
+    first: usize,
     stat: &Stat,
+    here: Destination,
+    level: usize,
 ) -> Result<(), AllocError>
     ensures passed { OnOk result (newest_first passed.new.items [] ≡ passed_after (plain_stat stat.now) here.level here.place (newest_first passed.old.items [])) }
-    ensures front { OnOk result (take frame.first jumps.new.items ≡ take frame.first jumps.old.items) }
-    ensures leads { OnOk result ((ahead : List Visible) (reach : Reach) (xs : List Step) → fill (leads_to ahead reach) (drop frame.first jumps.new.items) xs ≡ fill (leads_to (ahead_with (plain_stat stat.now) here.place (level_at (stats (map plain_stat (drop behind list.now.items))) frame.falls frame.outer here.level) ahead) reach) (drop frame.first jumps.old.items) xs) }
+    ensures front { OnOk result (take first jumps.new.items ≡ take first jumps.old.items) }
+    ensures leads { OnOk result ((ahead : List Visible) (reach : Reach) (xs : List Step) → fill (leads_to ahead reach) (drop first jumps.new.items) xs ≡ fill (leads_to (ahead_with (plain_stat stat.now) here.place level ahead) reach) (drop first jumps.old.items) xs) }
 {
     match &stat.node {
         StatNode::Label(name) => {
-            let level = level_at(list, behind, frame.falls, frame.outer, here.level);
             let end = Destination {
                 place: here.place,
                 level,
             };
-            meet_all(jumps, frame.first, &name.text, end);
+            meet_all(jumps, first, &name.text, end);
             keep(alloc, passed, name, here)?;
             Ok(())
         }

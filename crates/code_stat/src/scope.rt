@@ -1,11 +1,11 @@
 // What is in scope behind statements.
-ghost use Rattle.std.specs.Prelude.{◌≡◌, IfOk, map, drop};
+ghost use Rattle.std.specs.Prelude.{◌≡◌, ℕ, IfOk, map, drop, nat_le};
 ghost use Rattle.tree_core.specs.Tree.{stats};
 ghost use Rattle.tree_core.specs.Plain.{plain_stat};
 ghost use Rattle.tree_terms.specs.Labels.{are_void};
 ghost use Rattle.code_of.specs.Levels.{closing_after, has_closed};
 ghost use Rattle.tree_terms.specs.Levels.{level_after};
-ghost use Rattle.code_stat.specs.Forms.{is_void, level_at};
+ghost use Rattle.code_stat.specs.Forms.{is_void};
 
 use crate::marks::is_closed;
 use crate::stores::behind;
@@ -78,18 +78,18 @@ pub(crate) fn closing_after(stat: &Stat, closing: bool) -> bool
     }
 }
 
-/// Whether the statements from one on are void.
-pub(crate) fn are_void(list: &Vec<Stat>, from: usize) -> bool
-    ensures { result ≡ are_void (stats (map plain_stat (drop from list.now.items))) }
+/// The number of the statement from which on all in a list are void.
+pub(crate) fn void_from(list: &Vec<Stat>) -> usize
+    ensures { (i : ℕ) → are_void (stats (map plain_stat (drop i list.now.items))) ≡ nat_le result i }
 {
-    let mut i = from;
-    while i < list.len() {
-        if !is_void(&list[i]) {
-            return false;
+    let mut from = list.len();
+    while from > 0 {
+        if !is_void(&list[from - 1]) {
+            return from;
         }
-        i += 1;
+        from -= 1;
     }
-    true
+    0
 }
 
 /// Whether a statement is void.
@@ -107,23 +107,4 @@ pub(crate) fn scope_after(stat: &Stat, scope: Scope) -> Result<Scope, AllocError
     let level = level_after(stat, scope.level)?;
     let closing = closing_after(stat, scope.closing);
     Ok(Scope { level, closing })
-}
-
-/// How many locals are in scope at a label that the statements from one on follow.
-pub(crate) fn level_at(
-    list: &Vec<Stat>,
-    behind: usize,
-    falls: bool,
-    outer: usize,
-    level: usize,
-) -> usize
-    ensures { result ≡ level_at (stats (map plain_stat (drop behind list.now.items))) falls outer level }
-{
-    if !falls {
-        return level;
-    }
-    if are_void(list, behind) {
-        return outer;
-    }
-    level
 }

@@ -14,7 +14,7 @@ use crate::jumps::{Destination, settle_all};
 use crate::labels::{Frame, meet_label};
 use crate::marks::write_close;
 use crate::returns::write_return;
-use crate::scope::{Scope, scope_after};
+use crate::scope::{Scope, scope_after, void_from};
 use crate::stores::behind;
 use crate::writer::Writer;
 use code_core::Opcode;
@@ -75,7 +75,7 @@ impl Writer {
         let frame = Frame {
             falls,
             outer,
-            first,
+            void_from: void_from(list),
         };
         let mut passed = Vec::new(self.alloc);
         let mut scope = Scope { level, closing };
@@ -89,15 +89,15 @@ impl Writer {
             };
             self.statement(stat, scope.closing, scope.level)?;
             settle_all(&mut self.jumps, from, &passed);
+            let there = frame.level_at(done, scope.level);
             meet_label(
                 self.alloc,
                 &mut self.jumps,
                 &mut passed,
-                list,
-                done,
-                frame,
-                here,
+                first,
                 stat,
+                here,
+                there,
             )?;
             scope = scope_after(stat, scope)?;
         }

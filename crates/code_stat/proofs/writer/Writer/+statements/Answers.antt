@@ -1,4 +1,4 @@
-use Rattle.std.proofs.Common.{rules, arith, ◌≡◌, ◌+◌, ◌-◌, ◌++◌, ◌<◌, ◌≤◌, [], ◌∷◌, sym, ap, ap₂, ◌∙◌, subst, refl, length, map, take, drop, OnOk, Some, true}
+use Rattle.std.proofs.Common.{rules, arith, cond, ◌&&◌, ◌≡◌, ◌+◌, ◌-◌, ◌++◌, ◌<◌, ◌≤◌, [], ◌∷◌, sym, ap, ap₂, ◌∙◌, subst, refl, length, map, take, drop, OnOk, Some, true}
 use Rattle.std.specs.Prelude.{slice_index_or}
 use Rattle.std.specs.Option.{option_map}
 use Rattle.tree_core.specs.Tree as tree
@@ -13,7 +13,7 @@ use Rattle.code_parts.specs.Scopes.{begun, ended_from}
 use Rattle.code_expr.specs.Listing.{listed}
 use Rattle.code_expr.specs.Patches.{replaced}
 use Rattle.code_stat.specs.declared.writer.Writer.{Writer}
-use Rattle.code_stat.specs.Forms.{choice}
+use Rattle.code_stat.specs.Forms.{choice, level_at}
 use Rattle.code_stat.proofs.Plain.{falls_of, returns_of, ends_at, chosen_of, arms_front}
 use Rattle.code_stat.proofs.Heights.{stat_height, stats_height, choice_height, block_inside, within_height}
 use Rattle.code_stat.proofs.Drafting.{written_sized}
@@ -100,14 +100,16 @@ pub statements-loop-stat-preserved : goal.statements-loop-stat-preserved
 statements-loop-stat-preserved t c =
     let inside : c.loop-stat.stat-index < length c.deref-stat-items.result.now = omega (arith, c.loop-stat-test.true, c.loop-stat.auto.stat-index-end) in
     let from : c.len-from.result ≡ length c.loop-stat.self.jumps.items = search rules in
-    let first : c.len-first.result ≡ length c.args.self.now.jumps.items = search rules in (
+    let first : c.len-first.result ≡ length c.args.self.now.jumps.items = search rules in
+    let there : c.level_at-there.result ≡ level_at (tree.stats (map plain_stat (drop c.in_ok-done.done c.args.list.now.items))) c.args.falls c.args.outer c.loop-stat.scope.level =
+    c.level_at-there.ensures ∙ ap (λ b. cond (c.args.falls && b) c.args.outer c.loop-stat.scope.level) (sym (c.void_from.ensures c.in_ok-done.done)) in (
       omega (arith, c.loop-stat.invariant.0, c.in_ok-done.ensures),
       levels_next c.deref-stat-items.result.now c.loop-stat.stat-index c.stat-item.result c.loop-stat.scope.level c.in_ok-scope.scope.level _ inside c.stat-item.is c.in_ok-scope.ensures.level c.loop-stat.invariant.1,
       closings_next c.deref-stat-items.result.now c.loop-stat.stat-index c.stat-item.result c.loop-stat.scope.closing c.in_ok-scope.scope.closing _ inside c.stat-item.is c.in_ok-scope.ensures.closing c.loop-stat.invariant.2,
       next_left c.args.list.now.items c.deref-stat-items.result.now c.loop-stat.stat-index (c.in_ok-done.done) c.stat-item.result c.args.self.now c.loop-stat.self c.statement.new.self (record c.statement.new.self { jumps = c.meet_label.new.jumps })
-          c.settle_all.new.jumps.items c.args.falls c.loop-stat.scope.closing c.in_ok-scope.scope.closing c.args.closing c.args.outer c.loop-stat.scope.level c.in_ok-scope.scope.level c.args.level c.len-first.result c.len-from.result c.place.result
+          c.settle_all.new.jumps.items c.args.falls c.loop-stat.scope.closing c.in_ok-scope.scope.closing c.args.closing c.args.outer c.loop-stat.scope.level c.in_ok-scope.scope.level c.args.level c.len-first.result c.len-from.result c.place.result c.level_at-there.result
           (newest_first c.loop-stat.passed.items []) (newest_first c.meet_label.new.passed.items []) c.deref-stat-items.ensures.value inside c.stat-item.is (c.in_ok-done.ensures ∙ ap (λ n. n + 1) c.loop-stat.invariant.0) first from c.place.ensures
-          c.loop-stat.invariant.3 c.in_ok-statement.ensures.code c.settle_all.ensures.front c.settle_all.ensures.leads c.in_ok-meet_label.ensures.front c.in_ok-meet_label.ensures.leads refl refl c.in_ok-meet_label.ensures.passed
+          c.loop-stat.invariant.3 c.in_ok-statement.ensures.code c.settle_all.ensures.front c.settle_all.ensures.leads c.in_ok-meet_label.ensures.front there c.in_ok-meet_label.ensures.leads refl refl c.in_ok-meet_label.ensures.passed
           c.in_ok-scope.ensures.level c.in_ok-scope.ensures.closing,
       next_declared c.deref-stat-items.result.now c.args.list.now.items c.loop-stat.stat-index c.stat-item.result c.args.self.now c.loop-stat.self c.statement.new.self (record c.statement.new.self { jumps = c.meet_label.new.jumps })
           c.loop-stat.scope.closing c.in_ok-scope.scope.closing c.args.closing c.loop-stat.scope.level c.in_ok-scope.scope.level c.args.level inside c.stat-item.is c.loop-stat.invariant.4 c.in_ok-statement.ensures.code c.in_ok-statement.ensures.variables
