@@ -1,8 +1,8 @@
 -- The functions of the libraries that are Lua text (Lua 5.4 manual, 6). Its `_ENV` is a table of its own, which scripts cannot reach: it has every
 -- primitive under its name there and these functions.
-use Rattle.std.specs.Prelude.{ℕ, List, [], ◌∷◌, ◌++◌, codes}
+use Rattle.std.specs.Prelude.{ℕ, List, [], ◌∷◌, ◌++◌, map, codes}
 use Rattle.std.specs.List.{flat_map}
-use Rattle.library_rows.specs.Library.{Library, of_globals, of_coroutine, of_string, of_table, of_prelude}
+use Rattle.library_rows.specs.Library.{Library, library_name, of_globals, of_coroutine, of_string, of_table, of_prelude}
 
 abbrev pub prelude_lines : List (List ℕ)
 prelude_lines =
@@ -120,3 +120,7 @@ prelude_functions =
     ∷ (codes "load", of_globals)
     ∷ (codes "after", of_prelude)
     ∷ (codes "wrap", of_coroutine) ∷ []
+
+-- the names under which they are saved
+abbrev pub function_keys : List (List ℕ)
+function_keys = map (λ (f : List ℕ × Library). library_name f.1 ++ f.0) prelude_functions

@@ -1,6 +1,6 @@
 use Rattle.std.proofs.Common.{refl}
 use Rattle.library_rows.specs.PreludeText.{prelude_text}
-use Rattle.library_rows.proofs.prelude.prelude_source.Goals as goal
+use Rattle.lua_prelude.proofs.source.text.Goals as goal
 
 pub returns : goal.returns
 unfolding prelude_text

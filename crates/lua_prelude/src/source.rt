@@ -4,10 +4,10 @@ ghost use Rattle.library_rows.specs.PreludeText.{prelude_text};
 
 /// The text of the prelude, whose functions stand beside the primitives in the libraries' tables (Lua 5.4
 /// manual, 6).
-pub fn prelude_source() -> &'static [u8]
+pub fn text() -> &'static str
     ensures text { result.now ≡ prelude_text }
 {
-    b"function bad(i,f,w) error(\"bad argument #\"..i..\" to '\"..f..\"' (\"..w..\")\") end\n\
+    "function bad(i,f,w) error(\"bad argument #\"..i..\" to '\"..f..\"' (\"..w..\")\") end\n\
 function tabl(f,t) if type(t)~=\"table\" then bad(1,f,\"table expected, got \"..type(t)) end end\n\
 function int(f,i,v) local n=toint(v)\n\
 \x20if n==nil then bad(i,f,\"number expected, got \"..type(v)) end return n end\n\
