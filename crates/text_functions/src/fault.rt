@@ -1,0 +1,36 @@
+// Why a text is not made.
+ghost use Rattle.std.specs.Prelude.{◌≡◌};
+
+use std::alloc::{AllocError, AllocFailed};
+use thiserror::Error;
+
+/// Why a text is not made.
+#[derive(Clone, Copy, Debug, PartialEq, Eq, Error)]
+pub enum StringFault {
+    /// It would have more than 16,777,216 bytes.
+    #[error("resulting string too large")]
+    TooLarge,
+    /// Memory ran out.
+    #[error("out of memory")]
+    Memory,
+}
+
+impl From<AllocError> for StringFault {
+    ghost use Rattle.text_functions.specs.declared.fault.StringFault.TheVariants.{Memory};
+
+    ghost from_gives = { λ _ made. made ≡ Memory };
+
+    fn from(_: AllocError) -> StringFault {
+        StringFault::Memory
+    }
+}
+
+impl<T: Drop> From<AllocFailed<T>> for StringFault {
+    ghost use Rattle.text_functions.specs.declared.fault.StringFault.TheVariants.{Memory};
+
+    ghost from_gives = { λ _ made. made ≡ Memory };
+
+    fn from(_: AllocFailed<T>) -> StringFault {
+        StringFault::Memory
+    }
+}
