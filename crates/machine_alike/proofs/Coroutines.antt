@@ -6,7 +6,7 @@ use Rattle.int_core.specs.Value.{a_table, a_function, a_coroutine, Value, nth, b
 use Rattle.int_core.specs.Limits.{greatest_resumes, stack_overflow}
 use Rattle.machine_core.specs.World.{Frame, closing, Coroutine, suspended, in_progress, normal, dead, failed, World, Stack, stack_of, Cell, push, frames_of}
 use Rattle.machine_core.specs.Text.{Arg, arg}
-use Rattle.machine_core.specs.Moves.{Made, made, end_coroutine, fail_coroutine, suspend, resume, begin_closing, CallShape, is_entered, not_entered, ResumeShape, resumed, refused, enters, runs_main, has_room, pending_values, all_closed_from, put_coroutine, awake, back_to_resumer, ends_as, starts_in, can_start, resumes, closes_in, closes_coroutine, coroutine_number}
+use Rattle.machine_core.specs.Moves.{Made, made, end_coroutine, fail_coroutine, suspend, resume, begin_closing, CallShape, is_entered, not_entered, ResumeShape, resumed, refused, enters, runs_main, has_room, pending_values, all_closed_from, put_coroutine, awake, back_to_resumer, bury, suspend_running, wait_for_another, go_into, ends_as, starts_in, can_start, resumes, closes_in, closes_coroutine, coroutine_number}
 use Rattle.machine_alike.specs.Agree.{Pairs, SameNumber, Each, SameValue, same_known, same_object, SameValues, SameFrame, same_lua, same_pcall, same_xpcall, same_handler, same_closing, SameFrames, SameCoroutine, same_fresh, same_suspended, same_in_progress, same_normal, same_dead, same_failed, Objects, SameObjects, objects_of, AgreeInTurn}
 use Rattle.machine_alike.specs.Laws.{MadeAlike, Alike, Keeps}
 use Rattle.machine_alike.proofs.Pairwise.{each_bind, zip_append, zip_length, zip_last, zip_drop, zip_without_last, zip_parts, cond_rel}
@@ -76,6 +76,10 @@ closed_agree : (p : Pairs) (W X : World) (co co' : ℕ) (fs gs : List Frame) →
     → AgreeInTurn p (record W { cells = all_closed_from co 0 fs W.cells }) (record X { cells = all_closed_from co' 0 gs X.cells })
 closed_agree p W X co co' fs gs a h k = cells_agree p W X _ _ a (all_closed_same p co co' 0 fs gs (objects_of W) (objects_of X) a.objects h k)
 
+bury_same : (p : Pairs) (W X : World) (co co' : ℕ) (fs gs : List Frame) (c d : Coroutine) → AgreeInTurn p W X → SameNumber p a_coroutine co co' → SameFrames p fs gs → SameCoroutine p c d → AgreeInTurn p (bury W co fs c) (bury X co' gs d)
+unfolding bury
+bury_same p W X co co' fs gs c d a h k s = put_coroutine_same p _ _ co co' c d (closed_agree p W X co co' fs gs a h k) h s
+
 -- back to the coroutine that resumed the running one
 
 awake_same : (p : Pairs) (o o' : Option Coroutine) → Each (SameCoroutine p) o o' → SameFrames p (awake o) (awake o')
@@ -111,7 +115,7 @@ back_same p W X a =
 ends_same : (p : Pairs) (W X : World) (c d : Coroutine) → AgreeInTurn p W X → SameCoroutine p c d → Each (AgreeInTurn p) (ends_as W c) (ends_as X d)
 ends_same p W X c d a h =
     each_bind (SameStack p) (AgreeInTurn p) _ _
-    (λ s t b. back_same p _ _ (put_coroutine_same p _ _ s.coroutine t.coroutine c d (closed_agree p W X s.coroutine t.coroutine s.frames t.frames a b.coroutine b.frames) b.coroutine h))
+    (λ s t b. back_same p _ _ (bury_same p W X s.coroutine t.coroutine s.frames t.frames c d a b.coroutine b.frames h))
     (stack_of W) (stack_of X) (stack_same p W X a)
 
 pub end_keeps : Keeps end_coroutine
@@ -124,10 +128,14 @@ fail_keeps x p env other W X s g = on_stack p (Unit {0}) W X _ _ g
     (ends_as W (failed (arg env x) (flat_map pending_values a.frames))) (ends_as X (failed (arg other x) (flat_map pending_values b.frames)))
     (ends_same p W X _ _ g (same_failed (arg env x) (arg other x) _ _ (arg_same p env other x s) (all_pending_same p a.frames b.frames h.frames))))
 
+suspended_so : (p : Pairs) (W X : World) (s t : Stack) → AgreeInTurn p W X → SameStack p s t → AgreeInTurn p (suspend_running W s) (suspend_running X t)
+unfolding suspend_running
+suspended_so p W X s t a h = back_same p _ _ (put_coroutine_same p W X s.coroutine t.coroutine (suspended s.frames) (suspended t.frames) a h.coroutine (same_suspended s.frames t.frames h.frames))
+
 pub suspend_keeps : Keeps suspend
 suspend_keeps p env other W X s g = on_stack p Bool W X _ _ g
     (λ a b h. made_same p p Bool _ _ [] [] (runs_main W) (runs_main X) (extends_self p)
-    (back_same p _ _ (put_coroutine_same p W X a.coroutine b.coroutine (suspended a.frames) (suspended b.frames) g h.coroutine (same_suspended a.frames b.frames h.frames))) tt (main_same p W X g))
+    (suspended_so p W X a b g h) tt (main_same p W X g))
 
 -- resuming
 
@@ -151,15 +159,23 @@ refused_same p W X text a = made_same p p ResumeShape W X [] [] (refused text) (
 appended : (p : Pairs) (W X : World) (i j : ℕ) → AgreeInTurn p W X → SameNumber p a_coroutine i j → AgreeInTurn p (record W { chain = W.chain ++ i ∷ [] }) (record X { chain = X.chain ++ j ∷ [] })
 appended p W X i j a h = chain_agrees p W X _ _ a (zip_append (SameNumber p a_coroutine) W.chain X.chain (i ∷ []) (j ∷ []) a.roots.chain (h, tt))
 
+into_same : (p : Pairs) (W X : World) (i j : ℕ) (fs gs : List Frame) → AgreeInTurn p W X → SameNumber p a_coroutine i j → SameFrames p fs gs → AgreeInTurn p (go_into W i fs) (go_into X j gs)
+unfolding go_into
+into_same p W X i j fs gs a h k = put_coroutine_same p _ _ i j (in_progress fs) (in_progress gs) (appended p W X i j a h) h (same_in_progress fs gs k)
+
+waits_same : (p : Pairs) (W X : World) (s t : Stack) → AgreeInTurn p W X → SameStack p s t → AgreeInTurn p (wait_for_another W s) (wait_for_another X t)
+unfolding wait_for_another
+waits_same p W X s t a b = put_coroutine_same p W X s.coroutine t.coroutine (normal s.frames) (normal t.frames) a b.coroutine (same_normal s.frames t.frames b.frames)
+
 starts_same : (p : Pairs) (W X : World) (i j : ℕ) (vs ws : List Value) → AgreeInTurn p W X → SameNumber p a_coroutine i j → SameValues p vs ws → (c d : Coroutine) → SameCoroutine p c d → Alike p ResumeShape (starts_in W i c vs) (starts_in X j d ws)
 starts_same p W X i j vs ws a h s c d (same_fresh v w k) =
     each_bind (MadeAlike p CallShape) (MadeAlike p ResumeShape) _ _
     (λ x y l. record { now = l.now; more = l.more; agree = l.agree; values = tt; told = ap resumed l.told })
-    (enters (put_coroutine (record W { chain = W.chain ++ i ∷ [] }) i (in_progress [])) v vs) (enters (put_coroutine (record X { chain = X.chain ++ j ∷ [] }) j (in_progress [])) w ws)
-    (enters_same p _ _ v w vs ws (put_coroutine_same p _ _ i j (in_progress []) (in_progress []) (appended p W X i j a h) h (same_in_progress [] [] tt)) k s)
+    (enters (go_into W i []) v vs) (enters (go_into X j []) w ws)
+    (enters_same p _ _ v w vs ws (into_same p W X i j [] [] a h tt) k s)
 starts_same p W X i j vs ws a h s c d (same_suspended fs gs k) =
     made_same p p ResumeShape _ _ [] [] (resumed is_entered) (resumed is_entered) (extends_self p)
-    (put_coroutine_same p _ _ i j (in_progress fs) (in_progress gs) (moving_agrees p _ _ vs ws (appended p W X i j a h) s) h (same_in_progress fs gs k)) tt refl
+    (moving_agrees p _ _ vs ws (into_same p W X i j fs gs a h k) s) tt refl
 starts_same p W X i j vs ws a h s c d (same_in_progress fs gs k) = refused_same p W X _ a
 starts_same p W X i j vs ws a h s c d (same_normal fs gs k) = refused_same p W X _ a
 starts_same p W X i j vs ws a h s c d same_dead = refused_same p W X _ a
@@ -179,7 +195,7 @@ resumes_same p W X s t i j c d vs ws a b h k l =
     let n = zip_length (SameNumber p a_coroutine) W.chain X.chain a.roots.chain in
     cond_rel (Alike p ResumeShape) (can_start c && nat_lt greatest_resumes (length W.chain)) (can_start d && nat_lt greatest_resumes (length X.chain)) _ _ _ _ (rw (e, n) refl) (refused_same p W X _ a)
     (starts_same p _ _ i j vs ws
-    (cond_rel (AgreeInTurn p) (can_start c) (can_start d) _ W _ X e (put_coroutine_same p W X s.coroutine t.coroutine (normal s.frames) (normal t.frames) a b.coroutine (same_normal s.frames t.frames b.frames)) a)
+    (cond_rel (AgreeInTurn p) (can_start c) (can_start d) _ W _ X e (waits_same p W X s t a b) a)
     h l c d k)
 
 pub resume_keeps : (x : Arg) (slot : ℕ) → Keeps (resume x slot)
@@ -198,7 +214,7 @@ closes_same p W X D E s t e f vs ws a d b h k =
 closes_coroutine_same : (p : Pairs) (W X : World) (s t : Stack) (i j : ℕ) → AgreeInTurn p W X → SameStack p s t → SameNumber p a_coroutine i j → (c d : Coroutine) → SameCoroutine p c d → Alike p ResumeShape (closes_coroutine W s i c) (closes_coroutine X t j d)
 closes_coroutine_same p W X s t i j a b h c d (same_fresh v w k) = closes_same p W X _ _ s t None None [] [] a (put_coroutine_same p W X i j dead dead a h same_dead) b tt tt
 closes_coroutine_same p W X s t i j a b h c d (same_suspended fs gs k) =
-    closes_same p W X _ _ s t None None (flat_map pending_values fs) (flat_map pending_values gs) a (put_coroutine_same p _ _ i j dead dead (closed_agree p W X i j fs gs a h k) h same_dead) b tt (all_pending_same p fs gs k)
+    closes_same p W X _ _ s t None None (flat_map pending_values fs) (flat_map pending_values gs) a (bury_same p W X i j fs gs dead dead a h k same_dead) b tt (all_pending_same p fs gs k)
 closes_coroutine_same p W X s t i j a b h c d (same_in_progress fs gs k) = refused_same p W X _ a
 closes_coroutine_same p W X s t i j a b h c d (same_normal fs gs k) = refused_same p W X _ a
 closes_coroutine_same p W X s t i j a b h c d same_dead = closes_same p W X W X s t None None [] [] a a b tt tt

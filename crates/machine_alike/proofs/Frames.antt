@@ -167,6 +167,7 @@ has_room_same p W X count a = by (stack_of W) (stack_of X) (stack_same p W X a)
     by (Some s) (Some t) k = ap (λ n. nat_le (n + count) greatest_depth) (zip_length (SameFrame p) s.frames t.frames k.frames)
 
 popped_aligned : (p : Pairs) (W X : World) (a b : Place) → AgreeInTurn p W X → SamePlace p a b → AgreeInTurn p (popped W a) (popped X (aligned a b))
+unfolding popped
 popped_aligned p W X a b g h =
     pop_same p _ _ a.stack b.stack (cells_agree p W X _ _ g (close_same p (objects_of W) (objects_of X) a.stack.coroutine b.stack.coroutine a.number 0 a.top.own.registers b.top.own.registers g.objects h.stack.coroutine h.top.own.registers)) h.stack
 

@@ -12,7 +12,7 @@ use Rattle.int_core.specs.Heap.{Table, raw_set}
 use Rattle.machine_core.specs.World.{Function, Cell, closed, fresh, in_progress, World, put_frames, put_top, push, pop, write_cell}
 use Rattle.std.specs.Int.{int_wrap}
 use Rattle.code_core.specs.Opcode.{opcodes, number_of}
-use Rattle.machine_core.specs.Moves.{with_own, put_coroutine, back_to_resumer, new_frame, Ending, go, spent, main_returned, main_failed, Row, traps, Outcome, trapped, ends}
+use Rattle.machine_core.specs.Moves.{with_own, put_coroutine, back_to_resumer, popped, bury, suspend_running, wait_for_another, go_into, new_frame, Ending, go, spent, main_returned, main_failed, Row, traps, Outcome, trapped, ends}
 use Rattle.machine_core.specs.MachineStep.{woken, pcall_row, xpcall_row, error_row, resume_row, yield_row, close_row, steps}
 
 -- the primitives of these worlds, by their numbers
@@ -87,17 +87,17 @@ jump n = op_ax Jmp (16777215 + n)
 
 -- return 1 + 2
 add_two : runs 9 (started 0 (alone (plain 3 (load 0 1 ∷ load 1 2 ∷ abc Add 2 0 1 false ∷ abc MmBin 0 1 6 false ∷ abc Return1 2 2 0 false ∷ []))) [] [] []) ≡ Some (main_returned, int 3 ∷ [], 0)
-unfolding opcodes number_of int_wrap put_frames put_top push pop write_cell with_own put_coroutine back_to_resumer raw_set woken
+unfolding opcodes number_of int_wrap put_frames put_top push pop write_cell with_own put_coroutine back_to_resumer popped bury suspend_running wait_for_another go_into raw_set woken
 add_two = refl
 
 -- return, which names no register, whatever A is
 return_nothing : runs 9 (started 0 (alone (plain 1 (abc Return 2 1 0 false ∷ []))) [] [] []) ≡ Some (main_returned, [], 0)
-unfolding opcodes number_of int_wrap put_frames put_top push pop write_cell with_own put_coroutine back_to_resumer raw_set woken
+unfolding opcodes number_of int_wrap put_frames put_top push pop write_cell with_own put_coroutine back_to_resumer popped bury suspend_running wait_for_another go_into raw_set woken
 return_nothing = refl
 
 -- return 7 // 0
 by_zero : runs 9 (started 0 (alone (plain 3 (load 0 7 ∷ load 1 0 ∷ abc IDiv 2 0 1 false ∷ abc MmBin 0 1 12 false ∷ abc Return1 2 2 0 false ∷ []))) [] [] []) ≡ Some (main_failed, text (codes "attempt to perform 'n//0'") ∷ [], 0)
-unfolding opcodes number_of int_wrap put_frames put_top push pop write_cell with_own put_coroutine back_to_resumer raw_set woken
+unfolding opcodes number_of int_wrap put_frames put_top push pop write_cell with_own put_coroutine back_to_resumer popped bury suspend_running wait_for_another go_into raw_set woken
 by_zero = refl
 
 -- local x = 5; local f = function() x = x + 1 return x end; x = 7; return x, f()
@@ -108,12 +108,12 @@ abbrev pub counted : Prototype
 counted = code 0 false 4 [] [] (counts ∷ []) (load 0 5 ∷ abx Closure 1 0 ∷ load 0 7 ∷ abc Move 2 0 0 false ∷ abc Move 3 1 0 false ∷ abc Call 3 1 2 false ∷ abc Move 1 0 0 false ∷ abc Return 0 5 0 false ∷ [])
 
 shared : runs 20 (started 1 (alone counted) [] [] []) ≡ Some (main_returned, int 8 ∷ int 8 ∷ int 7 ∷ int 8 ∷ [], 0)
-unfolding opcodes number_of int_wrap put_frames put_top push pop write_cell with_own put_coroutine back_to_resumer raw_set woken
+unfolding opcodes number_of int_wrap put_frames put_top push pop write_cell with_own put_coroutine back_to_resumer popped bury suspend_running wait_for_another go_into raw_set woken
 shared = refl
 
 -- the same call, where it cannot be paid
 unpaid : runs 20 (started 0 (alone counted) [] [] []) ≡ Some (spent, [], 0)
-unfolding opcodes number_of int_wrap put_frames put_top push pop write_cell with_own put_coroutine back_to_resumer raw_set woken
+unfolding opcodes number_of int_wrap put_frames put_top push pop write_cell with_own put_coroutine back_to_resumer popped bury suspend_running wait_for_another go_into raw_set woken
 unpaid = refl
 
 -- for i = 1, 3 do s = s + i end return s
@@ -121,11 +121,11 @@ abbrev pub loop : ℕ → Option (Ending × List Value × ℕ)
 loop fuel = runs 30 (started fuel (alone (plain 5 (load 0 0 ∷ load 1 1 ∷ load 2 3 ∷ load 3 1 ∷ abx ForPrep 1 2 ∷ abc Add 0 0 4 false ∷ abc MmBin 0 4 6 false ∷ abx ForLoop 1 3 ∷ abc Return1 0 2 0 false ∷ []))) [] [] [])
 
 summed : loop 2 ≡ Some (main_returned, int 6 ∷ [], 0)
-unfolding opcodes number_of int_wrap put_frames put_top push pop write_cell with_own put_coroutine back_to_resumer raw_set woken
+unfolding opcodes number_of int_wrap put_frames put_top push pop write_cell with_own put_coroutine back_to_resumer popped bury suspend_running wait_for_another go_into raw_set woken
 summed = refl
 
 stopped : loop 1 ≡ Some (spent, [], 0)
-unfolding opcodes number_of int_wrap put_frames put_top push pop write_cell with_own put_coroutine back_to_resumer raw_set woken
+unfolding opcodes number_of int_wrap put_frames put_top push pop write_cell with_own put_coroutine back_to_resumer popped bury suspend_running wait_for_another go_into raw_set woken
 stopped = refl
 
 -- errors, closing variables and message handlers. Table 0 is to be closed, by function 2, which writes the error down in table 2; function 3
@@ -179,31 +179,31 @@ result W = told_by (steps primitives 90 go W)
 
 -- pcall, f, error, and both closing methods
 by_pcall : result (protected 5 fails 0) ≡ (Some (main_returned, known (boolean false) ∷ int 42 ∷ [], 0), int 42 ∷ int 42 ∷ [])
-unfolding opcodes number_of int_wrap put_frames put_top push pop write_cell with_own put_coroutine back_to_resumer raw_set woken
+unfolding opcodes number_of int_wrap put_frames put_top push pop write_cell with_own put_coroutine back_to_resumer popped bury suspend_running wait_for_another go_into raw_set woken
 by_pcall = refl
 
 -- xpcall, f, error, the handler, and both closing methods, which are called after the handler with its answer
 by_xpcall : result (protected 6 fails 1) ≡ (Some (main_returned, known (boolean false) ∷ int 43 ∷ [], 0), int 7 ∷ int 43 ∷ int 43 ∷ [])
-unfolding opcodes number_of int_wrap put_frames put_top push pop write_cell with_own put_coroutine back_to_resumer raw_set woken
+unfolding opcodes number_of int_wrap put_frames put_top push pop write_cell with_own put_coroutine back_to_resumer popped bury suspend_running wait_for_another go_into raw_set woken
 by_xpcall = refl
 
 -- where the second closing method cannot be paid, it moves with its arguments, and the frame waits for it
 not_closed : result (protected 5 fails 1) ≡ (Some (spent, object a_function 2 ∷ object a_table 0 ∷ int 43 ∷ [], 0), int 7 ∷ int 43 ∷ [])
-unfolding opcodes number_of int_wrap put_frames put_top push pop write_cell with_own put_coroutine back_to_resumer raw_set woken
+unfolding opcodes number_of int_wrap put_frames put_top push pop write_cell with_own put_coroutine back_to_resumer popped bury suspend_running wait_for_another go_into raw_set woken
 not_closed = refl
 
 -- where the handler cannot be paid, it moves with the error
 handler_unpaid : result (protected 3 fails 1) ≡ (Some (spent, object a_function 3 ∷ int 42 ∷ [], 0), [])
-unfolding opcodes number_of int_wrap put_frames put_top push pop write_cell with_own put_coroutine back_to_resumer raw_set woken
+unfolding opcodes number_of int_wrap put_frames put_top push pop write_cell with_own put_coroutine back_to_resumer popped bury suspend_running wait_for_another go_into raw_set woken
 handler_unpaid = refl
 
 -- a fault of f's own step; the handler fails on its text, which gives up
 own_fault : result (protected 5 faults 1) ≡ (Some (main_returned, known (boolean false) ∷ text (codes "error in error handling") ∷ [], 0), int 7 ∷ text (codes "error in error handling") ∷ text (codes "error in error handling") ∷ [])
-unfolding opcodes number_of int_wrap put_frames put_top push pop write_cell with_own put_coroutine back_to_resumer raw_set woken
+unfolding opcodes number_of int_wrap put_frames put_top push pop write_cell with_own put_coroutine back_to_resumer popped bury suspend_running wait_for_another go_into raw_set woken
 own_fault = refl
 
 own_fault_caught : result (protected 4 faults 0) ≡ (Some (main_returned, known (boolean false) ∷ text (codes "attempt to perform arithmetic on a nil value") ∷ [], 0), text (codes "attempt to perform arithmetic on a nil value") ∷ text (codes "attempt to perform arithmetic on a nil value") ∷ [])
-unfolding opcodes number_of int_wrap put_frames put_top push pop write_cell with_own put_coroutine back_to_resumer raw_set woken
+unfolding opcodes number_of int_wrap put_frames put_top push pop write_cell with_own put_coroutine back_to_resumer popped bury suspend_running wait_for_another go_into raw_set woken
 own_fault_caught = refl
 
 -- a closure writes a register of a suspended coroutine: local x = 1; yield(function(v) x = v end) return x
@@ -223,5 +223,5 @@ two_coroutines fuel =
     record W { coroutines = W.coroutines ++ fresh (object a_function 1) ∷ [] }
 
 suspended_register : runs 40 (two_coroutines 4) ≡ Some (main_returned, known (boolean true) ∷ int 9 ∷ [], 0)
-unfolding opcodes number_of int_wrap put_frames put_top push pop write_cell with_own put_coroutine back_to_resumer raw_set woken
+unfolding opcodes number_of int_wrap put_frames put_top push pop write_cell with_own put_coroutine back_to_resumer popped bury suspend_running wait_for_another go_into raw_set woken
 suspended_register = refl

@@ -11,7 +11,7 @@ use Rattle.int_core.specs.Value.{boolean, a_table, a_function, a_coroutine, Valu
 use Rattle.int_core.specs.Limits.{greatest_depth, stack_overflow}
 use Rattle.int_core.specs.Heap.{raw_set}
 use Rattle.machine_core.specs.World.{put_frames, put_top, push, pop, write_cell, closed, Frame, pcall, Coroutine, fresh, in_progress, normal, World, Stack}
-use Rattle.machine_core.specs.Moves.{with_own, put_coroutine, back_to_resumer, not_entered, resumed, made, move, push_frame, push_all, over_pcall, has_room, closes_coroutine, Ending, go, returned, spent, main_returned, main_failed, Outcome, trapped, ends, run}
+use Rattle.machine_core.specs.Moves.{with_own, put_coroutine, back_to_resumer, popped, bury, suspend_running, wait_for_another, go_into, not_entered, resumed, made, move, push_frame, push_all, over_pcall, has_room, closes_coroutine, Ending, go, returned, spent, main_returned, main_failed, Outcome, trapped, ends, run}
 use Rattle.machine_core.specs.MachineStep.{woken, resume_row, steps}
 use Rattle.machine_core.proofs.Machine.{primitives, code, plain, int, text, started, runs, load, log_in, fails, result}
 use Rattle.machine_core.proofs.MachineErrors.{base, function, closing_world, suspended_world}
@@ -28,7 +28,7 @@ nothing = plain 2 (abc Return0 0 0 0 false ∷ [])
 
 call_drops_pending : runs 40 (started 1 (function drops (0 ∷ 1 ∷ 2 ∷ []) ∷ function nothing [] ∷ []) (closed (known nil) ∷ closed (object a_table 0) ∷ closed (object a_function 1) ∷ [])
     (record { rows = []; metatable = Some 1 } ∷ record { rows = (text (codes "__close"), object a_function 1) ∷ []; metatable = None } ∷ []) []) ≡ Some (main_returned, [], 0)
-unfolding opcodes number_of int_wrap put_frames put_top push pop write_cell with_own put_coroutine back_to_resumer raw_set woken
+unfolding opcodes number_of int_wrap put_frames put_top push pop write_cell with_own put_coroutine back_to_resumer popped bury suspend_running wait_for_another go_into raw_set woken
 call_drops_pending = refl
 
 -- CLOSE 1 closes register 1, though register 0 was marked after it; the call at register 0 then takes that one off the list
@@ -37,7 +37,7 @@ closes_above = plain 3 (abc GetUpval 1 1 0 false ∷ abc Tbc 1 0 0 false ∷ abc
 
 close_looks_past_lower : runs 40 (started 2 (function closes_above (0 ∷ 1 ∷ 2 ∷ []) ∷ function nothing [] ∷ []) (closed (known nil) ∷ closed (object a_table 0) ∷ closed (object a_function 1) ∷ [])
     (record { rows = []; metatable = Some 1 } ∷ record { rows = (text (codes "__close"), object a_function 1) ∷ []; metatable = None } ∷ []) []) ≡ Some (main_returned, [], 0)
-unfolding opcodes number_of int_wrap put_frames put_top push pop write_cell with_own put_coroutine back_to_resumer raw_set woken
+unfolding opcodes number_of int_wrap put_frames put_top push pop write_cell with_own put_coroutine back_to_resumer popped bury suspend_running wait_for_another go_into raw_set woken
 close_looks_past_lower = refl
 
 -- EXTRAARG counts 256 for each of its units: the item behind index 2 + 256 is at 259
@@ -45,7 +45,7 @@ abbrev fills : Prototype
 fills = code 0 false 4 [] [] [] (abc NewTable 0 0 0 false ∷ op_ax ExtraArg 0 ∷ load 1 7 ∷ abc SetList 0 1 2 true ∷ op_ax ExtraArg 1 ∷ load 2 259 ∷ abc GetTable 3 0 2 false ∷ abc Return1 3 0 0 false ∷ [])
 
 list_far_on : alone fills [] ≡ Some (main_returned, int 7 ∷ [], 0)
-unfolding opcodes number_of int_wrap put_frames put_top push pop write_cell with_own put_coroutine back_to_resumer raw_set woken
+unfolding opcodes number_of int_wrap put_frames put_top push pop write_cell with_own put_coroutine back_to_resumer popped bury suspend_running wait_for_another go_into raw_set woken
 list_far_on = refl
 
 -- SELF reads its key before it writes the object to the register behind A, which may be the key's
@@ -53,7 +53,7 @@ abbrev keyed : List Value → Option (Ending × List Value × ℕ)
 keyed arguments = runs 40 (started 0 (function (code 3 false 3 [] [] [] (abc OpSelf 1 0 2 false ∷ abc Return1 1 0 0 false ∷ [])) [] ∷ []) [] (record { rows = (text (codes "x"), int 5) ∷ []; metatable = None } ∷ []) arguments)
 
 self_reads_first : keyed (object a_table 0 ∷ known nil ∷ text (codes "x") ∷ []) ≡ Some (main_returned, int 5 ∷ [], 0)
-unfolding opcodes number_of int_wrap put_frames put_top push pop write_cell with_own put_coroutine back_to_resumer raw_set woken
+unfolding opcodes number_of int_wrap put_frames put_top push pop write_cell with_own put_coroutine back_to_resumer popped bury suspend_running wait_for_another go_into raw_set woken
 self_reads_first = refl
 
 -- a numeric `for` looks at its limit, then at its step, then at its initial value, and last at a step of zero
@@ -61,19 +61,19 @@ abbrev prepares : List Value → Option (Ending × List Value × ℕ)
 prepares arguments = alone (code 3 false 4 [] [] [] (abx ForPrep 0 0 ∷ abc Return0 0 0 0 false ∷ abc Return0 0 0 0 false ∷ [])) arguments
 
 limit_first : prepares (known nil ∷ known nil ∷ known nil ∷ []) ≡ Some (main_failed, text (codes "'for' limit must be a number") ∷ [], 0)
-unfolding opcodes number_of int_wrap put_frames put_top push pop write_cell with_own put_coroutine back_to_resumer raw_set woken
+unfolding opcodes number_of int_wrap put_frames put_top push pop write_cell with_own put_coroutine back_to_resumer popped bury suspend_running wait_for_another go_into raw_set woken
 limit_first = refl
 
 step_second : prepares (known nil ∷ int 1 ∷ known nil ∷ []) ≡ Some (main_failed, text (codes "'for' step must be a number") ∷ [], 0)
-unfolding opcodes number_of int_wrap put_frames put_top push pop write_cell with_own put_coroutine back_to_resumer raw_set woken
+unfolding opcodes number_of int_wrap put_frames put_top push pop write_cell with_own put_coroutine back_to_resumer popped bury suspend_running wait_for_another go_into raw_set woken
 step_second = refl
 
 value_third : prepares (known nil ∷ int 1 ∷ int 0 ∷ []) ≡ Some (main_failed, text (codes "'for' initial value must be a number") ∷ [], 0)
-unfolding opcodes number_of int_wrap put_frames put_top push pop write_cell with_own put_coroutine back_to_resumer raw_set woken
+unfolding opcodes number_of int_wrap put_frames put_top push pop write_cell with_own put_coroutine back_to_resumer popped bury suspend_running wait_for_another go_into raw_set woken
 value_third = refl
 
 zero_last : prepares (int 1 ∷ int 1 ∷ int 0 ∷ []) ≡ Some (main_failed, text (codes "'for' step is zero") ∷ [], 0)
-unfolding opcodes number_of int_wrap put_frames put_top push pop write_cell with_own put_coroutine back_to_resumer raw_set woken
+unfolding opcodes number_of int_wrap put_frames put_top push pop write_cell with_own put_coroutine back_to_resumer popped bury suspend_running wait_for_another go_into raw_set woken
 zero_last = refl
 
 -- `error` puts the place of a level in front of a string, and of nothing else. A chunk `=t` whose call is on line 5
@@ -101,23 +101,23 @@ abbrev raised_with : Value → Value → Option (Ending × List Value × ℕ)
 raised_with v level = runs 40 (started 1 (function raises [] ∷ []) [] [] (base 2 ∷ v ∷ level ∷ []))
 
 level_missing : raised_with (text (codes "x")) (known nil) ≡ Some (main_failed, text (codes "t:5: x") ∷ [], 0)
-unfolding opcodes number_of int_wrap digits put_frames put_top push pop write_cell with_own put_coroutine back_to_resumer raw_set woken
+unfolding opcodes number_of int_wrap digits put_frames put_top push pop write_cell with_own put_coroutine back_to_resumer popped bury suspend_running wait_for_another go_into raw_set woken
 level_missing = refl
 
 level_zero : raised_with (text (codes "x")) (int 0) ≡ Some (main_failed, text (codes "x") ∷ [], 0)
-unfolding opcodes number_of int_wrap put_frames put_top push pop write_cell with_own put_coroutine back_to_resumer raw_set woken
+unfolding opcodes number_of int_wrap put_frames put_top push pop write_cell with_own put_coroutine back_to_resumer popped bury suspend_running wait_for_another go_into raw_set woken
 level_zero = refl
 
 level_too_high : raised_with (text (codes "x")) (int 2) ≡ Some (main_failed, text (codes "x") ∷ [], 0)
-unfolding opcodes number_of int_wrap put_frames put_top push pop write_cell with_own put_coroutine back_to_resumer raw_set woken
+unfolding opcodes number_of int_wrap put_frames put_top push pop write_cell with_own put_coroutine back_to_resumer popped bury suspend_running wait_for_another go_into raw_set woken
 level_too_high = refl
 
 no_string : raised_with (int 42) (known nil) ≡ Some (main_failed, int 42 ∷ [], 0)
-unfolding opcodes number_of int_wrap put_frames put_top push pop write_cell with_own put_coroutine back_to_resumer raw_set woken
+unfolding opcodes number_of int_wrap put_frames put_top push pop write_cell with_own put_coroutine back_to_resumer popped bury suspend_running wait_for_another go_into raw_set woken
 no_string = refl
 
 no_level : raised_with (text (codes "x")) (known (boolean true)) ≡ Some (main_failed, text (codes "t:5: bad argument #2 to 'error' (number expected, got boolean)") ∷ [], 0)
-unfolding opcodes number_of int_wrap digits put_frames put_top push pop write_cell with_own put_coroutine back_to_resumer raw_set woken
+unfolding opcodes number_of int_wrap digits put_frames put_top push pop write_cell with_own put_coroutine back_to_resumer popped bury suspend_running wait_for_another go_into raw_set woken
 no_level = refl
 
 -- a second closing method finds nothing on its way that the first one returned: it calls a function first, which cannot be paid
@@ -125,7 +125,7 @@ abbrev calls_and_returns : Prototype
 calls_and_returns = log_in (abc GetUpval 4 2 0 false ∷ abc Call 4 1 1 false ∷ load 4 9 ∷ abc Return1 4 0 0 false ∷ [])
 
 nothing_moves : result (suspended_world 4 calls_and_returns) ≡ (Some (spent, [], 0), [])
-unfolding opcodes number_of int_wrap put_frames put_top push pop write_cell with_own put_coroutine back_to_resumer raw_set woken
+unfolding opcodes number_of int_wrap put_frames put_top push pop write_cell with_own put_coroutine back_to_resumer popped bury suspend_running wait_for_another go_into raw_set woken
 nothing_moves = refl
 
 -- where the main script has failed no coroutine runs, and it has nothing pending
@@ -134,7 +134,7 @@ left trapped = None
 left (ends e W) = Some (W.chain, W.coroutines)
 
 main_has_failed : left (steps primitives 40 go (closing_world 3 fails [])) ≡ Some ([], Rattle.machine_core.specs.World.failed (int 42) [] ∷ [])
-unfolding opcodes number_of int_wrap put_frames put_top push pop write_cell with_own put_coroutine back_to_resumer raw_set woken
+unfolding opcodes number_of int_wrap put_frames put_top push pop write_cell with_own put_coroutine back_to_resumer popped bury suspend_running wait_for_another go_into raw_set woken
 main_has_failed = refl
 
 -- many coroutines that resumed each other, and one that has not run
@@ -156,12 +156,12 @@ told trapped = None
 told (ends e W) = Some (e, W.moving)
 
 resumes_of_200 : told (run resume_row [] (nested 200)) ≡ Some (returned, known (boolean false) ∷ text (codes "too many nested resumes") ∷ [])
-unfolding opcodes number_of int_wrap put_frames put_top push pop write_cell with_own put_coroutine back_to_resumer raw_set woken
+unfolding opcodes number_of int_wrap put_frames put_top push pop write_cell with_own put_coroutine back_to_resumer popped bury suspend_running wait_for_another go_into raw_set woken
 resumes_of_200 = refl
 
 -- a body that is nil cannot be entered, so one fewer gets as far as that
 resumes_of_199 : told (run resume_row [] (nested 199)) ≡ None
-unfolding opcodes number_of int_wrap put_frames put_top push pop write_cell with_own put_coroutine back_to_resumer raw_set woken
+unfolding opcodes number_of int_wrap put_frames put_top push pop write_cell with_own put_coroutine back_to_resumer popped bury suspend_running wait_for_another go_into raw_set woken
 resumes_of_199 = refl
 
 -- frames: there is room for the last one, and for no other

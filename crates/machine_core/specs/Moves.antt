@@ -270,7 +270,7 @@ abbrev pub called : World → World → Value → List Value → Option (Made Ca
 called W P f arguments = enters_paid W P (callee_of greatest_chain W.heap f arguments)
 
 -- a Lua frame is popped, and its cells are closed
-abbrev pub popped : World → Place → World
+unfoldable pub popped : World → Place → World
 popped W at = pop (record W { cells = close_from at.stack.coroutine at.number 0 at.top.own.registers W.cells }) at.stack
 
 -- where a tail call is not entered, the frame is still there
@@ -346,14 +346,30 @@ back_to_resumer W =
     let chain = without_last W.chain in
     elim (last chain) [ None ↦ record W { chain = chain } | Some co ↦ put_coroutine (record W { chain = chain }) co (in_progress (awake (slice_get W.coroutines co))) ]
 
+-- a coroutine's frames are gone, and their cells are closed
+unfoldable pub bury : World → (co : ℕ) → List Frame → Coroutine → World
+bury W co frames c = put_coroutine (record W { cells = all_closed_from co 0 frames W.cells }) co c
+
 abbrev pub ends_as : World → Coroutine → Option World
-ends_as W c = bind (stack_of W) (λ s. Some (back_to_resumer (put_coroutine (record W { cells = all_closed_from s.coroutine 0 s.frames W.cells }) s.coroutine c)))
+ends_as W c = bind (stack_of W) (λ s. Some (back_to_resumer (bury W s.coroutine s.frames c)))
+
+-- the running coroutine waits to be resumed
+unfoldable pub suspend_running : World → Stack → World
+suspend_running W s = back_to_resumer (put_coroutine W s.coroutine (suspended s.frames))
+
+-- it waits for one that it resumes
+unfoldable pub wait_for_another : World → Stack → World
+wait_for_another W s = put_coroutine W s.coroutine (normal s.frames)
+
+-- another one runs, with these frames
+unfoldable pub go_into : World → (co : ℕ) → List Frame → World
+go_into W co frames = put_coroutine (record W { chain = W.chain ++ co ∷ [] }) co (in_progress frames)
 
 abbrev pub starts_in : World → ℕ → Coroutine → List Value → Option (Made ResumeShape)
 starts_in W co (fresh body) arguments =
-    bind (enters (put_coroutine (record W { chain = W.chain ++ co ∷ [] }) co (in_progress [])) body arguments) (λ d. made d.world [] (resumed d.told))
+    bind (enters (go_into W co []) body arguments) (λ d. made d.world [] (resumed d.told))
 starts_in W co (suspended frames) arguments =
-    made (put_coroutine (record W { chain = W.chain ++ co ∷ []; moving = arguments }) co (in_progress frames)) [] (resumed is_entered)
+    made (record (go_into W co frames) { moving = arguments }) [] (resumed is_entered)
 starts_in W co (in_progress _) arguments = made W [] (refused (codes "cannot resume non-suspended coroutine"))
 starts_in W co (normal _) arguments = made W [] (refused (codes "cannot resume non-suspended coroutine"))
 starts_in W co _ arguments = made W [] (refused (codes "cannot resume dead coroutine"))
@@ -366,7 +382,7 @@ can_start _ = false
 abbrev pub resumes : World → Stack → ℕ → Coroutine → List Value → Option (Made ResumeShape)
 resumes W s co c arguments =
     cond (can_start c && nat_lt greatest_resumes (length W.chain)) (made W [] (refused (codes "too many nested resumes")))
-    (starts_in (cond (can_start c) (put_coroutine W s.coroutine (normal s.frames)) W) co c arguments)
+    (starts_in (cond (can_start c) (wait_for_another W s) W) co c arguments)
 
 -- a closing frame on the running coroutine, where there is room; D is W with the closed coroutine dead
 abbrev pub closes_in : (W D : World) → Stack → Option Value → List Value → Option (Made ResumeShape)
@@ -375,7 +391,7 @@ closes_in W D s e left = cond (has_room W 1) (made (push D s (closing e left)) [
 abbrev pub closes_coroutine : World → Stack → ℕ → Coroutine → Option (Made ResumeShape)
 closes_coroutine W s co (fresh body) = closes_in W (put_coroutine W co dead) s None []
 closes_coroutine W s co (suspended frames) =
-    closes_in W (put_coroutine (record W { cells = all_closed_from co 0 frames W.cells }) co dead) s None (flat_map pending_values frames)
+    closes_in W (bury W co frames dead) s None (flat_map pending_values frames)
 closes_coroutine W s co (failed e pending) = closes_in W (put_coroutine W co dead) s (Some e) pending
 closes_coroutine W s co dead = closes_in W W s None []
 closes_coroutine W s co (in_progress _) = made W [] (refused (codes "cannot close a running coroutine"))
@@ -425,7 +441,7 @@ move take_closing env W = bind (stack_of W) (λ s. bind (last s.frames) (next_cl
 move (set_error x) env W = bind (stack_of W) (λ s. bind (last s.frames) (λ f. with_error W s f (arg env x)))
 move end_coroutine env W = bind (ends_as W dead) (λ V. made V [] (runs_main W))
 move (fail_coroutine x) env W = bind (stack_of W) (λ s. bind (ends_as W (failed (arg env x) (flat_map pending_values s.frames))) (λ V. made V [] tt))
-move suspend env W = bind (stack_of W) (λ s. made (back_to_resumer (put_coroutine W s.coroutine (suspended s.frames))) [] (runs_main W))
+move suspend env W = bind (stack_of W) (λ s. made (suspend_running W s) [] (runs_main W))
 move (resume x slot) env W = bind (stack_of W) (λ s. bind (coroutine_number (arg env x)) (λ co. bind (slice_get W.coroutines co) (λ c. resumes W s co c (drop slot env))))
 move (begin_closing x) env W = bind (stack_of W) (λ s. bind (coroutine_number (arg env x)) (λ co. bind (slice_get W.coroutines co) (closes_coroutine W s co)))
 

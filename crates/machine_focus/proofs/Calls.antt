@@ -110,6 +110,7 @@ call_is c s h env f slot wait ms n q left e fn pay r =
 -- a return to a Lua frame: the values move, and the next step is that frame's
 pub leave_is : (c : Context) (s : Stands c) (h : Held) (env : List Value) (slot : ℕ) (bs : List Frame) (z : LuaFrame) → c.below ≡ bs ++ lua z ∷ []
     → run (expand (leave (results slot))) env (world c h) ≡ ends go (stacked c.base c.coroutine (bs ++ lua z ∷ []) h.heap (close_from c.coroutine (length c.below) 0 h.own.registers h.cells) h.fuel (drop slot env))
+unfolding popped
 leave_is c s h env slot bs z b =
     let cs = close_from c.coroutine (length c.below) 0 h.own.registers h.cells in
     let vs = drop slot env in

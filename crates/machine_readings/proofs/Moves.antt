@@ -24,6 +24,7 @@ module _ (b : World) (H : Heap) (fs : List Function) (ws : List Cell) (mv : List
   with_own_is u ps env = put_top_is b H fs (cells_done ps g.code 0 (length ms) env a ws) mv fuel (lua (frame n w a) ∷ ms) (lua (frame n w a)) (lua (frame n u (done ps g.code env a))) ms
 
   pub popped_is : popped world (place ms n w a g) ≡ mk b H fs (close_from 0 (length ms) 0 a.registers ws) ms mv fuel
+  unfolding popped
   popped_is = pop_is b H fs (close_from 0 (length ms) 0 a.registers ws) mv fuel (lua (frame n w a) ∷ ms) (lua (frame n w a)) ms
 
   module _ (e : slice_get fs n ≡ Some g) where

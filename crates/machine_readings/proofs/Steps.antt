@@ -9,7 +9,7 @@ use Rattle.int_core.specs.Ask.{values, left}
 use Rattle.machine_core.specs.World.{Function, Cell, closed, open_at, Wait, running, for_call, for_iterator, for_value, for_truth, dropped, for_concat, for_close, returning, leaving, LuaFrame, Frame, lua, pcall, xpcall, handler, World}
 use Rattle.machine_core.specs.Text.{read, written}
 use Rattle.machine_core.specs.InstructionRows.{text_at, after, told_values, fails}
-use Rattle.machine_core.specs.Moves.{Made, made, TopShape, take_moving, give, see_top, see_catcher, placed, over_pcall, over_xpcall, over_handler, end_coroutine, move, top_shape, catcher, handler_value, Ending, go, returned, asks, calls_primitive, raised, unwinding, spent, main_yielded, main_returned, main_failed, Row, stop, act, Outcome, trapped, ends, run, put_coroutine, back_to_resumer}
+use Rattle.machine_core.specs.Moves.{Made, made, TopShape, take_moving, give, see_top, see_catcher, placed, over_pcall, over_xpcall, over_handler, end_coroutine, move, top_shape, catcher, handler_value, Ending, go, returned, asks, calls_primitive, raised, unwinding, spent, main_yielded, main_returned, main_failed, Row, stop, act, Outcome, trapped, ends, run, put_coroutine, bury, suspend_running, back_to_resumer}
 use Rattle.machine_core.specs.FrameRows.{at_once, then, expand, goes_on_by, hand_over, gives_up, blames, raised_to, raised_row, caught, unwound, handed_to}
 use Rattle.machine_core.specs.MachineStep.{yield_row, level_in, errs_at, lua_step, woken, top_step, step_by, step}
 use Rattle.machine_core.specs.RowFits.{IsWaiting}
@@ -79,11 +79,11 @@ module _ (b d : World) (H : Heap) (fs : List Function) (vs : List Value) (ws : L
 
   -- the main coroutine ends
   ends_main : (mv env : List Value) → CellsOk ws vs [] → Leads b d (T [] (has_returned mv)) (run (then end_coroutine (stop main_returned)) env (W [] mv))
-  unfolding put_coroutine back_to_resumer
+  unfolding put_coroutine back_to_resumer bury suspend_running
   ends_main mv env c = (0, both_returned H fs vs fuel _ _ mv refl refl refl refl refl refl (all_closed ws vs c) refl)
 
   fails_main : (v : Value) → CellsOk ws vs [] → Leads b d (T [] (has_failed v)) (run (unwound (Rattle.machine_core.specs.Moves.no_top true)) [] (W [] (v ∷ [])))
-  unfolding put_coroutine back_to_resumer
+  unfolding put_coroutine back_to_resumer bury suspend_running
   fails_main v c = (0, both_failed H fs vs fuel _ _ v refl refl refl refl refl refl (all_closed ws vs c) refl)
 
   see_is : (ms : List Frame) (mv env : List Value) → move see_top env (W ms mv) ≡ made (W ms mv) [] (shape_of ms)
@@ -217,7 +217,7 @@ module _ (b d : World) (H : Heap) (fs : List Function) (vs : List Value) (ws : L
 
   -- a yield
   yield_leads : (ms : List Frame) (ts : List TalkFrame) (mv : List Value) → Stacks false fs ws vs ms ts → Leads b d (T ts (has_yielded mv)) (run yield_row [] (W ms mv))
-  unfolding put_coroutine back_to_resumer
+  unfolding put_coroutine back_to_resumer bury suspend_running
   yield_leads ms ts mv z = (0, both_yielded H fs vs ws fuel ms ts mv z)
 
   -- pcall, xpcall, error and yield

@@ -13,7 +13,7 @@ use Rattle.int_core.specs.Value.{boolean, integer, string, primitive, a_function
 use Rattle.int_core.specs.Limits.{stack_overflow}
 use Rattle.int_core.specs.Heap.{Heap}
 use Rattle.machine_core.specs.World.{Function, closed, World, put_frames, put_top, push, pop, write_cell}
-use Rattle.machine_core.specs.Moves.{go, with_own, put_coroutine, back_to_resumer}
+use Rattle.machine_core.specs.Moves.{go, with_own, put_coroutine, back_to_resumer, popped, bury, suspend_running, wait_for_another, go_into}
 use Rattle.machine_core.specs.MachineStep.{steps, and_then, woken}
 use Rattle.machine_core.specs.TalkRun.{TalkFrame, Talks, entered, has_room, talking, talks, ticks}
 use Rattle.machine_core.specs.Talk.{talk_start}
@@ -98,7 +98,7 @@ placed = run (protects ∷ faults ∷ []) 2 (known (primitive 0) ∷ object a_fu
 
 -- an error of an activation's own step names its place
 placed_machine : machine placed ≡ ends (protects ∷ faults ∷ []) false' (text (codes "s.lua:2: attempt to perform arithmetic on a nil value") ∷ []) 0
-unfolding opcodes number_of int_wrap put_frames put_top push pop write_cell with_own put_coroutine back_to_resumer woken digits
+unfolding opcodes number_of int_wrap put_frames put_top push pop write_cell with_own put_coroutine back_to_resumer popped bury suspend_running wait_for_another go_into woken digits
 placed_machine = refl
 
 placed_talk : talk placed ≡ ends (protects ∷ faults ∷ []) false' (text (codes "s.lua:2: attempt to perform arithmetic on a nil value") ∷ []) 0
@@ -111,7 +111,7 @@ nothing = code (Some (codes "@s.lua")) (pos 3 ∷ pos 0 ∷ []) 1 false 1 [] [] 
 
 -- a missing argument counts as nil, and what cannot be called is blamed on the nearest place
 nothing_machine : machine (run (nothing ∷ []) 1 (known (primitive 0) ∷ [])) ≡ ends (nothing ∷ []) false' (text (codes "s.lua:3: attempt to call a nil value") ∷ []) 0
-unfolding opcodes number_of int_wrap put_frames put_top push pop write_cell with_own put_coroutine back_to_resumer woken digits
+unfolding opcodes number_of int_wrap put_frames put_top push pop write_cell with_own put_coroutine back_to_resumer popped bury suspend_running wait_for_another go_into woken digits
 nothing_machine = refl
 
 nothing_talk : talk (run (nothing ∷ []) 1 (known (primitive 0) ∷ [])) ≡ ends (nothing ∷ []) false' (text (codes "s.lua:3: attempt to call a nil value") ∷ []) 0
@@ -120,7 +120,7 @@ nothing_talk = refl
 
 -- the same with `xpcall` and neither function: there is no handler to be called
 no_handler_machine : machine (run (nothing ∷ []) 2 (known (primitive 1) ∷ [])) ≡ ends (nothing ∷ []) false' (text (codes "error in error handling") ∷ []) 1
-unfolding opcodes number_of int_wrap put_frames put_top push pop write_cell with_own put_coroutine back_to_resumer woken
+unfolding opcodes number_of int_wrap put_frames put_top push pop write_cell with_own put_coroutine back_to_resumer popped bury suspend_running wait_for_another go_into woken
 no_handler_machine = refl
 
 no_handler_talk : talk (run (nothing ∷ []) 2 (known (primitive 1) ∷ [])) ≡ ends (nothing ∷ []) false' (text (codes "error in error handling") ∷ []) 1
@@ -135,7 +135,7 @@ abbrev second : Prototype
 second = code None [] 2 false 2 [] [] (abc Return1 1 2 0 false ∷ [])
 
 tail_machine : machine (run (hands_on ∷ second ∷ []) 1 (object a_function 1 ∷ known (integer (pos 5)) ∷ known (integer (pos 6)) ∷ known (integer (pos 7)) ∷ [])) ≡ ends (hands_on ∷ second ∷ []) (known (integer (pos 6))) [] 0
-unfolding opcodes number_of int_wrap put_frames put_top push pop write_cell with_own put_coroutine back_to_resumer woken
+unfolding opcodes number_of int_wrap put_frames put_top push pop write_cell with_own put_coroutine back_to_resumer popped bury suspend_running wait_for_another go_into woken
 tail_machine = refl
 
 tail_talk : talk (run (hands_on ∷ second ∷ []) 1 (object a_function 1 ∷ known (integer (pos 5)) ∷ known (integer (pos 6)) ∷ known (integer (pos 7)) ∷ [])) ≡ ends (hands_on ∷ second ∷ []) (known (integer (pos 6))) [] 0
@@ -153,7 +153,7 @@ abbrev counted : Option Final
 counted = Some (returned (known (integer (pos 6)) ∷ []) empty (record { code = counts; cells = [] } ∷ record { code = adds; cells = 0 ∷ [] } ∷ []) (closed (known (integer (pos 6))) ∷ []) 0)
 
 cell_machine : machine (run (counts ∷ []) 1 []) ≡ counted
-unfolding opcodes number_of int_wrap put_frames put_top push pop write_cell with_own put_coroutine back_to_resumer woken
+unfolding opcodes number_of int_wrap put_frames put_top push pop write_cell with_own put_coroutine back_to_resumer popped bury suspend_running wait_for_another go_into woken
 cell_machine = refl
 
 cell_talk : talk (run (counts ∷ []) 1 []) ≡ counted
@@ -162,7 +162,7 @@ cell_talk = refl
 
 -- the same where the call cannot be paid
 unpaid_machine : machine (run (counts ∷ []) 0 []) ≡ Some out_of_budget
-unfolding opcodes number_of int_wrap put_frames put_top push pop write_cell with_own put_coroutine back_to_resumer woken
+unfolding opcodes number_of int_wrap put_frames put_top push pop write_cell with_own put_coroutine back_to_resumer popped bury suspend_running wait_for_another go_into woken
 unpaid_machine = refl
 
 unpaid_talk : talk (run (counts ∷ []) 0 []) ≡ Some out_of_budget
@@ -189,11 +189,11 @@ abbrev machine_yielded : Outcome
 machine_yielded = and_then (ends' go (first_world asks)) (steps primitives 9)
 
 first_machine : final machine_yielded ≡ Some first_end
-unfolding opcodes number_of int_wrap put_frames put_top push pop write_cell with_own put_coroutine back_to_resumer woken
+unfolding opcodes number_of int_wrap put_frames put_top push pop write_cell with_own put_coroutine back_to_resumer popped bury suspend_running wait_for_another go_into woken
 first_machine = refl
 
 second_machine : final (and_then (wakes seven machine_yielded) (steps primitives 9)) ≡ Some second_end
-unfolding opcodes number_of int_wrap put_frames put_top push pop write_cell with_own put_coroutine back_to_resumer woken
+unfolding opcodes number_of int_wrap put_frames put_top push pop write_cell with_own put_coroutine back_to_resumer popped bury suspend_running wait_for_another go_into woken
 second_machine = refl
 
 turns_machine : MachineTurns (ends' go (first_world asks)) (seven ∷ []) (first_end ∷ second_end ∷ [])

@@ -275,7 +275,7 @@ module _ (n : ℕ) (t : Top) (W : World) (s : Solid n W) (h : TopIs n t W) where
   left_room = let a = (frames_ok n t W h s).depth in let b = length-append h.base (lua h.top ∷ []) in omega arith
 
   pub left_is : popped W (the_place n t W h) ≡ left_world
-  unfolding pop put_frames
+  unfolding pop put_frames popped
   left_is = rw (without_push h.base (lua h.top)) refl
 
 given_ok : (z : Sizes) (env : List Value) (g : Given) → Each (Valid z) env → GivenOk g → Each (Valid z) (given_values env g)

@@ -6,7 +6,7 @@ use Rattle.int_core.specs.Value.{Value, greatest_string}
 use Rattle.int_core.specs.Limits.{greatest_depth, stack_overflow}
 use Rattle.machine_core.specs.World.{Cell, closed, open_at, Frame, closing, Coroutine, fresh, suspended, in_progress, normal, dead, failed, World, frames_of, Stack, stack_of, push}
 use Rattle.machine_core.specs.Text.{Arg, arg}
-use Rattle.machine_core.specs.Moves.{begin_closing, is_entered, not_entered, top_shape, ResumeShape, resumed, refused, pending_values, all_closed_from, put_coroutine, closes_in, closes_coroutine, coroutine_number, Made, made, move}
+use Rattle.machine_core.specs.Moves.{begin_closing, is_entered, not_entered, top_shape, ResumeShape, resumed, refused, pending_values, all_closed_from, put_coroutine, bury, closes_in, closes_coroutine, coroutine_number, Made, made, move}
 use Rattle.machine_sound.specs.Sound.{Each, sizes, Valid, OptionOk, FrameWaits, AllWait, CoroutineOk, runs, apart, standing, ChainOk, registers_of, CellOk, Solid, StackWaits, registers_in}
 use Rattle.machine_sound.specs.Safe.{waiting, ResumeEvent, after_beginning, MoveGood, IsPhase}
 use Rattle.machine_sound.proofs.Lists.{each_none, each_set, each_push, bind_at, get_set_other, length_set, last_push, map_set, some_is}
@@ -98,7 +98,7 @@ unfolding put_coroutine
 failed_closes W s co v vs = refl
 
 suspended_closes : (W : World) (s : Stack) (co : ℕ) (gs : List Frame) → closes_coroutine W s co (suspended gs) ≡ closes_in W (record W { cells = all_closed_from co 0 gs W.cells; coroutines = slice_set W.coroutines co dead }) s None (flat_map pending_values gs)
-unfolding put_coroutine
+unfolding put_coroutine bury
 suspended_closes W s co gs = refl
 
 -- where a coroutine has no frames no cell is open in it

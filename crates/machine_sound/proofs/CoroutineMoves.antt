@@ -8,7 +8,7 @@ use Rattle.int_core.specs.Value.{Value, known, object, a_table, a_function, a_co
 use Rattle.int_core.specs.Limits.{greatest_resumes}
 use Rattle.machine_core.specs.World.{closed, open_at, Frame, lua, pcall, xpcall, handler, closing, Coroutine, fresh, suspended, in_progress, normal, dead, failed, World, Stack, stack_of}
 use Rattle.machine_core.specs.Text.{Arg, read, written, arg}
-use Rattle.machine_core.specs.Moves.{take_moving, see_top, end_coroutine, fail_coroutine, suspend, resume, CallShape, is_entered, is_primitive, not_paid, not_entered, TopShape, lua_top, no_top, closing_top, top_shape, top_now, runs_main, resumed, refused, pending_values, all_closed_from, put_coroutine, back_to_resumer, ends_as, starts_in, can_start, resumes, coroutine_number, enters, made, move, pcall_top, xpcall_top, handler_top}
+use Rattle.machine_core.specs.Moves.{take_moving, see_top, end_coroutine, fail_coroutine, suspend, resume, CallShape, is_entered, is_primitive, not_paid, not_entered, TopShape, lua_top, no_top, closing_top, top_shape, top_now, runs_main, resumed, refused, pending_values, all_closed_from, put_coroutine, back_to_resumer, bury, suspend_running, wait_for_another, go_into, ends_as, starts_in, can_start, resumes, coroutine_number, enters, made, move, pcall_top, xpcall_top, handler_top}
 use Rattle.machine_sound.specs.Sound.{Each, sizes, Valid, FrameOk, FrameWaits, AllWait, CoroutineOk, runs, resumed_another, apart, standing, ChainOk, registers_in, registers_of, CellOk, Solid, Settled, StackWaits}
 use Rattle.machine_sound.specs.Safe.{waiting, in_resumed, between, handing, Is, IsPhase, after_end, after_resuming, after_handing, Ready, MoveGood}
 use Rattle.machine_sound.proofs.Lists.{each_none, each_set, bind_at, get_set_same, get_set_other, length_set, get_map, get_there, last_push, some_is, each_drop}
@@ -28,6 +28,7 @@ dead_cells : (n : ℕ) (W : World) (s : Solid n W) (h : StackWaits n W) (d : Cor
 dead_cells n W s h d = buried_cells n W s h.coroutine (in_progress h.frames) d h.frames h.running refl (s.coroutines h.coroutine (in_progress h.frames) h.running)
 
 ends_is : (n : ℕ) (W : World) (h : StackWaits n W) (c : Coroutine) → ends_as W c ≡ Some (back_to_resumer (put_coroutine (record W { cells = all_closed_from h.coroutine 0 h.frames W.cells }) h.coroutine c))
+unfolding bury
 ends_is n W h c = bind_at _ (stack_of W) (record { coroutine = h.coroutine; frames = h.frames }) (waits_stack n W h)
 
 main_of : (W : World) (o : Option Frame) (b : Bool) → top_shape W o ≡ no_top b → runs_main W ≡ b
@@ -51,6 +52,10 @@ end_coroutine_waits n (Some (no_top b)) env W i r =
     }
 end_coroutine_waits n _ env W i r = absurd r
 
+suspend_is : (W : World) (s : Stack) → suspend_running W s ≡ back_to_resumer (put_coroutine (record W { cells = W.cells }) s.coroutine (suspended s.frames))
+unfolding suspend_running
+suspend_is W s = refl
+
 pub suspend_waits : (n : ℕ) → WaitingGood n suspend
 suspend_waits n s env W i r =
     let h = i.phase.all in
@@ -66,7 +71,7 @@ suspend_waits n s env W i r =
     record {
       event = runs_main W;
       world = g.world;
-      is = bind_at _ (stack_of W) (record { coroutine = h.coroutine; frames = h.frames }) (waits_stack n W h) ∙ ap (λ V. made V [] (runs_main W)) g.is;
+      is = bind_at _ (stack_of W) (record { coroutine = h.coroutine; frames = h.frames }) (waits_stack n W h) ∙ ap (λ V. made V [] (runs_main W)) (suspend_is W (record { coroutine = h.coroutine; frames = h.frames }) ∙ g.is);
       holds = made_so n (waiting s) (after_end (runs_main W)) env [] W g.world i g.grows g.solid (g.phase (runs_main W) refl) (each_none (Valid (sizes n g.world)));
     }
 
@@ -218,12 +223,12 @@ module _ (n : ℕ) (W : World) (s : Solid n W) (h : StackWaits n W) (co : ℕ) (
   pub resumed_waits : StackWaits n resumed_world
   resumed_waits = record { coroutine = co; frames = gs; last = last_push W.chain co; running = here; waits = each_waits_on (sizes n W) (sizes n resumed_world) resumed_grows gs k.waits }
 
-suspended_is : (W : World) (s : Stack) (co : ℕ) (gs : List Frame) (vs : List Value) → starts_in (put_coroutine W s.coroutine (normal s.frames)) co (suspended gs) vs ≡ made (record W { coroutines = slice_set (slice_set W.coroutines s.coroutine (normal s.frames)) co (in_progress gs); chain = W.chain ++ co ∷ []; moving = vs }) [] (resumed is_entered)
-unfolding put_coroutine
+suspended_is : (W : World) (s : Stack) (co : ℕ) (gs : List Frame) (vs : List Value) → starts_in (wait_for_another W s) co (suspended gs) vs ≡ made (record W { coroutines = slice_set (slice_set W.coroutines s.coroutine (normal s.frames)) co (in_progress gs); chain = W.chain ++ co ∷ []; moving = vs }) [] (resumed is_entered)
+unfolding put_coroutine wait_for_another go_into
 suspended_is W s co gs vs = refl
 
-fresh_is : (W : World) (s : Stack) (co : ℕ) (body : Value) (vs : List Value) → starts_in (put_coroutine W s.coroutine (normal s.frames)) co (fresh body) vs ≡ bind (enters (record W { coroutines = slice_set (slice_set W.coroutines s.coroutine (normal s.frames)) co (in_progress []); chain = W.chain ++ co ∷ [] }) body vs) (λ d. made d.world [] (resumed d.told))
-unfolding put_coroutine
+fresh_is : (W : World) (s : Stack) (co : ℕ) (body : Value) (vs : List Value) → starts_in (wait_for_another W s) co (fresh body) vs ≡ bind (enters (record W { coroutines = slice_set (slice_set W.coroutines s.coroutine (normal s.frames)) co (in_progress []); chain = W.chain ++ co ∷ [] }) body vs) (λ d. made d.world [] (resumed d.told))
+unfolding put_coroutine wait_for_another go_into
 fresh_is W s co body vs = refl
 
 resumed_phase : (n : ℕ) (P V : World) (h : StackWaits n P) (c : CallShape) → EnteredAs n P V c → IsPhase n (after_resuming (resumed c)) V
@@ -244,9 +249,9 @@ resume_waits n x slot s env W i r = from (named_there n env W x i.valid r).corou
     refuses : (text : List ℕ) → length text ≤ greatest_string → move (resume x slot) env W ≡ made W [] (refused text) → MoveGood n (waiting s) env (resume x slot) W
     refuses text l e = record { event = record { outcome = refused text; right = l }; world = W; is = e; holds = made_so n (waiting s) (waiting None) env [] W W i (grows_self (sizes n W)) i.solid (record { all = i.phase.all; top = tt }) (each_none (Valid (sizes n W))) }
 
-    limit : (c : Coroutine) → can_start c ≡ true → (b : Bool) → nat_lt greatest_resumes (length W.chain) ≡ b → resumes W (record { coroutine = i.phase.all.coroutine; frames = i.phase.all.frames }) (named_there n env W x i.valid r).number c (drop slot env) ≡ cond b (made W [] (refused (codes "too many nested resumes"))) (starts_in (put_coroutine W i.phase.all.coroutine (normal i.phase.all.frames)) (named_there n env W x i.valid r).number c (drop slot env))
-    limit c t b e = ap (λ t. cond (t && nat_lt greatest_resumes (length W.chain)) (made W [] (refused (codes "too many nested resumes"))) (starts_in (cond t (put_coroutine W i.phase.all.coroutine (normal i.phase.all.frames)) W) (named_there n env W x i.valid r).number c (drop slot env))) t
-        ∙ ap (λ b. cond b (made W [] (refused (codes "too many nested resumes"))) (starts_in (put_coroutine W i.phase.all.coroutine (normal i.phase.all.frames)) (named_there n env W x i.valid r).number c (drop slot env))) e
+    limit : (c : Coroutine) → can_start c ≡ true → (b : Bool) → nat_lt greatest_resumes (length W.chain) ≡ b → resumes W (record { coroutine = i.phase.all.coroutine; frames = i.phase.all.frames }) (named_there n env W x i.valid r).number c (drop slot env) ≡ cond b (made W [] (refused (codes "too many nested resumes"))) (starts_in (wait_for_another W (record { coroutine = i.phase.all.coroutine; frames = i.phase.all.frames })) (named_there n env W x i.valid r).number c (drop slot env))
+    limit c t b e = ap (λ t. cond (t && nat_lt greatest_resumes (length W.chain)) (made W [] (refused (codes "too many nested resumes"))) (starts_in (cond t (wait_for_another W (record { coroutine = i.phase.all.coroutine; frames = i.phase.all.frames })) W) (named_there n env W x i.valid r).number c (drop slot env))) t
+        ∙ ap (λ b. cond b (made W [] (refused (codes "too many nested resumes"))) (starts_in (wait_for_another W (record { coroutine = i.phase.all.coroutine; frames = i.phase.all.frames })) (named_there n env W x i.valid r).number c (drop slot env))) e
 
     low : nat_lt greatest_resumes (length W.chain) ≡ false → length W.chain ≤ greatest_resumes
     low e = grind (arith, nat_tests)

@@ -13,7 +13,7 @@ use Rattle.machine_core.specs.World.{Function, running, LuaFrame, lua, in_progre
 use Rattle.machine_core.specs.Text.{keep_pending, effect}
 use Rattle.machine_core.specs.InstructionRows.{row_of}
 use Rattle.machine_core.specs.FrameRows.{expand}
-use Rattle.machine_core.specs.Moves.{Ending, go, main_returned, Outcome, trapped, ends, run, with_own, back_to_resumer, put_coroutine}
+use Rattle.machine_core.specs.Moves.{Ending, go, main_returned, Outcome, trapped, ends, run, with_own, back_to_resumer, popped, bury, suspend_running, wait_for_another, go_into, put_coroutine}
 use Rattle.machine_core.specs.MachineStep.{steps, error_row}
 use Rattle.machine_sound.specs.Sound.{Solid, Settled, on_top, sizes, Valid, TableOk, FunctionOk, LuaOk, FrameOk, FrameWaits, CoroutineOk, CellOk, runs, resumed_another}
 use Rattle.machine_sound.specs.Laws.{SoundAfter}
@@ -87,7 +87,7 @@ came (ends e W) = Some (e, W.moving)
 
 -- three steps on, the script has returned 7
 three_steps : came (steps (λ n. error_row) 3 go world) ≡ Some (main_returned, known (integer (pos 7)) ∷ [])
-unfolding opcodes number_of with_own put_top put_frames pop back_to_resumer put_coroutine
+unfolding opcodes number_of with_own put_top put_frames pop back_to_resumer put_coroutine popped bury suspend_running wait_for_another go_into
 three_steps = refl
 
 zero_of : (co : ℕ) → Some 0 ≡ Some co → 0 ≡ co
