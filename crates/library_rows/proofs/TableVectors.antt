@@ -5,7 +5,7 @@ use Rattle.std.specs.Fmt.{digits}
 use Rattle.int_core.specs.Heap.{Heap, raw_set}
 use Rattle.library_rows.specs.Look.{done, raised}
 use Rattle.library_rows.specs.Library.{base_assert, base_next, base_rawlen, base_rawset, base_select, base_setmetatable, table_pack, table_sort, prelude_expand, prelude_join, prelude_spread, prelude_text, prelude_walk, prelude_walk_lax, primitive_at, walk_number, walk_lax_number}
-use Rattle.library_rows.proofs.Cases.{str, int, minus, nil_value, truth, table, tables, first, runs, call, values, fails}
+use Rattle.library_rows.proofs.Cases.{no_tables, str, int, minus, nil_value, truth, table, tables, first, runs, call, values, fails}
 
 select_from_the_end : call base_select (minus 2 ∷ int 7 ∷ int 8 ∷ int 9 ∷ []) ≡ values (int 8 ∷ int 9 ∷ [])
 select_from_the_end = refl
@@ -27,10 +27,10 @@ select_before_the_first = refl
 assert_gives_all : call base_assert (int 1 ∷ nil_value ∷ int 3 ∷ []) ≡ values (int 1 ∷ nil_value ∷ int 3 ∷ [])
 assert_gives_all = refl
 
-assert_raises : call base_assert (truth false ∷ int 7 ∷ []) ≡ raised (int 7)
+assert_raises : call base_assert (truth false ∷ int 7 ∷ []) ≡ raised no_tables (int 7)
 assert_raises = refl
 
-assert_without_message : call base_assert (nil_value ∷ []) ≡ raised (str "assertion failed!")
+assert_without_message : call base_assert (nil_value ∷ []) ≡ raised no_tables (str "assertion failed!")
 assert_without_message = refl
 
 -- {1 = nil, 2 = 5}, whose first row is cleared

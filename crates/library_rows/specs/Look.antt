@@ -116,17 +116,17 @@ pub data Look : Type 0 where
   count : (slot : ℕ) → (ℕ → Look) → Look
   does : HeapOp → List Arg → (Shape → Look) → Look
 
--- a heap and results, the text of an error, or an error's value
+-- a heap and results, the text of an error, or a heap and an error's value
 pub data Done : Type 0 where
   done : Heap → List Value → Done
   refused : List ℕ → Done
-  raised : Value → Done
+  raised : Heap → Value → Done
 
 -- what a row comes to over the values at hand; at first these are the arguments
 abbrev pub looked : Look → List Value → Heap → Done
 looked (gives xs) env H = done H (args_of env xs)
 looked (gives_all xs slot) env H = done H (args_of env xs ++ drop slot env)
 looked (refuses text) env H = refused text
-looked (raises x) env H = raised (arg env x)
+looked (raises x) env H = raised H (arg env x)
 looked (count slot k) env H = looked (k (length (drop slot env))) env H
 looked (does op xs k) env H = looked (k (does_op op H (args_of env xs)).told) ((does_op op H (args_of env xs)).values ++ env) (does_op op H (args_of env xs)).heap

@@ -1,19 +1,22 @@
 -- Moves between coroutines keep agreement.
-use Rattle.std.proofs.Common.{ℕ, suc, ◌≡◌, List, [], ◌∷◌, ◌++◌, Option, Some, None, refl, subst, ap, length, drop, Bool, map}
+use Rattle.std.proofs.Common.{ℕ, suc, ◌≡◌, List, [], ◌∷◌, ◌++◌, Option, Some, None, refl, subst, sym, ap, ◌∙◌, length, drop, Bool, map, cond}
 use Rattle.std.specs.Prelude.{slice_get, nat_lt, ◌&&◌, flat_map}
 use Rattle.std.specs.List.{AllZip}
-use Rattle.int_core.specs.Value.{a_table, a_function, a_coroutine, Value, nth, bind, last, without_last}
+use Rattle.int_core.specs.Value.{a_table, a_function, a_coroutine, object, Value, nth, bind, last, without_last}
+use Rattle.int_core.specs.Operations.{is_function}
 use Rattle.int_core.specs.Limits.{greatest_resumes, stack_overflow}
-use Rattle.machine_core.specs.World.{Frame, closing, Coroutine, suspended, in_progress, normal, dead, failed, World, Stack, stack_of, Cell, push, frames_of}
+use Rattle.machine_core.specs.World.{Frame, closing, Coroutine, fresh, suspended, in_progress, normal, dead, failed, World, Stack, stack_of, Cell, push, frames_of}
 use Rattle.machine_core.specs.Text.{Arg, arg}
-use Rattle.machine_core.specs.Moves.{Made, made, end_coroutine, fail_coroutine, suspend, resume, begin_closing, CallShape, is_entered, not_entered, ResumeShape, resumed, refused, enters, runs_main, has_room, pending_values, all_closed_from, put_coroutine, awake, back_to_resumer, bury, suspend_running, wait_for_another, go_into, ends_as, starts_in, can_start, resumes, closes_in, closes_coroutine, coroutine_number}
+use Rattle.machine_core.specs.Moves.{Made, made, end_coroutine, fail_coroutine, suspend, resume, begin_closing, create, see_status, see_running, print, Status, move, add_coroutine, add_printed, bytes_in, status_of, CallShape, is_entered, not_entered, ResumeShape, resumed, refused, enters, runs_main, has_room, pending_values, all_closed_from, put_coroutine, awake, back_to_resumer, bury, suspend_running, wait_for_another, go_into, ends_as, starts_in, can_start, resumes, closes_in, closes_coroutine, coroutine_number}
 use Rattle.machine_alike.specs.Agree.{Pairs, SameNumber, Each, SameValue, same_known, same_object, SameValues, SameFrame, same_lua, same_pcall, same_xpcall, same_handler, same_closing, SameFrames, SameCoroutine, same_fresh, same_suspended, same_in_progress, same_normal, same_dead, same_failed, Objects, SameObjects, objects_of, AgreeInTurn}
 use Rattle.machine_alike.specs.Laws.{MadeAlike, Alike, Keeps}
 use Rattle.machine_alike.proofs.Pairwise.{each_bind, zip_append, zip_length, zip_last, zip_drop, zip_without_last, zip_parts, cond_rel}
 use Rattle.machine_alike.proofs.Same.{SameStack, stack_same, coroutine_at, frames_same, extends_self, nth_same}
 use Rattle.machine_alike.proofs.Cells.{close_same}
 use Rattle.machine_alike.proofs.OwnMoves.{arg_same}
-use Rattle.machine_alike.proofs.Frames.{made_same, moving_agrees, cells_agree, coroutine_agrees, push_same, has_room_same}
+use Rattle.machine_alike.proofs.Grow.{object_new, coroutine_pair, extends_coroutine, add_coroutine_same}
+use Rattle.machine_alike.proofs.Operations.{function_test}
+use Rattle.machine_alike.proofs.Frames.{agree_grown, made_same, moving_agrees, cells_agree, coroutine_agrees, push_same, has_room_same}
 use Rattle.machine_alike.proofs.Calls.{enters_same, main_same}
 use Rattle.machine_alike.proofs.OtherFrames.{on_stack}
 
@@ -224,3 +227,59 @@ pub begin_closing_keeps : (x : Arg) → Keeps (begin_closing x)
 begin_closing_keeps x p env other W X s g = on_stack p ResumeShape W X _ _ g
     (λ a b h. on_coroutine p ResumeShape W X (arg env x) (arg other x) (closes_coroutine W a) (closes_coroutine X b) g (arg_same p env other x s)
     (λ i j c d k l. closes_coroutine_same p W X a b i j g h k c d l))
+
+-- making one, looking at one, and printing
+
+create_is : (x : Arg) (env : List Value) (W : World) → move (create x) env W ≡ cond (is_function (arg env x)) (made (record W { coroutines = W.coroutines ++ fresh (arg env x) ∷ [] }) (object a_coroutine (length W.coroutines) ∷ []) tt) None
+unfolding add_coroutine
+create_is x env W = refl
+
+created_same : (p : Pairs) (W X : World) (v w : Value) → AgreeInTurn p W X → SameValue p v w
+    → Alike p (Unit {0}) (made (record W { coroutines = W.coroutines ++ fresh v ∷ [] }) (object a_coroutine (length W.coroutines) ∷ []) tt) (made (record X { coroutines = X.coroutines ++ fresh w ∷ [] }) (object a_coroutine (length X.coroutines) ∷ []) tt)
+created_same p W X v w g s =
+    let q = coroutine_pair p (objects_of W) (objects_of X) g.objects in
+    let e = extends_coroutine p (objects_of W) (objects_of X) g.objects in
+    made_same p q (Unit {0}) _ _ _ _ tt tt e
+    (agree_grown p q W X _ _ e g (record { roots = refl; moving = refl; printed = refl; fuel = refl }) (record { roots = refl; moving = refl; printed = refl; fuel = refl })
+    (add_coroutine_same p (objects_of W) (objects_of X) g.objects (fresh v) (fresh w) (same_fresh v w s)))
+    (same_object a_coroutine _ _ (object_new p a_coroutine (length W.coroutines) (length X.coroutines)), tt) refl
+
+pub create_keeps : (x : Arg) → Keeps (create x)
+create_keeps x p env other W X s g =
+    let v = arg_same p env other x s in
+    subst (λ o. Alike p (Unit {0}) o (move (create x) other X)) (sym (create_is x env W))
+    (subst (λ o. Alike p (Unit {0}) (cond (is_function (arg env x)) (made (record W { coroutines = W.coroutines ++ fresh (arg env x) ∷ [] }) (object a_coroutine (length W.coroutines) ∷ []) tt) None) o) (sym (create_is x other X))
+    (cond_rel (Alike p (Unit {0})) (is_function (arg env x)) (is_function (arg other x)) _ _ _ _ (function_test p (arg env x) (arg other x) v) (created_same p W X (arg env x) (arg other x) g v) tt))
+
+status_same : (p : Pairs) (c d : Coroutine) → SameCoroutine p c d → status_of c ≡ status_of d
+status_same p c d (same_fresh v w k) = refl
+status_same p c d (same_suspended fs gs k) = refl
+status_same p c d (same_in_progress fs gs k) = refl
+status_same p c d (same_normal fs gs k) = refl
+status_same p c d same_dead = refl
+status_same p c d (same_failed v w xs ys k l) = refl
+
+pub see_status_keeps : (x : Arg) → Keeps (see_status x)
+see_status_keeps x p env other W X s g =
+    on_coroutine p Status W X (arg env x) (arg other x) (λ _ c. made W [] (status_of c)) (λ _ d. made X [] (status_of d)) g (arg_same p env other x s)
+    (λ i j c d k l. made_same p p Status W X [] [] (status_of c) (status_of d) (extends_self p) g tt (status_same p c d l))
+
+pub see_running_keeps : Keeps see_running
+see_running_keeps p env other W X s g =
+    each_bind (SameNumber p a_coroutine) (MadeAlike p (Unit {0})) (λ co. made W (object a_coroutine co ∷ []) tt) (λ co. made X (object a_coroutine co ∷ []) tt)
+    (λ i j k. made_same p p (Unit {0}) W X (object a_coroutine i ∷ []) (object a_coroutine j ∷ []) tt tt (extends_self p) g (same_object a_coroutine i j k, tt) refl)
+    (last W.chain) (last X.chain) (zip_last (SameNumber p a_coroutine) W.chain X.chain g.roots.chain)
+
+bytes_same : (p : Pairs) (v w : Value) → SameValue p v w → bytes_in v ≡ bytes_in w
+bytes_same p v w (same_known c) = refl
+bytes_same p v w (same_object k i j h) = refl
+
+pub print_keeps : (x : Arg) → Keeps (print x)
+unfolding add_printed
+print_keeps x p env other W X s g = made_same p p (Unit {0}) _ _ [] [] tt tt (extends_self p) (record {
+  objects = g.objects;
+  roots = g.roots;
+  moving = g.moving;
+  printed = ap (λ bytes. bytes ++ bytes_in (arg env x)) g.printed ∙ ap (λ bytes. X.printed ++ bytes) (bytes_same p (arg env x) (arg other x) (arg_same p env other x s));
+  fuel = g.fuel;
+}) tt refl

@@ -1,12 +1,12 @@
--- One more pair of objects that were not paired: a new table, a new function.
+-- One more pair of objects that were not paired: a new table, a new function, a new coroutine.
 use Rattle.std.proofs.Common.{ℕ, ◌≡◌, ◌⊎◌, inl, inr, ⊎_elim, List, [], ◌∷◌, ◌++◌, Option, Some, None, refl, subst, sym, ap, ◌∙◌, length, Bool, true, false, cond}
 use Rattle.std.specs.Prelude.{slice_get, nat_eq}
 use Rattle.std.proofs.lemmas.Bool.Decides.{eqb_tells}
-use Rattle.int_core.specs.Value.{Kind, a_table, a_function, a_coroutine, same_kind}
+use Rattle.int_core.specs.Value.{Kind, a_table, a_function, a_coroutine, Value, same_kind, bind}
 use Rattle.int_core.specs.Heap.{Table}
-use Rattle.machine_core.specs.World.{Function, Coroutine, Cell}
-use Rattle.machine_alike.specs.Agree.{Pairs, SameNumber, Both, SameTable, SameFunction, SameCoroutine, SameCell, OneToOne, Objects, SameObjects, Extends}
-use Rattle.machine_alike.proofs.Pairwise.{both_on, both_left, both_right, both_from, both_push, get_push_new, get_end, none_of}
+use Rattle.machine_core.specs.World.{Function, Coroutine, Cell, frames_of, lua_frame, register_at}
+use Rattle.machine_alike.specs.Agree.{Pairs, IsFirst, IsSecond, SameNumber, Both, SameTable, SameFunction, SameCoroutine, SameCell, OneToOne, Objects, SameObjects, Extends}
+use Rattle.machine_alike.proofs.Pairwise.{both_on, both_left, both_right, both_from, both_push, get_push_old, get_push_new, get_end, none_of}
 use Rattle.machine_alike.proofs.Same.{cell_on, table_on, function_on, coroutine_on}
 use Rattle.machine_alike.proofs.Tables.{kind_same}
 
@@ -91,6 +91,26 @@ cells_kept p k i j cs ds ne e = cell_on p (with_object p k i j) e cs ds cs ds
     (λ co f r v n at. ((λ g. n (g.0, other_kind p k i j a_coroutine co g.0 ne g.1)), at))
     (λ co f r v n at. ((λ g. n (g.0, other_kind p k i j a_coroutine g.0 co ne g.1)), at))
 
+-- a register that is there
+abbrev in_coroutine : Option Coroutine → ℕ → ℕ → Option Value
+in_coroutine o frame register = bind (bind o frames_of) (λ frames. bind (bind (slice_get frames frame) lua_frame) (λ f. slice_get f.own.registers register))
+
+there_at : (cs : List Coroutine) (co frame register : ℕ) (v : Value) → register_at cs co frame register ≡ Some v → (c : Coroutine) × (slice_get cs co ≡ Some c)
+there_at cs co frame register v h = from (slice_get cs co) refl h
+  where
+    from : (o : Option Coroutine) → slice_get cs co ≡ o → in_coroutine o frame register ≡ Some v → (c : Coroutine) × (slice_get cs co ≡ Some c)
+    from None e h = absurd (cc)
+    from (Some c) e h = (c, e)
+
+-- it is still there where a coroutine comes last, which is another one
+still_at : (cs : List Coroutine) (d : Coroutine) (co frame register : ℕ) (v : Value) → register_at cs co frame register ≡ Some v → register_at (cs ++ d ∷ []) co frame register ≡ Some v
+still_at cs d co frame register v h =
+    let c = there_at cs co frame register v h in
+    ap (λ o. in_coroutine o frame register) (get_push_old cs (d ∷ []) co c.0 c.1 ∙ sym c.1) ∙ h
+
+not_last : (cs : List Coroutine) (co frame register : ℕ) (v : Value) → register_at cs co frame register ≡ Some v → co ≡ length cs → ⊥
+not_last cs co frame register v h e = let c = there_at cs co frame register v h in let z = get_end cs in let k : slice_get cs (length cs) ≡ Some c.0 = ap (slice_get cs) (sym e) ∙ c.1 in absurd (cc)
+
 module _ (p : Pairs) (A B : Objects) (a : SameObjects p A B) where
   abbrev pub table_pair : Pairs
   table_pair = with_object p a_table (length A.tables) (length B.tables)
@@ -127,5 +147,37 @@ module _ (p : Pairs) (A B : Objects) (a : SameObjects p A B) where
         functions = both_grown (SameFunction p) (SameFunction q) (function_on p q e) p a_function A.functions B.functions f g (function_on p q e f g s) a.functions;
         coroutines = λ i j h. both_on (SameCoroutine p) (SameCoroutine q) (coroutine_on p q e) (slice_get A.coroutines i) (slice_get B.coroutines j) (a.coroutines i j (other_kind p a_function (length A.functions) (length B.functions) a_coroutine i j (λ x. cc) h));
         cells = λ i j h. both_on (SameCell p A.coroutines B.coroutines) (SameCell q A.coroutines B.coroutines) (cells_kept p a_function (length A.functions) (length B.functions) A.coroutines B.coroutines (λ x. cc) e) (slice_get A.cells i) (slice_get B.cells j) (a.cells i j h);
+        one_each = a.one_each;
+      }
+
+  abbrev pub coroutine_pair : Pairs
+  coroutine_pair = with_object p a_coroutine (length A.coroutines) (length B.coroutines)
+
+  pub extends_coroutine : Extends p coroutine_pair
+  extends_coroutine = extends_object p a_coroutine (length A.coroutines) (length B.coroutines) (fresh_left (SameCoroutine p) (p.objects a_coroutine) A.coroutines B.coroutines a.coroutines)
+
+  -- who is paired now, and has a register, was so before
+  was_first : (co frame register : ℕ) (v : Value) → register_at A.coroutines co frame register ≡ Some v → IsFirst coroutine_pair co → IsFirst p co
+  was_first co frame register v h g =
+      ⊎_elim (λ n. absurd (not_last A.coroutines co frame register v h n.1)) (λ o. (g.0, o)) (object_cases p a_coroutine (length A.coroutines) (length B.coroutines) a_coroutine co g.0 g.1)
+
+  was_second : (co frame register : ℕ) (v : Value) → register_at B.coroutines co frame register ≡ Some v → IsSecond coroutine_pair co → IsSecond p co
+  was_second co frame register v h g =
+      ⊎_elim (λ n. absurd (not_last B.coroutines co frame register v h n.2)) (λ o. (g.0, o)) (object_cases p a_coroutine (length A.coroutines) (length B.coroutines) a_coroutine g.0 co g.1)
+
+  pub add_coroutine_same : (c d : Coroutine) → SameCoroutine p c d → SameObjects coroutine_pair (record A { coroutines = A.coroutines ++ c ∷ [] }) (record B { coroutines = B.coroutines ++ d ∷ [] })
+  add_coroutine_same c d s =
+      let q = coroutine_pair in
+      let e = extends_coroutine in
+      record {
+        one_to_one = one_object p a_coroutine (length A.coroutines) (length B.coroutines) a.one_to_one (fresh_right (SameCoroutine p) (p.objects a_coroutine) A.coroutines B.coroutines a.coroutines);
+        tables = λ i j h. both_on (SameTable p) (SameTable q) (table_on p q e) (slice_get A.tables i) (slice_get B.tables j) (a.tables i j (other_kind p a_coroutine (length A.coroutines) (length B.coroutines) a_table i j (λ x. cc) h));
+        functions = λ i j h. both_on (SameFunction p) (SameFunction q) (function_on p q e) (slice_get A.functions i) (slice_get B.functions j) (a.functions i j (other_kind p a_coroutine (length A.coroutines) (length B.coroutines) a_function i j (λ x. cc) h));
+        coroutines = both_grown (SameCoroutine p) (SameCoroutine q) (coroutine_on p q e) p a_coroutine A.coroutines B.coroutines c d (coroutine_on p q e c d s) a.coroutines;
+        cells = λ i j h. both_on (SameCell p A.coroutines B.coroutines) (SameCell q (A.coroutines ++ c ∷ []) (B.coroutines ++ d ∷ []))
+            (cell_on p q e A.coroutines B.coroutines (A.coroutines ++ c ∷ []) (B.coroutines ++ d ∷ [])
+            (λ co f r v n at. (λ g. n (was_first co f r v at g), still_at A.coroutines c co f r v at))
+            (λ co f r v n at. (λ g. n (was_second co f r v at g), still_at B.coroutines d co f r v at)))
+            (slice_get A.cells i) (slice_get B.cells j) (a.cells i j h);
         one_each = a.one_each;
       }

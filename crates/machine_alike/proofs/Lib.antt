@@ -17,3 +17,4 @@ pub mod Rows
 pub mod Keeps
 pub mod Examples
 pub mod Compose
+pub mod Looks

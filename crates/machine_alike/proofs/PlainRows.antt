@@ -1,9 +1,15 @@
--- Which rows make no function: those of texts that make none, and those of frames, errors and results.
+-- Which rows make no function: those of texts that make none, those of frames, errors and results, and those of the primitives.
 use Rattle.std.proofs.Common.{ℕ, suc, Bool, true, false, cond, List, [], ◌∷◌}
+use Rattle.std.specs.Prelude.{ℤ, pos, negsuc, zero, Option, Some, None}
+use Rattle.int_core.specs.Value.{a_table, a_function, a_coroutine, Shape, is_known, is_object}
+use Rattle.library_rows.specs.Look.{Look}
+use Rattle.library_rows.specs.Library.{Primitive, base_error, base_pcall, base_xpcall, coroutine_close, coroutine_create, coroutine_isyieldable, coroutine_resume, coroutine_running, coroutine_status, coroutine_yield, prelude_build, prelude_out, primitive_at, row_of}
 use Rattle.machine_core.specs.World.{Wait}
+use Rattle.machine_core.specs.MachineStep.{level_in, errs_at, after_resume, resumes, after_closing, closes_coroutine, can_call, sees_status, after_look, look_row}
+use Rattle.machine_core.specs.PrimitiveRows.{own_row, primitive_row, row_numbered}
 use Rattle.machine_core.specs.Text.{Arg, read, Own, read_upvalue, write_upvalue, make_table, make_function, fill_table, pay, Text, go_by, own, open_cell, quick, operate, call, tail_call, close, closable, raise, leave, trap, Given, results, thrown}
 use Rattle.machine_core.specs.InstructionRows.{fails, is_true}
-use Rattle.machine_core.specs.Moves.{CallShape, is_entered, is_primitive, not_paid, not_entered, SettledShape, is_found, is_asked, is_fault, TopShape, lua_top, pcall_top, xpcall_top, handler_top, closing_top, no_top, ClosingShape, one_left, all_closed, closed_with_error, Row, only}
+use Rattle.machine_core.specs.Moves.{ResumeShape, resumed, refused, LookShape, is_given, is_refused, is_raised, traps, CallShape, is_entered, is_primitive, not_paid, not_entered, SettledShape, is_found, is_asked, is_fault, TopShape, lua_top, pcall_top, xpcall_top, handler_top, closing_top, no_top, ClosingShape, one_left, all_closed, closed_with_error, Row, only}
 use Rattle.machine_core.specs.FrameRows.{handed, hand_over, raises, after_call, When, at_once, by_asking, calls_row, prepares, after_leaving, expand_by, raised_to, raised_row, refused_under, after_asked, asked_row, closing_by, closing_row, unwound, handed_to}
 use Rattle.machine_core.specs.RowFits.{MakesNone}
 use Rattle.machine_alike.specs.Laws.{NoneMade}
@@ -130,3 +136,78 @@ handed_to_none handler_top = λ _ _ _ _ _ _. tt
 handed_to_none closing_top = λ _ _. closing_none
 handed_to_none (no_top true) = λ _ _. tt
 handed_to_none (no_top false) = λ _ _ _ _ _ _. hand_over_none
+
+-- primitives
+
+errs_none : (e : ℕ) (s : Shape) (level : Option ℤ) → NoneMade (errs_at e s level)
+errs_none e s None = λ _ _. tt
+errs_none e s (Some (pos zero)) = λ _ _. tt
+errs_none e s (Some (pos (suc level))) = λ _ _ _ _. tt
+errs_none e s (Some (negsuc n)) = λ _ _. tt
+
+after_resume_none : (s : ResumeShape) → NoneMade (after_resume s)
+after_resume_none (resumed is_entered) = hand_over_none
+after_resume_none (resumed (is_primitive n)) = tt
+after_resume_none (resumed not_paid) = tt
+after_resume_none (resumed (not_entered text)) = λ _ _. tt
+after_resume_none (refused text) = λ _ _. hand_over_none
+
+resumes_none : (s : Shape) (co : ℕ) → NoneMade (resumes s co)
+resumes_none (is_object a_coroutine) co = λ _ s. after_resume_none s
+resumes_none (is_object a_table) co = λ _ _. tt
+resumes_none (is_object a_function) co = λ _ _. tt
+resumes_none (is_known p) co = λ _ _. tt
+
+after_closing_none : (s : ResumeShape) → NoneMade (after_closing s)
+after_closing_none (resumed is_entered) = closing_none
+after_closing_none (resumed (is_primitive n)) = tt
+after_closing_none (resumed not_paid) = tt
+after_closing_none (resumed (not_entered text)) = λ _ _. tt
+after_closing_none (refused text) = λ _ _. tt
+
+closes_none : (s : Shape) (co : ℕ) → NoneMade (closes_coroutine s co)
+closes_none (is_object a_coroutine) co = λ _ s. after_closing_none s
+closes_none (is_object a_table) co = λ _ _. tt
+closes_none (is_object a_function) co = λ _ _. tt
+closes_none (is_known p) co = λ _ _. tt
+
+status_none : (s : Shape) (co : ℕ) → NoneMade (sees_status s co)
+status_none (is_object a_coroutine) co = λ _ _ _ _. hand_over_none
+status_none (is_object a_table) co = λ _ _. tt
+status_none (is_object a_function) co = λ _ _. tt
+status_none (is_known p) co = λ _ _. tt
+
+after_look_none : (v : ℕ) (s : LookShape) → NoneMade (after_look v s)
+after_look_none v is_given = λ _ _. hand_over_none
+after_look_none v (is_refused text) = λ _ _. tt
+after_look_none v is_raised = λ _ _. tt
+
+pub look_none : (l : Look) → NoneMade (look_row l)
+look_none l = λ _ _ v s. after_look_none v s
+
+own_none : (build : Row) → NoneMade build → (p : Primitive) → NoneMade (own_row build p)
+own_none build b base_error = λ e _ _ s. errs_none e s (level_in s)
+own_none build b base_pcall = λ f _ _ room. cond_none room _ _ (λ _ _. tt) (λ _ _. tt)
+own_none build b base_xpcall = λ f _ _ room. cond_none room _ _ (λ _ _. tt) (λ _ _. tt)
+own_none build b coroutine_close = λ co _ _ s. closes_none s co
+own_none build b coroutine_create = λ f _ _ s. cond_none (can_call s) _ _ (λ _ _ _ _. hand_over_none) (λ _ _. tt)
+own_none build b coroutine_isyieldable = λ _ _. hand_over_none
+own_none build b coroutine_resume = λ co _ _ s. resumes_none s co
+own_none build b coroutine_running = λ _ _ _ _. hand_over_none
+own_none build b coroutine_status = λ co _ _ s. status_none s co
+own_none build b coroutine_yield = λ _ in_main. cond_none in_main _ _ tt (λ _ _ _ _. hand_over_none)
+own_none build b prelude_build = b
+own_none build b prelude_out = λ _ _ _ _. hand_over_none
+own_none build b p = tt
+
+-- all of them, by their numbers
+pub numbered_none : (build : Row) → NoneMade build → (n : ℕ) → NoneMade (row_numbered build n)
+numbered_none build b n = from (primitive_at n)
+  where
+    by : (p : Primitive) (o : Option Look) → NoneMade (elim o as (λ _. Row) [ Some l ↦ look_row l | None ↦ own_row build p ])
+    by p (Some l) = look_none l
+    by p None = own_none build b p
+
+    from : (o : Option Primitive) → NoneMade (elim o as (λ _. Row) [ None ↦ traps | Some p ↦ primitive_row build p ])
+    from None = tt
+    from (Some p) = by p (row_of p)

@@ -10,9 +10,10 @@ use Rattle.code_core.specs.Prototype.{Prototype, prototypes}
 use Rattle.int_core.specs.Value.{boolean, a_table, a_function, a_coroutine, Value, known, object, nil}
 use Rattle.int_core.specs.Limits.{greatest_depth, stack_overflow}
 use Rattle.int_core.specs.Heap.{raw_set}
-use Rattle.machine_core.specs.World.{put_frames, put_top, push, pop, write_cell, closed, Frame, pcall, Coroutine, fresh, in_progress, normal, World, Stack}
-use Rattle.machine_core.specs.Moves.{with_own, put_coroutine, back_to_resumer, popped, bury, suspend_running, wait_for_another, go_into, not_entered, resumed, made, move, push_frame, push_all, over_pcall, has_room, closes_coroutine, Ending, go, returned, spent, main_returned, main_failed, Outcome, trapped, ends, run}
-use Rattle.machine_core.specs.MachineStep.{woken, resume_row, steps}
+use Rattle.machine_core.specs.World.{put_frames, put_top, push, pop, write_cell, closed, Frame, pcall, closing, Coroutine, fresh, in_progress, normal, dead, failed, World, Stack}
+use Rattle.machine_core.specs.Moves.{with_own, put_coroutine, back_to_resumer, popped, bury, suspend_running, wait_for_another, go_into, add_coroutine, add_printed, not_entered, resumed, made, move, push_frame, push_all, over_pcall, has_room, closes_coroutine, Ending, go, returned, raised, spent, main_returned, main_failed, traps, Outcome, trapped, ends, run}
+use Rattle.machine_core.specs.MachineStep.{woken, resume_row, create_row, status_row, running_row, yieldable_row, print_row, steps}
+use Rattle.machine_core.specs.PrimitiveRows.{row_numbered}
 use Rattle.machine_core.proofs.Machine.{primitives, code, plain, int, text, started, runs, load, log_in, fails, result}
 use Rattle.machine_core.proofs.MachineErrors.{base, function, closing_world, suspended_world}
 
@@ -133,7 +134,7 @@ abbrev left : Outcome → Option (List ℕ × List Coroutine)
 left trapped = None
 left (ends e W) = Some (W.chain, W.coroutines)
 
-main_has_failed : left (steps primitives 40 go (closing_world 3 fails [])) ≡ Some ([], Rattle.machine_core.specs.World.failed (int 42) [] ∷ [])
+main_has_failed : left (steps primitives 40 go (closing_world 3 fails [])) ≡ Some ([], failed (int 42) [] ∷ [])
 unfolding opcodes number_of int_wrap put_frames put_top push pop write_cell with_own put_coroutine back_to_resumer popped bury suspend_running wait_for_another go_into raw_set woken
 main_has_failed = refl
 
@@ -188,4 +189,89 @@ no_more_room = room_in 100000
 
 -- without room a coroutine is not closed
 nothing_closed : (s : Stack) → closes_coroutine (deep (many 100000)) s 1 (fresh (known nil)) ≡ made (deep (many 100000)) [] (resumed (not_entered stack_overflow))
-nothing_closed s = ap (λ room. cond room (made (push (put_coroutine (deep (many 100000)) 1 Rattle.machine_core.specs.World.dead) s (Rattle.machine_core.specs.World.closing None [])) [] (resumed Rattle.machine_core.specs.Moves.is_entered)) (made (deep (many 100000)) [] (resumed (not_entered stack_overflow)))) no_more_room
+nothing_closed s = ap (λ room. cond room (made (push (put_coroutine (deep (many 100000)) 1 dead) s (closing None [])) [] (resumed Rattle.machine_core.specs.Moves.is_entered)) (made (deep (many 100000)) [] (resumed (not_entered stack_overflow)))) no_more_room
+
+-- what makes a coroutine, looks at one, or prints
+
+abbrev given : ℕ → List Value → World
+given count vs = record (nested count) { moving = vs }
+
+abbrev over : Coroutine → World
+over c = record (given 0 (object a_coroutine 1 ∷ [])) { coroutines = in_progress (pcall ∷ []) ∷ c ∷ [] }
+
+made_last : told (run create_row [] (given 0 (base 0 ∷ []))) ≡ Some (returned, object a_coroutine 2 ∷ [])
+unfolding opcodes number_of int_wrap digits put_frames put_top push pop write_cell with_own put_coroutine back_to_resumer popped bury suspend_running wait_for_another go_into raw_set woken add_coroutine add_printed
+made_last = refl
+
+made_of_no_table : told (run create_row [] (given 0 (object a_table 0 ∷ []))) ≡ Some (raised, text (codes "bad argument #1 to 'create' (function expected, got table)") ∷ [])
+unfolding opcodes number_of int_wrap digits put_frames put_top push pop write_cell with_own put_coroutine back_to_resumer popped bury suspend_running wait_for_another go_into raw_set woken add_coroutine add_printed
+made_of_no_table = refl
+
+status_running : told (run status_row [] (given 0 (object a_coroutine 0 ∷ []))) ≡ Some (returned, text (codes "running") ∷ [])
+unfolding opcodes number_of int_wrap digits put_frames put_top push pop write_cell with_own put_coroutine back_to_resumer popped bury suspend_running wait_for_another go_into raw_set woken add_coroutine add_printed
+status_running = refl
+
+status_new : told (run status_row [] (given 0 (object a_coroutine 1 ∷ []))) ≡ Some (returned, text (codes "suspended") ∷ [])
+unfolding opcodes number_of int_wrap digits put_frames put_top push pop write_cell with_own put_coroutine back_to_resumer popped bury suspend_running wait_for_another go_into raw_set woken add_coroutine add_printed
+status_new = refl
+
+status_normal : told (run status_row [] (given 1 (object a_coroutine 0 ∷ []))) ≡ Some (returned, text (codes "normal") ∷ [])
+unfolding opcodes number_of int_wrap digits put_frames put_top push pop write_cell with_own put_coroutine back_to_resumer popped bury suspend_running wait_for_another go_into raw_set woken add_coroutine add_printed
+status_normal = refl
+
+status_dead : told (run status_row [] (over dead)) ≡ Some (returned, text (codes "dead") ∷ [])
+unfolding opcodes number_of int_wrap digits put_frames put_top push pop write_cell with_own put_coroutine back_to_resumer popped bury suspend_running wait_for_another go_into raw_set woken add_coroutine add_printed
+status_dead = refl
+
+status_failed : told (run status_row [] (over (failed (int 1) []))) ≡ Some (returned, text (codes "dead") ∷ [])
+unfolding opcodes number_of int_wrap digits put_frames put_top push pop write_cell with_own put_coroutine back_to_resumer popped bury suspend_running wait_for_another go_into raw_set woken add_coroutine add_printed
+status_failed = refl
+
+status_of_no_number : told (run status_row [] (given 0 (int 5 ∷ []))) ≡ Some (raised, text (codes "bad argument #1 to 'status' (coroutine expected, got number)") ∷ [])
+unfolding opcodes number_of int_wrap digits put_frames put_top push pop write_cell with_own put_coroutine back_to_resumer popped bury suspend_running wait_for_another go_into raw_set woken add_coroutine add_printed
+status_of_no_number = refl
+
+last_runs : told (run running_row [] (given 1 [])) ≡ Some (returned, object a_coroutine 1 ∷ known (boolean false) ∷ [])
+unfolding opcodes number_of int_wrap digits put_frames put_top push pop write_cell with_own put_coroutine back_to_resumer popped bury suspend_running wait_for_another go_into raw_set woken add_coroutine add_printed
+last_runs = refl
+
+main_may_yield : told (run yieldable_row [] (given 0 [])) ≡ Some (returned, known (boolean true) ∷ [])
+unfolding opcodes number_of int_wrap digits put_frames put_top push pop write_cell with_own put_coroutine back_to_resumer popped bury suspend_running wait_for_another go_into raw_set woken add_coroutine add_printed
+main_may_yield = refl
+
+abbrev printed_by : Outcome → List ℕ
+printed_by trapped = []
+printed_by (ends e W) = W.printed
+
+prints_behind : printed_by (run print_row [] (record (given 0 (text (codes "b") ∷ [])) { printed = codes "a" })) ≡ codes "ab"
+unfolding opcodes number_of int_wrap digits put_frames put_top push pop write_cell with_own put_coroutine back_to_resumer popped bury suspend_running wait_for_another go_into raw_set woken add_coroutine add_printed
+prints_behind = refl
+
+-- library rows, by their numbers
+
+abbrev called_by : ℕ → List Value → Option (Ending × List Value)
+called_by n vs = told (run (row_numbered traps n) [] (given 0 vs))
+
+type_of_number : called_by 13 (int 5 ∷ []) ≡ Some (returned, text (codes "number") ∷ [])
+unfolding opcodes number_of int_wrap digits put_frames put_top push pop write_cell with_own put_coroutine back_to_resumer raw_set woken add_coroutine add_printed
+type_of_number = refl
+
+select_counts : called_by 10 (text (codes "#") ∷ int 1 ∷ known nil ∷ []) ≡ Some (returned, int 2 ∷ [])
+unfolding opcodes number_of int_wrap digits put_frames put_top push pop write_cell with_own put_coroutine back_to_resumer raw_set woken add_coroutine add_printed
+select_counts = refl
+
+assert_raises : called_by 0 (known (boolean false) ∷ int 7 ∷ []) ≡ Some (raised, int 7 ∷ [])
+unfolding opcodes number_of int_wrap digits put_frames put_top push pop write_cell with_own put_coroutine back_to_resumer raw_set woken add_coroutine add_printed
+assert_raises = refl
+
+rawlen_refuses : called_by 8 (int 5 ∷ []) ≡ Some (raised, text (codes "bad argument #1 to 'rawlen' (table or string expected, got number)") ∷ [])
+unfolding opcodes number_of int_wrap digits put_frames put_top push pop write_cell with_own put_coroutine back_to_resumer raw_set woken add_coroutine add_printed
+rawlen_refuses = refl
+
+status_by_number : called_by 20 (object a_coroutine 0 ∷ []) ≡ Some (returned, text (codes "running") ∷ [])
+unfolding opcodes number_of int_wrap digits put_frames put_top push pop write_cell with_own put_coroutine back_to_resumer raw_set woken add_coroutine add_printed
+status_by_number = refl
+
+no_such_number : called_by 60 [] ≡ None
+unfolding opcodes number_of int_wrap digits put_frames put_top push pop write_cell with_own put_coroutine back_to_resumer raw_set woken add_coroutine add_printed
+no_such_number = refl

@@ -4,7 +4,7 @@ use Rattle.std.specs.Prelude.{pos, negsuc, codes}
 use Rattle.std.specs.Int.{int_wrap}
 use Rattle.std.specs.Fmt.{digits}
 use Rattle.code_core.specs.declared.instruction.Instruction.{Instruction}
-use Rattle.code_core.specs.declared.opcode.Opcode.TheVariants.{Move, GetUpval, LoadK, LoadKx, LFalseSkip, LoadTrue, LoadNil, GetI, GetField, SetTable, SetField, NewTable, OpSelf, AddI, SubK, BAndK, ShrI, ShlI, Add, Mod, IDiv, BAnd, BXor, MmBin, MmBinI, MmBinK, Unm, BNot, Not, Len, Concat, Tbc, Eq, Lt, Le, EqK, LtI, GtI, TestSet, Call, TailCall, Return, Return0, Return1, ForLoop, ForPrep, TForPrep, TForCall, TForLoop, SetList, VarArg, VarArgPrep, ExtraArg}
+use Rattle.code_core.specs.declared.opcode.Opcode.TheVariants.{Move, GetUpval, LoadK, LoadKx, LFalseSkip, LoadTrue, LoadNil, GetI, GetField, SetTable, SetField, NewTable, OpSelf, AddI, SubK, BAndK, ShrI, ShlI, Add, Mod, IDiv, BAnd, BXor, MmBin, MmBinI, MmBinK, Unm, BNot, Not, Len, Concat, Tbc, Eq, Lt, Le, EqK, EqI, LtI, GtI, TestSet, Call, TailCall, Return, Return0, Return1, ForLoop, ForPrep, TForPrep, TForCall, TForLoop, SetList, VarArg, VarArgPrep, ExtraArg}
 use Rattle.code_core.specs.declared.proto.Const.{Const}
 use Rattle.code_core.specs.declared.proto.Const.TheVariants.{Nil, Int, Str}
 use Rattle.code_core.specs.Opcode.{opcodes, number_of}
@@ -188,6 +188,23 @@ compare_two_fault = refl
 raw_equal : alone 1 1 (abc EqK 0 1 0 true ∷ to_true) (int 3 ∷ []) ≡ Some (main_returned, truth true ∷ [], 0)
 unfolding opcodes number_of int_wrap put_frames put_top push pop write_cell with_own put_coroutine back_to_resumer popped bury suspend_running wait_for_another go_into raw_set woken
 raw_equal = refl
+
+-- k turns a test round
+raw_equal_turned : alone 1 1 (abc EqK 0 1 0 false ∷ to_true) (int 3 ∷ []) ≡ Some (main_returned, truth false ∷ [], 0)
+unfolding opcodes number_of int_wrap put_frames put_top push pop write_cell with_own put_coroutine back_to_resumer popped bury suspend_running wait_for_another go_into raw_set woken
+raw_equal_turned = refl
+
+raw_other_turned : alone 1 1 (abc EqK 0 1 0 false ∷ to_true) (int 4 ∷ []) ≡ Some (main_returned, truth true ∷ [], 0)
+unfolding opcodes number_of int_wrap put_frames put_top push pop write_cell with_own put_coroutine back_to_resumer popped bury suspend_running wait_for_another go_into raw_set woken
+raw_other_turned = refl
+
+number_equal : alone 1 1 (abc EqI 0 130 0 true ∷ to_true) (int 3 ∷ []) ≡ Some (main_returned, truth true ∷ [], 0)
+unfolding opcodes number_of int_wrap put_frames put_top push pop write_cell with_own put_coroutine back_to_resumer popped bury suspend_running wait_for_another go_into raw_set woken
+number_equal = refl
+
+number_equal_turned : alone 1 1 (abc EqI 0 130 0 false ∷ to_true) (int 3 ∷ []) ≡ Some (main_returned, truth false ∷ [], 0)
+unfolding opcodes number_of int_wrap put_frames put_top push pop write_cell with_own put_coroutine back_to_resumer popped bury suspend_running wait_for_another go_into raw_set woken
+number_equal_turned = refl
 
 tested_set : alone 1 2 (abc TestSet 1 0 0 false ∷ jump 0 ∷ gives 1) (truth false ∷ []) ≡ Some (main_returned, truth false ∷ [], 0)
 unfolding opcodes number_of int_wrap put_frames put_top push pop write_cell with_own put_coroutine back_to_resumer popped bury suspend_running wait_for_another go_into raw_set woken

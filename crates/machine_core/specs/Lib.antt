@@ -4,6 +4,7 @@ pub mod InstructionRows
 pub mod Moves
 pub mod FrameRows
 pub mod MachineStep
+pub mod PrimitiveRows
 pub mod Talk
 pub mod RowFits
 pub mod TalkRun

@@ -1,14 +1,15 @@
 -- The machine's step over whole worlds, the rows of the primitives that move frames and coroutines, and runs of some steps.
-use Rattle.std.specs.Prelude.{ℕ, zero, suc, ◌++◌, ℤ, pos, true, false, cond, List, [], ◌∷◌, Option, Some, None, slice_get, codes, decimal}
+use Rattle.std.specs.Prelude.{ℕ, zero, suc, ◌++◌, ℤ, pos, Bool, true, false, cond, List, [], ◌∷◌, Option, Some, None, slice_get, codes, decimal}
 use Rattle.code_core.specs.Prototype.{Prototype}
 use Rattle.int_core.specs.Numeral.{integer_of}
-use Rattle.int_core.specs.Value.{nil, boolean, integer, string, a_coroutine, Value, Shape, is_known, is_object, bind, last}
+use Rattle.int_core.specs.Value.{nil, boolean, integer, string, primitive, a_function, a_coroutine, Value, Shape, is_known, is_object, bind, last}
 use Rattle.machine_core.specs.World.{Wait, running, LuaFrame, Frame, lua, World, Stack, stack_of, put_top}
 use Rattle.int_core.specs.Operations.{type_name}
-use Rattle.machine_core.specs.Text.{read, written}
+use Rattle.library_rows.specs.Look.{Look}
+use Rattle.machine_core.specs.Text.{Arg, read, written}
 use Rattle.machine_core.specs.InstructionRows.{text_at, after, told_values}
 use Rattle.int_core.specs.Ask.{values}
-use Rattle.machine_core.specs.Moves.{over_pcall, over_xpcall, take_moving, look, give, give_with, place_text, see_top, suspend, resume, begin_closing, CallShape, is_entered, is_primitive, not_paid, not_entered, ResumeShape, resumed, refused, Ending, go, returned, asks, calls_primitive, raised, unwinding, spent, main_yielded, Row, stop, act, Outcome, trapped, ends, run}
+use Rattle.machine_core.specs.Moves.{over_pcall, over_xpcall, take_moving, look, give, give_with, place_text, see_top, suspend, resume, begin_closing, consult, LookShape, is_given, is_refused, is_raised, create, see_status, see_running, print, Status, is_suspended, is_running, is_normal, is_dead, CallShape, is_entered, is_primitive, not_paid, not_entered, ResumeShape, resumed, refused, Ending, go, returned, asks, calls_primitive, raised, unwinding, spent, main_yielded, Row, stop, act, Outcome, trapped, ends, run}
 use Rattle.machine_core.specs.FrameRows.{then, hand_over, expand, goes_on_by, raised_row, blames, over_frame, asked_row, closing_row, unwound, handed_to}
 
 -- primitives that move frames and coroutines; their arguments move
@@ -82,6 +83,54 @@ closes_coroutine s co = not_coroutine (codes "close") s
 
 abbrev pub close_row : Row
 close_row = act take_moving (λ co _. act (look (read co)) (λ _ s. closes_coroutine s co))
+
+abbrev pub gives_back : List Arg → Row
+gives_back xs = then (give xs) hand_over
+
+-- a library row that looks at values and tables alone
+abbrev pub after_look : (v : ℕ) → LookShape → Row
+after_look v is_given = then (give_with [] v) hand_over
+after_look v (is_refused text) = blames text
+after_look v is_raised = then (give (read v ∷ [])) (stop raised)
+
+abbrev pub look_row : Look → Row
+look_row l = act take_moving (λ n _. act (consult l n) (λ v s. after_look v s))
+
+-- what can be called without a `__call`
+abbrev pub can_call : Shape → Bool
+can_call (is_object a_function) = true
+can_call (is_known (primitive _)) = true
+can_call _ = false
+
+abbrev pub creates : Shape → ℕ → Row
+creates s f = cond (can_call s) (act (create (read f)) (λ co _. gives_back (read co ∷ []))) (blames (wrong_type 1 (codes "create") (codes "function") s))
+
+abbrev pub create_row : Row
+create_row = act take_moving (λ f _. act (look (read f)) (λ _ s. creates s f))
+
+abbrev pub status_word : Status → List ℕ
+status_word is_suspended = codes "suspended"
+status_word is_running = codes "running"
+status_word is_normal = codes "normal"
+status_word is_dead = codes "dead"
+
+abbrev pub sees_status : Shape → ℕ → Row
+sees_status (is_object a_coroutine) co = act (see_status (read co)) (λ _ status. gives_back (written (string (status_word status)) ∷ []))
+sees_status s co = not_coroutine (codes "status") s
+
+abbrev pub status_row : Row
+status_row = act take_moving (λ co _. act (look (read co)) (λ _ s. sees_status s co))
+
+-- every coroutine may yield, the main one to the session; so none is the main one for a script
+abbrev pub running_row : Row
+running_row = act see_running (λ co _. gives_back (read co ∷ written (boolean false) ∷ []))
+
+abbrev pub yieldable_row : Row
+yieldable_row = gives_back (written (boolean true) ∷ [])
+
+-- the prelude's own, which prints a string
+abbrev pub print_row : Row
+print_row = act take_moving (λ v _. then (print (read v)) hand_over)
 
 -- the step
 

@@ -2,13 +2,14 @@
 -- A row traps exactly where a move names what is not there.
 use Rattle.std.specs.Prelude.{ℕ, zero, suc, ◌+◌, ℤ, pos, negsuc, ◌+ℤ◌, Bool, true, false, cond, not, ◌&&◌, List, [], ◌∷◌, ◌++◌, length, take, drop, map, reverse, filter_map, flat_map, Option, Some, None, nat_eq, nat_lt, nat_le, slice_get, slice_set, codes}
 use Rattle.int_core.specs.Heap.{add_table, filled_table}
+use Rattle.library_rows.specs.Look.{Look, Done, done as came, refused as was_refused, raised as was_raised, looked}
 use Rattle.code_core.specs.declared.proto.UpDesc.{UpDesc}
 use Rattle.code_core.specs.Prototype.{Prototype, list_of}
 use Rattle.code_core.specs.Check.{lines_from, at}
 use Rattle.int_core.specs.Limits.{limited, position, greatest_depth, greatest_resumes, stack_overflow}
 use Rattle.int_core.specs.Value.{nil, string, primitive, a_table, a_function, a_coroutine, Value, known, object, Shape, shape, is_nil, nth, bind, last, without_last}
 use Rattle.machine_core.specs.World.{Cell, open_at, Wait, running, for_call, for_iterator, for_value, for_truth, dropped, for_concat, for_close, returning, leaving, Activation, Frame, lua, pcall, xpcall, handler, closing, Coroutine, fresh, suspended, in_progress, normal, dead, failed, World, Stack, stack_of, Place, place_of, put_top, push, pop, read_cell, write_cell, find_open, close_from, frames_of}
-use Rattle.int_core.specs.Operations.{Operation, Settled, found, ask, fault, cannot_arise, does, Callee, callee, not_callable, callee_of, greatest_chain, handler_in, of_close}
+use Rattle.int_core.specs.Operations.{Operation, Settled, found, ask, fault, cannot_arise, does, Callee, callee, not_callable, callee_of, greatest_chain, handler_in, of_close, is_function}
 use Rattle.machine_core.specs.Text.{Arg, arg, args_of, Own, close_cells, keep_pending, reads, tells, effect, fits, done, Quick, read_upvalue, write_upvalue, make_table, make_function, fill_table, pay, Given, given_values}
 
 -- where an error was raised
@@ -77,6 +78,11 @@ pub data Move : Type 0 where
   suspend : Move
   resume : Arg → (slot : ℕ) → Move
   begin_closing : Arg → Move
+  consult : Look → (slot : ℕ) → Move
+  create : Arg → Move
+  see_status : Arg → Move
+  see_running : Move
+  print : Arg → Move
 
 -- what an operation came to: one value or none, a handler to be called with what was read behind it, a fault
 pub data SettledShape : Type 0 where
@@ -107,6 +113,19 @@ pub data ResumeShape : Type 0 where
   resumed : CallShape → ResumeShape
   refused : List ℕ → ResumeShape
 
+-- what a library row came to
+pub data LookShape : Type 0 where
+  is_given : LookShape
+  is_refused : List ℕ → LookShape
+  is_raised : LookShape
+
+-- how a coroutine stands for a script
+pub data Status : Type 0 where
+  is_suspended : Status
+  is_running : Status
+  is_normal : Status
+  is_dead : Status
+
 abbrev pub Told : Move → Type 0
 Told (on_own m) = Shape
 Told (outside q) = Bool
@@ -125,6 +144,8 @@ Told end_coroutine = Bool
 Told suspend = Bool
 Told (resume co slot) = ResumeShape
 Told (begin_closing co) = ResumeShape
+Told (consult l slot) = LookShape
+Told (see_status co) = Status
 Told _ = Unit {0}
 
 -- how a row ends. `go`: the Lua frame on top runs, or gets what moves; `returned`: what moves is handed to whatever else is on top;
@@ -401,6 +422,35 @@ abbrev pub coroutine_number : Value → Option ℕ
 coroutine_number (object a_coroutine n) = Some n
 coroutine_number _ = None
 
+-- a new coroutine comes last
+unfoldable pub add_coroutine : World → (body : Value) → World
+add_coroutine W body = record W { coroutines = W.coroutines ++ fresh body ∷ [] }
+
+abbrev pub status_of : Coroutine → Status
+status_of (fresh _) = is_suspended
+status_of (suspended _) = is_suspended
+status_of (in_progress _) = is_running
+status_of (normal _) = is_normal
+status_of dead = is_dead
+status_of (failed _ _) = is_dead
+
+-- printing
+
+unfoldable pub add_printed : World → List ℕ → World
+add_printed W bytes = record W { printed = W.printed ++ bytes }
+
+-- of a value that is no string nothing is printed
+abbrev pub bytes_in : Value → List ℕ
+bytes_in (known (string bytes)) = bytes
+bytes_in _ = []
+
+-- library rows that look at values and tables alone
+
+abbrev pub consulted : World → Done → Option (Made LookShape)
+consulted W (came H vs) = made (record W { heap = H }) vs is_given
+consulted W (was_refused text) = made W [] (is_refused text)
+consulted W (was_raised H v) = made (record W { heap = H }) (v ∷ []) is_raised
+
 -- what a move does; None is a trap
 
 abbrev pub settled : World → Place → Settled → Option (Made SettledShape)
@@ -444,6 +494,11 @@ move (fail_coroutine x) env W = bind (stack_of W) (λ s. bind (ends_as W (failed
 move suspend env W = bind (stack_of W) (λ s. made (suspend_running W s) [] (runs_main W))
 move (resume x slot) env W = bind (stack_of W) (λ s. bind (coroutine_number (arg env x)) (λ co. bind (slice_get W.coroutines co) (λ c. resumes W s co c (drop slot env))))
 move (begin_closing x) env W = bind (stack_of W) (λ s. bind (coroutine_number (arg env x)) (λ co. bind (slice_get W.coroutines co) (closes_coroutine W s co)))
+move (consult l slot) env W = consulted W (looked l (drop slot env) W.heap)
+move (create x) env W = cond (is_function (arg env x)) (made (add_coroutine W (arg env x)) (object a_coroutine (length W.coroutines) ∷ []) tt) None
+move (see_status x) env W = bind (coroutine_number (arg env x)) (λ co. bind (slice_get W.coroutines co) (λ c. made W [] (status_of c)))
+move see_running env W = bind (last W.chain) (λ co. made W (object a_coroutine co ∷ []) tt)
+move (print x) env W = made (add_printed W (bytes_in (arg env x))) [] tt
 
 pub data Outcome : Type 0 where
   trapped : Outcome

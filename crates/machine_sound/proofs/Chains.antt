@@ -78,6 +78,18 @@ module _ (main : Option ℕ) (st : List Standing) (ch : List ℕ) (r n : ℕ) (h
           both (inr x) (inl y) = absurd (absent j (y ∙ ap Some (sym x.1)))
           both (inr x) (inr y) = x.0 ∙ sym y.0
 
+-- a new coroutine stands apart
+pub chain_beside : (main : Option ℕ) (st : List Standing) (ch : List ℕ) → ChainOk main st ch → ChainOk main (st ++ apart ∷ []) ch
+chain_beside main st ch h = record {
+  first = h.first;
+  last_runs = λ i co e q. get_push_old st (apart ∷ []) co runs (h.last_runs i co e q);
+  before = λ i co e q. get_push_old st (apart ∷ []) co resumed_another (h.before i co e q);
+  running_in = λ co x. ⊎_elim (λ (y : slice_get st co ≡ Some runs). h.running_in co y) (λ y. let c : apart ≡ runs = y.1 in absurd (cc)) (push_cases st apart runs co x);
+  normal_in = λ co x. ⊎_elim (λ (y : slice_get st co ≡ Some resumed_another). h.normal_in co y) (λ y. let c : apart ≡ resumed_another = y.1 in absurd (cc)) (push_cases st apart resumed_another co x);
+  once = h.once;
+  bound = h.bound;
+}
+
 -- one less: the last one stands apart now
 module _ (main : Option ℕ) (st : List Standing) (ch : List ℕ) (co : ℕ) (h : ChainOk main st (ch ++ co ∷ [])) where
   whole : length (ch ++ co ∷ []) ≡ length ch + 1

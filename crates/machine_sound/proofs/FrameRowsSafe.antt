@@ -1,15 +1,16 @@
 -- The rows of frames that are no Lua functions', of errors on their way, and of the primitives that move frames and coroutines are safe.
-use Rattle.std.proofs.Common.{◌≡◌, List, [], ◌∷◌, ◌++◌, Option, Some, None, refl, subst, sym, length, Bool, true, false}
-use Rattle.std.specs.Prelude.{ℕ, zero, suc, ℤ, pos, negsuc, cond}
-use Rattle.int_core.specs.Value.{Value, boolean, a_table, a_function, a_coroutine, Shape, is_known, is_object, shape, greatest_string}
+use Rattle.std.proofs.Common.{◌≡◌, ◌≤◌, ap, ◌∙◌, List, [], ◌∷◌, ◌++◌, Option, Some, None, refl, subst, sym, length, Bool, true, false}
+use Rattle.std.specs.Prelude.{ℕ, zero, suc, ℤ, pos, negsuc, cond, codes}
+use Rattle.int_core.specs.Value.{Value, boolean, object, a_table, a_function, a_coroutine, Shape, is_known, is_object, shape, greatest_string}
 use Rattle.int_core.specs.Limits.{stack_overflow}
+use Rattle.library_rows.specs.Look.{Look}
 use Rattle.machine_core.specs.Text.{read, written, arg}
-use Rattle.machine_core.specs.Moves.{Over, over_pcall, give, asks, main_failed, CallShape, is_entered, is_primitive, not_paid, not_entered, TopShape, lua_top, pcall_top, xpcall_top, handler_top, closing_top, no_top, ResumeShape, resumed, refused, Row, stop, act, see_top, main_returned, give_with, main_yielded, take_moving}
+use Rattle.machine_core.specs.Moves.{Over, over_pcall, give, asks, main_failed, CallShape, is_entered, is_primitive, not_paid, not_entered, TopShape, lua_top, pcall_top, xpcall_top, handler_top, closing_top, no_top, ResumeShape, resumed, refused, Row, stop, act, see_top, main_returned, give_with, main_yielded, take_moving, create, Status, is_suspended, is_running, is_normal, is_dead}
 use Rattle.machine_core.specs.FrameRows.{raises, handed, hand_over, error_in_handler, gives_up, raised_to, raised_row, caught, blames, over_frame, refused_under, after_asked, asked_row, closing_by, closing_row, unwound, handed_to}
 use Rattle.machine_core.specs.InstructionRows.{fails}
-use Rattle.machine_core.specs.MachineStep.{pcall_row, xpcall_row, level_in, errs_at, error_row, after_entry, after_resume, resumes, resume_row, yield_row, after_closing, closes_coroutine, close_row}
+use Rattle.machine_core.specs.MachineStep.{pcall_row, xpcall_row, level_in, errs_at, error_row, after_entry, after_resume, resumes, resume_row, yield_row, after_closing, closes_coroutine, close_row, gives_back, can_call, wrong_type, creates, create_row, status_word, sees_status, status_row, running_row, yieldable_row, print_row, after_look, look_row}
 use Rattle.machine_sound.specs.Sound.{Top, FitsIfRuns}
-use Rattle.machine_sound.specs.Safe.{Phase, on_lua, waiting, handing, HeldLua, OverOk, SeenTop, seen_lua, seen_other, ClosingEvent, takes_one, takes_none, takes_error, IsNoLua, IsOtherTop, RefusalOk, after_catcher, after_end, after_over, after_resuming, after_beginning, after_handing, see_leads, EndsWell, Safe, closing_values, closing_told}
+use Rattle.machine_sound.specs.Safe.{Phase, on_lua, waiting, handing, HeldLua, OverOk, SeenTop, seen_lua, seen_other, ClosingEvent, takes_one, takes_none, takes_error, IsNoLua, IsOtherTop, RefusalOk, after_catcher, after_end, after_over, after_resuming, after_beginning, after_handing, see_leads, LookOk, LookEvent, gave, refused_with, raised_with, look_values, look_told, EndsWell, Safe, closing_values, closing_told}
 use Rattle.machine_sound.proofs.Values.{le_of}
 use Rattle.machine_sound.proofs.Rests.{fails_safe}
 use Rattle.machine_sound.proofs.Asking.{asking_safe}
@@ -229,3 +230,44 @@ close_safe = (tt, λ vs. (tt, λ _. nothing_more (waiting None) vs (closes_corou
     from vs (is_object a_table) e = (tt, λ _. tt)
     from vs (is_object a_function) e = (tt, λ _. tt)
     from vs (is_known p) e = (tt, λ _. tt)
+
+-- a function or a primitive, or an error
+create_by : (vs : List Value) (s : Shape) → shape (arg vs (read 0)) ≡ s → (b : Bool) → can_call s ≡ b → Safe (waiting None) vs (cond b (act (create (read 0)) (λ co _. gives_back (read co ∷ []))) (blames (wrong_type 1 (codes "create") (codes "function") s)))
+create_by vs s e true c = ((tt, ap can_call e ∙ c), λ co. ((tt, tt), λ _. hand_over_safe None ((vs ++ object a_coroutine co ∷ []) ++ [])))
+create_by vs s e false c = (tt, λ _. tt)
+
+pub create_safe : Safe (waiting None) [] create_row
+create_safe = (tt, λ vs. (tt, λ _. nothing_more (waiting None) vs (creates (shape (arg vs (read 0))) 0) (create_by vs (shape (arg vs (read 0))) refl (can_call (shape (arg vs (read 0)))) refl)))
+
+word_fits : (s : Status) → length (status_word s) ≤ greatest_string
+word_fits is_suspended = le_of _ greatest_string refl
+word_fits is_running = le_of _ greatest_string refl
+word_fits is_normal = le_of _ greatest_string refl
+word_fits is_dead = le_of _ greatest_string refl
+
+pub status_safe : Safe (waiting None) [] status_row
+status_safe = (tt, λ vs. (tt, λ _. nothing_more (waiting None) vs (sees_status (shape (arg vs (read 0))) 0) (from vs (shape (arg vs (read 0))) refl)))
+  where
+    from : (vs : List Value) (s : Shape) → shape (arg vs (read 0)) ≡ s → Safe (waiting None) vs (sees_status s 0)
+    from vs (is_object a_coroutine) e = (e, λ status. ((word_fits status, tt), λ _. hand_over_safe None ((vs ++ []) ++ [])))
+    from vs (is_object a_table) e = (tt, λ _. tt)
+    from vs (is_object a_function) e = (tt, λ _. tt)
+    from vs (is_known p) e = (tt, λ _. tt)
+
+pub running_safe : Safe (waiting None) [] running_row
+running_safe = (tt, λ co. ((tt, (tt, tt)), λ _. hand_over_safe None ((object a_coroutine co ∷ []) ++ [])))
+
+pub yieldable_safe : Safe (waiting None) [] yieldable_row
+yieldable_safe = ((tt, tt), λ _. hand_over_safe None [])
+
+pub print_safe : Safe (waiting None) [] print_row
+print_safe = (tt, λ vs. (tt, λ _. hand_over_safe None (vs ++ [])))
+
+-- a library row that looks at values and tables alone, where what it writes out is right
+pub look_safe : (l : Look) → LookOk l → Safe (waiting None) [] (look_row l)
+look_safe l k = (tt, λ vs. (k, λ e. from vs e))
+  where
+    from : (vs : List Value) (e : LookEvent) → Safe (waiting None) (vs ++ look_values e) (after_look (length vs) (look_told e))
+    from vs (gave ws) = (tt, λ _. hand_over_safe None ((vs ++ ws) ++ []))
+    from vs (refused_with text) = (tt, λ _. tt)
+    from vs (raised_with v) = ((tt, tt), λ _. tt)

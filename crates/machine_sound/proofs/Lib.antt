@@ -35,3 +35,6 @@ pub mod FrameRowsSafe
 pub mod Steps
 pub mod Example
 pub mod Asking
+pub mod NewCoroutines
+pub mod Looks
+pub mod LibrarySafe

@@ -168,27 +168,34 @@ pay_move n t env W i r = from W.fuel refl
           holds = goes_outside n t env [] W W.heap W.functions W.moving f o i (each_none (Valid (sizes n (record W { fuel = f }))));
         }
 
-pub make_table_move : (n : ℕ) → QuickGood n make_table
-make_table_move n t env W i r =
-    let H = add_table W.heap in
-    let V = record W { heap = H } in
+-- a new table
+pub more_tables : (n : ℕ) (W : World) → Solid n W → OutsideOk n W (record W { heap = add_table W.heap })
+more_tables n W s =
+    let V = record W { heap = add_table W.heap } in
     let l = length-append W.heap.tables (record { rows = []; metatable = None } ∷ []) in
     let g : Grows (sizes n W) (sizes n V) = record { primitives = refl; tables = omega arith; some = omega arith; functions = λ i f e. e; cells = omega arith; coroutines = omega arith } in
     let z = sizes n W in
     let y = sizes n V in
-    let o : OutsideOk n W V = record {
-      grows = g;
-      tables = each_push (TableOk y) W.heap.tables (record { rows = []; metatable = None }) (each_on (TableOk z) (TableOk y) (table_on z y g) W.heap.tables i.solid.tables) (record { rows = each_none (λ (row : Value × Value). Valid y row.0 × Valid y row.1); metatable = tt });
-      metatable = refl;
-      functions = each_on (FunctionOk z) (FunctionOk y) (function_on z y g) W.functions i.solid.functions;
-      moving = values_on z y g W.moving i.solid.moving;
-    } in
     record {
-      event = length W.heap.tables;
-      world = V;
-      is = quick_is n make_table t env W i;
-      holds = goes_outside n t env (object a_table (length W.heap.tables) ∷ []) W H W.functions W.moving W.fuel o i (each_one (Valid y) (object a_table (length W.heap.tables)) (omega arith));
+      grows = g;
+      tables = each_push (TableOk y) W.heap.tables (record { rows = []; metatable = None }) (each_on (TableOk z) (TableOk y) (table_on z y g) W.heap.tables s.tables) (record { rows = each_none (λ (row : Value × Value). Valid y row.0 × Valid y row.1); metatable = tt });
+      metatable = refl;
+      functions = each_on (FunctionOk z) (FunctionOk y) (function_on z y g) W.functions s.functions;
+      moving = values_on z y g W.moving s.moving;
     }
+
+pub new_table_valid : (n : ℕ) (W : World) → Each (Valid (sizes n (record W { heap = add_table W.heap }))) (object a_table (length W.heap.tables) ∷ [])
+new_table_valid n W =
+    let l = length-append W.heap.tables (record { rows = []; metatable = None } ∷ []) in
+    each_one (Valid (sizes n (record W { heap = add_table W.heap }))) (object a_table (length W.heap.tables)) (omega arith)
+
+pub make_table_move : (n : ℕ) → QuickGood n make_table
+make_table_move n t env W i r = record {
+  event = length W.heap.tables;
+  world = record W { heap = add_table W.heap };
+  is = quick_is n make_table t env W i;
+  holds = goes_outside n t env (object a_table (length W.heap.tables) ∷ []) W (add_table W.heap) W.functions W.moving W.fuel (more_tables n W i.solid) i (new_table_valid n W);
+}
 
 table_is : (v : Value) → shape v ≡ is_object a_table → (m : ℕ) × (v ≡ object a_table m)
 table_is (known p) h = absurd (cc)

@@ -41,7 +41,7 @@ moves_on n s env vs ws W i h k =
     made_so n (waiting s) (waiting s) env vs W (with_moving W ws W.fuel) i (moving_grows n W ws W.fuel) (moving_solid n W ws W.fuel i.solid h) (moving_under n s W ws W.fuel i.phase)
     (values_on (sizes n W) (sizes n (with_moving W ws W.fuel)) (moving_grows n W ws W.fuel) vs k)
 
-stays : (n : ℕ) (s : Option TopShape) (env vs : List Value) (W : World) → Is n (waiting s) env W → Each (Valid (sizes n W)) vs → Is n (waiting s) (env ++ vs) W
+pub stays : (n : ℕ) (s : Option TopShape) (env vs : List Value) (W : World) → Is n (waiting s) env W → Each (Valid (sizes n W)) vs → Is n (waiting s) (env ++ vs) W
 stays n s env vs W i k = made_so n (waiting s) (waiting s) env vs W W i (grows_self (sizes n W)) i.solid i.phase k
 
 abbrev pub WaitingGood : ℕ → Move → Type 0

@@ -1,13 +1,16 @@
 -- What is proved of sound worlds.
-use Rattle.std.specs.Prelude.{ℕ, ◌<◌, ◌≡◌, [], Some, None}
+use Rattle.std.specs.Prelude.{ℕ, ◌<◌, ◌≡◌, [], length, Some, None}
+use Rattle.library_rows.specs.Look.{Look}
+use Rattle.library_rows.specs.Library.{Primitive, all_entries, row_of}
 use Rattle.int_core.specs.Ask.{values}
 use Rattle.machine_core.specs.World.{running, World, Place, place_of}
 use Rattle.machine_core.specs.InstructionRows.{text_at, rest_at, told_values}
 use Rattle.machine_core.specs.FrameRows.{expand, goes_on_by}
 use Rattle.machine_core.specs.Moves.{Ending, go, Row, Outcome, trapped, ends, run}
-use Rattle.machine_core.specs.MachineStep.{woken, step, steps}
+use Rattle.machine_core.specs.MachineStep.{woken, look_row, step, steps}
+use Rattle.machine_core.specs.PrimitiveRows.{row_numbered}
 use Rattle.machine_sound.specs.Sound.{Sound}
-use Rattle.machine_sound.specs.Safe.{waiting, Safe, EndIs, Good}
+use Rattle.machine_sound.specs.Safe.{waiting, LookOk, Safe, EndIs, Good}
 
 -- a sound world, and what else is known of it after a row that ended so
 pub record SoundAfter (primitives : ℕ) (ending : Ending) (W : World) : Type 0 where
@@ -26,6 +29,14 @@ PrimitiveSafe r = Safe (waiting None) [] r
 -- the rows of all primitives are safe
 abbrev pub PrimitivesSafe : ℕ → (ℕ → Row) → Type 0
 PrimitivesSafe primitives rows = (n : ℕ) → n < primitives → PrimitiveSafe (rows n)
+
+-- a row that looks at values and tables alone is safe where what it writes out is right
+abbrev pub LookRowsSafe : Type 0
+LookRowsSafe = (l : Look) → LookOk l → PrimitiveSafe (look_row l)
+
+-- and so all primitives are, where this holds of each such row, and that of `build` is safe
+abbrev pub LibrarySafe : Type 0
+LibrarySafe = (build : Row) → PrimitiveSafe build → ((p : Primitive) (l : Look) → row_of p ≡ Some l → LookOk l) → PrimitivesSafe (length all_entries) (row_numbered build)
 
 -- from a sound world no step traps, and the world is sound after it, as its ending says; so it is where the budget is spent
 abbrev pub StepsGood : Type 0

@@ -11,7 +11,9 @@ use Rattle.code_core.specs.Prototype.{Prototype, list_of}
 use Rattle.code_core.specs.Check.{at, Mark, fixed, open_from, mark}
 use Rattle.machine_core.specs.World.{Wait, leaving, World}
 use Rattle.machine_core.specs.Text.{Arg, read, written, arg, constant, behind, is_there, Own, read_register, read_registers, read_list, read_constant, read_varargs, see, write_register, write_registers, write_list, write_nils, end_list, cut_from, close_cells, mark_pending, see_pending, drop_pending, keep_results, keep_pending, Quick, read_upvalue, write_upvalue, make_table, make_function, fill_table, pay, Given, results, thrown}
-use Rattle.machine_core.specs.Moves.{Over, over_xpcall, Move, on_own, move_pc, open_register, outside, settle, enter, enter_tail, await, find_close, is_closable, begin_leaving, leave_frame, take_moving, look, give, give_with, blame, place_text, push_frame, call_value, see_top, see_catcher, pop_frame, take_closing, set_error, end_coroutine, fail_coroutine, suspend, resume, begin_closing, ClosingShape, one_left, all_closed, closed_with_error, ResumeShape, resumed, refused, SettledShape, is_found, is_asked, is_fault, CallShape, is_entered, is_primitive, not_paid, not_entered, TopShape, lua_top, closing_top, no_top, Told, place_from, top_shape, runs_main, Ending, go, returned, asks, calls_primitive, raised, unwinding, spent, main_yielded, main_returned, main_failed, Row, traps, stop, only, act, Outcome, trapped, ends, move, run}
+use Rattle.machine_core.specs.Moves.{Over, over_xpcall, Move, on_own, move_pc, open_register, outside, settle, enter, enter_tail, await, find_close, is_closable, begin_leaving, leave_frame, take_moving, look, give, give_with, blame, place_text, push_frame, call_value, see_top, see_catcher, pop_frame, take_closing, set_error, end_coroutine, fail_coroutine, suspend, resume, begin_closing, consult, LookShape, is_given, is_refused, is_raised, create, see_status, see_running, print, Status, ClosingShape, one_left, all_closed, closed_with_error, ResumeShape, resumed, refused, SettledShape, is_found, is_asked, is_fault, CallShape, is_entered, is_primitive, not_paid, not_entered, TopShape, lua_top, closing_top, no_top, Told, place_from, top_shape, runs_main, Ending, go, returned, asks, calls_primitive, raised, unwinding, spent, main_yielded, main_returned, main_failed, Row, traps, stop, only, act, Outcome, trapped, ends, move, run}
+use Rattle.machine_core.specs.MachineStep.{can_call}
+use Rattle.library_rows.specs.Look.{Arg as RowArg, read as row_read, written as row_written, Look, gives as row_gives, gives_all as row_gives_all, refuses as row_refuses, raises as row_raises, count as row_count, does as row_does}
 use Rattle.machine_sound.specs.Sound.{Each, sizes, Valid, waits_at, waiting_size, kept_below, Solid, Top, TopIs, FitsIfRuns, Settled, StackWaits}
 
 -- where a row stands: a Lua frame is on top, of which this is known, and all others wait; all frames wait, and what stands on top may be known;
@@ -71,6 +73,24 @@ ArgOk (written p) = WrittenOk p
 abbrev pub ArgsOk : List Arg → Type 0
 ArgsOk [] = Unit {0}
 ArgsOk (x ∷ xs) = ArgOk x × ArgsOk xs
+
+-- and so in a library row, whatever it is told
+
+abbrev pub RowArgOk : RowArg → Type 0
+RowArgOk (row_read n) = Unit {0}
+RowArgOk (row_written p) = WrittenOk p
+
+abbrev pub RowArgsOk : List RowArg → Type 0
+RowArgsOk [] = Unit {0}
+RowArgsOk (x ∷ xs) = RowArgOk x × RowArgsOk xs
+
+abbrev pub LookOk : Look → Type 0
+LookOk (row_gives xs) = RowArgsOk xs
+LookOk (row_gives_all xs slot) = RowArgsOk xs
+LookOk (row_refuses text) = Unit {0}
+LookOk (row_raises x) = RowArgOk x
+LookOk (row_count slot k) = (n : ℕ) → LookOk (k n)
+LookOk (row_does op xs k) = RowArgsOk xs × ((s : Shape) → LookOk (k s))
 
 abbrev pub GivenOk : Given → Type 0
 GivenOk (results slot) = Unit {0}
@@ -385,6 +405,11 @@ WaitingReady s env (fail_coroutine x) = IsNoTop s × ArgOk x
 WaitingReady s env suspend = Unit {0}
 WaitingReady s env (resume x slot) = shape (arg env x) ≡ is_object a_coroutine
 WaitingReady s env (begin_closing x) = shape (arg env x) ≡ is_object a_coroutine
+WaitingReady s env (consult l slot) = LookOk l
+WaitingReady s env (create x) = ArgOk x × IsTrue (can_call (shape (arg env x)))
+WaitingReady s env (see_status x) = shape (arg env x) ≡ is_object a_coroutine
+WaitingReady s env see_running = Unit {0}
+WaitingReady s env (print x) = Unit {0}
 WaitingReady s env _ = ⊥
 
 -- a Lua frame on top that waits
@@ -420,6 +445,22 @@ pub record EndEvent (s : Option TopShape) : Type 0 where
   pub in_main : Bool
   pub is : s ≡ Some (no_top in_main)
 
+-- what comes of a library row
+pub data LookEvent : Type 0 where
+  gave : List Value → LookEvent
+  refused_with : List ℕ → LookEvent
+  raised_with : Value → LookEvent
+
+abbrev pub look_values : LookEvent → List Value
+look_values (gave vs) = vs
+look_values (refused_with text) = []
+look_values (raised_with v) = v ∷ []
+
+abbrev pub look_told : LookEvent → LookShape
+look_told (gave vs) = is_given
+look_told (refused_with text) = is_refused text
+look_told (raised_with v) = is_raised
+
 abbrev pub WaitingEvent : Option TopShape → Move → Type 0
 WaitingEvent s see_top = SeenTop
 WaitingEvent s see_catcher = TopShape × List Value
@@ -440,6 +481,11 @@ WaitingEvent s (fail_coroutine x) = EndEvent s
 WaitingEvent s suspend = Bool
 WaitingEvent s (resume x slot) = ResumeEvent
 WaitingEvent s (begin_closing x) = ResumeEvent
+WaitingEvent s (consult l slot) = LookEvent
+WaitingEvent s (create x) = ℕ
+WaitingEvent s (see_status x) = Status
+WaitingEvent s see_running = ℕ
+WaitingEvent s (print x) = Unit {0}
 WaitingEvent s _ = ⊥
 
 abbrev pub see_leads : SeenTop → Led see_top
@@ -502,6 +548,11 @@ waiting_leads s env (fail_coroutine x) e = record { values = []; told = tt; phas
 waiting_leads s env suspend in_main = record { values = []; told = in_main; phase = after_end in_main }
 waiting_leads s env (resume x slot) e = record { values = []; told = e.outcome; phase = after_resuming e.outcome }
 waiting_leads s env (begin_closing x) e = record { values = []; told = e.outcome; phase = after_beginning e.outcome }
+waiting_leads s env (consult l slot) e = record { values = look_values e; told = look_told e; phase = waiting s }
+waiting_leads s env (create x) co = record { values = object a_coroutine co ∷ []; told = tt; phase = waiting s }
+waiting_leads s env (see_status x) status = record { values = []; told = status; phase = waiting s }
+waiting_leads s env see_running co = record { values = object a_coroutine co ∷ []; told = tt; phase = waiting s }
+waiting_leads s env (print x) e = record { values = []; told = tt; phase = waiting s }
 waiting_leads s env _ e = absurd e
 
 -- any phase

@@ -1,6 +1,6 @@
 // The laws, each with what it speaks of in `specs/`.
-ghost use Rattle.machine_core.specs.MachineStep.{close_row, error_row, pcall_row, resume_row, xpcall_row, yield_row};
-ghost use Rattle.machine_sound.specs.Laws.{GoesFromSound, PrimitiveSafe, RunningTextsGood, RunsGood, SomeWorldSound, StepsGood, WaitingTextsGood};
+ghost use Rattle.machine_core.specs.MachineStep.{close_row, create_row, error_row, pcall_row, print_row, resume_row, running_row, status_row, xpcall_row, yield_row, yieldable_row};
+ghost use Rattle.machine_sound.specs.Laws.{GoesFromSound, LibrarySafe, LookRowsSafe, PrimitiveSafe, RunningTextsGood, RunsGood, SomeWorldSound, StepsGood, WaitingTextsGood};
 ghost use Rattle.machine_sound.specs.Safe.{MovesGood, RowsGood};
 
 /// A move that is ready in a sound world does not trap, and neither does a row that is safe; both leave a sound world.
@@ -25,7 +25,7 @@ pub fn texts_do_not_trap()
     ensures waiting { WaitingTextsGood }
 {}
 
-/// The rows of the primitives that move frames and coroutines are safe.
+/// The rows of the primitives that move frames and coroutines, make or look at a coroutine, or print are safe.
 pub fn primitives_do_not_trap()
     ensures pcall { PrimitiveSafe pcall_row }
     ensures xpcall { PrimitiveSafe xpcall_row }
@@ -33,6 +33,18 @@ pub fn primitives_do_not_trap()
     ensures resume { PrimitiveSafe resume_row }
     ensures yields { PrimitiveSafe yield_row }
     ensures close { PrimitiveSafe close_row }
+    ensures creates { PrimitiveSafe create_row }
+    ensures status { PrimitiveSafe status_row }
+    ensures running { PrimitiveSafe running_row }
+    ensures yieldable { PrimitiveSafe yieldable_row }
+    ensures prints { PrimitiveSafe print_row }
+{}
+
+/// A library row that looks at values and tables alone is safe where what it writes out is right, so all primitives are where this holds
+/// of each such row, by their numbers.
+pub fn library_rows_do_not_trap()
+    ensures rows { LookRowsSafe }
+    ensures all { LibrarySafe }
 {}
 
 /// There is a sound world in which a function runs, so the laws above speak of something.
