@@ -1,5 +1,5 @@
 -- What a search for a pattern at a place answers.
-use Rattle.std.specs.Prelude.{◌≡◌, ℕ, Bool, true, false, nat_lt, if◌then◌else◌, List, [], slice_get, count_by, Option, Some, None, Result, Ok, Err, ⊤}
+use Rattle.std.specs.Prelude.{◌≡◌, ◌<◌, ℕ, Bool, true, false, nat_lt, if◌then◌else◌, List, [], slice_get, count_by, Option, Some, None, Result, Ok, Err, ⊤}
 use Rattle.lua_pattern.specs.declared.answer.Match.{Match}
 use Rattle.lua_pattern.specs.declared.answer.PatternFault.{PatternFault}
 use Rattle.lua_pattern.specs.declared.answer.PatternFault.TheVariants.{Malformed, TooComplex, Memory}
@@ -41,3 +41,9 @@ IsAnswer (Ok found) told = told ≡ Ok (found_of found)
 IsAnswer (Err (Malformed rule)) told = told ≡ Err (Malformed rule)
 IsAnswer (Err TooComplex) told = told ≡ Err TooComplex
 IsAnswer (Err Memory) told = ⊤
+
+-- why a pattern is not read: the rule that it breaks, or that it has too many captures and quantifiers, or want of memory
+abbrev pub IsFaultOf : PatternFault → Result (List Item) ℕ → Type 0
+IsFaultOf (Malformed rule) told = told ≡ Err rule
+IsFaultOf TooComplex told = (items : List Item) × (told ≡ Ok items) × (200 < count_by is_counted items)
+IsFaultOf Memory told = ⊤

@@ -20,4 +20,4 @@ mod find;
 mod tests;
 
 pub use answer::{Capture, Match, PatternFault};
-pub use find::find_at;
+pub use find::{Pattern, find_at};

@@ -1,0 +1,98 @@
+-- A replacement, a byte at a time.
+use Rattle.std.proofs.Common.{◌≡◌, ℕ, suc, ◌+◌, ◌-◌, ◌<◌, ◌≤◌, Bool, true, false, List, [], ◌∷◌, ◌++◌, length, Option, Some, None, Result, Ok, Err, refl, sym, ap, subst, ◌∙◌, arith}
+use Rattle.std.specs.Prelude.{◌==◌, map, slice_get}
+use Rattle.std.specs.Option.{option_map}
+use Rattle.std.proofs.lemmas.Option.{slice_get-map}
+use Rattle.std.proofs.lemmas.Bool.Decides.{nat_tests}
+use Rattle.int_core.specs.Value.{Shape, string, greatest_string}
+use Rattle.library_rows.specs.Look.{no_word}
+use Rattle.text_functions.specs.Made.{text_shape}
+use Rattle.library_rows.specs.Plainly.{Outcome, error, too_large}
+use Rattle.library_rows.specs.Arguments.{argument, one, with}
+use Rattle.library_rows.specs.Formats.{is_decimal, onto}
+use Rattle.library_rows.specs.Searches.{capture_text, escaped, expanded, expansion}
+use Rattle.text_functions.proofs.Pieces.{Made, after, IsSoFar, at_first, piece_fits, piece_is_refused, all_there}
+use Rattle.text_match.specs.Expanded.{invalid_index, invalid_use}
+
+-- what follows may be said in another way
+same_rest : (whole : Made) (text : List ℕ) (r s : ℕ → Made) → IsSoFar whole text r → ((room : ℕ) → r room ≡ s room) → IsSoFar whole text s
+same_rest whole text r s so e = record { short = so.short; whole_is = so.whole_is ∙ ap (after text) (e (greatest_string - length text)) }
+
+by_percent : (t : Bool) (x y : Made) (u : Bool) → t ≡ u → elim t as (λ _. Made) [ true ↦ x | false ↦ y ] ≡ elim u as (λ _. Made) [ true ↦ x | false ↦ y ]
+by_percent t x y u e = ap (λ (b : Bool). elim b as (λ _. Made) [ true ↦ x | false ↦ y ]) e
+
+-- the text so far, and the replacement that is left
+pub record IsExpandedSoFar (cs : List Shape) (all rest text : List ℕ) : Type 0 where
+  pub so_far : IsSoFar (expanded cs false all greatest_string) text (λ room. expanded cs false rest room)
+
+pub nothing_expanded : (cs : List Shape) (all : List ℕ) → IsExpandedSoFar cs all all []
+nothing_expanded cs all = record { so_far = at_first (λ room. expanded cs false all room) }
+
+module _ (cs : List Shape) (all rest text : List ℕ) (so : IsExpandedSoFar cs all rest text) where
+  pub all_expanded : rest ≡ [] → expansion all cs ≡ one (string text)
+  all_expanded e = ap (λ r. with r (λ bytes. one (string bytes))) (all_there _ text (subst (λ bytes. IsSoFar (expanded cs false all greatest_string) text (λ room. expanded cs false bytes room)) e so.so_far))
+
+  module _ (b : ℕ) (behind : List ℕ) (front : rest ≡ b ∷ behind) where
+    here : IsSoFar (expanded cs false all greatest_string) text (λ room. expanded cs false (b ∷ behind) room)
+    here = subst (λ bytes. IsSoFar (expanded cs false all greatest_string) text (λ room. expanded cs false bytes room)) front so.so_far
+
+    -- a byte for itself
+    literal : (b == 37) ≡ false → IsSoFar (expanded cs false all greatest_string) text (λ room. onto room (b ∷ []) (λ left. expanded cs false behind left))
+    literal other = same_rest _ text _ _ here (λ room. by_percent (b == 37) (expanded cs true behind room) (onto room (b ∷ []) (λ left. expanded cs false behind left)) false other)
+
+    pub literal_fits : (b == 37) ≡ false → length text + 1 ≤ greatest_string → IsExpandedSoFar cs all behind (text ++ b ∷ [])
+    literal_fits other fits = record { so_far = piece_fits _ text (b ∷ []) (λ left. expanded cs false behind left) (literal other) fits }
+
+    pub literal_refused : (b == 37) ≡ false → greatest_string < length text + 1 → expansion all cs ≡ error too_large
+    literal_refused other large = ap (λ r. with r (λ bytes. one (string bytes))) (piece_is_refused _ text (b ∷ []) (λ left. expanded cs false behind left) (literal other) large)
+
+    escape : (b == 37) ≡ true → IsSoFar (expanded cs false all greatest_string) text (λ room. expanded cs true behind room)
+    escape same = same_rest _ text _ _ here (λ room. by_percent (b == 37) (expanded cs true behind room) (onto room (b ∷ []) (λ left. expanded cs false behind left)) true same)
+
+    failed : (why : List ℕ) (r : ℕ → Made) → IsSoFar (expanded cs false all greatest_string) text r → ((room : ℕ) → r room ≡ Err why) → expansion all cs ≡ error why
+    failed why r now e = ap (λ r. with r (λ bytes. one (string bytes))) (now.whole_is ∙ ap (after text) (e (greatest_string - length text)))
+
+    pub lone_escape : (b == 37) ≡ true → behind ≡ [] → expansion all cs ≡ error invalid_use
+    lone_escape same e = failed invalid_use _ (subst (λ bytes. IsSoFar (expanded cs false all greatest_string) text (λ room. expanded cs true bytes room)) e (escape same)) (λ room. refl)
+
+    module _ (same : (b == 37) ≡ true) (code : ℕ) (later : List ℕ) (second : behind ≡ code ∷ later) where
+      coded : IsSoFar (expanded cs false all greatest_string) text (λ room. expanded cs true (code ∷ later) room)
+      coded = subst (λ bytes. IsSoFar (expanded cs false all greatest_string) text (λ room. expanded cs true bytes room)) second (escape same)
+
+      pub escape_refused : (why : List ℕ) → escaped cs code ≡ Err why → expansion all cs ≡ error why
+      escape_refused why e = failed why _ coded (λ room. ap (λ r. elim r as (λ _. Made) [ Err why ↦ Err why | Ok bytes ↦ onto room bytes (λ left. expanded cs false later left) ]) e)
+
+      piece : (bytes : List ℕ) → escaped cs code ≡ Ok bytes → IsSoFar (expanded cs false all greatest_string) text (λ room. onto room bytes (λ left. expanded cs false later left))
+      piece bytes e = same_rest _ text _ _ coded (λ room. ap (λ r. elim r as (λ _. Made) [ Err why ↦ Err why | Ok bytes ↦ onto room bytes (λ left. expanded cs false later left) ]) e)
+
+      pub escape_fits : (bytes : List ℕ) → escaped cs code ≡ Ok bytes → length text + length bytes ≤ greatest_string → IsExpandedSoFar cs all later (text ++ bytes)
+      escape_fits bytes e fits = record { so_far = piece_fits _ text bytes (λ left. expanded cs false later left) (piece bytes e) fits }
+
+      pub escape_too_large : (bytes : List ℕ) → escaped cs code ≡ Ok bytes → greatest_string < length text + length bytes → expansion all cs ≡ error too_large
+      escape_too_large bytes e large = ap (λ r. with r (λ bytes. one (string bytes))) (piece_is_refused _ text bytes (λ left. expanded cs false later left) (piece bytes e) large)
+
+-- what stands behind a `%`
+
+abbrev by_code : List Shape → ℕ → Bool → Bool → Made
+by_code cs code t u = elim t as (λ _. Made) [ true ↦ Ok (37 ∷ []) | false ↦ elim u as (λ _. Made) [ true ↦ capture_text (argument cs (code - 47)) | false ↦ Err invalid_use ] ]
+
+capture_is : (cs : List Shape) (code : ℕ) → 48 ≤ code → argument cs (code - 47) ≡ argument cs (suc (code - 48))
+capture_is cs code h = let e : code - 47 ≡ suc (code - 48) = omega arith in ap (argument cs) e
+
+-- a capture that is there, and one that is not
+abbrev or_nothing : Option Shape → Made
+or_nothing o = capture_text (elim o as (λ _. Shape) [ None ↦ no_word | Some s ↦ s ])
+
+pub escaped_there : {A : Type 0} (f : A → List ℕ) (cs : List A) (code : ℕ) (x : A) → (code == 37) ≡ false → is_decimal code ≡ true → 48 ≤ code → slice_get cs (code - 48) ≡ Some x
+    → escaped (map (λ c. text_shape (f c)) cs) code ≡ Ok (f x)
+escaped_there f cs code x other digit least there =
+    let ss : List Shape = map (λ c. text_shape (f c)) cs in
+    ap (λ t. by_code ss code t (is_decimal code)) other ∙ ap (λ u. by_code ss code false u) digit ∙ ap capture_text (capture_is ss code least)
+    ∙ ap or_nothing (slice_get-map (λ c. text_shape (f c)) cs (code - 48)) ∙ ap (λ o. or_nothing (option_map (λ c. text_shape (f c)) o)) there
+
+pub escaped_missing : {A : Type 0} (f : A → List ℕ) (cs : List A) (code : ℕ) → (code == 37) ≡ false → is_decimal code ≡ true → 48 ≤ code → slice_get cs (code - 48) ≡ None
+    → escaped (map (λ c. text_shape (f c)) cs) code ≡ Err invalid_index
+escaped_missing f cs code other digit least there =
+    let ss : List Shape = map (λ c. text_shape (f c)) cs in
+    ap (λ t. by_code ss code t (is_decimal code)) other ∙ ap (λ u. by_code ss code false u) digit ∙ ap capture_text (capture_is ss code least)
+    ∙ ap or_nothing (slice_get-map (λ c. text_shape (f c)) cs (code - 48)) ∙ ap (λ o. or_nothing (option_map (λ c. text_shape (f c)) o)) there

@@ -1,0 +1,20 @@
+-- What the searches answer, beside the definitions of the rows.
+use Rattle.std.specs.Prelude.{◌≡◌, ℕ, List, Option, Some, None, Result, Ok, Err, codes}
+use Rattle.lua_pattern.specs.declared.answer.PatternFault.{PatternFault}
+use Rattle.lua_pattern.specs.declared.answer.PatternFault.TheVariants.{Malformed, TooComplex, Memory}
+use Rattle.library_rows.specs.Searches.{Hit as Found, rule_text}
+use Rattle.text_match.specs.declared.hits.Hit.{Hit}
+
+abbrev pub told_hit : Option Hit → Option Found
+told_hit None = None
+told_hit (Some hit) = Some (record { start = hit.start; end = hit.end; captures = hit.captures.items })
+
+-- the text of a pattern's fault; want of memory says nothing
+abbrev pub IsRefusedAs : {A : Type 0} → PatternFault → Result A (List ℕ) → Type 0
+IsRefusedAs (Malformed rule) told = told ≡ Err (rule_text rule)
+IsRefusedAs TooComplex told = told ≡ Err (codes "pattern too complex")
+IsRefusedAs Memory told = Unit {0}
+
+abbrev pub IsFound : Result (Option Hit) PatternFault → Result (Option Found) (List ℕ) → Type 0
+IsFound (Ok hit) told = told ≡ Ok (told_hit hit)
+IsFound (Err fault) told = IsRefusedAs fault told

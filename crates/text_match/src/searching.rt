@@ -1,0 +1,123 @@
+// Searches from a place on.
+ghost use Rattle.std.specs.Prelude.{◌≡◌, ◌≤◌, ◌<◌, ◌-◌, drop, length, IsTrue, Ok, IfOk, IfErr};
+ghost use Rattle.lua_pattern.specs.Bytes.{begins_with};
+ghost use Rattle.library_rows.specs.Searches.{barred_end, hit_from, is_anchored, next_hit, pattern_items, search};
+ghost use Rattle.text_match.specs.Told.{IsFound, IsRefusedAs, told_hit};
+
+use crate::hits::{Hit, first_hit};
+use lua_pattern::{Pattern, PatternFault};
+use std::alloc::{AllocError, Global};
+
+/// The items of a pattern, in which a `^` stands for itself.
+///
+/// # Errors
+///
+/// The first rule that it breaks, or else that it is too complex; or memory runs out.
+pub fn read_items(alloc: Global, pattern: &[u8]) -> Result<Pattern, PatternFault>
+    ensures read { IfOk result (λ items. pattern_items pattern.now ≡ Ok items) }
+    ensures refused { IfErr result (λ fault. IsRefusedAs fault (pattern_items pattern.now)) }
+{
+    let items = Pattern::read(alloc, pattern)?;
+    Ok(items)
+}
+
+/// The first match from a place on; with a `^` before the pattern at that place alone.
+///
+/// # Errors
+///
+/// The first rule that the pattern breaks, or else that it is too complex; or memory runs out.
+pub fn search(
+    alloc: Global,
+    subject: &[u8],
+    pattern: &[u8],
+    at: usize,
+) -> Result<Option<Hit>, PatternFault>
+    requires { at ≤ length subject.now }
+    ensures { IsFound result (search subject.now pattern.now at) }
+{
+    if is_anchored(pattern) {
+        let items = read_items(alloc, without_anchor(pattern))?;
+        let hit = first_hit(alloc, subject, &items, None, at, 0)?;
+        return Ok(hit);
+    }
+    let items = read_items(alloc, pattern)?;
+    let hit = first_hit(alloc, subject, &items, None, at, subject.len() - at)?;
+    Ok(hit)
+}
+
+/// The next match from a place on whose next place, from 1, is not `last`. With a `^` before the pattern it is tried at the
+/// place alone, unless it is `raw`.
+///
+/// # Errors
+///
+/// The first rule that the pattern breaks, or else that it is too complex; or memory runs out.
+pub fn next_hit(
+    alloc: Global,
+    subject: &[u8],
+    pattern: &[u8],
+    at: usize,
+    last: usize,
+    raw: bool,
+) -> Result<Option<Hit>, PatternFault>
+    ensures { IsFound result (next_hit subject.now pattern.now at last raw) }
+{
+    if is_anchored(pattern) && !raw {
+        let items = read_items(alloc, without_anchor(pattern))?;
+        let hit = hit_from(alloc, subject, &items, at, last, 0)?;
+        return Ok(hit);
+    }
+    let items = read_items(alloc, pattern)?;
+    let hit = hit_from(
+        alloc,
+        subject,
+        &items,
+        at,
+        last,
+        subject.len().saturating_sub(at),
+    )?;
+    Ok(hit)
+}
+
+/// The first match from a place on that does not end before `last`, counted from 1; none from past the end.
+fn hit_from(
+    alloc: Global,
+    subject: &[u8],
+    items: &Pattern,
+    at: usize,
+    last: usize,
+    left: usize,
+) -> Result<Option<Hit>, AllocError>
+    requires { left ≤ length subject.now - at }
+    ensures { IfOk result (λ hit. hit_from subject.now at last left (Ok items.now) ≡ Ok (told_hit hit)) }
+{
+    if subject.len() < at {
+        return Ok(None);
+    }
+    let hit = first_hit(alloc, subject, items, barred_end(last), at, left)?;
+    Ok(hit)
+}
+
+/// A pattern without its first byte.
+fn without_anchor(pattern: &[u8]) -> &[u8]
+    requires { 0 < length pattern.now }
+    ensures { result.now ≡ drop 1 pattern.now }
+{
+    let (_, rest) = pattern.split_at(1);
+    rest
+}
+
+fn is_anchored(pattern: &[u8]) -> bool
+    ensures told { result ≡ is_anchored pattern.now }
+    ensures some { IsTrue result → 0 < length pattern.now }
+{
+    match pattern.first() {
+        Some(byte) => *byte == b'^',
+        None => false,
+    }
+}
+
+fn barred_end(last: usize) -> Option<usize>
+    ensures { result ≡ barred_end last }
+{
+    if last == 0 { None } else { Some(last - 1) }
+}
