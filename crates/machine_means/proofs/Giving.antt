@@ -9,7 +9,7 @@ use Rattle.list_laws.proofs.Items.{get_set_same, get_set_other}
 use Rattle.machine_core.specs.World as machine
 use Rattle.machine_core.specs.World.{Cell, Frame, Coroutine, in_progress, Stack, stack_of}
 use Rattle.machine_core.specs.Text.{read, written}
-use Rattle.machine_core.specs.Moves.{made, move, fail_coroutine, take_moving, give, give_with, ends_as, put_coroutine, back_to_resumer, all_closed_from, pending_values, runs_main, no_top, Outcome, trapped, main_yielded, stop, act, run}
+use Rattle.machine_core.specs.Moves.{made, move, fail_coroutine, take_moving, give, give_with, ends_as, bury, put_coroutine, back_to_resumer, all_closed_from, pending_values, runs_main, no_top, Outcome, trapped, main_yielded, stop, act, run}
 use Rattle.machine_core.specs.FrameRows.{then, hand_over, coroutine_fails, handed_to}
 use Rattle.machine_core.specs.MachineStep.{yield_row}
 use Rattle.lua_meaning.specs.World as talk
@@ -65,6 +65,7 @@ module _ (primitives : ℕ) (M : machine.World) (T : TalkWorld) (lax : Bool) (i 
   stack_now = stack_is M co frames i.waits.last i.waits.running
 
   ends_as_is : (c : Coroutine) → ends_as (record M { moving = [] }) c ≡ Some (record (left_as c) { cells = all_closed_from co 0 frames M.cells; moving = [] })
+  unfolding bury
   ends_as_is c =
       ap (λ o. bind {B = machine.World} o (λ s. Some (back_to_resumer (put_coroutine (record M { cells = all_closed_from s.coroutine 0 s.frames M.cells; moving = [] }) s.coroutine c)))) stack_now
       ∙ ap Some (switches.back_is M T co r.by r.rest r.chain r.apart frames r.below lax i.joined i.waits.running only r.waits c (all_closed_from co 0 frames M.cells) [])

@@ -10,7 +10,8 @@ use Rattle.machine_core.specs.World as machine
 use Rattle.machine_core.specs.World.{Frame, Coroutine, fresh, suspended, in_progress, normal, dead, failed, Stack, stack_of}
 use Rattle.machine_core.specs.Text.{read}
 use Rattle.machine_core.specs.Moves as moves
-use Rattle.machine_core.specs.Moves.{Made, made, move, look, resume, ResumeShape, resumed, refused, is_entered, greatest_resumes, Outcome, trapped, act, run}
+use Rattle.machine_core.specs.Moves.{Made, made, move, look, resume, ResumeShape, resumed, refused, is_entered, Outcome, trapped, act, run}
+use Rattle.int_core.specs.Limits.{greatest_resumes}
 use Rattle.machine_core.specs.MachineStep as rows
 use Rattle.machine_core.specs.MachineStep.{resume_row, after_resume}
 use Rattle.machine_core.specs.Talk.{State}
@@ -87,7 +88,7 @@ module _ (primitives : ℕ) (M : machine.World) (T : TalkWorld) (solid : Solid p
         let n : nat_lt greatest_resumes (length T.chain) ≡ true = ap (nat_lt greatest_resumes) (sym same_length) ∙ l in
         subst (λ U. GivesBack (run (act (resume (read 0) 1) (λ _ told. after_resume told)) env N) U) (sym (ap (λ b. cond b (refuses T (codes "too many nested resumes")) (now_in (goes_into T co ts) (gives_back vs))) n))
         (refusal (codes "too many nested resumes") (suspended target) there
-        (ap (λ b. cond b (made {A = ResumeShape} N [] (refused (codes "too many nested resumes"))) (moves.starts_in (moves.put_coroutine N s.coroutine (normal s.frames)) co (suspended target) (vs ++ []))) l))
+        (ap (λ b. cond b (made {A = ResumeShape} N [] (refused (codes "too many nested resumes"))) (moves.starts_in (moves.wait_for_another N s) co (suspended target) (vs ++ []))) l))
 
     goes_on : nat_lt greatest_resumes (length M.chain) ≡ false → GivesBack (run (act (resume (read 0) 1) (λ _ told. after_resume told)) env N) (calls.resumes codes_run T co (talk.suspended ts) vs)
     goes_on l =

@@ -4,7 +4,8 @@ use Rattle.std.specs.Prelude.{slice_get, slice_set, nat_lt, cond}
 use Rattle.int_core.specs.Value.{Value}
 use Rattle.machine_core.specs.World as machine
 use Rattle.machine_core.specs.World.{Cell, lua, in_progress, stack_of, running_frames, Stack}
-use Rattle.machine_core.specs.Moves.{Made, made, resumed, is_entered, starts_in, put_coroutine, greatest_resumes}
+use Rattle.machine_core.specs.Moves.{Made, made, resumed, is_entered, starts_in, put_coroutine, wait_for_another, go_into}
+use Rattle.int_core.specs.Limits.{greatest_resumes}
 use Rattle.machine_core.specs.Moves as moves
 use Rattle.lua_meaning.specs.World as talk
 use Rattle.lua_meaning.specs.Calls.{goes_along, goes_into}
@@ -36,7 +37,7 @@ module _ (M : machine.World) (T : TalkWorld) (by co : ℕ) (rest : List ℕ) (ch
 
   pub resumes_move : (vs : List Value) → nat_lt greatest_resumes (length M.chain) ≡ false
       → moves.resumes M (record { coroutine = by; frames = frames }) co (machine.suspended target) vs ≡ made (gone_into vs) [] (resumed is_entered)
-  unfolding put_coroutine
+  unfolding put_coroutine wait_for_another go_into
   resumes_move vs l = ap (λ b. cond b (made M [] (moves.refused (Rattle.std.specs.Prelude.codes "too many nested resumes"))) (made (gone_into vs) [] (resumed is_entered))) l
 
   own : (y : talk.Coroutine State) × (hs : List Held) × (slice_get T.coroutines by ≡ Some y) × (slice_get k.held by ≡ Some hs) × CoroutinePair M.functions T.cells run (in_progress frames) y hs

@@ -6,7 +6,8 @@ use Rattle.std.proofs.lemmas.List.{reverse-append, map-append}
 use Rattle.int_core.specs.Value.{Value, known, nil, nth}
 use Rattle.code_core.specs.Prototype.{Prototype}
 use Rattle.machine_core.specs.World.{Activation}
-use Rattle.machine_core.specs.Text.{last_pending, is_there, is_pending, blanked, done}
+use Rattle.machine_core.specs.Text.{last_pending, without_pending, is_pending, blanked, done}
+use Rattle.machine_core.proofs.Pending.{last_from, without_from}
 use Rattle.machine_core.specs.InstructionRows.{left_so}
 use Rattle.code_means.specs.Runs.{closed_of}
 use Rattle.list_laws.proofs.Ends.{without_last_is, Snoc, empty, with_last, snoc}
@@ -34,17 +35,6 @@ kept keeps i (suc count) zero j regs e l k =
     let d : j ≡ i = omega (arith, e) in ap (λ b. cond b (nth regs i) (known nil)) (subst (λ n. keeps n ≡ true) d k) ∙ ap (nth regs) (sym d)
 kept keeps i (suc count) (suc r) j regs e l k = kept keeps (suc i) count r j regs (omega (arith, e)) (omega (arith, l)) k
 
-last_of : (ys : List ℕ) (y : ℕ) → last_pending 0 (ys ++ y ∷ []) ≡ Some y
-last_of ys y =
-    let e : slice_get (ys ++ y ∷ []) (length (ys ++ y ∷ []) - 1) ≡ Some y = got ys y in
-    let t : nat_le 0 y ≡ true = grind (arith, nat_tests) in
-    ap (λ o. elim o as (λ _. Option ℕ) [ None ↦ None | Some q ↦ cond (nat_le 0 q) (Some q) None ]) e ∙ ap (λ b. cond b (Some y) None) t
-  where
-    got : (ys : List ℕ) (y : ℕ) → slice_get (ys ++ y ∷ []) (length (ys ++ y ∷ []) - 1) ≡ Some y
-    got ys y =
-        let n : length (ys ++ y ∷ []) - 1 ≡ length ys = (let l = length_more ys y in omega (arith, l)) in
-        ap (slice_get (ys ++ y ∷ [])) n ∙ Rattle.list_laws.proofs.Items.get_new ys y
-
 pub closed_is : (p : Prototype) (n : ℕ) (a : Activation) → length a.pending ≡ n → Each (λ r. r < p.own.stack) a.pending → closed_of p n a ≡ reverse (map (nth a.registers) a.pending)
 closed_is p zero a count bound = sym (ap (λ rs. reverse (map (nth a.registers) rs)) (is_zero_length a.pending count))
 closed_is p (suc n) a count bound = by a.pending (snoc a.pending) refl (λ b c d. closed_is p n b c d)
@@ -55,8 +45,8 @@ closed_is p (suc n) a count bound = by a.pending (snoc a.pending) refl (λ b c d
     by _ empty q more = absurd (let l = ap (λ rs. length rs) q in omega (arith, l, count))
     by _ (with_last ys y) q more =
         let b : Activation = done left_so p [] a in
-        let is_last : last_pending 0 a.pending ≡ Some y = ap (last_pending 0) q ∙ last_of ys y in
-        let fewer : b.pending ≡ ys = ap (λ rs. cond (is_there (last_pending 0 rs)) (take (length rs - 1) rs) rs) q ∙ ap (λ o. cond (is_there o) (take (length (ys ++ y ∷ []) - 1) (ys ++ y ∷ [])) (ys ++ y ∷ [])) (last_of ys y) ∙ without_last_is ys y in
+        let is_last : last_pending 0 a.pending ≡ Some y = ap (last_pending 0) q ∙ last_from 0 ys y (omega arith) in
+        let fewer : b.pending ≡ ys = ap (without_pending 0) q ∙ without_from 0 ys y (omega arith) in
         let bounds : Each (λ r. r < p.own.stack) ys = each_front (λ r. r < p.own.stack) ys (y ∷ []) (subst (Each (λ r. r < p.own.stack)) q bound) in
         let size : length b.pending ≡ n = (let i = ap (λ rs. length rs) fewer in let j = ap (λ rs. length rs) q in let l = length_more ys y in omega (arith, i, j, l, count)) in
         let same : map (nth b.registers) b.pending ≡ map (nth a.registers) ys =

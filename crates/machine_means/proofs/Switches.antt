@@ -5,7 +5,7 @@ use Rattle.std.proofs.lemmas.Bool.{cases_eq}
 use Rattle.int_core.specs.Value.{Value, bind, last, without_last}
 use Rattle.machine_core.specs.World as machine
 use Rattle.machine_core.specs.World.{Cell, closed, open_at, LuaFrame, lua, in_progress, frames_of, stack_of, running_frames}
-use Rattle.machine_core.specs.Moves.{Made, made, Told, move, suspend, back_to_resumer, awake, runs_main}
+use Rattle.machine_core.specs.Moves.{Made, made, Told, move, suspend, suspend_running, back_to_resumer, awake, runs_main}
 use Rattle.lua_meaning.specs.World as talk
 use Rattle.lua_meaning.specs.World.{gives_back}
 use Rattle.lua_meaning.specs.Calls.{back_to, leaves_coroutine, frames_in, yields, truth}
@@ -178,6 +178,7 @@ module _ (M : machine.World) (T : TalkWorld) (co by : ℕ) (rest : List ℕ) (ch
 
   -- as the move and the primitive do it
   pub yield_move : (env : List Value) → move suspend env M ≡ made (given_way (machine.suspended frames)) [] false
+  unfolding suspend_running
   yield_move env =
       ap (λ o. bind o (λ s. made (back_to_resumer (Rattle.machine_core.specs.Moves.put_coroutine M s.coroutine (machine.suspended s.frames))) [] (runs_main M))) stack_is
       ∙ ap (λ W. made W [] (runs_main M)) (back_is (machine.suspended frames) M.cells M.moving)

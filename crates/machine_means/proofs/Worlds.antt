@@ -5,7 +5,8 @@ use Rattle.int_core.specs.Value.{Value, nth, bind, last, write}
 use Rattle.int_core.specs.Heap.{Heap}
 use Rattle.int_core.specs.Ask.{shared_by, brought}
 use Rattle.machine_core.specs.World.{Function, Cell, Wait, Activation, Frame, lua, Coroutine, in_progress, World, Stack, stack_of, running_frames, lua_frame, place_of, put_frames, put_top, push, pop}
-use Rattle.machine_core.specs.Moves.{has_room, greatest_depth, push_all}
+use Rattle.machine_core.specs.Moves.{has_room, push_all}
+use Rattle.int_core.specs.Limits.{greatest_depth}
 use Rattle.list_laws.proofs.Ends.{upward, last_is, without_last_is, length_upward}
 use Rattle.list_laws.proofs.Items.{get_set_same}
 use Rattle.list_laws.proofs.Values.{nth_write_same, nth_write_other}

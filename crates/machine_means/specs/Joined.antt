@@ -9,7 +9,8 @@ use Rattle.list_laws.specs.Held.{Held, Has}
 use Rattle.machine_core.specs.World as machine
 use Rattle.machine_core.specs.World.{Cell, closed, open_at, Activation, LuaFrame, lua, pcall, xpcall, handler, in_progress}
 use Rattle.machine_core.specs.InstructionRows.{after, told_values}
-use Rattle.machine_core.specs.Moves.{line_of, greatest_depth}
+use Rattle.machine_core.specs.Moves.{line_of}
+use Rattle.int_core.specs.Limits.{greatest_depth}
 use Rattle.machine_core.specs.RowFits.{IsWaiting}
 use Rattle.machine_core.specs.Talk.{State, amid}
 use Rattle.lua_meaning.specs.World as talk
