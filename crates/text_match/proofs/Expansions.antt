@@ -1,13 +1,12 @@
 -- A replacement, a byte at a time.
-use Rattle.std.proofs.Common.{◌≡◌, ℕ, suc, ◌+◌, ◌-◌, ◌<◌, ◌≤◌, Bool, true, false, List, [], ◌∷◌, ◌++◌, length, Option, Some, None, Result, Ok, Err, refl, sym, ap, subst, ◌∙◌, arith}
+use Rattle.std.proofs.Common.{◌≡◌, ℕ, suc, ◌+◌, ◌-◌, ◌<◌, ◌≤◌, Bool, true, false, List, [], ◌∷◌, ◌++◌, length, Option, Some, None, Ok, Err, refl, ap, subst, ◌∙◌, arith}
 use Rattle.std.specs.Prelude.{◌==◌, map, slice_get}
 use Rattle.std.specs.Option.{option_map}
 use Rattle.std.proofs.lemmas.Option.{slice_get-map}
-use Rattle.std.proofs.lemmas.Bool.Decides.{nat_tests}
 use Rattle.int_core.specs.Value.{Shape, string, greatest_string}
 use Rattle.library_rows.specs.Look.{no_word}
 use Rattle.text_functions.specs.Made.{text_shape}
-use Rattle.library_rows.specs.Plainly.{Outcome, error, too_large}
+use Rattle.library_rows.specs.Plainly.{error, too_large}
 use Rattle.library_rows.specs.Arguments.{argument, one, with}
 use Rattle.library_rows.specs.Formats.{is_decimal, onto}
 use Rattle.library_rows.specs.Searches.{capture_text, escaped, expanded, expansion}

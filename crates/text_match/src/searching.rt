@@ -1,6 +1,5 @@
 // Searches from a place on.
 ghost use Rattle.std.specs.Prelude.{◌≡◌, ◌≤◌, ◌<◌, ◌-◌, drop, length, IsTrue, Ok, IfOk, IfErr};
-ghost use Rattle.lua_pattern.specs.Bytes.{begins_with};
 ghost use Rattle.library_rows.specs.Searches.{barred_end, hit_from, is_anchored, next_hit, pattern_items, search};
 ghost use Rattle.text_match.specs.Told.{IsFound, IsRefusedAs, told_hit};
 
@@ -78,7 +77,7 @@ pub fn next_hit(
     Ok(hit)
 }
 
-/// The first match from a place on that does not end before `last`, counted from 1; none from past the end.
+/// The first match from a place on whose next place, from 1, is not `last`; none from past the end.
 fn hit_from(
     alloc: Global,
     subject: &[u8],

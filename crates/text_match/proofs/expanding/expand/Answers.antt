@@ -1,4 +1,4 @@
-use Rattle.std.proofs.Common.{◌≡◌, ◌∷◌, List, ℕ, map, false, true, sym, subst, arith, rules}
+use Rattle.std.proofs.Common.{◌≡◌, ◌∷◌, map, false, true, sym, subst, arith, rules}
 use Rattle.std.specs.Prelude.{◌==◌}
 use Rattle.std.proofs.lemmas.Bool.Decides.{nat_tests}
 use Rattle.text_functions.specs.Made.{text_shape}
