@@ -1,0 +1,11 @@
+//! From the bytes of a source to its tree, or the reason why the source is refused (Lua 5.4's `lua_load` for texts). Its
+//! code comes with the compiler.
+#![tactic(auto)]
+
+mod fault;
+#[cfg(test)]
+mod tests;
+mod text;
+
+pub use fault::TextFault;
+pub use text::source_tree;
