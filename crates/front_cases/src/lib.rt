@@ -8,6 +8,8 @@ mod levels;
 #[cfg(test)]
 mod places;
 #[cfg(test)]
+mod prelude;
+#[cfg(test)]
 mod rules;
 #[cfg(test)]
 mod tokens;
