@@ -9,6 +9,7 @@ pub mod Emitting
 pub mod Placing
 pub mod OutputLemmas
 pub mod WorkLemmas
+pub mod CompileLemmas
 pub mod ReportLemmas
 pub mod ChunkLemmas
 pub mod TextLemmas

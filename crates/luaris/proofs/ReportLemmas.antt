@@ -5,19 +5,19 @@ use Rattle.std.specs.Prelude.{is_err}
 use Rattle.io_edge.specs.declared.fault.Failed.{Failed}
 use Rattle.io_edge.specs.Causes.{HasCause}
 use Rattle.io_edge.specs.Content.{FileMap}
-use Rattle.luaris.specs.declared.words.Job.{Job}
+use Rattle.luaris.specs.Words.{Command}
 use Rattle.luaris.specs.declared.fault.Fault.{Fault}
-use Rattle.luaris.specs.Report.{FaultFits, none, of_fault, ContentOf, IsReported, status_of_fault, line_of_fault}
+use Rattle.luaris.specs.Report.{FitsFor, none, of_fault, IsReported, status_of_fault, line_of_fault}
 
 same_text : (written : Option (List ℕ)) → written ≡ option_map (λ text. text ++ []) written
 same_text (Some text) = ap Some (sym (append-nil text))
 same_text None = refl
 
-pub reported : (command : Option (Job × List ℕ)) (files : Option FileMap) (reason : Fault) (k k' : ℕ) (written written' : Option (List ℕ)) (status : ℕ) (result : Result (Unit {0}) Failed) → ((content : List ℕ) → ContentOf command files content → FaultFits content reason) → status ≡ status_of_fault reason → HasCause k k' (is_err result) → OnOk result (written' ≡ option_map (λ text. text ++ line_of_fault reason) written) → IsReported command files (record { faults = k; faults' = k'; content = written; content' = written' }) status
+pub reported : (command : Option Command) (files : Option FileMap) (reason : Fault) (k k' : ℕ) (written written' : Option (List ℕ)) (status : ℕ) (result : Result (Unit {0}) Failed) → FitsFor command files reason → status ≡ status_of_fault reason → HasCause k k' (is_err result) → OnOk result (written' ≡ option_map (λ text. text ++ line_of_fault reason) written) → IsReported command files (record { faults = k; faults' = k'; content = written; content' = written' }) status
 reported command files reason k k' written written' status (Ok done) fits same cause wrote = record { line = line_of_fault reason; line_is = rw same (of_fault reason fits); written = λ stays. wrote }
 reported command files reason k k' written written' status (Err error) fits same cause wrote = record { line = line_of_fault reason; line_is = rw same (of_fault reason fits); written = λ stays. absurd (stays cause.rose) }
 
-pub unreported : (command : Option (Job × List ℕ)) (files : Option FileMap) (k : ℕ) (written : Option (List ℕ)) → IsReported command files (record { faults = k; faults' = k; content = written; content' = written }) 0
+pub unreported : (command : Option Command) (files : Option FileMap) (k : ℕ) (written : Option (List ℕ)) → IsReported command files (record { faults = k; faults' = k; content = written; content' = written }) 0
 unreported command files k written = record { line = []; line_is = none; written = λ stays. same_text written }
 
 -- one text written after another

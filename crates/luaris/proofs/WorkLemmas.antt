@@ -16,8 +16,8 @@ use Rattle.luaris.specs.declared.fault.Fault.{Fault}
 use Rattle.luaris.specs.declared.fault.Fault.TheVariants as fault
 use Rattle.luaris.specs.Faults.{status_of, fault_of_file}
 use Rattle.luaris.specs.Outcomes.{IsText, IsRefusal}
-use Rattle.luaris.specs.Program.{Device, GrewIn, Lacks, Holds, OnlyGrows, Writes, Refuses, refusal_status, IsWork, IsCall}
-use Rattle.luaris.specs.Report.{ContentOf, FaultFits, status_of_fault}
+use Rattle.luaris.specs.Program.{Device, GrewIn, Lacks, Holds, OnlyGrows, Writes, Refuses, refusal_status, IsWork}
+use Rattle.luaris.specs.Report.{FaultFits, status_of_fault}
 
 -- the statuses of the two refusals are none of the others
 record Apart (status : ℕ) : Type 0 where
@@ -31,7 +31,7 @@ refusal_apart : (job : Job) → Apart (refusal_status job)
 refusal_apart Run = record { not_done = λ is. absurd (omega arith); not_words = λ is. absurd (omega arith); not_fault = λ is. absurd (omega arith); not_memory = λ is. absurd (omega arith); not_absent = λ is. absurd (omega arith) }
 refusal_apart Check = record { not_done = λ is. absurd (omega arith); not_words = λ is. absurd (omega arith); not_fault = λ is. absurd (omega arith); not_memory = λ is. absurd (omega arith); not_absent = λ is. absurd (omega arith) }
 
-grows_by_none : (bytes : List ℕ) (written : Option (List ℕ)) → GrowsByFront bytes written written
+pub grows_by_none : (bytes : List ℕ) (written : Option (List ℕ)) → GrowsByFront bytes written written
 grows_by_none bytes (Some text) = (text, 0, refl, sym (append-nil text))
 grows_by_none bytes None = tt
 
@@ -49,34 +49,34 @@ only_front : (bytes : List ℕ) (before now : Option (List ℕ)) → GrowsByFron
 only_front bytes before (Some after) (text, count, is, whole) = (text, take count bytes, is, whole)
 only_front bytes before None h = tt
 
-keeps_telling : {T : Type 0} (content : Option T) → MayEndTelling content content
+pub keeps_telling : {T : Type 0} (content : Option T) → MayEndTelling content content
 keeps_telling (Some files) = refl
 keeps_telling None = tt
 
 -- the bytes that the files tell are those that were read
-same_content : (name content content' : List ℕ) (held : Option FileMap) → IfSome held (λ files. files name ≡ Some content) → Holds held name content' → content' ≡ content
+pub same_content : (name content content' : List ℕ) (held : Option FileMap) → IfSome held (λ files. files name ≡ Some content) → Holds held name content' → content' ≡ content
 same_content name content content' (Some files) found has = let both : Some content' ≡ Some content = sym has ∙ found in cc
 same_content name content content' None found has = absurd has
 
-not_lacking : (name content : List ℕ) (held : Option FileMap) → IfSome held (λ files. files name ≡ Some content) → Lacks held name → ⊥
+pub not_lacking : (name content : List ℕ) (held : Option FileMap) → IfSome held (λ files. files name ≡ Some content) → Lacks held name → ⊥
 not_lacking name content (Some files) found lacks = let bad = sym lacks ∙ found in cc
 not_lacking name content None found lacks = lacks
 
-holds_read : (name content : List ℕ) (held : Option FileMap) → IfSome held (λ files. files name ≡ Some content) → IsSome held → Holds held name content
+pub holds_read : (name content : List ℕ) (held : Option FileMap) → IfSome held (λ files. files name ≡ Some content) → IsSome held → Holds held name content
 holds_read name content (Some files) found told = found
 holds_read name content None found told = absurd (cc)
 
-no_content : (name content : List ℕ) (held : Option FileMap) → IfSome held (λ files. files name ≡ None) → Holds held name content → ⊥
+pub no_content : (name content : List ℕ) (held : Option FileMap) → IfSome held (λ files. files name ≡ None) → Holds held name content → ⊥
 no_content name content (Some files) none has = let bad = sym none ∙ has in cc
 no_content name content None none has = has
 
-lacks_name : (name : List ℕ) (held : Option FileMap) → IfSome held (λ files. files name ≡ None) → IsSome held → Lacks held name
+pub lacks_name : (name : List ℕ) (held : Option FileMap) → IfSome held (λ files. files name ≡ None) → IsSome held → Lacks held name
 lacks_name name (Some files) none told = none
 lacks_name name None none told = absurd (cc)
 
 -- nothing was counted and nothing written
 
-stays : {T : Type 0} (faults : ℕ) (content content' : Option T) → GrewIn (record { faults = faults; faults' = faults; content = content; content' = content' }) → ⊥
+pub stays : {T : Type 0} (faults : ℕ) (content content' : Option T) → GrewIn (record { faults = faults; faults' = faults; content = content; content' = content' }) → ⊥
 stays faults content content' grew = omega arith
 
 pub refused_work : (job : Job) (name content : List ℕ) (f k : ℕ) (held : Option FileMap) (written : Option (List ℕ)) (status : ℕ) → status ≡ refusal_status job → IfSome held (λ files. files name ≡ Some content) → Refuses job content → IsWork job name (record { faults = f; faults' = f; content = held; content' = held }) (record { faults = k; faults' = k; content = written; content' = written }) status
@@ -171,7 +171,7 @@ pub stopped_work : (job : Job) (name content : List ℕ) (f k : ℕ) (held : Opt
 stopped_work job name content f k held written reason found (inl refusal) = refused_work job name content f k held written (status_of_fault reason) refusal.status found refusal.refuses
 stopped_work job name content f k held written reason found (inr memory) = rw memory (memory_work job name content f k held written found)
 
-told_lacking : {A : Type 0} (name : List ℕ) (held : Option FileMap) → IfSome held (λ files. files name ≡ None → A) → Lacks held name → A
+pub told_lacking : {A : Type 0} (name : List ℕ) (held : Option FileMap) → IfSome held (λ files. files name ≡ None → A) → Lacks held name → A
 told_lacking name (Some files) lacking lacks = lacking lacks
 told_lacking name None lacking lacks = absurd lacks
 
@@ -234,19 +234,10 @@ unread_work job name f f' k held held' written Memory cause absent lacking kept 
     }
 
 -- a job over files that stay as they are
-pub with_files_kept : (command : Option (Job × List ℕ)) (job : Job) (name : List ℕ) (f f' : ℕ) (held held' : Option FileMap) (out : Device (List ℕ)) (status status' : ℕ) → command ≡ Some (job, name) → f' ≡ f → held' ≡ held → status ≡ status' → IsWork job name (record { faults = f; faults' = f; content = held; content' = held }) out status' → IsCall command (record { faults = f; faults' = f'; content = held; content' = held' }) out status
-with_files_kept command job name f f' held held' out status status' named faults kept same work = rw (named, faults, kept, same) work
-
--- a job whose file is not read, as the call
-pub as_call : (command : Option (Job × List ℕ)) (job : Job) (name : List ℕ) (files : Device FileMap) (out : Device (List ℕ)) (status status' : ℕ) → command ≡ Some (job, name) → status ≡ status' → IsWork job name files out status' → IsCall command files out status
-as_call command job name files out status status' named same work = rw (named, same) work
-
-pub no_work : (command : Option (Job × List ℕ)) (f k : ℕ) (held : Option FileMap) (written : Option (List ℕ)) → command ≡ None → IsCall command (record { faults = f; faults' = f; content = held; content' = held }) (record { faults = k; faults' = k; content = written; content' = written }) 2
-no_work command f k held written none = rw none (record { wrong_words = refl; no_file_fault = refl; files_same = refl; no_output_fault = refl; unwritten = refl })
+pub with_files_kept : (job : Job) (name : List ℕ) (f f' : ℕ) (held held' : Option FileMap) (out : Device (List ℕ)) (status status' : ℕ) → f' ≡ f → held' ≡ held → status ≡ status' → IsWork job name (record { faults = f; faults' = f; content = held; content' = held }) out status' → IsWork job name (record { faults = f; faults' = f'; content = held; content' = held' }) out status
+with_files_kept job name f f' held held' out status status' faults kept same work = rw (faults, kept, same) work
 
 -- what a refusal tells of the bytes that the files hold
-pub refusal_tells : (command : Option (Job × List ℕ)) (job : Job) (name content content' : List ℕ) (held : Option FileMap) (reason : Fault) → command ≡ Some (job, name) → IfSome held (λ files. files name ≡ Some content) → ContentOf command held content' → IsRefusal job content reason ⊎ (reason ≡ fault.Memory) → FaultFits content' reason
-refusal_tells command job name content content' held reason named found has (inl refusal) =
-    let has' : Holds held name content' = rw named at has in
-    subst (λ c. FaultFits c reason) (sym (same_content name content content' held found has')) refusal.fits
-refusal_tells command job name content content' held reason named found has (inr memory) = rw memory tt
+pub refusal_tells : (job : Job) (name content content' : List ℕ) (held : Option FileMap) (reason : Fault) → IfSome held (λ files. files name ≡ Some content) → Holds held name content' → IsRefusal job content reason ⊎ (reason ≡ fault.Memory) → FaultFits content' reason
+refusal_tells job name content content' held reason found has (inl refusal) = subst (λ c. FaultFits c reason) (sym (same_content name content content' held found has)) refusal.fits
+refusal_tells job name content content' held reason found has (inr memory) = rw memory tt

@@ -14,6 +14,8 @@ use Rattle.chunk_format.specs.declared.fault.ChunkFault.{ChunkFault}
 use Rattle.chunk_format.specs.declared.fault.ChunkFault.TheVariants.{Refused as ChunkRefused, Memory as ChunkMemory}
 use Rattle.chunk_check.specs.declared.fault.CheckFault.{CheckFault}
 use Rattle.chunk_check.specs.declared.fault.CheckFault.TheVariants.{Refused as CheckRefused, Memory as CheckMemory}
+use Rattle.compile_text.specs.declared.fault.TextFault.{TextFault}
+use Rattle.compile_text.specs.declared.fault.TextFault.TheVariants as text
 use Rattle.luaris.specs.declared.fault.Fault.{Fault}
 use Rattle.luaris.specs.declared.fault.Fault.TheVariants as fault
 use Rattle.luaris.specs.Report.{status_of_fault}
@@ -49,6 +51,11 @@ fault_of_chunk ChunkMemory = fault.Memory
 abbrev pub fault_of_check : CheckFault → Fault
 fault_of_check (CheckRefused function pc rule) = fault.BrokenRule function pc rule
 fault_of_check CheckMemory = fault.Memory
+
+abbrev pub fault_of_text : TextFault → Fault
+fault_of_text (text.Source line) = fault.Refused line
+fault_of_text (text.Rule rule line) = fault.Rule rule line
+fault_of_text text.Memory = fault.Memory
 
 abbrev pub status_of : Result (Unit {0}) Fault → ℕ
 status_of (Ok done) = 0

@@ -5,6 +5,7 @@ pub mod Answers
 pub mod Straight
 pub mod Outcomes
 pub mod Faults
+pub mod Words
 pub mod Program
 pub mod Chunk
 pub mod Report

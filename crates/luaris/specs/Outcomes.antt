@@ -1,5 +1,5 @@
 -- What compiling and running a source answers.
-use Rattle.std.specs.Prelude.{◌≡◌, ℕ, ◌<◌, ◌≤◌, ◌^◌, ℤ, List, length, ◌⊎◌, Result, Ok, Err}
+use Rattle.std.specs.Prelude.{◌≡◌, ℕ, Bool, ◌<◌, ◌≤◌, ◌^◌, ℤ, List, length, ◌⊎◌, Result, Ok, Err}
 use Rattle.std.specs.declared.vec.Vec.{Vec}
 use Rattle.std.specs.declared.alloc.Global.{Global}
 use Rattle.luaris.specs.declared.fault.SourceFault.{SourceFault}
@@ -8,8 +8,8 @@ use Rattle.luaris.specs.declared.fault.Fault.{Fault}
 use Rattle.luaris.specs.declared.fault.Fault.TheVariants as fault
 use Rattle.luaris.specs.Straight.{Straight, IsNoScript, RefusedOn, Violates, output_of}
 use Rattle.luaris.specs.declared.words.Job.{Job}
-use Rattle.luaris.specs.Program.{Writes, Refuses, refusal_status}
-use Rattle.luaris.specs.Report.{FaultFits, status_of_fault}
+use Rattle.luaris.specs.Program.{Writes, Refuses, refusal_status, Compiles, HoldsNoScript}
+use Rattle.luaris.specs.Report.{FaultFits, CompileFaultFits, status_of_fault}
 
 -- the text is what the script writes
 pub record IsOutput (source text : List ℕ) : Type 0 where
@@ -45,3 +45,18 @@ pub record IsRefusal (job : Job) (content : List ℕ) (fault : Fault) : Type 0 w
 abbrev pub TextAnswers : Job → List ℕ → Result (Vec ℕ Global) Fault → Type 0
 TextAnswers job content (Ok text) = IsText job content text.items
 TextAnswers job content (Err reason) = IsRefusal job content reason ⊎ (reason ≡ fault.Memory)
+
+-- the bytes are those of the chunk of the script, and no others are
+pub record IsChunk (script : List ℕ) (strip : Bool) (content bytes : List ℕ) : Type 0 where
+  pub compiles : Compiles script strip content bytes
+  pub only : (bytes' : List ℕ) → Compiles script strip content bytes' → bytes' ≡ bytes
+
+-- the content holds no script, and the fault tells why
+pub record IsNoScriptFor (content : List ℕ) (reason : Fault) : Type 0 where
+  pub status : status_of_fault reason ≡ 5
+  pub holds_none : HoldsNoScript content
+  pub fits : CompileFaultFits content reason
+
+abbrev pub ChunkAnswers : (script content : List ℕ) → (strip : Bool) → Result (Vec ℕ Global) Fault → Type 0
+ChunkAnswers script content strip (Ok bytes) = IsChunk script strip content bytes.items
+ChunkAnswers script content strip (Err reason) = IsNoScriptFor content reason ⊎ (reason ≡ fault.Memory)

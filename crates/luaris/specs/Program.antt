@@ -1,27 +1,17 @@
 -- What the program does with its words, its files and what it writes.
-use Rattle.std.specs.Prelude.{◌≡◌, ◌≢◌, ◌⊎◌, ℕ, ◌<◌, ◌^◌, ℤ, List, [], ◌∷◌, ◌++◌, length, Bool, ◌&&◌, not, nat_eq, nat_le, if◌then◌else◌, Option, Some, None, IsSome, IfSome, option_and_then, codes}
-use Rattle.std.specs.List.{starts_with}
+use Rattle.std.specs.Prelude.{◌≡◌, ◌≢◌, ◌⊎◌, ℕ, ◌<◌, ℤ, List, ◌∷◌, ◌++◌, Bool, Option, Some, None, IsSome, IfSome}
 use Rattle.std.specs.Option.{option_map}
-use Rattle.std.specs.Str.{bytes_eq}
+use Rattle.tree_core.specs.Tree.{Block}
 use Rattle.io_edge.specs.Causes.{Rose}
-use Rattle.io_edge.specs.Content.{FileMap, GrowsByFront, MayEndTelling}
+use Rattle.io_edge.specs.Content.{FileMap, GrowsByFront, MayEndTelling, KeepsOtherFiles, with_file}
 use Rattle.code_core.specs.Prototype.{Prototype}
 use Rattle.luaris.specs.declared.words.Job.{Job}
 use Rattle.luaris.specs.declared.words.Job.TheVariants.{Run, Check}
 use Rattle.luaris.specs.Straight.{Straight, output_of}
 use Rattle.luaris.specs.Chunk.{IsAccepted, report_of}
-
--- a word that names a file
-abbrev pub is_file_name : List ℕ → Bool
-is_file_name word = nat_le (length word) (2 ^ 16) && not (starts_with nat_eq word (codes "-"))
-
-abbrev pub job_of : List ℕ → Option Job
-job_of word = if bytes_eq word (codes "run") then Some Run else if bytes_eq word (codes "check") then Some Check else None
-
--- what words ask for: `run FILE` or `check FILE`; None for other words
-abbrev pub command_of : List (List ℕ) → Option (Job × List ℕ)
-command_of (word ∷ file ∷ []) = option_and_then (λ job. if is_file_name file then Some (job, file) else None) (job_of word)
-command_of _ = None
+use Rattle.luaris.specs.Words.{Command, print, compile}
+use Rattle.compile_text.specs.Source.{IsSource}
+use Rattle.compile_chunk.specs.Chunk.{IsChunkOf, script_in}
 
 -- What a job writes for a file's bytes: a script's output and the report that it returned, or the counts of a checked chunk.
 abbrev pub Writes : Job → List ℕ → List ℕ → Type 0
@@ -82,6 +72,37 @@ pub record IsWork (job : Job) (name : List ℕ) (files : Device FileMap) (out : 
   pub files_kept : MayEndTelling files.content files.content'
   pub files_same : status ≢ 6 → files.content' ≡ files.content
 
+-- the name of a script's source in its chunk: `@` and the file's name
+abbrev pub source_name : List ℕ → List ℕ
+source_name file = 64 ∷ file
+
+-- these are the bytes of the chunk of the script in a file with this content
+abbrev pub Compiles : (script : List ℕ) → (strip : Bool) → (content bytes : List ℕ) → Type 0
+Compiles script strip content bytes = IsChunkOf (source_name script) (script_in content) strip bytes
+
+-- the content holds no script
+abbrev pub HoldsNoScript : List ℕ → Type 0
+HoldsNoScript content = (tree : Block) → IsSource (script_in content) tree → ⊥
+
+-- What compiling does to the files, and what it answers: 0 done, 5 source refused, 6 device fault, 9 out of memory, 11 no such file.
+pub record IsCompilation (script chunk : List ℕ) (strip : Bool) (files : Device FileMap) (status : ℕ) : Type 0 where
+  pub right_words : status ≢ 2
+  pub absent_only : status ≡ 11 → IsSome files.content → Lacks files.content script
+  pub absent : Lacks files.content script → ¬ (RoseIn files) → status ≡ 11
+  pub refused_only : status ≡ 5 → IsSome files.content → (content : List ℕ) × Holds files.content script content × HoldsNoScript content
+  pub refused : (content : List ℕ) → Holds files.content script content → HoldsNoScript content → ¬ (RoseIn files) → status ≢ 9 → status ≡ 5
+  pub fault_only : status ≡ 6 → RoseIn files
+  pub fault : GrewIn files → status ≡ 6
+  pub done : (content bytes : List ℕ) → Holds files.content script content → Compiles script strip content bytes → ¬ (RoseIn files) → status ≢ 9 → (status ≡ 0) × (files.content' ≡ option_map (λ held. with_file held chunk bytes) files.content)
+  pub done_only : status ≡ 0 → IsSome files.content → (content : List ℕ) × (bytes : List ℕ) × Holds files.content script content × Compiles script strip content bytes × (files.content' ≡ option_map (λ held. with_file held chunk bytes) files.content)
+  pub others_kept : KeepsOtherFiles chunk files.content files.content'
+  pub files_same : status ≢ 0 → status ≢ 6 → files.content' ≡ files.content
+
+-- nothing is printed
+pub record IsUntouched {T : Type 0} (device : Device T) : Type 0 where
+  pub no_fault : device.faults' ≡ device.faults
+  pub unwritten : device.content' ≡ device.content
+
 -- other words have status 2, and nothing is read or written
 pub record IsNoWork (files : Device FileMap) (out : Device (List ℕ)) (status : ℕ) : Type 0 where
   pub wrong_words : status ≡ 2
@@ -90,6 +111,7 @@ pub record IsNoWork (files : Device FileMap) (out : Device (List ℕ)) (status :
   pub no_output_fault : out.faults' ≡ out.faults
   pub unwritten : out.content' ≡ out.content
 
-abbrev pub IsCall : Option (Job × List ℕ) → Device FileMap → Device (List ℕ) → ℕ → Type 0
-IsCall (Some command) files out status = IsWork command.0 command.1 files out status
+abbrev pub IsCall : Option Command → Device FileMap → Device (List ℕ) → ℕ → Type 0
+IsCall (Some (print job file)) files out status = IsWork job file files out status
+IsCall (Some (compile script chunk strip)) files out status = IsCompilation script chunk strip files status × IsUntouched out
 IsCall None files out status = IsNoWork files out status

@@ -6,11 +6,14 @@ use Rattle.code_core.specs.Prototype.{Prototype}
 use Rattle.chunk_format.specs.Grammar.{BeginsWith, ChunkOf}
 use Rattle.chunk_format.specs.Reading.{chunk_kind}
 use Rattle.chunk_check.specs.Faults.{first_fault}
-use Rattle.luaris.specs.declared.words.Job.{Job}
 use Rattle.luaris.specs.declared.fault.Fault.{Fault}
 use Rattle.luaris.specs.declared.fault.Fault.TheVariants as fault
 use Rattle.luaris.specs.Straight.{RefusedOn, Violates}
+use Rattle.luaris.specs.Words.{Command, print, compile}
 use Rattle.luaris.specs.Program.{Device, RoseIn, Holds}
+use Rattle.compile_text.specs.Source.{IsRefused}
+use Rattle.compile_text.specs.declared.fault.TextFault.TheVariants as text
+use Rattle.compile_chunk.specs.Chunk.{script_in}
 
 -- a source within the limit on its bytes, for which this is the cause
 pub record IsRefusedBy (source : List ℕ) (Cause : Type 0) : Type 0 where
@@ -56,18 +59,28 @@ line_of_fault (fault.BrokenRule number pc rule) =
 line_of_fault fault.Memory = codes "luaris: out of memory\n"
 line_of_fault fault.Absent = codes "luaris: no such file\n"
 
--- the line of a status, which tells what the file's bytes give where the files tell them
-pub data IsErrorLine (Content : List ℕ → Type 0) : ℕ → List ℕ → Type 0 where
-  none : IsErrorLine Content 0 []
-  of_fault : (fault : Fault) → ((content : List ℕ) → Content content → FaultFits content fault) → IsErrorLine Content (status_of_fault fault) (line_of_fault fault)
+-- what a fault tells of the content of a script's file that is compiled
+abbrev pub CompileFaultFits : List ℕ → Fault → Type 0
+CompileFaultFits content (fault.Refused line) = IsRefused (script_in content) (text.Source line)
+CompileFaultFits content (fault.Rule rule line) = IsRefused (script_in content) (text.Rule rule line)
+CompileFaultFits content fault.Limit = ⊥
+CompileFaultFits content (fault.NoChunk kind) = ⊥
+CompileFaultFits content (fault.BrokenRule number pc rule) = ⊥
+CompileFaultFits content _ = Unit {0}
 
--- what the files tell of the bytes that a command names
-abbrev pub ContentOf : Option (Job × List ℕ) → Option FileMap → List ℕ → Type 0
-ContentOf (Some command) files content = Holds files command.1 content
-ContentOf None files content = ⊥
+-- what a fault tells of the bytes that the files hold for a command
+abbrev pub FitsFor : Option Command → Option FileMap → Fault → Type 0
+FitsFor (Some (print job file)) files reason = (content : List ℕ) → Holds files file content → FaultFits content reason
+FitsFor (Some (compile script chunk strip)) files reason = (content : List ℕ) → Holds files script content → CompileFaultFits content reason
+FitsFor None files reason = Unit {0}
+
+-- the line of a status, which tells what the file's bytes give where the files tell them
+pub data IsErrorLine (command : Option Command) (files : Option FileMap) : ℕ → List ℕ → Type 0 where
+  none : IsErrorLine command files 0 []
+  of_fault : (fault : Fault) → FitsFor command files fault → IsErrorLine command files (status_of_fault fault) (line_of_fault fault)
 
 -- standard error grows by exactly the line of the status where no write to it fails
-pub record IsReported (command : Option (Job × List ℕ)) (files : Option FileMap) (err : Device (List ℕ)) (status : ℕ) : Type 0 where
+pub record IsReported (command : Option Command) (files : Option FileMap) (err : Device (List ℕ)) (status : ℕ) : Type 0 where
   pub line : List ℕ
-  pub line_is : IsErrorLine (ContentOf command files) status line
+  pub line_is : IsErrorLine command files status line
   pub written : ¬ (RoseIn err) → err.content' ≡ option_map (λ text. text ++ line) err.content

@@ -1,10 +1,11 @@
 // Why a script is not run to its end.
 ghost use Rattle.std.specs.Prelude.{◌≡◌};
-ghost use Rattle.luaris.specs.Faults.{fault_of_lexer, fault_of_parser, fault_of_rules, fault_of_source, fault_of_file, fault_of_chunk, fault_of_check};
+ghost use Rattle.luaris.specs.Faults.{fault_of_lexer, fault_of_parser, fault_of_rules, fault_of_source, fault_of_file, fault_of_chunk, fault_of_check, fault_of_text};
 ghost use Rattle.luaris.specs.Report.{status_of_fault};
 
 use chunk_check::CheckFault;
 use chunk_format::ChunkFault;
+use compile_text::TextFault;
 use io_edge::{Failed, FileFault};
 use lua_lex::LexFault;
 use lua_parse::ParseFault;
@@ -156,6 +157,18 @@ impl From<SourceFault> for Fault {
             SourceFault::Rule { rule, line } => Fault::Rule { rule, line },
             SourceFault::Limit => Fault::Limit,
             SourceFault::Memory => Fault::Memory,
+        }
+    }
+}
+
+impl From<TextFault> for Fault {
+    ghost from_gives = { λ fault made. made ≡ fault_of_text fault };
+
+    fn from(fault: TextFault) -> Fault {
+        match fault {
+            TextFault::Source { line } => Fault::Refused { line },
+            TextFault::Rule { rule, line } => Fault::Rule { rule, line },
+            TextFault::Memory => Fault::Memory,
         }
     }
 }

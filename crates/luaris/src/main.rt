@@ -1,9 +1,10 @@
-// Lua 5.4 whose suspended scripts survive on disk: the program. So far it runs straight scripts.
+// Lua 5.4 whose suspended scripts survive on disk: the program. So far it compiles scripts and runs straight ones.
 #![tactic(auto)]
 
 mod chunk;
 mod chunk_report;
 mod compile;
+mod compiling;
 mod fault;
 mod form;
 mod machine;

@@ -1,22 +1,25 @@
 // The program over its devices.
-ghost use Rattle.std.specs.Prelude.{◌≡◌, ◌++◌, map, string_bytes, is_err, OnErr, OnOk, IfErr, List, ℕ, codes, decimal};
+ghost use Rattle.std.specs.Prelude.{◌≡◌, ◌≤◌, ◌++◌, length, map, string_bytes, is_err, OnErr, OnOk, IfErr, List, ℕ, codes, decimal};
 ghost use Rattle.std.specs.Option.{option_map};
 ghost use Rattle.io_edge.specs.Causes.{HasCause};
 ghost use Rattle.io_edge.specs.Content.{GrowsByFront};
 ghost use Rattle.luaris.specs.Faults.{status_of};
 ghost use Rattle.luaris.specs.Outcomes.{TextAnswers};
-ghost use Rattle.luaris.specs.Program.{command_of, IsCall};
-ghost use Rattle.luaris.specs.Report.{ContentOf, FaultFits, IsReported, line_of_fault};
+ghost use Rattle.luaris.specs.Words.{command_of};
+ghost use Rattle.luaris.specs.Program.{IsCall, IsCompilation, IsWork, Holds};
+ghost use Rattle.luaris.specs.Report.{CompileFaultFits, FaultFits, FitsFor, IsReported, line_of_fault};
 
 use crate::chunk_report::checked_counts;
+use crate::compiling::chunk_of_script;
 use crate::fault::Fault;
 use crate::source::output;
-use crate::words::{Job, command};
+use crate::words::{Compilation, Job, command, compilation_in};
 use io_edge::{Failed, Files, Sink, Source, write_all};
 use itoa::Buffer;
 use std::alloc::Global;
 
-/// Runs the straight script in the file that the words name, or checks the chunk in it, and answers the status: 0 where
+/// Runs the straight script in the file that the words name, checks the chunk in it, or compiles the script in it into
+/// the chunk of another file, and answers the status: 0 where
 /// that was done, 2 for wrong words, 5 for a refused source, 6 for a device fault, 8 for a refused chunk, 9 for want of
 /// memory, 11 where there is no such file. What the script prints, or the chunk's counts, go to `out`, and the line of
 /// another status than 0 to `err`; a failed write to `err` changes nothing. Input is not read.
@@ -50,14 +53,52 @@ fn perform<F: Files, K: Sink>(
     out: &mut K,
 ) -> Result<(), Fault>
     ensures call { IsCall (command_of (map string_bytes words.now)) (record { faults = F.faults files.old; faults' = F.faults files.new; content = F.held files.old; content' = F.held files.new }) (record { faults = K.faults out.old; faults' = K.faults out.new; content = K.written out.old; content' = K.written out.new }) (status_of result) }
-    ensures fits { (content : List ℕ) → ContentOf (command_of (map string_bytes words.now)) (F.held files.old) content → IfErr result (λ fault. FaultFits content fault) }
+    ensures fits { IfErr result (λ fault. FitsFor (command_of (map string_bytes words.now)) (F.held files.old) fault) }
 {
+    if let Some(compilation) = compilation_in(words) {
+        return compile_file(alloc, &compilation, files);
+    }
     let Some((job, name)) = command(words) else {
         return Err(Fault::Words);
     };
+    print_work(alloc, job, name, files, out)
+}
+
+/// Does a job with a file, and prints what comes of it.
+fn print_work<F: Files, K: Sink>(
+    alloc: Global,
+    job: Job,
+    name: &str,
+    files: &mut F,
+    out: &mut K,
+) -> Result<(), Fault>
+    ensures work { IsWork job name.now (record { faults = F.faults files.old; faults' = F.faults files.new; content = F.held files.old; content' = F.held files.new }) (record { faults = K.faults out.old; faults' = K.faults out.new; content = K.written out.old; content' = K.written out.new }) (status_of result) }
+    ensures fits { (content : List ℕ) → Holds (F.held files.old) name.now content → IfErr result (λ fault. FaultFits content fault) }
+{
     let content = files.get(alloc, name)?;
     let text = text_of(alloc, job, content.as_slice())?;
     write_output(out, text.as_slice())
+}
+
+/// Puts the chunk of a script into a file. A failed `put` leaves that one file unknown.
+fn compile_file<F: Files>(
+    alloc: Global,
+    compilation: &Compilation<'_>,
+    files: &mut F,
+) -> Result<(), Fault>
+    requires short { length compilation.now.script.now ≤ 65536 }
+    ensures call { IsCompilation compilation.now.script.now compilation.now.chunk.now compilation.now.strip (record { faults = F.faults files.old; faults' = F.faults files.new; content = F.held files.old; content' = F.held files.new }) (status_of result) }
+    ensures fits { (content : List ℕ) → Holds (F.held files.old) compilation.now.script.now content → IfErr result (λ fault. CompileFaultFits content fault) }
+{
+    let content = files.get(alloc, compilation.script)?;
+    let chunk = chunk_of_script(
+        alloc,
+        compilation.script,
+        content.as_slice(),
+        compilation.strip,
+    )?;
+    files.put(compilation.chunk, chunk.as_slice())?;
+    Ok(())
 }
 
 /// What a job writes for a file's bytes.

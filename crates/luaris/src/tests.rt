@@ -379,3 +379,89 @@ fn chunks_are_checked(rt: HostRuntime) -> Result<(), Fail> {
     check(&rt, &outcome, 0, "ok 1 5\n", "");
     Ok(())
 }
+
+/// What a call answered where `s.lua` has this text, what it told, and the bytes of `c.luac` after it.
+#[derive(Drop)]
+struct Compiled {
+    status: u8,
+    chunk: Vec<u8>,
+    out: MemSink,
+    err: MemSink,
+}
+
+fn compile(alloc: Global, line: &str, source: &[u8], files_call: u64) -> Result<Compiled, Fail> {
+    let mut files = MemFiles::new(alloc, failing(alloc, files_call)?);
+    files.put("s.lua", source)?;
+    let mut input = MemSource::new(Bytes::of(Vec::new(alloc)), no_failures(alloc));
+    let mut out = MemSink::new(alloc, no_failures(alloc));
+    let mut err = MemSink::new(alloc, no_failures(alloc));
+    let words = words(alloc, line)?;
+    let status = luaris(
+        alloc,
+        words.as_slice(),
+        &mut files,
+        &mut input,
+        &mut out,
+        &mut err,
+    );
+    let chunk = match files.file("c.luac") {
+        Some(bytes) => bytes.to_vec(alloc)?,
+        None => Vec::new(alloc),
+    };
+    Ok(Compiled {
+        status,
+        chunk,
+        out,
+        err,
+    })
+}
+
+#[test]
+fn scripts_are_compiled(rt: HostRuntime) -> Result<(), Fail> {
+    let alloc = rt.alloc();
+    let lines = [
+        "compile s.lua c.luac --strip",
+        "compile --strip s.lua c.luac",
+        "compile s.lua --strip c.luac",
+    ];
+    for line in lines {
+        let made = compile(alloc, line, b"print('hi')", 9)?;
+        assert_eq!(rt; made.status, 0);
+        assert_eq!(rt; made.chunk.as_slice(), PRINT_HI.as_slice());
+        assert!(rt; made.out.written().is_empty());
+    }
+    let script = b"#!/usr/bin/env luaris\nprint('hi')";
+    let made = compile(alloc, "compile s.lua c.luac --strip", script, 9)?;
+    assert_eq!(rt; made.chunk.as_slice(), PRINT_HI.as_slice());
+    let named = compile(alloc, "compile s.lua c.luac", b"print('hi')", 9)?;
+    let outcome = call(alloc, "check c.luac", "c.luac", named.chunk.as_slice())?;
+    check(&rt, &outcome, 0, "ok 1 5\n", "");
+    Ok(())
+}
+
+#[test]
+fn what_is_not_compiled_is_told(rt: HostRuntime) -> Result<(), Fail> {
+    let alloc = rt.alloc();
+    let cases: [(&str, u8, &str); 6] = [
+        (
+            "compile s.lua c.luac",
+            5,
+            "luaris: source refused by rule 5 at line 2\n",
+        ),
+        ("compile s.lua", 2, "luaris: wrong words\n"),
+        ("compile --strip s.lua", 2, "luaris: wrong words\n"),
+        ("compile s.lua c.luac more", 2, "luaris: wrong words\n"),
+        ("compile s.lua -c", 2, "luaris: wrong words\n"),
+        ("compile gone.lua c.luac", 11, "luaris: no such file\n"),
+    ];
+    for (line, status, told) in cases {
+        let made = compile(alloc, line, b"local x\nbreak", 9)?;
+        assert_eq!(rt; made.status, status);
+        assert!(rt; made.err.written() == told.as_bytes());
+        assert!(rt; made.chunk.is_empty());
+    }
+    let made = compile(alloc, "compile s.lua c.luac", b"print('hi')", 2)?;
+    assert_eq!(rt; made.status, 6);
+    assert!(rt; made.err.written() == b"luaris: device fault\n".as_slice());
+    Ok(())
+}

@@ -1,7 +1,7 @@
 // The words that the program is called with.
-ghost use Rattle.std.specs.Prelude.{◌≡◌, map, string_bytes};
+ghost use Rattle.std.specs.Prelude.{◌≡◌, ◌≤◌, IfSome, length, map, string_bytes};
 ghost use Rattle.std.specs.Option.{option_map};
-ghost use Rattle.luaris.specs.Program.{is_file_name, job_of, command_of};
+ghost use Rattle.luaris.specs.Words.{is_file_name, job_of, compilation_of, named_in, stripped_in, files_of, printing_of, stripped};
 
 use crate::fault::Fault;
 use std::env;
@@ -19,9 +19,89 @@ pub enum Job {
     Check,
 }
 
-/// What the words ask for, and the file's name, where they are a command.
+/// What `compile` is to read and to write.
+#[derive(Clone, Copy, Debug)]
+pub struct Compilation<'a> {
+    /// The file with the script.
+    pub script: &'a str,
+    /// The file that the chunk is put into.
+    pub chunk: &'a str,
+    /// Whether lines and names are left out.
+    pub strip: bool,
+}
+
+/// The files and the option of `compile FILE OUT` and `--strip`, where the words are that. The option may stand
+/// anywhere after `compile`.
+pub fn compilation_in(words: &[String]) -> Option<Compilation<'_>>
+    ensures asked { option_map (λ c. (c.script.now, c.chunk.now, c.strip)) result ≡ compilation_of (map string_bytes words.now) }
+    ensures short { IfSome result (λ c. length c.script.now ≤ 65536) }
+{
+    let (word, files) = words.split_first()?;
+    if word.as_str() != "compile" {
+        return None;
+    }
+    match named_in(files) {
+        Some(compilation) => Some(compilation),
+        None => stripped_in(files),
+    }
+}
+
+fn named_in(words: &[String]) -> Option<Compilation<'_>>
+    ensures asked { option_map (λ c. (c.script.now, c.chunk.now, c.strip)) result ≡ named_in (map string_bytes words.now) }
+    ensures short { IfSome result (λ c. length c.script.now ≤ 65536) }
+{
+    match words {
+        [script, chunk] => files_of(script.as_str(), chunk.as_str(), false),
+        _ => None,
+    }
+}
+
+fn stripped_in(words: &[String]) -> Option<Compilation<'_>>
+    ensures asked { option_map (λ c. (c.script.now, c.chunk.now, c.strip)) result ≡ stripped_in (map string_bytes words.now) }
+    ensures short { IfSome result (λ c. length c.script.now ≤ 65536) }
+{
+    match words {
+        [first, second, third] => stripped(first.as_str(), second.as_str(), third.as_str()),
+        _ => None,
+    }
+}
+
+/// The two files of three words, of which one is the option.
+fn stripped<'a>(first: &'a str, second: &'a str, third: &'a str) -> Option<Compilation<'a>>
+    ensures asked { option_map (λ c. (c.script.now, c.chunk.now, c.strip)) result ≡ stripped first.now second.now third.now }
+    ensures short { IfSome result (λ c. length c.script.now ≤ 65536) }
+{
+    if first == "--strip" {
+        return files_of(second, third, true);
+    }
+    if second == "--strip" {
+        return files_of(first, third, true);
+    }
+    if third == "--strip" {
+        return files_of(first, second, true);
+    }
+    None
+}
+
+/// Both files, where both words name one.
+fn files_of<'a>(script: &'a str, chunk: &'a str, strip: bool) -> Option<Compilation<'a>>
+    ensures asked { option_map (λ c. (c.script.now, c.chunk.now, c.strip)) result ≡ files_of script.now chunk.now strip }
+    ensures short { IfSome result (λ c. length c.script.now ≤ 65536) }
+{
+    if is_file_name(script) && is_file_name(chunk) {
+        Some(Compilation {
+            script,
+            chunk,
+            strip,
+        })
+    } else {
+        None
+    }
+}
+
+/// What the words ask for, and the file's name, where they are a job with a file.
 pub fn command(words: &[String]) -> Option<(Job, &str)>
-    ensures { option_map (λ command. (command.0, command.1.now)) result ≡ command_of (map string_bytes words.now) }
+    ensures { option_map (λ command. (command.0, command.1.now)) result ≡ printing_of (map string_bytes words.now) }
 {
     match words {
         [word, file] => {

@@ -1,0 +1,8 @@
+//! From the bytes of a source file to the bytes of its chunk, or the reason why the source is refused (Lua 5.4's `luac`).
+#![tactic(auto)]
+
+mod chunk;
+mod script;
+
+pub use chunk::chunk_of;
+pub use script::script_in;
