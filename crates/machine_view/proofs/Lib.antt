@@ -1,0 +1,4 @@
+pub mod Here
+pub mod Places
+pub mod Going
+pub mod Rows
