@@ -1,15 +1,16 @@
 #!/usr/bin/env python3
 """Times the compiler on a function with many different constants, and on a block with many labels in a row.
 
-A repository is made in a folder of its own, with links to this checkout's crates and a program `timed` that makes such
-sources and compiles them. It is built by `rt run`, which proves what is not proved yet. Told are the milliseconds of
-reading a source (tokens and tree), of resolving its names, and of compiling it, and how many times as long compiling
-took as that of the next smaller source of its kind.
+A repository is made in a folder of its own, with copies of this checkout's crates, with what their checks kept, and a
+program `timed` that makes such sources and compiles them. It is built by `rt run`, which proves what is not proved
+yet. Told are the milliseconds of reading a source (tokens and tree), of resolving its names, and of compiling it, and
+how many times as long compiling took as that of the next smaller source of its kind.
 
     bench/compiling.py [--checkout FOLDER] [--folder FOLDER]
 """
 import argparse
 import pathlib
+import shutil
 import subprocess
 import sys
 
@@ -121,9 +122,11 @@ def make(folder, checkout):
     main.parent.mkdir(parents=True, exist_ok=True)
     main.write_text(TIMED)
     for name in crates:
-        link = folder / "crates" / name
-        link.unlink(missing_ok=True)
-        link.symlink_to(checkout / "crates" / name)
+        for part in ("src", "specs", "proofs", "out"):
+            source, target = checkout / "crates" / name / part, folder / "crates" / name / part
+            shutil.rmtree(target, ignore_errors=True)
+            if source.is_dir():
+                shutil.copytree(source, target, symlinks=True)
     lines = [f"{name}: {' '.join(uses)}" for name, uses in crates.items()]
     (folder / "crates.txt").write_text("\n".join(lines + ["timed: compiler lua_lex lua_parse lua_scope", ""]))
 
