@@ -7,7 +7,7 @@ use Rattle.code_core.specs.declared.instruction.Instruction.{Instruction}
 use Rattle.code_core.specs.declared.proto.Const.{Const}
 use Rattle.int_core.specs.Heap.{Heap}
 use Rattle.int_core.specs.Value.{Value, known, nil, Shape, shape, is_known, nth, write, write_all}
-use Rattle.int_core.specs.Operations.{Operation, found, ask, fault, does}
+use Rattle.int_core.specs.Operations.{Operation, found, ask, fault, cannot_arise, does}
 use Rattle.lua_heap.specs.Reading.{value}
 use Rattle.machine_core.specs.World.{Cell, Wait}
 use Rattle.machine_core.specs.Text.{Arg, arg, args_of, operate, read_register, write_register, write_nils, nils, see, read_constant, Text, go_by, own, quick, pay, constant}
@@ -101,4 +101,4 @@ module _ (g : Around) (heap : Heap) (cells : List Cell) (r : List Kept) (pc fuel
   pub settles : {op : Operation} {xs : List Arg} {wait : Wait Arg} {t : Text} {env vs : List Value} {o : Option Held} → does op (args_of env xs) heap ≡ found heap vs
       → Comes g.context t vs (held g heap cells r pc fuel) o
       → Comes g.context (operate op xs wait [] t) env (held g heap cells r pc fuel) o
-  settles {t = t} e q = comes (ap (λ r'. elim r' as (λ _. Option Held) [ found H vs ↦ local g.context t vs (record (held g heap cells r pc fuel) { heap = H }) | ask h vs ↦ None | fault text ↦ None ]) e ∙ q.is)
+  settles {t = t} e q = comes (ap (λ r'. elim r' as (λ _. Option Held) [ found H vs ↦ local g.context t vs (record (held g heap cells r pc fuel) { heap = H }) | ask h vs ↦ None | fault text ↦ None | cannot_arise ↦ None ]) e ∙ q.is)
