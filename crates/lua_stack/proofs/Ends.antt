@@ -12,8 +12,10 @@ use Rattle.lua_stack.specs.declared.frame.Window.{Window}
 use Rattle.lua_stack.specs.declared.frame.Top.{Top}
 use Rattle.lua_stack.specs.declared.stack.Stack.TheInside.{Inside}
 use Rattle.table_core.specs.declared.value.Value.{Value as Kept}
-use Rattle.lua_stack.specs.Frames.{KeptLua, KeptFrame, kept_lua, KeptStack, HasLuaTop, top_is, IsTop}
-use Rattle.lua_stack.specs.View.{frame_at, lua_at, tops, top_in, seen, NoneUnder, IsStack}
+use Rattle.lua_stack.specs.Frames.{KeptLua, KeptFrame, kept_lua, KeptStack, HasLuaTop, top_is, IsTop, frames, frame_of}
+use Rattle.int_core.specs.Value.{Value}
+use Rattle.machine_core.specs.World.{LuaFrame, Frame, lua}
+use Rattle.lua_stack.specs.View.{frame_at, frame_in, lua_at, tops, top_in, seen, NoneUnder, IsStack}
 
 pub map_more : {A B : Type 0} (f : A → B) (xs ys : List A) → map f (xs ++ ys) ≡ map f xs ++ map f ys
 map_more f [] ys = refl
@@ -49,18 +51,36 @@ top_there a s t v i k =
     subst (λ s. IsTop s t) v (k ∙ top_seen a.values.items a.pending.items a.below.items a.top.kind a.top.running a.top.window a.open_cells.items i.none)
 
 -- a stack on which a Lua frame stands knows so
-kind_lua : (kind : Kind) → top_in kind ≡ top_in Lua → kind ≡ Lua
-kind_lua Missing e = absurd (cc)
-kind_lua Lua e = refl
-kind_lua Pcall e = absurd (cc)
-kind_lua (Xpcall h) e = absurd (cc)
-kind_lua Handler e = absurd (cc)
-kind_lua (Closing x) e = absurd (cc)
+module _ (f : Kept → Value) (values : List Kept) (pending : List ℕ) (fs : List Frame) (t : LuaFrame) where
+  frame_lua : (k : Kind) (r : Running) (w : Window) → frame_of f (frame_in values pending k r w) ≡ lua t → k ≡ Lua
+  frame_lua Missing r w e = absurd (cc)
+  frame_lua Lua r w e = refl
+  frame_lua Pcall r w e = absurd (cc)
+  frame_lua (Xpcall h) r w e = absurd (cc)
+  frame_lua Handler r w e = absurd (cc)
+  frame_lua (Closing x) r w e = absurd (cc)
+
+  top_lua : (below : List Record) (r : Record) → map (frame_of f) (map (frame_at values pending) (below ++ r ∷ [])) ≡ fs ++ lua t ∷ [] → r.kind ≡ Lua
+  top_lua below r e =
+      frame_lua r.kind r.running r.window (last_same (map (frame_of f) (map (frame_at values pending) below)) fs (frame_of f (frame_at values pending r)) (lua t)
+      (sym (ap (map (frame_of f)) (map_more (frame_at values pending) below (r ∷ [])) ∙ map_more (frame_of f) (map (frame_at values pending) below) (frame_at values pending r ∷ [])) ∙ e))
+
+  not_empty : (fs : List Frame) → [] ≡ fs ++ lua t ∷ [] → ⊥
+  not_empty [] e = cc
+  not_empty (g ∷ gs) e = cc
+
+  tops_lua : (below : List Record) (k : Kind) (r : Running) (w : Window) → NoneUnder k below
+      → map (frame_of f) (map (frame_at values pending) (below ++ tops (record { kind = k; running = r; window = w }))) ≡ fs ++ lua t ∷ [] → k ≡ Lua
+  tops_lua below Missing r w n e = absurd (not_empty fs (subst (λ below. map (frame_of f) (map (frame_at values pending) (below ++ [])) ≡ fs ++ lua t ∷ []) n e))
+  tops_lua below Lua r w n e = refl
+  tops_lua below Pcall r w n e = top_lua below (record { kind = Pcall; running = r; window = w }) e
+  tops_lua below (Xpcall h) r w n e = top_lua below (record { kind = Xpcall h; running = r; window = w }) e
+  tops_lua below Handler r w n e = top_lua below (record { kind = Handler; running = r; window = w }) e
+  tops_lua below (Closing x) r w n e = top_lua below (record { kind = Closing x; running = r; window = w }) e
 
 pub lua_on_top : (a : Inside) (s : KeptStack) → shown a ≡ s → stands a → HasLuaTop s → a.top.kind ≡ Lua
 lua_on_top a s v i h =
-    let t : IsTop s (top_in a.top.kind) = top_there a s (top_in a.top.kind) v i refl in
-    kind_lua a.top.kind (t ∙ ap (λ fs. top_is (last fs)) h.is ∙ ap top_is (last_is h.below (kept_lua h.top)))
+    tops_lua h.value a.values.items a.pending.items h.below h.top a.below.items a.top.kind a.top.running a.top.window i.none (ap (λ (s : KeptStack). frames h.value s) v ∙ h.is)
 
 -- its frames
 pub lua_frames : (values : List Kept) (pending : List ℕ) (below : List Record) (top : Record) → top.kind ≡ Lua

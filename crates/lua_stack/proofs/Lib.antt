@@ -2,3 +2,5 @@ pub mod Parts
 pub mod Ends
 pub mod Stacked
 pub mod Tops
+pub mod Own
+pub mod Pushed

@@ -1,6 +1,8 @@
 -- Parts of a list, and what they keep where the list is written behind them.
-use Rattle.std.proofs.Common.{◌≡◌, ℕ, zero, suc, ◌+◌, ◌-◌, ◌<◌, ◌≤◌, List, [], ◌∷◌, ◌++◌, length, map, take, drop, refl, ap, sym, ◌∙◌, arith}
-use Rattle.std.specs.Prelude.{slice_set}
+use Rattle.std.proofs.Common.{◌≡◌, ℕ, zero, suc, ◌+◌, ◌-◌, ◌<◌, ◌≤◌, List, [], ◌∷◌, ◌++◌, length, map, take, drop, Some, append_assoc, length-append, refl, ap, sym, ◌∙◌, arith}
+use Rattle.std.specs.Prelude.{slice_set, slice_get}
+use Rattle.list_laws.proofs.Items.{some_same, append_nil}
+use Rattle.table_core.specs.declared.value.Value.TheVariants.{Nil}
 use Rattle.std.proofs.lemmas.List.{drop-take}
 use Rattle.table_core.specs.declared.value.Value.{Value as Kept}
 use Rattle.lua_stack.specs.View.{part, put_all, blank}
@@ -81,3 +83,114 @@ no_blank n m xs e = let z : m - n ≡ 0 = omega arith in ap (λ k. xs ++ blank k
     none : (xs : List Kept) → xs ++ [] ≡ xs
     none [] = refl
     none (x ∷ xs) = ap (λ l. x ∷ l) (none xs)
+
+pub drop_there : {A : Type 0} (xs : List A) (k : ℕ) (v : A) → slice_get xs k ≡ Some v → drop k xs ≡ v ∷ drop (suc k) xs
+drop_there [] k v e = absurd (cc)
+drop_there (x ∷ xs) zero v e = ap (λ x. x ∷ xs) (some_same x v e)
+drop_there (x ∷ xs) (suc k) v e = drop_there xs k v e
+
+drop_over : {A : Type 0} (xs : List A) (k : ℕ) → length xs ≤ k → drop k xs ≡ []
+drop_over [] zero l = refl
+drop_over [] (suc k) l = refl
+drop_over (x ∷ xs) zero l = absurd (omega arith)
+drop_over (x ∷ xs) (suc k) l = drop_over xs k (omega arith)
+
+pub put_done : (at k : ℕ) (from xs : List Kept) → length from ≤ k → put_all (at + k) (drop k from) xs ≡ xs
+put_done at k from xs l = ap (λ vs. put_all (at + k) vs xs) (drop_over from k l)
+
+pub put_step : (at k : ℕ) (from xs : List Kept) (v : Kept) → slice_get from k ≡ Some v → put_all (at + (k + 1)) (drop (k + 1) from) (slice_set xs (at + k) v) ≡ put_all (at + k) (drop k from) xs
+put_step at k from xs v e =
+    let a : at + (k + 1) ≡ suc (at + k) = omega arith in
+    let b : k + 1 ≡ suc k = omega arith in
+    ap (λ n. put_all n (drop (k + 1) from) (slice_set xs (at + k) v)) a ∙ ap (λ n. put_all (suc (at + k)) (drop n from) (slice_set xs (at + k) v)) b
+    ∙ ap (λ vs. put_all (at + k) vs xs) (sym (drop_there from k v e))
+
+pub clear_step : (at count k : ℕ) (xs : List Kept) → k < count → put_all (at + (k + 1)) (blank (count - (k + 1))) (slice_set xs (at + k) Nil) ≡ put_all (at + k) (blank (count - k)) xs
+clear_step at count k xs l =
+    let a : at + (k + 1) ≡ suc (at + k) = omega arith in
+    let b : count - k ≡ suc (count - (k + 1)) = omega arith in
+    ap (λ n. put_all n (blank (count - (k + 1))) (slice_set xs (at + k) Nil)) a ∙ ap (λ n. put_all (at + k) (blank n) xs) (sym b)
+
+take_suc_set : {A : Type 0} (xs : List A) (r : ℕ) (v : A) → r < length xs → take (suc r) (slice_set xs r v) ≡ take r xs ++ v ∷ []
+take_suc_set [] r v l = absurd (omega arith)
+take_suc_set (x ∷ xs) zero v l = refl
+take_suc_set (x ∷ xs) (suc r) v l = ap (λ l. x ∷ l) (take_suc_set xs r v (omega arith))
+
+take_over : {A : Type 0} (xs : List A) (k : ℕ) → k ≡ length xs → take k xs ≡ xs
+take_over [] zero l = refl
+take_over [] (suc k) l = refl
+take_over (x ∷ xs) zero l = absurd (omega (arith, l))
+take_over (x ∷ xs) (suc k) l = ap (λ l. x ∷ l) (take_over xs k (omega (arith, l)))
+
+-- written up to the end
+pub put_tail : (vs xs : List Kept) (r : ℕ) → r + length vs ≡ length xs → put_all r vs xs ≡ take r xs ++ vs
+put_tail [] xs r e = sym (append_nil (take r xs) ∙ take_over xs r (omega (arith, e)))
+put_tail (v ∷ vs) xs r e =
+    put_tail vs (slice_set xs r v) (suc r) (let k = length_set xs r v in omega (arith, e, k))
+    ∙ ap (λ l. l ++ vs) (take_suc_set xs r v (omega (arith, e))) ∙ append_assoc (take r xs) (v ∷ []) vs
+
+pub length_take_le : {A : Type 0} (n : ℕ) (xs : List A) → n ≤ length xs → length (take n xs) ≡ n
+length_take_le zero xs l = refl
+length_take_le (suc n) [] l = absurd (omega arith)
+length_take_le (suc n) (x ∷ xs) l = ap suc (length_take_le n xs (omega arith))
+
+pub map_take : {A B : Type 0} (f : A → B) (n : ℕ) (xs : List A) → map f (take n xs) ≡ take n (map f xs)
+map_take f zero xs = refl
+map_take f (suc n) [] = refl
+map_take f (suc n) (x ∷ xs) = ap (λ l. f x ∷ l) (map_take f n xs)
+
+pub put_append : (vs ws xs : List Kept) (at to : ℕ) → to ≡ at + length vs → put_all to ws (put_all at vs xs) ≡ put_all at (vs ++ ws) xs
+put_append [] ws xs at to e = let q : to ≡ at = omega (arith, e) in ap (λ n. put_all n ws xs) q
+put_append (v ∷ vs) ws xs at to e = put_append vs ws (slice_set xs at v) (suc at) to (omega (arith, e))
+
+pub take_push : {A : Type 0} (n : ℕ) (xs ys : List A) → n ≤ length xs → take n (xs ++ ys) ≡ take n xs
+take_push zero xs ys l = refl
+take_push (suc n) [] ys l = absurd (omega arith)
+take_push (suc n) (x ∷ xs) ys l = ap (λ l. x ∷ l) (take_push n xs ys (omega arith))
+
+pub take_whole : {A : Type 0} (xs : List A) → take (length xs) xs ≡ xs
+take_whole xs = take_over xs (length xs) refl
+
+-- what was written last is there
+pub part_put_all : (vs xs : List Kept) (at : ℕ) → at + length vs ≤ length xs → part at (length vs) (put_all at vs xs) ≡ vs
+part_put_all vs xs at l =
+    let z : 0 + length vs ≡ length vs = omega arith in
+    let k = length_part at (length vs) xs l in
+    part_put_in vs xs at (length vs) 0 at (omega arith) (omega arith) ∙ put_tail vs (part at (length vs) xs) 0 (omega (arith, k))
+
+part_front : (b n k : ℕ) (xs : List Kept) → n ≤ k → part b n xs ≡ take n (part b k xs)
+part_front b n k xs l = sym (take_take (drop b xs) n k l)
+
+front_of : (vs ws : List Kept) (n : ℕ) → n ≡ length vs → take n (vs ++ ws) ≡ vs
+front_of vs ws n e = take_push n vs ws (omega (arith, e)) ∙ take_over vs n e
+
+pub part_first : (vs ws xs : List Kept) (at n : ℕ) → at + length (vs ++ ws) ≤ length xs → n ≡ length vs → part at n (put_all at (vs ++ ws) xs) ≡ vs
+part_first vs ws xs at n l e =
+    let k = length-append vs ws in
+    part_front at n (length (vs ++ ws)) (put_all at (vs ++ ws) xs) (omega (arith, k, e)) ∙ ap (take n) (part_put_all (vs ++ ws) xs at l) ∙ front_of vs ws n e
+
+pub part_second : (vs ws xs : List Kept) (at to n : ℕ) → at + length (vs ++ ws) ≤ length xs → to ≡ at + length vs → n ≡ length ws → part to n (put_all at (vs ++ ws) xs) ≡ ws
+part_second vs ws xs at to n l e q =
+    let k = length-append vs ws in
+    let m = length_put_all vs xs at in
+    ap (part to n) (sym (put_append vs ws xs at to e)) ∙ ap (λ n. part to n (put_all to ws (put_all at vs xs))) q ∙ part_put_all ws (put_all at vs xs) to (omega (arith, k, e, m))
+
+pub grown_front : {A : Type 0} (xs ys : List A) (n : ℕ) → take (length xs) ys ≡ xs → n ≤ length xs → take n ys ≡ take n xs
+grown_front xs ys n e l = sym (take_take ys n (length xs) l) ∙ ap (take n) e
+
+drop_nil : {A : Type 0} (n : ℕ) → drop {A = A} n [] ≡ []
+drop_nil zero = refl
+drop_nil (suc n) = refl
+
+-- parts of parts
+pub part_part : {A : Type 0} (b c n k : ℕ) (xs : List A) → c + n ≤ k → part c n (part b k xs) ≡ part (b + c) n xs
+part_part b c n k xs l =
+    part_take c n (part b k xs) ∙ ap (drop c) (take_take (drop b xs) (c + n) k l) ∙ sym (part_take c n (drop b xs)) ∙ ap (take n) (drop_drop b c xs)
+  where
+    drop_drop : {A : Type 0} (b c : ℕ) (xs : List A) → drop c (drop b xs) ≡ drop (b + c) xs
+    drop_drop zero c xs = let e : zero + c ≡ c = omega arith in ap (λ n. drop n xs) (sym e)
+    drop_drop (suc b) c [] = drop_nil c ∙ sym (drop_nil (suc b + c))
+    drop_drop (suc b) c (x ∷ xs) = let e : suc b + c ≡ suc (b + c) = omega arith in drop_drop b c xs ∙ ap (λ n. drop n (x ∷ xs)) (sym e)
+
+pub take_pushed : {A : Type 0} (xs ys zs : List A) → take (length xs) ys ≡ xs → length xs ≤ length ys → take (length xs) (ys ++ zs) ≡ xs
+take_pushed xs ys zs e l = take_push (length xs) ys zs l ∙ e

@@ -12,7 +12,7 @@ use Rattle.lua_stack.proofs.Parts.{part_kept}
 
 abbrev lua_with : Running → Window → List Kept → List Kept → List ℕ → KeptFrame
 lua_with r w kept extra marks = kept_lua (record {
-  function = r.function.0;
+  function = r.function;
   wait = r.wait;
   pc = r.pc;
   registers = kept ++ blank (w.size - w.kept);
@@ -39,7 +39,7 @@ module _ (xs ys : List Kept) (ps qs : List ℕ) (n m : ℕ) (same : take n ys �
       ap (λ f. f ∷ map (frame_at ys qs) rs) (kept_frame r.kind r.running r.window u.0.extra (let k = u.0.values in omega arith) (let k = u.0.marks in omega arith))
       ∙ ap (λ l. frame_at xs ps r ∷ l) (below_kept w rs u.1 a b)
 
-under_more : (v w : Window) (rs : List Record) → AllUnder v rs → v.start ≤ w.start → v.marks ≤ w.marks → AllUnder w rs
+pub under_more : (v w : Window) (rs : List Record) → AllUnder v rs → v.start ≤ w.start → v.marks ≤ w.marks → AllUnder w rs
 under_more v w [] u a b = tt
 under_more v w (r ∷ rs) u a b = (record { extra = u.0.extra; values = (let k = u.0.values in omega arith); marks = (let k = u.0.marks in omega arith) }, under_more v w rs u.1 a b)
 
@@ -59,13 +59,13 @@ over_less : (w : Window) (rs : List Record) (r : Record) → AllOver w (rs ++ r 
 over_less w [] r o = (tt, o.0)
 over_less w (q ∷ rs) r o = let k = over_less w rs r o.1 in ((o.0, k.0), k.1)
 
-pub stacked_more : (n m : ℕ) (rs : List Record) (r : Record) → AreStacked n m rs → IsFrame r.kind → IsWithin n m r.window → AllUnder r.window rs → AreStacked n m (rs ++ r ∷ [])
+pub stacked_more : (n m : ℕ) (rs : List Record) (r : Record) → AreStacked n m rs → IsFrame r.kind r.window → IsWithin n m r.window → AllUnder r.window rs → AreStacked n m (rs ++ r ∷ [])
 stacked_more n m [] r s f w u = (f, w, tt, tt)
 stacked_more n m (q ∷ rs) r s f w u = (s.0, s.1, over_more q.window rs r s.2 u.0, stacked_more n m rs r s.3 f w u.1)
 
 pub record IsLastOf (n m : ℕ) (rs : List Record) (r : Record) : Type 0 where
   pub stacked : AreStacked n m rs
-  pub frame : IsFrame r.kind
+  pub frame : IsFrame r.kind r.window
   pub within : IsWithin n m r.window
   pub under : AllUnder r.window rs
 

@@ -52,17 +52,12 @@ retop a s n values pending top change v i h k e xs ps reads =
     reads
 
 -- what is known of the frame on top
-pub on_top : (a : Inside) (s : KeptStack) (P : KeptLua → Type 0) → shown a ≡ s → stands a → HasLuaTop s → P (lua_at a.values.items a.pending.items a.top.running a.top.window) → OnTop s P
-on_top a s P v i h p =
-    λ below t e.
-        let is : a.top.kind ≡ Lua = lua_on_top a s v i h in
-        let both : map (frame_at a.values.items a.pending.items) a.below.items ++ kept_lua (lua_at a.values.items a.pending.items a.top.running a.top.window) ∷ [] ≡ below ++ kept_lua t ∷ [] =
-            sym (lua_frames a.values.items a.pending.items a.below.items a.top is) ∙ ap (λ (s : KeptStack). s.frames) v ∙ e in
-        subst P (same_kept _ _ (last_same _ _ _ _ both)) p
-  where
-    kept_of : KeptLua → KeptFrame → KeptLua
-    kept_of t (kept_lua u) = u
-    kept_of t _ = t
-
-    same_kept : (t u : KeptLua) → kept_lua t ≡ kept_lua u → t ≡ u
-    same_kept t u e = ap (kept_of t) e
+pub on_top : (a : Inside) (s : KeptStack) (P : (Kept → Value) → LuaFrame → Type 0) → shown a ≡ s → stands a
+    → ((f : Kept → Value) → P f (lua_of f (lua_at a.values.items a.pending.items a.top.running a.top.window))) → OnTop s P
+on_top a s P v i p =
+    λ f below t e.
+        let is : a.top.kind ≡ Lua = lua_on_top a s v i (record { value = f; below = below; top = t; is = e }) in
+        let both : map (frame_of f) (map (frame_at a.values.items a.pending.items) a.below.items) ++ lua (lua_of f (lua_at a.values.items a.pending.items a.top.running a.top.window)) ∷ [] ≡ below ++ lua t ∷ [] =
+            sym (frames_read f s (map (frame_at a.values.items a.pending.items) a.below.items) (lua_at a.values.items a.pending.items a.top.running a.top.window)
+            (ap (λ (s : KeptStack). s.frames) (sym v) ∙ lua_frames a.values.items a.pending.items a.below.items a.top is)) ∙ e in
+        subst (P f) (same_lua _ _ (last_same _ _ _ _ both)) (p f)

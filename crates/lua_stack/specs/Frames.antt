@@ -1,18 +1,23 @@
 -- What contracts see of a coroutine's stack: its frames from the bottom, with the values that are kept, and its open cells in the order of
 -- their frames and registers. `frames` reads them as the machine's frames, by what the kept values stand for.
-use Rattle.std.specs.Prelude.{◌≡◌, ℕ, List, [], ◌∷◌, ◌++◌, map, Option, Some, None, slice_get}
-use Rattle.int_core.specs.Value.{Value, known, nil, last}
+use Rattle.std.specs.Prelude.{◌≡◌, ◌≤◌, ℕ, suc, nat_lt, length, List, [], ◌∷◌, ◌++◌, map, Option, Some, None, slice_get}
+use Rattle.int_core.specs.Value.{Value, known, nil, last, range}
+use Rattle.code_core.specs.Prototype.{Prototype}
+use Rattle.machine_core.specs.Text.{blanked}
+use Rattle.machine_core.specs.Moves.{new_frame}
 use Rattle.machine_core.specs.World.{Wait, running, for_call, for_iterator, for_value, for_truth, dropped, for_concat, for_close, returning, leaving, LuaFrame, Frame, lua, pcall, xpcall, handler, closing}
 use Rattle.table_core.specs.declared.value.Value.{Value as Kept}
 use Rattle.table_core.specs.declared.value.Value.TheVariants.{Nil}
+use Rattle.table_core.specs.declared.value.FuncId.{FuncId}
 use Rattle.lua_stack.specs.declared.frame.Wait.{Wait as KeptWait}
 use Rattle.lua_stack.specs.declared.frame.Wait.TheVariants.{Running, ForCall, ForIterator, ForValue, ForTruth, Dropped, ForConcat, ForClose, Returning, Leaving}
 use Rattle.lua_stack.specs.declared.frame.OpenCell.{OpenCell}
+use Rattle.lua_stack.specs.declared.frame.Shape.{Shape}
 use Rattle.lua_stack.specs.declared.frame.Top.{Top}
 use Rattle.lua_stack.specs.declared.frame.Top.TheVariants.{Missing as TopMissing, Lua as TopLua, Pcall as TopPcall, Xpcall as TopXpcall, Handler as TopHandler, Closing as TopClosing}
 
 pub record KeptLua : Type 0 where
-  pub function : ℕ
+  pub function : FuncId
   pub wait : KeptWait
   pub pc : ℕ
   pub registers : List Kept
@@ -46,7 +51,7 @@ module _ (value : Kept → Value) where
 
   abbrev pub lua_of : KeptLua → LuaFrame
   lua_of t = record {
-    function = t.function;
+    function = t.function.0;
     wait = wait_of t.wait;
     own = record { pc = t.pc; registers = map value t.registers; varargs = map value t.varargs; pending = t.pending; opened = t.opened };
   }
@@ -66,19 +71,20 @@ module _ (value : Kept → Value) where
   abbrev pub frames : KeptStack → List Frame
   frames s = map frame_of s.frames
 
--- the frame on top is a Lua frame
+-- the frame on top is a Lua frame, however the values are read
 pub record HasLuaTop (s : KeptStack) : Type 0 where
-  pub below : List KeptFrame
-  pub top : KeptLua
-  pub is : s.frames ≡ below ++ kept_lua top ∷ []
+  pub value : Kept → Value
+  pub below : List Frame
+  pub top : LuaFrame
+  pub is : frames value s ≡ below ++ lua top ∷ []
 
--- a register of a frame has a cell, which is open
-pub record IsOpen (s : KeptStack) (frame register : ℕ) : Type 0 where
-  pub at : ℕ
-  pub cell : OpenCell
-  pub found : slice_get s.open_cells at ≡ Some cell
-  pub in_frame : cell.frame ≡ frame
-  pub of_register : cell.register ≡ register
+-- and it has at least so many registers
+pub record HasRegisters (s : KeptStack) (count : ℕ) : Type 0 where
+  pub value : Kept → Value
+  pub below : List Frame
+  pub top : LuaFrame
+  pub is : frames value s ≡ below ++ lua top ∷ []
+  pub room : count ≤ length top.own.registers
 
 -- The frame on top is a Lua frame and becomes what a change makes of it, by each reading of the values; all else stays
 pub record TopBecomes (old new : KeptStack) (change : (Kept → Value) → LuaFrame → LuaFrame) : Type 0 where
@@ -100,9 +106,9 @@ with_registers registers t = record t { own = record t.own { registers = registe
 abbrev pub with_pending : List ℕ → LuaFrame → LuaFrame
 with_pending pending t = record t { own = record t.own { pending = pending } }
 
--- what the top frame has, where it is a Lua frame
-abbrev pub OnTop : KeptStack → (KeptLua → Type 0) → Type 0
-OnTop s P = (below : List KeptFrame) (t : KeptLua) → s.frames ≡ below ++ kept_lua t ∷ [] → P t
+-- what holds of the frame on top, where it is a Lua frame, by each reading of the values
+abbrev pub OnTop : KeptStack → ((Kept → Value) → LuaFrame → Type 0) → Type 0
+OnTop s P = (f : Kept → Value) (below : List Frame) (t : LuaFrame) → frames f s ≡ below ++ lua t ∷ [] → P f t
 
 -- what the frame on top is
 abbrev pub top_is : Option KeptFrame → Top
@@ -115,3 +121,35 @@ top_is (Some (kept_closing error left)) = TopClosing
 
 abbrev pub IsTop : KeptStack → Top → Type 0
 IsTop s top = top ≡ top_is (last s.frames)
+
+-- where a frame is in its code, if it is a Lua frame
+abbrev pub kept_place : Option KeptFrame → Option (FuncId × ℕ)
+kept_place None = None
+kept_place (Some (kept_lua t)) = Some (t.function, t.pc)
+kept_place (Some kept_pcall) = None
+kept_place (Some (kept_xpcall h)) = None
+kept_place (Some kept_handler) = None
+kept_place (Some (kept_closing error left)) = None
+
+-- calls
+
+-- what is told of a function's code is so
+pub record IsShapeOf (p : Prototype) (shape : Shape) : Type 0 where
+  pub params : p.own.params ≡ shape.params
+  pub is_vararg : p.own.vararg ≡ shape.vararg
+  pub size : p.own.stack ≡ shape.stack
+
+-- a function's frame is on top of those that were there
+pub record Enters (old new : KeptStack) (function : FuncId) (shape : Shape) (arguments : List Kept) : Type 0 where
+  pub entered : (f : Kept → Value) → f Nil ≡ known nil → (p : Prototype) → IsShapeOf p shape → frames f new ≡ frames f old ++ new_frame function.0 p (map f arguments) ∷ []
+  pub cells : new.open_cells ≡ old.open_cells
+
+abbrev pub cut_at : ℕ → ℕ → LuaFrame → LuaFrame
+cut_at register stack t = with_opened 0 (with_registers (blanked (λ i. nat_lt i register) 0 stack t.own.registers) t)
+
+-- The Lua frame that was on top waits, cut at the register of the function that it calls; that function's frame is on top, and its arguments
+-- are the registers behind
+pub record Calls (old new : KeptStack) (register given : ℕ) (wait : KeptWait) (stack : ℕ) (function : FuncId) (shape : Shape) : Type 0 where
+  pub called : (f : Kept → Value) → f Nil ≡ known nil → (p : Prototype) → IsShapeOf p shape → (below : List Frame) (t : LuaFrame) → frames f old ≡ below ++ lua t ∷ []
+      → frames f new ≡ below ++ lua (with_wait (wait_of f wait) (cut_at register stack t)) ∷ new_frame function.0 p (range (suc register) given t.own.registers) ∷ []
+  pub cells : new.open_cells ≡ old.open_cells

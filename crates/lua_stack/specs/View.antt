@@ -1,9 +1,12 @@
 -- How a stack is kept: the registers of all frames stand in one list, each frame has a record that says where its own begin, and the frame on
 -- top is held apart. A frame that waits for a call keeps the registers in front of the called function; the others are nil, and the callee's
 -- registers begin at its arguments. The arguments beyond the parameters stand in front of a frame's registers.
-use Rattle.std.specs.Prelude.{◌≡◌, ℕ, zero, suc, ◌+◌, ◌-◌, ◌≤◌, List, [], ◌∷◌, ◌++◌, length, map, take, drop, slice_set}
+use Rattle.std.specs.Prelude.{◌≡◌, ℕ, zero, suc, ◌+◌, ◌-◌, ◌≤◌, Bool, true, false, List, [], ◌∷◌, ◌++◌, length, map, take, drop, slice_set, Option, Some, None}
 use Rattle.table_core.specs.declared.value.Value.{Value as Kept}
 use Rattle.table_core.specs.declared.value.Value.TheVariants.{Nil}
+use Rattle.table_core.specs.declared.value.FuncId.{FuncId}
+use Rattle.lua_stack.specs.declared.frame.Wait.{Wait}
+use Rattle.lua_stack.specs.declared.frame.Wait.TheVariants.{Running as Begins}
 use Rattle.lua_stack.specs.declared.frame.Window.{Window}
 use Rattle.lua_stack.specs.declared.frame.Running.{Running}
 use Rattle.lua_stack.specs.declared.frame.Record.{Record}
@@ -31,7 +34,7 @@ registers_at values w = part w.base w.kept values ++ blank (w.size - w.kept)
 
 abbrev pub lua_at : List Kept → List ℕ → Running → Window → KeptLua
 lua_at values pending r w = record {
-  function = r.function.0;
+  function = r.function;
   wait = r.wait;
   pc = r.pc;
   registers = registers_at values w;
@@ -85,14 +88,14 @@ pub record IsWithin (values marks : ℕ) (w : Window) : Type 0 where
   pub end : w.base + w.size ≤ values
   pub marks_end : w.marks + w.marked ≤ marks
 
--- whether there is a frame
-abbrev pub IsFrame : Kind → Type 0
-IsFrame Missing = ⊥
-IsFrame Lua = Unit {0}
-IsFrame Pcall = Unit {0}
-IsFrame (Xpcall h) = Unit {0}
-IsFrame Handler = Unit {0}
-IsFrame (Closing error) = Unit {0}
+-- whether there is a frame; of its values it has all, unless it is one that waits for a call
+abbrev pub IsFrame : Kind → Window → Type 0
+IsFrame Missing w = ⊥
+IsFrame Lua w = Unit {0}
+IsFrame Pcall w = Unit {0}
+IsFrame (Xpcall h) w = Unit {0}
+IsFrame Handler w = Unit {0}
+IsFrame (Closing error) w = w.kept ≡ w.size
 
 abbrev pub AllOver : Window → List Record → Type 0
 AllOver w [] = Unit {0}
@@ -101,7 +104,7 @@ AllOver w (r ∷ rs) = IsUnder r.window w × AllOver w rs
 -- each lies within the values and marks, and over those below
 abbrev pub AreStacked : (values marks : ℕ) → List Record → Type 0
 AreStacked values marks [] = Unit {0}
-AreStacked values marks (r ∷ rs) = IsFrame r.kind × IsWithin values marks r.window × AllOver r.window rs × AreStacked values marks rs
+AreStacked values marks (r ∷ rs) = IsFrame r.kind r.window × IsWithin values marks r.window × AllOver r.window rs × AreStacked values marks rs
 
 abbrev pub NoneUnder : Kind → List Record → Type 0
 NoneUnder Missing rs = rs ≡ []
@@ -126,3 +129,75 @@ top_in Pcall = TopPcall
 top_in (Xpcall h) = TopXpcall h
 top_in Handler = TopHandler
 top_in (Closing error) = TopClosing
+
+-- a frame behind another, which has no values yet
+abbrev pub record_behind : Record → Kind → Record
+record_behind r kind = record {
+  kind = kind;
+  running = r.running;
+  window = record {
+    start = r.window.base + r.window.size;
+    base = r.window.base + r.window.size;
+    kept = 0;
+    size = 0;
+    marks = r.window.marks + r.window.marked;
+    marked = 0;
+  };
+}
+
+abbrev pub is_missing : Kind → Bool
+is_missing Missing = true
+is_missing Lua = false
+is_missing Pcall = false
+is_missing (Xpcall h) = false
+is_missing Handler = false
+is_missing (Closing error) = false
+
+-- a frame without values of its own
+abbrev pub is_plain : Kind → Bool
+is_plain Missing = false
+is_plain Lua = false
+is_plain Pcall = true
+is_plain (Xpcall h) = true
+is_plain Handler = true
+is_plain (Closing error) = false
+
+abbrev pub plain_frame : Kind → KeptFrame
+plain_frame Missing = kept_pcall
+plain_frame Lua = kept_pcall
+plain_frame Pcall = kept_pcall
+plain_frame (Xpcall h) = kept_xpcall h
+plain_frame Handler = kept_handler
+plain_frame (Closing error) = kept_pcall
+
+-- where a frame is in its code
+abbrev pub place_by : Kind → Running → Option (FuncId × ℕ)
+place_by Lua r = Some (r.function, r.pc)
+place_by Missing r = None
+place_by Pcall r = None
+place_by (Xpcall h) r = None
+place_by Handler r = None
+place_by (Closing error) r = None
+
+abbrev pub place_in : Option Record → Option (FuncId × ℕ)
+place_in None = None
+place_in (Some r) = place_by r.kind r.running
+
+-- with all its registers
+abbrev pub whole_record : Record → Record
+whole_record r = record r { window = record r.window { kept = r.window.size } }
+
+-- a Lua frame that begins, and one that waits and keeps some of its registers
+abbrev pub begun_at : FuncId → Window → (base stack : ℕ) → Record
+begun_at function next base stack = record {
+  kind = Lua;
+  running = record { function = function; wait = Begins; pc = 0; opened = 0 };
+  window = record next { base = base; kept = stack; size = stack };
+}
+
+abbrev pub waiting_at : Record → Wait → (kept size : ℕ) → Record
+waiting_at r wait kept size = record {
+  kind = Lua;
+  running = record r.running { wait = wait; opened = 0 };
+  window = record r.window { kept = kept; size = size };
+}

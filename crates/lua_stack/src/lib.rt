@@ -2,7 +2,10 @@
 #![tactic(auto)]
 
 mod frame;
+mod frames;
+mod registers;
 mod stack;
+mod values;
 
 pub use frame::{OpenCell, Shape, Top, Wait};
 pub use stack::Stack;

@@ -63,6 +63,16 @@ impl Stack {
         }
     }
 
+    /// How many frames there are.
+    pub fn len(&self) -> usize
+        ensures { result ≡ length self.now.frames }
+    {
+        match self.top.kind {
+            Kind::Missing => self.below.len(),
+            _ => self.below.len() + 1,
+        }
+    }
+
     /// What is on top.
     pub fn top(&self) -> Top
         ensures { IsTop self.now result }
@@ -73,7 +83,7 @@ impl Stack {
     /// The function of the frame on top.
     pub fn function(&self) -> FuncId
         requires { HasLuaTop self.now }
-        ensures { OnTop self.now (λ t. result.0 ≡ t.function) }
+        ensures { OnTop self.now (λ f t. result.0 ≡ t.function) }
     {
         self.top.running.function
     }
@@ -81,7 +91,7 @@ impl Stack {
     /// Where the frame on top is in its code.
     pub fn pc(&self) -> usize
         requires { HasLuaTop self.now }
-        ensures { OnTop self.now (λ t. result ≡ t.pc) }
+        ensures { OnTop self.now (λ f t. result ≡ t.own.pc) }
     {
         self.top.running.pc
     }
@@ -89,7 +99,7 @@ impl Stack {
     /// For what the frame on top waits.
     pub fn wait(&self) -> Wait
         requires { HasLuaTop self.now }
-        ensures { OnTop self.now (λ t. result ≡ t.wait) }
+        ensures { OnTop self.now (λ f t. wait_of f result ≡ t.wait) }
     {
         self.top.running.wait
     }
@@ -97,7 +107,7 @@ impl Stack {
     /// How many values the open list of the frame on top has.
     pub fn opened(&self) -> usize
         requires { HasLuaTop self.now }
-        ensures { OnTop self.now (λ t. result ≡ t.opened) }
+        ensures { OnTop self.now (λ f t. result ≡ t.own.opened) }
     {
         self.top.running.opened
     }

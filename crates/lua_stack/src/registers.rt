@@ -1,0 +1,81 @@
+// The registers of the Lua frame on top.
+ghost use Rattle.std.specs.Prelude.{◌≡◌, ◌+◌, ◌≤◌, Some, length, map, slice_get, take};
+ghost use Rattle.int_core.specs.Value.{write, write_all};
+ghost use Rattle.machine_core.specs.Text.{nils};
+ghost use Rattle.lua_stack.specs.Frames.{HasLuaTop, HasRegisters, OnTop, TopBecomes, cut_at, with_registers, with_opened};
+
+use crate::stack::Stack;
+use crate::values::{clear, place_of, put, put_one, value_at};
+use table_core::Value;
+
+impl Stack {
+    /// The value of a register.
+    #[inline]
+    pub fn get(&self, register: usize) -> Value
+        requires { HasRegisters self.now (register + 1) }
+        ensures { OnTop self.now (λ f t. slice_get t.own.registers register ≡ Some (f result)) }
+    {
+        let at = place_of(self.top.window, register, self.values.len());
+        value_at(&self.values, at)
+    }
+
+    /// Writes a register.
+    #[inline]
+    pub fn set(&mut self, register: usize, value: Value)
+        requires { HasRegisters self.old (register + 1) }
+        ensures { TopBecomes self.old self.new (λ f t. with_registers (write register (f value) t.own.registers) t) }
+    {
+        let at = place_of(self.top.window, register, self.values.len());
+        put_one(&mut self.values, at, value);
+    }
+
+    /// Writes values to registers in a row.
+    pub fn write_registers(&mut self, at: usize, values: &[Value])
+        requires { HasRegisters self.old (at + length values.now) }
+        ensures { TopBecomes self.old self.new (λ f t. with_registers (write_all at (map f values.now) t.own.registers) t) }
+    {
+        let to = place_of(self.top.window, at, self.values.len());
+        put(&mut self.values, to, values);
+    }
+
+    /// Sets registers in a row to nil.
+    pub fn write_nils(&mut self, at: usize, count: usize)
+        requires { HasRegisters self.old (at + count) }
+        ensures { TopBecomes self.old self.new (λ f t. with_registers (write_all at (nils count) t.own.registers) t) }
+    {
+        let to = place_of(self.top.window, at, self.values.len());
+        clear(&mut self.values, to, count);
+    }
+
+    /// Sets the registers from one on to nil, and leaves as many as the code has: the list that was open ends.
+    pub fn cut_from(&mut self, register: usize, stack: usize)
+        requires within { register ≤ stack }
+        requires there { HasRegisters self.old stack }
+        ensures { TopBecomes self.old self.new (λ f t. cut_at register stack t) }
+    {
+        let from = place_of(self.top.window, register, self.values.len());
+        clear(&mut self.values, from, stack - register);
+        self.top.window.kept = stack;
+        self.top.window.size = stack;
+        self.top.running.opened = 0;
+    }
+
+    /// Leaves as many registers as the code has: the list that was open ends.
+    pub fn end_list(&mut self, stack: usize)
+        requires { HasRegisters self.old stack }
+        ensures { TopBecomes self.old self.new (λ f t. with_opened 0 (with_registers (take stack t.own.registers) t)) }
+    {
+        self.top.window.kept = stack;
+        self.top.window.size = stack;
+        self.top.running.opened = 0;
+    }
+
+    /// The registers.
+    pub fn registers(&self) -> &[Value]
+        requires { HasLuaTop self.now }
+        ensures { OnTop self.now (λ f t. map f result.now ≡ t.own.registers) }
+    {
+        let end = place_of(self.top.window, self.top.window.size, self.values.len());
+        &self.values[self.top.window.base..end]
+    }
+}
