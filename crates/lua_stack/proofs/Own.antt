@@ -35,8 +35,8 @@ length_map f (x ∷ xs) = ap suc (length_map f xs)
 pub room_in : (a : Inside) (s : KeptStack) (n : ℕ) → shown a ≡ s → stands a → HasRegisters s n → n ≤ a.top.window.kept
 room_in a s n v i h =
     let e : length h.top.own.registers ≡ a.top.window.kept =
-        on_top a s (λ f t. length t.own.registers ≡ a.top.window.kept) v i (λ f. length_map f (registers_at a.values.items a.top.window) ∙ length_whole a.values.items a.top.window i.whole i.within.end)
-        h.value h.below h.top h.is in
+    on_top a s (λ f t. length t.own.registers ≡ a.top.window.kept) v i (λ f. length_map f (registers_at a.values.items a.top.window) ∙ length_whole a.values.items a.top.window i.whole i.within.end)
+    h.value h.below h.top h.is in
     let r = h.room in
     omega (arith, r, e)
 

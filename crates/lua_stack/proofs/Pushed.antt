@@ -53,9 +53,10 @@ module _ (n m : ℕ) (below : List Record) (r : Running) (w : Window) (s : AreSt
   top_of kind = record { kind = kind; running = r; window = w }
 
   one_more : (kind : Kind) → IsFrame kind w → AreStacked n m (below ++ top_of kind ∷ []) × AllUnder (record_behind (top_of kind) k).window (below ++ top_of kind ∷ [])
-  one_more kind f =
-      (stacked_more n m below (top_of kind) s f h u,
-       under_next (record_behind (top_of kind) k).window below (top_of kind) u (under_behind n m (top_of kind) k h) (let e = h.extra in omega arith) (omega arith))
+  one_more kind f = (
+    stacked_more n m below (top_of kind) s f h u,
+    under_next (record_behind (top_of kind) k).window below (top_of kind) u (under_behind n m (top_of kind) k h) (let e = h.extra in omega arith) (omega arith),
+  )
 
   pub with_top : (kind : Kind) → NoneUnder kind below → w.kept ≡ w.size → AreStacked n m (below ++ tops (top_of kind)) × AllUnder (record_behind (top_of kind) k).window (below ++ tops (top_of kind))
   with_top Missing e x =

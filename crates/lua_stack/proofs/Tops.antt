@@ -44,7 +44,7 @@ pub retop : (a : Inside) (s n : KeptStack) (values : List Kept) (pending : List 
 retop a s n values pending top change v i h k e xs ps reads =
     let is : a.top.kind ≡ Lua = lua_on_top a s v i h in
     let below : map (frame_at values pending) a.below.items ≡ map (frame_at a.values.items a.pending.items) a.below.items =
-        below_kept a.values.items values a.pending.items pending _ _ xs ps a.top.window a.below.items i.under (Rattle.std.proofs.Common.le_refl _) (Rattle.std.proofs.Common.le_refl _) in
+    below_kept a.values.items values a.pending.items pending _ _ xs ps a.top.window a.below.items i.under (Rattle.std.proofs.Common.le_refl _) (Rattle.std.proofs.Common.le_refl _) in
     becomes s n (map (frame_at a.values.items a.pending.items) a.below.items) (lua_at a.values.items a.pending.items a.top.running a.top.window) (lua_at values pending top.running top.window) change
     (ap (λ (s : KeptStack). s.frames) (sym v) ∙ lua_frames a.values.items a.pending.items a.below.items a.top is)
     (ap (λ (s : KeptStack). s.frames) e ∙ lua_frames values pending a.below.items top (k ∙ is) ∙ ap (λ l. l ++ kept_lua (lua_at values pending top.running top.window) ∷ []) below)
@@ -56,8 +56,8 @@ pub on_top : (a : Inside) (s : KeptStack) (P : (Kept → Value) → LuaFrame →
     → ((f : Kept → Value) → P f (lua_of f (lua_at a.values.items a.pending.items a.top.running a.top.window))) → OnTop s P
 on_top a s P v i p =
     λ f below t e.
-        let is : a.top.kind ≡ Lua = lua_on_top a s v i (record { value = f; below = below; top = t; is = e }) in
-        let both : map (frame_of f) (map (frame_at a.values.items a.pending.items) a.below.items) ++ lua (lua_of f (lua_at a.values.items a.pending.items a.top.running a.top.window)) ∷ [] ≡ below ++ lua t ∷ [] =
-            sym (frames_read f s (map (frame_at a.values.items a.pending.items) a.below.items) (lua_at a.values.items a.pending.items a.top.running a.top.window)
-            (ap (λ (s : KeptStack). s.frames) (sym v) ∙ lua_frames a.values.items a.pending.items a.below.items a.top is)) ∙ e in
-        subst (P f) (same_lua _ _ (last_same _ _ _ _ both)) (p f)
+    let is : a.top.kind ≡ Lua = lua_on_top a s v i (record { value = f; below = below; top = t; is = e }) in
+    let both : map (frame_of f) (map (frame_at a.values.items a.pending.items) a.below.items) ++ lua (lua_of f (lua_at a.values.items a.pending.items a.top.running a.top.window)) ∷ [] ≡ below ++ lua t ∷ [] =
+    sym (frames_read f s (map (frame_at a.values.items a.pending.items) a.below.items) (lua_at a.values.items a.pending.items a.top.running a.top.window)
+    (ap (λ (s : KeptStack). s.frames) (sym v) ∙ lua_frames a.values.items a.pending.items a.below.items a.top is)) ∙ e in
+    subst (P f) (same_lua _ _ (last_same _ _ _ _ both)) (p f)

@@ -17,7 +17,7 @@ pub returns : goal.returns
 returns c =
     let h : HasRegisters c.args.self.now (c.args.at + length (blank c.args.count)) = subst (λ n. HasRegisters c.args.self.now (c.args.at + n)) (sym (length_blank c.args.count)) c.requires in
     let t = top_put c.self.inside c.args.self.now _ (blank c.args.count) c.args.at c.place_of-to.result c.self.view_is c.self.invariant h c.place_of-to.ensures
-        (ap (λ xs. seen xs c.self.inside.pending.items c.self.inside.below.items c.self.inside.top c.self.inside.open_cells.items) c.clear.ensures) in
+    (ap (λ xs. seen xs c.self.inside.pending.items c.self.inside.below.items c.self.inside.top c.self.inside.open_cells.items) c.clear.ensures) in
     record {
       top = λ f z below t' e. t.top f z below t' e ∙ ap (λ l. below ++ lua (with_registers (write_all c.args.at l t'.own.registers) t') ∷ []) (map_blank f c.args.count z);
       cells = t.cells;
