@@ -1,8 +1,8 @@
 -- From what a row comes to, whatever the heap and the cells are, to what its instruction does.
-use Rattle.std.proofs.Common.{◌≡◌, ℕ, ◌+◌, ◌<◌, ◌≤◌, List, [], ◌∷◌, ◌++◌, length, Option, Some, None, refl, ap, sym, ◌∙◌, subst, arith, Bool, true, false}
-use Rattle.std.specs.Prelude.{pos, cond, slice_get, slice_set}
+use Rattle.std.proofs.Common.{◌≡◌, ℕ, ◌+◌, ◌<◌, List, [], ◌∷◌, length, Some, ap, sym, subst, arith, Bool, true, false}
+use Rattle.std.specs.Prelude.{pos, cond, slice_set}
 use Rattle.code_core.specs.Fields.{second_half, is_return}
-use Rattle.code_core.specs.Instruction.{a_of, k_of}
+use Rattle.code_core.specs.Instruction.{k_of}
 use Rattle.code_core.specs.declared.instruction.Instruction.{Instruction}
 use Rattle.code_core.specs.declared.opcode.Opcode.{Opcode}
 use Rattle.int_core.specs.Heap.{Heap}
@@ -10,12 +10,12 @@ use Rattle.int_core.specs.Value.{Value, same_truth}
 use Rattle.int_core.specs.Operations.{Operation, does, truth}
 use Rattle.lua_heap.specs.Reading.{value}
 use Rattle.machine_core.specs.World.{Cell}
-use Rattle.machine_core.specs.Text.{Arg, arg, args_of, write_register, Text, go_by, own}
+use Rattle.machine_core.specs.Text.{Arg, arg, args_of, write_register, go_by, own}
 use Rattle.machine_core.specs.Moves.{place_from}
 use Rattle.machine_core.specs.InstructionRows.{row_of, tested, compares}
 use Rattle.machine_view.specs.View.{Around, held, IsCode, IsAt, Goes}
 use Rattle.machine_view.proofs.Places.{next_there, behind_there}
-use Rattle.machine_view.proofs.Rows.{Comes, comes, writes, goes_to, settles, sees}
+use Rattle.machine_view.proofs.Rows.{Comes, writes, goes_to, settles, sees}
 use Rattle.table_core.specs.declared.value.Value.{Value as Kept}
 
 pub going : {op : Opcode} {w : Instruction} {ws : List Instruction} {ks r : List Kept} {pc fuel : ℕ} {s : List Kept} {to left : ℕ} → to < length ws

@@ -1,15 +1,13 @@
 -- A sound world is at an instruction of checked code, and what this does is a step after which the world is sound again.
-use Rattle.std.proofs.Common.{◌≡◌, ℕ, zero, suc, ◌<◌, ◌≤◌, List, [], length, Option, Some, None, refl, ap, sym, ◌∙◌, subst}
+use Rattle.std.proofs.Common.{◌≡◌, ℕ, zero, suc, ◌≤◌, [], Option, Some, None, ap, sym, ◌∙◌, subst}
 use Rattle.std.specs.Prelude.{slice_get}
 use Rattle.std.proofs.lemmas.List.{length-map}
 use Rattle.code_core.specs.Check.{at}
 use Rattle.code_core.specs.Instruction.{opcode_of}
 use Rattle.code_core.specs.Prototype.{Prototype}
 use Rattle.code_core.specs.declared.instruction.Instruction.{Instruction}
-use Rattle.code_core.specs.declared.opcode.Opcode.{Opcode}
-use Rattle.int_core.specs.Heap.{Heap}
 use Rattle.lua_heap.specs.Reading.{value}
-use Rattle.machine_core.specs.World.{Cell, World}
+use Rattle.machine_core.specs.World.{World}
 use Rattle.machine_core.specs.Text.{trap}
 use Rattle.machine_core.specs.InstructionRows.{text_at, row_of, text_by}
 use Rattle.machine_core.specs.Moves.{Ending, go, Row, Outcome, trapped, ends}
@@ -17,9 +15,8 @@ use Rattle.machine_core.specs.MachineStep.{step, steps, and_then}
 use Rattle.machine_sound.proofs.Lists.{get_within}
 use Rattle.machine_focus.specs.Focus.{local}
 use Rattle.machine_focus.proofs.Here.{here, held_is_step}
-use Rattle.machine_view.specs.View.{Around, held, whole, IsAt, Does, Ready, Runs}
-use Rattle.machine_view.specs.Law.{HasInstruction, ReadyIsAt, StepsOn, DoingIsStep}
-use Rattle.table_core.specs.declared.value.Value.{Value as Kept}
+use Rattle.machine_view.specs.View.{Around, held, whole}
+use Rattle.machine_view.specs.Law.{ReadyIsAt, DoingIsStep}
 
 abbrev code_of : Around → Prototype
 code_of g = g.context.closure.code

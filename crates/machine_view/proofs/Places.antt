@@ -1,8 +1,8 @@
 -- What the rules on code say of an instruction: the registers and constants that it names are there, and so are the places to which it goes.
-use Rattle.std.proofs.Common.{◌≡◌, ℕ, suc, ◌+◌, ◌-◌, ◌<◌, ◌≤◌, List, [], ◌∷◌, length, Option, Some, None, refl, ap, sym, ◌∙◌, subst, arith, Bool, true, false}
-use Rattle.std.specs.Prelude.{ℤ, pos, negsuc, ◌+ℤ◌, ◌-ℤ◌, slice_get, IsTrue, nat_lt, cond, option_and_then}
+use Rattle.std.proofs.Common.{◌≡◌, ℕ, ◌+◌, ◌<◌, List, length, Option, Some, None, refl, ap, sym, ◌∙◌, subst, arith, Bool, false}
+use Rattle.std.specs.Prelude.{ℤ, pos, negsuc, slice_get, IsTrue, nat_lt, cond, option_and_then}
 use Rattle.std.proofs.lemmas.List.{length-map}
-use Rattle.code_core.specs.Check.{at, there, lands, is_second, is_landing, constant_is, extra_at, goes_on, is_same}
+use Rattle.code_core.specs.Check.{at, there, lands, is_landing, constant_is, extra_at, goes_on, is_same}
 use Rattle.code_core.specs.Fields.{registers, constants, target, second_half, is_return, Wanted}
 use Rattle.code_core.specs.Instruction.{opcode_of, ax_of}
 use Rattle.code_core.specs.declared.instruction.Instruction.{Instruction}
@@ -10,10 +10,9 @@ use Rattle.code_core.specs.declared.opcode.Opcode.{Opcode}
 use Rattle.code_core.specs.declared.opcode.Opcode.TheVariants.{ExtraArg}
 use Rattle.code_core.specs.Opcode.{number_of}
 use Rattle.code_core.specs.Prototype.{Prototype}
-use Rattle.int_core.specs.Value.{Value, known}
+use Rattle.int_core.specs.Value.{known}
 use Rattle.lua_heap.specs.Reading.{value}
 use Rattle.machine_core.specs.Text.{constant}
-use Rattle.machine_core.specs.Moves.{place_from}
 use Rattle.machine_sound.proofs.Lists.{get_within, some_is}
 use Rattle.machine_sound.proofs.Values.{lt_of, both_of, all_get}
 use Rattle.machine_sound.proofs.Rules.{RulesAt, rules_at, or_of}

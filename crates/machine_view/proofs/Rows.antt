@@ -1,8 +1,7 @@
 -- What a row comes to on the registers that are kept, step by step from its front.
-use Rattle.std.proofs.Common.{◌≡◌, ℕ, zero, suc, ◌+◌, ◌-◌, ◌<◌, ◌≤◌, List, [], ◌∷◌, ◌++◌, length, map, Option, Some, None, refl, ap, sym, ◌∙◌, subst, arith, Bool, true, false}
-use Rattle.std.specs.Prelude.{ℤ, pos, cond, slice_get, slice_set, nat_lt, nat_le}
+use Rattle.std.proofs.Common.{◌≡◌, ℕ, zero, suc, ◌+◌, ◌<◌, ◌≤◌, List, [], ◌∷◌, ◌++◌, length, map, Option, Some, None, refl, ap, sym, ◌∙◌, subst, arith, true}
+use Rattle.std.specs.Prelude.{ℤ, cond, slice_get, slice_set, nat_lt}
 use Rattle.std.proofs.lemmas.List.{length-map}
-use Rattle.code_core.specs.Check.{at}
 use Rattle.code_core.specs.declared.instruction.Instruction.{Instruction}
 use Rattle.code_core.specs.declared.proto.Const.{Const}
 use Rattle.int_core.specs.Heap.{Heap}
@@ -15,9 +14,8 @@ use Rattle.machine_core.specs.Moves.{place_from}
 use Rattle.machine_sound.proofs.Lists.{get_map, map_get, get_within, get_there}
 use Rattle.machine_sound.proofs.Values.{lt_true, le_true}
 use Rattle.machine_focus.specs.Focus.{Context, Held, local, moved, with_pc}
-use Rattle.machine_view.specs.View.{Around, held, AreOf, IsCode}
+use Rattle.machine_view.specs.View.{Around, held, IsCode}
 use Rattle.table_core.specs.declared.value.Value.{Value as Kept}
-use Rattle.table_core.specs.declared.value.Value.TheVariants.{Nil}
 
 pub nth_map : {A : Type 0} (f : A → Value) (r : List A) (b : ℕ) (v : A) → slice_get r b ≡ Some v → nth (map f r) b ≡ f v
 nth_map f r b v e = ap (λ o. elim o as (λ _. Value) [ None ↦ known nil | Some v ↦ v ]) (get_map f r b v e)
