@@ -1,5 +1,5 @@
 mod Finding
 mod Reading
-mod Equal
+pub mod Equal
 mod Tables
 mod Growing

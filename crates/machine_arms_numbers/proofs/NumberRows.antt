@@ -1,0 +1,366 @@
+-- Rows of arithmetic and comparisons.
+use Rattle.std.proofs.Common.{◌≡◌, ℕ, zero, suc, ◌+◌, ◌-◌, ◌<◌, ◌≤◌, List, [], ◌∷◌, ◌++◌, length, map, Option, Some, None, refl, ap, sym, ◌∙◌, subst, arith, Bool, true, false, inl, inr}
+use Rattle.code_core.specs.declared.instruction.Instruction.{Instruction}
+use Rattle.code_core.specs.declared.opcode.Opcode.{Opcode}
+use Rattle.lua_heap.specs.Reading.{value}
+use Rattle.machine_core.specs.InstructionRows.{row_of}
+use Rattle.machine_view.specs.View.{Around, held, IsCode, IsAt, Goes}
+use Rattle.machine_view.proofs.Places.{register_there, constant_there, next_there, behind_there, extra_there, target_there}
+use Rattle.machine_view.proofs.Rows.{Comes, comes, reads, writes, writes_nils, reads_constant, goes_to, pays, settles, same_text}
+use Rattle.machine_view.proofs.Going.{going, at_next, at_second, at_either, goes_by, puts, tests, decides}
+use Rattle.table_core.specs.declared.value.Value.{Value as Kept}
+use Rattle.std.specs.Prelude.{◌⊎◌, ℤ, pos, int_lt, int_le, cond, slice_get, slice_set, IsTrue, ◌==◌}
+use Rattle.code_core.specs.Fields.{registers, constants, second_half, is_return, anything, integer as an_integer}
+use Rattle.code_core.specs.Instruction.{a_of, b_of, c_of, k_of, sb_of, sc_of}
+use Rattle.code_core.specs.Prototype.{Prototype}
+use Rattle.code_core.specs.declared.opcode.Opcode.TheVariants.{AddI, AddK, SubK, MulK, ModK, IDivK, BAndK, BOrK, BXorK, ShrI, ShlI, Add, Sub, Mul, Mod, IDiv, BAnd, BOr, BXor, Shl, Shr, MmBin, MmBinI, MmBinK, Unm, BNot, Jmp, Eq, Lt, Le, EqK, EqI, LtI, LeI, GtI, GeI}
+use Rattle.int_core.specs.Heap.{Heap}
+use Rattle.int_core.specs.Value.{Value, known, integer, boolean, Shape, shape, same_truth, bind, same}
+use Rattle.int_core.specs.Operations.{Event, of_add, of_sub, of_mul, of_mod, of_idiv, of_band, of_bor, of_bxor, of_shl, of_shr, of_unm, of_bnot, computed, does, arithmetic, equal, less, less_equal, found, truth, equal_on, by_zero}
+use Rattle.lua_heap.proofs.Equal.{alike}
+use Rattle.machine_core.specs.World.{Cell, for_truth}
+use Rattle.machine_core.specs.Text.{Arg, arg, own, read, written, write_register, read_register, read_constant, go_by, Text, raise}
+use Rattle.machine_core.specs.InstructionRows.{fast, integer_of_shape, next, skip, with_register, with_constant, compares, with_number}
+use Rattle.machine_sound.proofs.Lists.{some_is}
+use Rattle.table_core.specs.Value.{value_eq}
+use Rattle.table_core.specs.declared.value.TableId.{TableId}
+use Rattle.table_core.specs.declared.value.Value.TheVariants.{Nil, Bool as Boolean, Int, Str, Prim, Table, Func, Coro}
+use Rattle.machine_arms_numbers.specs.Numbers.{integer_in, are_tables, equal_at_once, event_of, has_registers, has_constant, ordered_by}
+
+pub is_integer : (v : Kept) (n : ℤ) → Some n ≡ integer_in v → v ≡ Int n
+is_integer (Int m) n e = ap Int (sym (some_is refl e))
+is_integer _ n e = absurd (cc)
+
+shape_integer : (texts : List (List ℕ)) (v : Kept) → integer_of_shape (shape (value texts v)) ≡ integer_in v
+shape_integer texts (Int n) = refl
+shape_integer texts _ = refl
+
+fast_left : (event : Event) (a : ℕ) (x y : Option ℤ) → None ≡ x → fast event a x y ≡ next
+fast_left event a None y e = refl
+fast_left event a (Some m) y e = absurd (cc)
+
+fast_right : (event : Event) (a : ℕ) (x y : Option ℤ) → None ≡ y → fast event a x y ≡ next
+fast_right event a None y e = refl
+fast_right event a (Some m) None e = refl
+fast_right event a (Some m) (Some n) e = absurd (cc)
+
+fast_both : (event : Event) (a : ℕ) (x y : Option ℤ) (m n k : ℤ) → Some m ≡ x → Some n ≡ y → computed event m n ≡ Some k → fast event a x y ≡ own (write_register a (written (integer k))) (λ _ _. skip)
+fast_both event a x y m n k e f c = ap (λ x. fast event a x y) (sym e) ∙ ap (λ y. fast event a (Some m) y) (sym f)
+    ∙ ap (λ (o : Option ℤ). elim o as (λ _. Text) [ None ↦ raise (by_zero event) | Some k ↦ own (write_register a (written (integer k))) (λ _ _. skip) ]) c
+
+module _ (g : Around) (heap : Heap) (cells : List Cell) (r : List Kept) (pc fuel : ℕ) {env : List Value} {ws : List Instruction} {ks : List Kept} {to : ℕ} (event : Event) (a : ℕ) (x y : Option ℤ) (c : IsCode g ws ks) (l : to < length ws) where
+  goes_left : None ≡ x → to ≡ pc + 1 → Comes g.context (fast event a x y) env (held g heap cells r pc fuel) (Some (held g heap cells r to fuel))
+  goes_left e p = same_text (fast_left event a x y e) (goes_by g heap cells r pc fuel to 1 c l p)
+
+  goes_right : None ≡ y → to ≡ pc + 1 → Comes g.context (fast event a x y) env (held g heap cells r pc fuel) (Some (held g heap cells r to fuel))
+  goes_right e p = same_text (fast_right event a x y e) (goes_by g heap cells r pc fuel to 1 c l p)
+
+  goes_both : {s : List Kept} (m n k : ℤ) → Some m ≡ x → Some n ≡ y → computed event m n ≡ Some k → a < length r → s ≡ slice_set r a (Int k) → to ≡ pc + 2
+      → Comes g.context (fast event a x y) env (held g heap cells r pc fuel) (Some (held g heap cells s to fuel))
+  goes_both m n k e f q j i p = same_text (fast_both event a x y m n k e f q) (puts g heap cells r pc fuel a 2 (Int k) c l j refl i p)
+
+-- two registers
+
+pub record OfRegisters (op : Opcode) (w : Instruction) : Type 0 where
+  pub event : Event
+  pub is_event : event_of op ≡ Some event
+  pub row : (p : Prototype) (pc : ℕ) → row_of p pc op w ≡ with_register event w
+  pub names : registers op w ≡ a_of w ∷ b_of w ∷ c_of w ∷ []
+  pub pair : second_half op w ≡ Some MmBin
+  pub on : is_return op ≡ false
+
+pub of_registers : (op : Opcode) (w : Instruction) → IsTrue (has_registers op) → OfRegisters op w
+of_registers Add w h = record { event = of_add; is_event = refl; row = λ p pc. refl; names = refl; pair = refl; on = refl }
+of_registers Sub w h = record { event = of_sub; is_event = refl; row = λ p pc. refl; names = refl; pair = refl; on = refl }
+of_registers Mul w h = record { event = of_mul; is_event = refl; row = λ p pc. refl; names = refl; pair = refl; on = refl }
+of_registers Mod w h = record { event = of_mod; is_event = refl; row = λ p pc. refl; names = refl; pair = refl; on = refl }
+of_registers IDiv w h = record { event = of_idiv; is_event = refl; row = λ p pc. refl; names = refl; pair = refl; on = refl }
+of_registers BAnd w h = record { event = of_band; is_event = refl; row = λ p pc. refl; names = refl; pair = refl; on = refl }
+of_registers BOr w h = record { event = of_bor; is_event = refl; row = λ p pc. refl; names = refl; pair = refl; on = refl }
+of_registers BXor w h = record { event = of_bxor; is_event = refl; row = λ p pc. refl; names = refl; pair = refl; on = refl }
+of_registers Shl w h = record { event = of_shl; is_event = refl; row = λ p pc. refl; names = refl; pair = refl; on = refl }
+of_registers Shr w h = record { event = of_shr; is_event = refl; row = λ p pc. refl; names = refl; pair = refl; on = refl }
+of_registers _ w h = absurd (cc)
+
+pub record OfConstant (op : Opcode) (w : Instruction) : Type 0 where
+  pub event : Event
+  pub is_event : event_of op ≡ Some event
+  pub row : (p : Prototype) (pc : ℕ) → row_of p pc op w ≡ with_constant event w
+  pub names : registers op w ≡ a_of w ∷ b_of w ∷ []
+  pub numbers : (extra : Option ℕ) → constants op w extra ≡ (an_integer, c_of w) ∷ []
+  pub pair : second_half op w ≡ Some MmBinK
+  pub on : is_return op ≡ false
+
+pub of_constant : (op : Opcode) (w : Instruction) → IsTrue (has_constant op) → OfConstant op w
+of_constant AddK w h = record { event = of_add; is_event = refl; row = λ p pc. refl; names = refl; numbers = λ _. refl; pair = refl; on = refl }
+of_constant SubK w h = record { event = of_sub; is_event = refl; row = λ p pc. refl; names = refl; numbers = λ _. refl; pair = refl; on = refl }
+of_constant MulK w h = record { event = of_mul; is_event = refl; row = λ p pc. refl; names = refl; numbers = λ _. refl; pair = refl; on = refl }
+of_constant ModK w h = record { event = of_mod; is_event = refl; row = λ p pc. refl; names = refl; numbers = λ _. refl; pair = refl; on = refl }
+of_constant IDivK w h = record { event = of_idiv; is_event = refl; row = λ p pc. refl; names = refl; numbers = λ _. refl; pair = refl; on = refl }
+of_constant BAndK w h = record { event = of_band; is_event = refl; row = λ p pc. refl; names = refl; numbers = λ _. refl; pair = refl; on = refl }
+of_constant BOrK w h = record { event = of_bor; is_event = refl; row = λ p pc. refl; names = refl; numbers = λ _. refl; pair = refl; on = refl }
+of_constant BXorK w h = record { event = of_bxor; is_event = refl; row = λ p pc. refl; names = refl; numbers = λ _. refl; pair = refl; on = refl }
+of_constant _ w h = absurd (cc)
+
+module _ {op : Opcode} {w : Instruction} {ws : List Instruction} {ks r : List Kept} {pc : ℕ} (h : IsAt op w ws ks r pc) (o : IsTrue (has_registers op)) where
+  form : OfRegisters op w
+  form = of_registers op w o
+
+  pub register_named : (n i : ℕ) → slice_get (a_of w ∷ b_of w ∷ c_of w ∷ []) n ≡ Some i → i < length r
+  register_named n i e = register_there h n i (ap (λ is. slice_get is n) form.names ∙ e)
+
+  pub registers_next : pc + 1 < length ws
+  registers_next = next_there h form.on
+
+  pub registers_skip : pc + 2 < length ws
+  registers_skip = behind_there h MmBin form.pair refl
+
+  pub registers_left : {to : ℕ} (u : Kept) → slice_get r (b_of w) ≡ Some u → None ≡ integer_in u → to ≡ pc + 1 → (fuel : ℕ) → Goes op w ws ks r pc fuel r to fuel
+  registers_left u e i p fuel = going (at_next h form.on p) (λ g heap cells c.
+      let v = register_value in
+      same_text (form.row g.context.closure.code pc) (reads g heap cells r pc fuel (b_of w) u e (reads g heap cells r pc fuel (c_of w) v.0 v.1 (goes_left g heap cells r pc fuel form.event (a_of w) _ _ c (at_next h form.on p) (i ∙ sym (shape_integer g.texts u)) p))))
+    where
+      register_value : (v : Kept) × (slice_get r (c_of w) ≡ Some v)
+      register_value = Rattle.machine_sound.proofs.Lists.get_there r (c_of w) (register_named 2 (c_of w) refl)
+
+  pub registers_right : {to : ℕ} (u v : Kept) → slice_get r (b_of w) ≡ Some u → slice_get r (c_of w) ≡ Some v → None ≡ integer_in v → to ≡ pc + 1 → (fuel : ℕ) → Goes op w ws ks r pc fuel r to fuel
+  registers_right u v e f i p fuel = going (at_next h form.on p) (λ g heap cells c.
+      same_text (form.row g.context.closure.code pc) (reads g heap cells r pc fuel (b_of w) u e (reads g heap cells r pc fuel (c_of w) v f (goes_right g heap cells r pc fuel form.event (a_of w) _ _ c (at_next h form.on p) (i ∙ sym (shape_integer g.texts v)) p))))
+
+  pub registers_both : {s : List Kept} {to : ℕ} (u v : Kept) (m n k : ℤ) → slice_get r (b_of w) ≡ Some u → slice_get r (c_of w) ≡ Some v → Some m ≡ integer_in u → Some n ≡ integer_in v
+      → Some k ≡ bind (event_of op) (λ event. computed event m n) → s ≡ slice_set r (a_of w) (Int k) → to ≡ pc + 2 → (fuel : ℕ) → Goes op w ws ks r pc fuel s to fuel
+  registers_both u v m n k e f i j q t p fuel = going (at_second h MmBin form.pair refl p) (λ g heap cells c.
+      same_text (form.row g.context.closure.code pc) (reads g heap cells r pc fuel (b_of w) u e (reads g heap cells r pc fuel (c_of w) v f
+      (goes_both g heap cells r pc fuel form.event (a_of w) _ _ c (at_second h MmBin form.pair refl p) m n k (i ∙ sym (shape_integer g.texts u)) (j ∙ sym (shape_integer g.texts v))
+      (sym (q ∙ ap (λ (o : Option Event). bind o (λ event. computed event m n)) form.is_event)) (register_named 0 (a_of w) refl) t p))))
+
+-- a register and a constant
+module _ {op : Opcode} {w : Instruction} {ws : List Instruction} {ks r : List Kept} {pc : ℕ} (h : IsAt op w ws ks r pc) (o : IsTrue (has_constant op)) where
+  form' : OfConstant op w
+  form' = of_constant op w o
+
+  pub operand_named : (n i : ℕ) → slice_get (a_of w ∷ b_of w ∷ []) n ≡ Some i → i < length r
+  operand_named n i e = register_there h n i (ap (λ is. slice_get is n) form'.names ∙ e)
+
+  pub constant_named : c_of w < length ks
+  constant_named = constant_there h 0 (c_of w) an_integer (ap (λ cs. slice_get cs 0) (form'.numbers _))
+
+  pub constant_next : pc + 1 < length ws
+  constant_next = next_there h form'.on
+
+  pub constant_skip : pc + 2 < length ws
+  constant_skip = behind_there h MmBinK form'.pair refl
+
+  pub constant_left : {to : ℕ} (u : Kept) → slice_get r (b_of w) ≡ Some u → None ≡ integer_in u → to ≡ pc + 1 → (fuel : ℕ) → Goes op w ws ks r pc fuel r to fuel
+  constant_left u e i p fuel = going (at_next h form'.on p) (λ g heap cells c.
+      let v = constant_value in
+      same_text (form'.row g.context.closure.code pc) (reads g heap cells r pc fuel (b_of w) u e (reads_constant g heap cells r pc fuel (c_of w) v.0 c v.1 (goes_left g heap cells r pc fuel form'.event (a_of w) _ _ c (at_next h form'.on p) (i ∙ sym (shape_integer g.texts u)) p))))
+    where
+      constant_value : (v : Kept) × (slice_get ks (c_of w) ≡ Some v)
+      constant_value = Rattle.machine_sound.proofs.Lists.get_there ks (c_of w) constant_named
+
+  pub constant_right : {to : ℕ} (u v : Kept) → slice_get r (b_of w) ≡ Some u → slice_get ks (c_of w) ≡ Some v → None ≡ integer_in v → to ≡ pc + 1 → (fuel : ℕ) → Goes op w ws ks r pc fuel r to fuel
+  constant_right u v e f i p fuel = going (at_next h form'.on p) (λ g heap cells c.
+      same_text (form'.row g.context.closure.code pc) (reads g heap cells r pc fuel (b_of w) u e (reads_constant g heap cells r pc fuel (c_of w) v c f (goes_right g heap cells r pc fuel form'.event (a_of w) _ _ c (at_next h form'.on p) (i ∙ sym (shape_integer g.texts v)) p))))
+
+  pub constant_both : {s : List Kept} {to : ℕ} (u v : Kept) (m n k : ℤ) → slice_get r (b_of w) ≡ Some u → slice_get ks (c_of w) ≡ Some v → Some m ≡ integer_in u → Some n ≡ integer_in v
+      → Some k ≡ bind (event_of op) (λ event. computed event m n) → s ≡ slice_set r (a_of w) (Int k) → to ≡ pc + 2 → (fuel : ℕ) → Goes op w ws ks r pc fuel s to fuel
+  constant_both u v m n k e f i j q t p fuel = going (at_second h MmBinK form'.pair refl p) (λ g heap cells c.
+      same_text (form'.row g.context.closure.code pc) (reads g heap cells r pc fuel (b_of w) u e (reads_constant g heap cells r pc fuel (c_of w) v c f
+      (goes_both g heap cells r pc fuel form'.event (a_of w) _ _ c (at_second h MmBinK form'.pair refl p) m n k (i ∙ sym (shape_integer g.texts u)) (j ∙ sym (shape_integer g.texts v))
+      (sym (q ∙ ap (λ (o : Option Event). bind o (λ event. computed event m n)) form'.is_event)) (operand_named 0 (a_of w) refl) t p))))
+
+-- a register and a number that stands in the instruction
+module _ {op : Opcode} {w : Instruction} {ws : List Instruction} {ks r : List Kept} {pc : ℕ} (h : IsAt op w ws ks r pc) (event : Event) (x y : Option ℤ → Option ℤ)
+    (row : (p : Prototype) → row_of p pc op w ≡ own (read_register (b_of w)) (λ _ s. fast event (a_of w) (x (integer_of_shape s)) (y (integer_of_shape s))))
+    (pair : second_half op w ≡ Some MmBinI) (on : is_return op ≡ false) where
+  pub number_left : {to : ℕ} (u : Kept) → slice_get r (b_of w) ≡ Some u → None ≡ integer_in u → (None ≡ x None) ⊎ (None ≡ y None) → to ≡ pc + 1 → (fuel : ℕ) → Goes op w ws ks r pc fuel r to fuel
+  number_left {to = to} u e i n p fuel = going (at_next h on p) (λ g heap cells c.
+      same_text (row g.context.closure.code) (reads g heap cells r pc fuel (b_of w) u e (from g heap cells c (sym (i ∙ sym (shape_integer g.texts u))) n)))
+    where
+      from : (g : Around) (heap : Heap) (cells : List Cell) → IsCode g ws ks → integer_of_shape (shape (value g.texts u)) ≡ None → (None ≡ x None) ⊎ (None ≡ y None)
+          → Comes g.context (fast event (a_of w) (x (integer_of_shape (shape (value g.texts u)))) (y (integer_of_shape (shape (value g.texts u))))) (value g.texts u ∷ []) (held g heap cells r pc fuel) (Some (held g heap cells r to fuel))
+      from g heap cells c q (inl n) = goes_left g heap cells r pc fuel event (a_of w) _ _ c (at_next h on p) (n ∙ ap x (sym q)) p
+      from g heap cells c q (inr n) = goes_right g heap cells r pc fuel event (a_of w) _ _ c (at_next h on p) (n ∙ ap y (sym q)) p
+
+  pub number_both : {s : List Kept} {to : ℕ} (u : Kept) (i m n k : ℤ) → slice_get r (b_of w) ≡ Some u → Some i ≡ integer_in u → Some m ≡ x (Some i) → Some n ≡ y (Some i) → computed event m n ≡ Some k → a_of w < length r
+      → s ≡ slice_set r (a_of w) (Int k) → to ≡ pc + 2 → (fuel : ℕ) → Goes op w ws ks r pc fuel s to fuel
+  number_both u i m n k e j f f' q a t p fuel = going (at_second h MmBinI pair refl p) (λ g heap cells c.
+      let z = j ∙ sym (shape_integer g.texts u) in
+      same_text (row g.context.closure.code) (reads g heap cells r pc fuel (b_of w) u e (goes_both g heap cells r pc fuel event (a_of w) _ _ c (at_second h MmBinI pair refl p) m n k (f ∙ ap x z) (f' ∙ ap y z) q a t p)))
+
+-- one operand
+pub unary_does : {op : Opcode} {w : Instruction} {ws : List Instruction} {ks r s : List Kept} {pc to : ℕ} → IsAt op w ws ks r pc → (event : Event)
+    → ((p : Prototype) → row_of p pc op w ≡ own (read_register (b_of w)) (λ v _. Rattle.machine_core.specs.InstructionRows.unary (arithmetic event) (read v ∷ read v ∷ []) w)) → is_return op ≡ false → a_of w < length r
+    → (u : Kept) (n k : ℤ) → slice_get r (b_of w) ≡ Some u → Some n ≡ integer_in u → computed event n n ≡ Some k → s ≡ slice_set r (a_of w) (Int k) → to ≡ pc + 1 → (fuel : ℕ) → Goes op w ws ks r pc fuel s to fuel
+unary_does {w = w} {r = r} {pc = pc} h event row on a u n k e j q t p fuel = going (at_next h on p) (λ g heap cells c.
+    let z : slice_get r (b_of w) ≡ Some (Int n) = e ∙ ap Some (is_integer u n j) in
+    same_text (row g.context.closure.code) (reads g heap cells r pc fuel (b_of w) (Int n) z
+    (settles g heap cells r pc fuel (ap (λ (o : Option ℤ). elim o as (λ _. Rattle.int_core.specs.Operations.Settled) [ None ↦ Rattle.int_core.specs.Operations.fault (by_zero event) | Some k ↦ found heap (known (integer k) ∷ []) ]) q)
+    (puts g heap cells r pc fuel (a_of w) 1 (Int k) c (at_next h on p) a refl t p))))
+
+-- equality
+
+of_tables : (m n : TableId) (b : Bool) → Some b ≡ equal_at_once (Table m) (Table n) → (b ≡ true) × (m.0 == n.0 ≡ true)
+of_tables m n b f = from (m.0 == n.0) refl f
+  where
+    from : (t : Bool) → m.0 == n.0 ≡ t → Some b ≡ cond t (Some true) None → (b ≡ true) × (m.0 == n.0 ≡ true)
+    from true q f = (some_is refl f, q)
+    from false q f = absurd (cc)
+
+truth_once : (t s b : Bool) → s ≡ false → Some b ≡ cond t (Some true) (cond s None (Some false)) → b ≡ t
+truth_once true s b q f = some_is refl f
+truth_once false true b q f = absurd (cc)
+truth_once false false b q f = some_is refl f
+
+equal_raw : (texts : List (List ℕ)) (heap : Heap) (u v : Kept) → are_tables u v ≡ false → equal_on heap (value texts u) (value texts v) ≡ truth heap (same (value texts u) (value texts v))
+equal_raw texts heap (Table m) (Table n) e = absurd (cc)
+equal_raw texts heap (Table m) Nil e = refl
+equal_raw texts heap (Table m) (Boolean b) e = refl
+equal_raw texts heap (Table m) (Int n) e = refl
+equal_raw texts heap (Table m) (Str n) e = refl
+equal_raw texts heap (Table m) (Prim n) e = refl
+equal_raw texts heap (Table m) (Func n) e = refl
+equal_raw texts heap (Table m) (Coro n) e = refl
+equal_raw texts heap Nil v e = refl
+equal_raw texts heap (Boolean b) v e = refl
+equal_raw texts heap (Int n) v e = refl
+equal_raw texts heap (Str n) v e = refl
+equal_raw texts heap (Prim n) v e = refl
+equal_raw texts heap (Func n) v e = refl
+equal_raw texts heap (Coro n) v e = refl
+
+settled_equal : (texts : List (List ℕ)) (heap : Heap) (u v : Kept) (b : Bool) → same (value texts u) (value texts v) ≡ value_eq u v → Some b ≡ equal_at_once u v → equal_on heap (value texts u) (value texts v) ≡ truth heap b
+settled_equal texts heap u v b e f = from u v (are_tables u v) refl e f
+  where
+    from : (u v : Kept) (t : Bool) → are_tables u v ≡ t → same (value texts u) (value texts v) ≡ value_eq u v → Some b ≡ equal_at_once u v → equal_on heap (value texts u) (value texts v) ≡ truth heap b
+    from u v false q e f = equal_raw texts heap u v q ∙ ap (truth heap) (e ∙ sym (truth_once (value_eq u v) (are_tables u v) b q f))
+    from (Table m) (Table n) true q e f =
+        let x = of_tables m n b f in
+        ap (λ t. cond t (truth heap true) (Rattle.int_core.specs.Operations.asked (Rattle.int_core.specs.Operations.handler_of heap Rattle.int_core.specs.Operations.of_eq (value texts (Table m)) (value texts (Table n))) (value texts (Table m) ∷ value texts (Table n) ∷ []) (truth heap false))) x.1
+        ∙ ap (truth heap) (sym x.0)
+    from _ _ true q e f = absurd (cc)
+
+-- comparisons
+
+pub branch_there : {op : Opcode} {w : Instruction} {ws : List Instruction} {ks r : List Kept} {pc : ℕ} → IsAt op w ws ks r pc → second_half op w ≡ Some Jmp → pc + 2 < length ws
+branch_there h e = behind_there h Jmp e refl
+
+pub equal_does : {w : Instruction} {ws : List Instruction} {ks r : List Kept} {pc to : ℕ} (u v : Kept) (b : Bool) → IsAt Eq w ws ks r pc → slice_get r (a_of w) ≡ Some u → slice_get r (b_of w) ≡ Some v → Some b ≡ equal_at_once u v
+    → to ≡ pc + cond (same_truth b (k_of w)) 1 2 → (fuel : ℕ) → Goes Eq w ws ks r pc fuel r to fuel
+equal_does {w = w} {r = r} {pc = pc} u v b h e f i p fuel =
+    let l = at_either h Jmp refl refl (same_truth b (k_of w)) p in
+    going l (λ g heap cells c. reads g heap cells r pc fuel (a_of w) u e (reads g heap cells r pc fuel (b_of w) v f
+    (decides g heap cells r pc fuel w b c l p (settled_equal g.texts heap u v b (alike g.texts c.apart c.short u v) i))))
+
+pub equal_constant_does : {w : Instruction} {ws : List Instruction} {ks r : List Kept} {pc to : ℕ} (u v : Kept) (b : Bool) → IsAt EqK w ws ks r pc → slice_get r (a_of w) ≡ Some u → slice_get ks (b_of w) ≡ Some v → Some b ≡ equal_at_once u v
+    → to ≡ pc + cond (same_truth b (k_of w)) 1 2 → (fuel : ℕ) → Goes EqK w ws ks r pc fuel r to fuel
+equal_constant_does {w = w} {r = r} {pc = pc} u v b h e f i p fuel =
+    let l = at_either h Jmp refl refl (same_truth b (k_of w)) p in
+    going l (λ g heap cells c. reads g heap cells r pc fuel (a_of w) u e (reads_constant g heap cells r pc fuel (b_of w) v c f
+    (decides g heap cells r pc fuel w b c l p (settled_equal g.texts heap u v b (alike g.texts c.apart c.short u v) i))))
+
+pub equal_number_does : {w : Instruction} {ws : List Instruction} {ks r : List Kept} {pc to : ℕ} (u : Kept) (b : Bool) → IsAt EqI w ws ks r pc → slice_get r (a_of w) ≡ Some u → Some b ≡ equal_at_once u (Int (sb_of w))
+    → to ≡ pc + cond (same_truth b (k_of w)) 1 2 → (fuel : ℕ) → Goes EqI w ws ks r pc fuel r to fuel
+equal_number_does {w = w} {r = r} {pc = pc} u b h e i p fuel =
+    let l = at_either h Jmp refl refl (same_truth b (k_of w)) p in
+    going l (λ g heap cells c. reads g heap cells r pc fuel (a_of w) u e
+    (decides g heap cells r pc fuel w b c l p (settled_equal g.texts heap u (Int (sb_of w)) b (alike g.texts c.apart c.short u (Int (sb_of w))) i)))
+
+-- the order of two registers
+module _ {op : Opcode} {w : Instruction} {ws : List Instruction} {ks r : List Kept} {pc : ℕ} where
+  pub order_names : IsAt op w ws ks r pc → (op ≡ Lt) ⊎ (op ≡ Le) → (a_of w < length r) × (b_of w < length r) × (pc + 2 < length ws)
+  order_names h (inl e) = let k = subst (λ op. IsAt op w ws ks r pc) e h in (register_there k 0 (a_of w) refl, register_there k 1 (b_of w) refl, branch_there k refl)
+  order_names h (inr e) = let k = subst (λ op. IsAt op w ws ks r pc) e h in (register_there k 0 (a_of w) refl, register_there k 1 (b_of w) refl, branch_there k refl)
+
+  pub order_does : {to : ℕ} (u v : Kept) (m n : ℤ) (b : Bool) → IsAt op w ws ks r pc → (op ≡ Lt) ⊎ (op ≡ Le) → slice_get r (a_of w) ≡ Some u → slice_get r (b_of w) ≡ Some v → Some m ≡ integer_in u → Some n ≡ integer_in v
+      → Some b ≡ bind (ordered_by op) (λ order. Some (order m n)) → to ≡ pc + cond (same_truth b (k_of w)) 1 2 → (fuel : ℕ) → Goes op w ws ks r pc fuel r to fuel
+  order_does {to = to} u v m n b h o e f i j q p fuel = from o
+    where
+      x : slice_get r (a_of w) ≡ Some (Int m)
+      x = e ∙ ap Some (is_integer u m i)
+
+      y : slice_get r (b_of w) ≡ Some (Int n)
+      y = f ∙ ap Some (is_integer v n j)
+
+      less_on : IsAt Lt w ws ks r pc → Some b ≡ Some (int_lt m n) → Goes Lt w ws ks r pc fuel r to fuel
+      less_on h q =
+          let l = at_either h Jmp refl refl (same_truth b (k_of w)) p in
+          going l (λ g heap cells c. reads g heap cells r pc fuel (a_of w) (Int m) x (reads g heap cells r pc fuel (b_of w) (Int n) y (decides g heap cells r pc fuel w b c l p (ap (truth heap) (sym (some_is refl q))))))
+
+      less_equal_on : IsAt Le w ws ks r pc → Some b ≡ Some (int_le m n) → Goes Le w ws ks r pc fuel r to fuel
+      less_equal_on h q =
+          let l = at_either h Jmp refl refl (same_truth b (k_of w)) p in
+          going l (λ g heap cells c. reads g heap cells r pc fuel (a_of w) (Int m) x (reads g heap cells r pc fuel (b_of w) (Int n) y (decides g heap cells r pc fuel w b c l p (ap (truth heap) (sym (some_is refl q))))))
+
+      from : (op ≡ Lt) ⊎ (op ≡ Le) → Goes op w ws ks r pc fuel r to fuel
+      from (inl e) = subst (λ op. Goes op w ws ks r pc fuel r to fuel) (sym e) (less_on (subst (λ op. IsAt op w ws ks r pc) e h) (q ∙ ap (λ op. bind (ordered_by op) (λ order. Some (order m n))) e))
+      from (inr e) = subst (λ op. Goes op w ws ks r pc fuel r to fuel) (sym e) (less_equal_on (subst (λ op. IsAt op w ws ks r pc) e h) (q ∙ ap (λ op. bind (ordered_by op) (λ order. Some (order m n))) e))
+
+-- the order of a register and a number that stands in the instruction
+pub record OfNumber (op : Opcode) (w : Instruction) : Type 0 where
+  pub order : ℤ → ℤ → Bool
+  pub is_order : ordered_by op ≡ Some order
+  pub names : registers op w ≡ a_of w ∷ []
+  pub pair : second_half op w ≡ Some Jmp
+  pub text : ℕ → Text
+  pub row : (p : Prototype) (pc : ℕ) → row_of p pc op w ≡ own (read_register (a_of w)) (λ x _. text x)
+  pub decided : (g : Around) (heap : Heap) (cells : List Cell) (r : List Kept) (pc fuel : ℕ) {ws : List Instruction} {ks : List Kept} {to : ℕ} (m : ℤ) → IsCode g ws ks → to < length ws
+      → to ≡ pc + cond (same_truth (order m (sb_of w)) (k_of w)) 1 2 → Comes g.context (text 0) (known (integer m) ∷ []) (held g heap cells r pc fuel) (Some (held g heap cells r to fuel))
+
+pub of_number : (op : Opcode) (w : Instruction) → (op ≡ LtI) ⊎ (op ≡ LeI) ⊎ (op ≡ GtI) ⊎ (op ≡ GeI) → OfNumber op w
+of_number op w (inl e) = subst (λ op. OfNumber op w) (sym e) (record {
+  order = int_lt;
+  is_order = refl;
+  names = refl;
+  pair = refl;
+  text = λ x. compares less (read x) (with_number w) w;
+  row = λ p pc. refl;
+  decided = λ g heap cells r pc fuel m c l p. decides g heap cells r pc fuel w (int_lt m (sb_of w)) c l p refl;
+})
+of_number op w (inr (inl e)) = subst (λ op. OfNumber op w) (sym e) (record {
+  order = int_le;
+  is_order = refl;
+  names = refl;
+  pair = refl;
+  text = λ x. compares less_equal (read x) (with_number w) w;
+  row = λ p pc. refl;
+  decided = λ g heap cells r pc fuel m c l p. decides g heap cells r pc fuel w (int_le m (sb_of w)) c l p refl;
+})
+of_number op w (inr (inr (inl e))) = subst (λ op. OfNumber op w) (sym e) (record {
+  order = λ m n. int_lt n m;
+  is_order = refl;
+  names = refl;
+  pair = refl;
+  text = λ x. compares less (with_number w) (read x) w;
+  row = λ p pc. refl;
+  decided = λ g heap cells r pc fuel m c l p. decides g heap cells r pc fuel w (int_lt (sb_of w) m) c l p refl;
+})
+of_number op w (inr (inr (inr e))) = subst (λ op. OfNumber op w) (sym e) (record {
+  order = λ m n. int_le n m;
+  is_order = refl;
+  names = refl;
+  pair = refl;
+  text = λ x. compares less_equal (with_number w) (read x) w;
+  row = λ p pc. refl;
+  decided = λ g heap cells r pc fuel m c l p. decides g heap cells r pc fuel w (int_le (sb_of w) m) c l p refl;
+})
+
+module _ {op : Opcode} {w : Instruction} {ws : List Instruction} {ks r : List Kept} {pc : ℕ} (h : IsAt op w ws ks r pc) (o : (op ≡ LtI) ⊎ (op ≡ LeI) ⊎ (op ≡ GtI) ⊎ (op ≡ GeI)) where
+  number_form : OfNumber op w
+  number_form = of_number op w o
+
+  pub number_named : a_of w < length r
+  number_named = register_there h 0 (a_of w) (ap (λ is. slice_get is 0) number_form.names)
+
+  pub number_branch : pc + 2 < length ws
+  number_branch = branch_there h number_form.pair
+
+  pub number_order : {to : ℕ} (u : Kept) (m : ℤ) (b : Bool) → slice_get r (a_of w) ≡ Some u → Some m ≡ integer_in u → Some b ≡ bind (ordered_by op) (λ order. Some (order m (sb_of w)))
+      → to ≡ pc + cond (same_truth b (k_of w)) 1 2 → (fuel : ℕ) → Goes op w ws ks r pc fuel r to fuel
+  number_order u m b e i q p fuel =
+      let x : slice_get r (a_of w) ≡ Some (Int m) = e ∙ ap Some (is_integer u m i) in
+      let z : b ≡ number_form.order m (sb_of w) = some_is refl (q ∙ ap (λ (o : Option (ℤ → ℤ → Bool)). bind o (λ order. Some (order m (sb_of w)))) number_form.is_order) in
+      let p' = p ∙ ap (λ b. pc + cond (same_truth b (k_of w)) 1 2) z in
+      let l = at_either h Jmp number_form.pair refl (same_truth (number_form.order m (sb_of w)) (k_of w)) p' in
+      going l (λ g heap cells c. same_text (number_form.row g.context.closure.code pc) (reads g heap cells r pc fuel (a_of w) (Int m) x (number_form.decided g heap cells r pc fuel m c l p')))

@@ -1,0 +1,115 @@
+-- What the instructions on numbers and truths compute, on values as they are kept.
+use Rattle.std.specs.Prelude.{ℕ, zero, suc, ◌+◌, ℤ, pos, negsuc, int_lt, int_le, Bool, true, false, cond, List, Option, Some, None, slice_set}
+use Rattle.code_core.specs.declared.opcode.Opcode.{Opcode}
+use Rattle.code_core.specs.declared.opcode.Opcode.TheVariants.{Move, LoadI, LoadK, LoadKx, LoadFalse, LFalseSkip, LoadTrue, LoadNil, AddI, ShrI, ShlI, Not, Test, TestSet, AddK, SubK, MulK, ModK, IDivK, BAndK, BOrK, BXorK, Add, Sub, Mul, Mod, IDiv, BAnd, BOr, BXor, Shl, Shr, Lt, Le, LtI, LeI, GtI, GeI}
+use Rattle.int_core.specs.Operations.{Event, of_add, of_sub, of_mul, of_mod, of_idiv, of_band, of_bor, of_bxor, of_shl, of_shr}
+use Rattle.table_core.specs.Value.{value_eq}
+use Rattle.table_core.specs.declared.value.Value.{Value}
+use Rattle.table_core.specs.declared.value.Value.TheVariants.{Nil, Bool as Boolean, Int, Table}
+
+abbrev pub integer_in : Value → Option ℤ
+integer_in (Int n) = Some n
+integer_in _ = None
+
+abbrev pub is_truthy : Value → Bool
+is_truthy Nil = false
+is_truthy (Boolean b) = b
+is_truthy _ = true
+
+abbrev pub are_tables : Value → Value → Bool
+are_tables (Table m) (Table n) = true
+are_tables _ _ = false
+
+-- equality, where no handler decides it: two tables may have one, unless they are the same
+abbrev pub equal_at_once : Value → Value → Option Bool
+equal_at_once v w = cond (value_eq v w) (Some true) (cond (are_tables v w) None (Some false))
+
+-- the operator of an instruction on two registers, or on a register and a constant
+abbrev pub event_of : Opcode → Option Event
+event_of AddK = Some of_add
+event_of SubK = Some of_sub
+event_of MulK = Some of_mul
+event_of ModK = Some of_mod
+event_of IDivK = Some of_idiv
+event_of BAndK = Some of_band
+event_of BOrK = Some of_bor
+event_of BXorK = Some of_bxor
+event_of Add = Some of_add
+event_of Sub = Some of_sub
+event_of Mul = Some of_mul
+event_of Mod = Some of_mod
+event_of IDiv = Some of_idiv
+event_of BAnd = Some of_band
+event_of BOr = Some of_bor
+event_of BXor = Some of_bxor
+event_of Shl = Some of_shl
+event_of Shr = Some of_shr
+event_of _ = None
+
+-- its operands are two registers
+abbrev pub has_registers : Opcode → Bool
+has_registers Add = true
+has_registers Sub = true
+has_registers Mul = true
+has_registers Mod = true
+has_registers IDiv = true
+has_registers BAnd = true
+has_registers BOr = true
+has_registers BXor = true
+has_registers Shl = true
+has_registers Shr = true
+has_registers _ = false
+
+-- a register and a constant
+abbrev pub has_constant : Opcode → Bool
+has_constant AddK = true
+has_constant SubK = true
+has_constant MulK = true
+has_constant ModK = true
+has_constant IDivK = true
+has_constant BAndK = true
+has_constant BOrK = true
+has_constant BXorK = true
+has_constant _ = false
+
+-- the order that a comparison asks for, of the value in the register and the other operand
+abbrev pub ordered_by : Opcode → Option (ℤ → ℤ → Bool)
+ordered_by Lt = Some int_lt
+ordered_by Le = Some int_le
+ordered_by LtI = Some int_lt
+ordered_by LeI = Some int_le
+ordered_by GtI = Some (λ m n. int_lt n m)
+ordered_by GeI = Some (λ m n. int_le n m)
+ordered_by _ = None
+
+-- the instructions that go on within the frame whatever the values are
+abbrev pub always_goes : Opcode → Bool
+always_goes Move = true
+always_goes LoadI = true
+always_goes LoadK = true
+always_goes LoadKx = true
+always_goes LoadFalse = true
+always_goes LFalseSkip = true
+always_goes LoadTrue = true
+always_goes LoadNil = true
+always_goes AddI = true
+always_goes ShrI = true
+always_goes ShlI = true
+always_goes Not = true
+always_goes Test = true
+always_goes TestSet = true
+always_goes _ = false
+
+-- some registers from one on are nil
+abbrev pub cleared : ℕ → ℕ → List Value → List Value
+cleared from zero r = r
+cleared from (suc count) r = slice_set (cleared from count r) (from + count) Nil
+
+-- a jump's offset: whether it leads back, and how far
+abbrev pub leads_back : ℤ → Bool
+leads_back (pos n) = false
+leads_back (negsuc n) = true
+
+abbrev pub distance_of : ℤ → ℕ
+distance_of (pos n) = n
+distance_of (negsuc n) = suc n

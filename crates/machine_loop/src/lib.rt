@@ -1,0 +1,7 @@
+//! The machine's inner loop: the instructions of one frame, one after another, as long as the frame goes on by itself
+//! (Lua 5.4's `luaV_execute`). Each is one step of the machine's meaning.
+#![tactic(auto)]
+
+mod frame;
+
+pub use frame::{Exit, Out, run_frame};
