@@ -1,9 +1,8 @@
 // Values in a list, written one after another.
-ghost use Rattle.std.specs.Prelude.{◌≡◌, ◌+◌, ◌<◌, ◌≤◌, [], ◌∷◌, Some, length, slice_get, take, OnOk};
+ghost use Rattle.std.specs.Prelude.{◌≡◌, ◌+◌, ◌<◌, ◌≤◌, [], ◌∷◌, Some, length, slice_get};
 ghost use Rattle.lua_stack.specs.View.{blank, put_all};
 
 use crate::frame::Window;
-use std::alloc::AllocError;
 use table_core::Value;
 
 /// Where a register stands, which is no further than `room`.
@@ -55,17 +54,4 @@ pub(crate) fn clear(values: &mut Vec<Value>, at: usize, count: usize)
     for k in 0..count {
         values[at + k] = Value::Nil;
     }
-}
-
-/// Lets the list have at least so many values. A refusal leaves those that were there.
-#[tactic(auto, using(crate::proofs::Parts::take_pushed))]
-pub(crate) fn grow(values: &mut Vec<Value>, len: usize) -> Result<(), AllocError>
-    ensures front { take (length values.old.items) values.new.items ≡ values.old.items }
-    ensures longer { length values.old.items ≤ length values.new.items }
-    ensures room { OnOk result (len ≤ length values.new.items) }
-{
-    'more: while values.len() < len {
-        values.push(Value::Nil)?;
-    }
-    Ok(())
 }
