@@ -11,5 +11,8 @@ pub mod Handing
 pub mod Shutting
 pub mod Giving
 pub mod Writing
+pub mod Frames
+pub mod Loosened
+pub mod Places
 pub mod Resumed
 pub mod Worlds
