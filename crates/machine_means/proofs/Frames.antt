@@ -7,7 +7,7 @@ use Rattle.list_laws.specs.Held.{Held}
 use Rattle.list_laws.proofs.Ends.{upward, last_is, without_last_is, length_upward}
 use Rattle.list_laws.proofs.Items.{get_set_same, get_set_other}
 use Rattle.machine_core.specs.World as machine
-use Rattle.machine_core.specs.World.{Cell, open_at, Frame, in_progress, push, pop, put_frames}
+use Rattle.machine_core.specs.World.{Cell, Frame, in_progress, push, pop, put_frames}
 use Rattle.int_core.specs.Limits.{greatest_depth}
 use Rattle.machine_core.specs.Talk.{State}
 use Rattle.lua_meaning.specs.World as talk

@@ -14,5 +14,11 @@ pub mod Writing
 pub mod Frames
 pub mod Loosened
 pub mod Places
+pub mod AtRest
+pub mod Closings
+pub mod Protected
+pub mod Raising
+pub mod Catching
+pub mod Burying
 pub mod Resumed
 pub mod Worlds

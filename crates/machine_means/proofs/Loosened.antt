@@ -4,10 +4,10 @@ use Rattle.std.specs.Prelude.{slice_get}
 use Rattle.int_core.specs.Value.{Value}
 use Rattle.list_laws.specs.Held.{Held}
 use Rattle.machine_core.specs.World as machine
-use Rattle.machine_core.specs.World.{Frame, Coroutine, LuaFrame, lua, pcall, xpcall, handler, in_progress}
+use Rattle.machine_core.specs.World.{Frame, Coroutine, lua, pcall, xpcall, handler, in_progress}
 use Rattle.machine_core.specs.Talk.{State}
 use Rattle.lua_meaning.specs.World as talk
-use Rattle.lua_meaning.specs.World.{Asker, waiting, raising, protected, handled_by, handling}
+use Rattle.lua_meaning.specs.World.{waiting, protected, handled_by, handling}
 use Rattle.machine_means.specs.Joined.{TalkFrame, TalkWorld, Pair, Below, Stacks, CoroutinePair, Joined}
 use Rattle.machine_means.proofs.CellWrites.{all3_map}
 

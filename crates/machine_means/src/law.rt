@@ -1,5 +1,6 @@
 // The laws, each with what it speaks of in `specs/`.
 ghost use Rattle.machine_means.specs.Laws.{EndsJoined, FailsJoined, ResumesJoined, WritesJoined, YieldsJoined};
+ghost use Rattle.machine_means.specs.Stands.{CoroutinesClosed, ErrorsRaised, ErrorsReach, ProtectedCalls, ResultsReach, TextsRaised};
 
 /// A cell that is written keeps a world of the machine and one of talking activations joined, whether it is closed or open, and in the
 /// frames of whichever coroutine, the one that runs or another one.
@@ -15,4 +16,17 @@ pub fn switches_keep_worlds_joined()
     ensures ends { EndsJoined }
     ensures fails { FailsJoined }
     ensures resumes { ResumesJoined }
+{}
+
+/// What frames that are no Lua functions' do keeps both worlds joined, with the same results, the same error or the same call on their
+/// way: results and errors that reach a call by `pcall` or `xpcall`, a message handler's call or the closing of a coroutine; an error that
+/// is raised, with the same place in front of its text, and who catches it; the frames that `pcall` and `xpcall` push; and
+/// `coroutine.close`, after which both close the same values in the same order.
+pub fn frames_keep_worlds_joined()
+    ensures results { ResultsReach }
+    ensures errors { ErrorsReach }
+    ensures texts { TextsRaised }
+    ensures raised { ErrorsRaised }
+    ensures protected { ProtectedCalls }
+    ensures closed { CoroutinesClosed }
 {}
