@@ -20,5 +20,6 @@ pub mod Protected
 pub mod Raising
 pub mod Catching
 pub mod Burying
+pub mod Steps
 pub mod Resumed
 pub mod Worlds

@@ -1,17 +1,17 @@
 -- How both worlds stand between two steps of the machine, by the ending of its row, where no activation runs.
-use Rattle.std.specs.Prelude.{◌≡◌, ℕ, Bool, true, false, List, [], ◌∷◌, Some, slice_get}
+use Rattle.std.specs.Prelude.{◌≡◌, ℕ, Bool, true, false, List, [], ◌∷◌, Option, Some, slice_get}
 use Rattle.int_core.specs.Value.{Value, object, a_coroutine, last}
 use Rattle.int_core.specs.Ask.{faulted}
 use Rattle.machine_core.specs.World.{Frame, lua, Coroutine, World}
-use Rattle.machine_core.specs.Moves.{see_top, Ending, go, asks, calls_primitive, raised, unwinding, spent, Outcome, ends, act, run}
+use Rattle.machine_core.specs.Moves.{see_top, runs_main, Ending, go, returned, asks, calls_primitive, raised, unwinding, spent, Outcome, ends, Row, act, run}
 use Rattle.machine_core.specs.FrameRows.{hand_over, blames, handed_to, unwound, raised_row}
-use Rattle.machine_core.specs.MachineStep.{pcall_row, xpcall_row, close_row}
+use Rattle.machine_core.specs.MachineStep.{pcall_row, xpcall_row, close_row, step_by}
 use Rattle.lua_meaning.specs.World.{waiting, handling, gives_back, raises_error, unwinds, now_in, raises_text, answered}
 use Rattle.lua_meaning.specs.World as talk
 use Rattle.lua_meaning.specs.Calls.{calls_value, error_in_handler, handed}
 use Rattle.lua_meaning.specs.Calls as calls
-use Rattle.lua_meaning.specs.Primitives.{lua_pcall, lua_xpcall, coroutine_close}
-use Rattle.lua_meaning.specs.Step.{does_primitive}
+use Rattle.lua_meaning.specs.Primitives.{Primitive, lua_pcall, lua_xpcall, coroutine_close}
+use Rattle.lua_meaning.specs.Step.{does_primitive, tick}
 use Rattle.code_means.specs.Runs.{codes_run}
 use Rattle.machine_sound.specs.Sound.{Solid, StackWaits}
 use Rattle.machine_means.specs.Joined.{TalkFrame, TalkWorld, Joined}
@@ -80,3 +80,20 @@ ErrorsRaised = (primitives : ℕ) (M : World) (T : TalkWorld) → AtRest primiti
 abbrev pub CoroutinesClosed : Type 0
 CoroutinesClosed = (primitives : ℕ) (M : World) (T : TalkWorld) → AtRest primitives false M T → (co : ℕ) (vs : List Value) → M.moving ≡ object a_coroutine co ∷ vs → (c : Coroutine) → slice_get M.coroutines co ≡ Some c
     → ComesTo (run close_row [] M) (does_primitive codes_run coroutine_close T (object a_coroutine co ∷ vs))
+
+-- where results are handed to a frame that is no Lua function's, or an error is raised or reaches such a frame
+abbrev pub IsHanding : Ending → Type 0
+IsHanding returned = Unit {0}
+IsHanding raised = Unit {0}
+IsHanding unwinding = Unit {0}
+IsHanding _ = ⊥
+
+-- the frame on top is no Lua function's; where there is none, another coroutine resumed the running one
+pub record NoLuaTop (M : World) (frames : List Frame) : Type 0 where
+  pub top : (m : Frame) → last frames ≡ Some m → IsLua m → ⊥
+  pub resumed : frames ≡ [] → runs_main M ≡ false
+
+-- there one step of the machine is one of the other world
+abbrev pub HandingSteps : Type 0
+HandingSteps = (primitives : ℕ) (rows : ℕ → Row) (known : ℕ → Option Primitive) (ending : Ending) → IsHanding ending → (M : World) (T : TalkWorld) → Solid primitives M → (waits : StackWaits primitives M) → NoLuaTop M waits.frames → Stands ending M T
+    → ComesTo (step_by rows ending M) (tick codes_run known T)

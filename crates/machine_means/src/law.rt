@@ -1,6 +1,6 @@
 // The laws, each with what it speaks of in `specs/`.
 ghost use Rattle.machine_means.specs.Laws.{EndsJoined, FailsJoined, ResumesJoined, WritesJoined, YieldsJoined};
-ghost use Rattle.machine_means.specs.Stands.{CoroutinesClosed, ErrorsRaised, ErrorsReach, ProtectedCalls, ResultsReach, TextsRaised};
+ghost use Rattle.machine_means.specs.Stands.{CoroutinesClosed, ErrorsRaised, ErrorsReach, HandingSteps, ProtectedCalls, ResultsReach, TextsRaised};
 
 /// A cell that is written keeps a world of the machine and one of talking activations joined, whether it is closed or open, and in the
 /// frames of whichever coroutine, the one that runs or another one.
@@ -29,4 +29,10 @@ pub fn frames_keep_worlds_joined()
     ensures raised { ErrorsRaised }
     ensures protected { ProtectedCalls }
     ensures closed { CoroutinesClosed }
+{}
+
+/// So from a sound world in which results are handed to a frame that is no Lua function's, or an error is raised or reaches such a
+/// frame, one step of the machine is one step of the world in which activations talk, and both stand alike again.
+pub fn handing_steps_keep_worlds_joined()
+    ensures { HandingSteps }
 {}
