@@ -21,5 +21,6 @@ pub mod Raising
 pub mod Catching
 pub mod Burying
 pub mod Steps
+pub mod Entering
 pub mod Resumed
 pub mod Worlds

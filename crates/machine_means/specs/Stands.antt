@@ -3,8 +3,8 @@ use Rattle.std.specs.Prelude.{◌≡◌, ℕ, Bool, true, false, List, [], ◌�
 use Rattle.int_core.specs.Value.{Value, object, a_coroutine, last}
 use Rattle.int_core.specs.Ask.{faulted}
 use Rattle.machine_core.specs.World.{Frame, lua, Coroutine, World}
-use Rattle.machine_core.specs.Moves.{see_top, runs_main, Ending, go, returned, asks, calls_primitive, raised, unwinding, spent, Outcome, ends, Row, act, run}
-use Rattle.machine_core.specs.FrameRows.{hand_over, blames, handed_to, unwound, raised_row}
+use Rattle.machine_core.specs.Moves.{see_top, runs_main, Ending, go, returned, asks, calls_primitive, raised, unwinding, spent, Outcome, trapped, ends, Row, act, run}
+use Rattle.machine_core.specs.FrameRows.{hand_over, blames, handed_to, unwound, raised_row, asked_row}
 use Rattle.machine_core.specs.MachineStep.{pcall_row, xpcall_row, close_row, step_by}
 use Rattle.lua_meaning.specs.World.{waiting, handling, gives_back, raises_error, unwinds, now_in, raises_text, answered}
 use Rattle.lua_meaning.specs.World as talk
@@ -97,3 +97,9 @@ pub record NoLuaTop (M : World) (frames : List Frame) : Type 0 where
 abbrev pub HandingSteps : Type 0
 HandingSteps = (primitives : ℕ) (rows : ℕ → Row) (known : ℕ → Option Primitive) (ending : Ending) → IsHanding ending → (M : World) (T : TalkWorld) → Solid primitives M → (waits : StackWaits primitives M) → NoLuaTop M waits.frames → Stands ending M T
     → ComesTo (step_by rows ending M) (tick codes_run known T)
+
+-- what is asked for is called, where no Lua frame asks: a function is entered, which runs in both worlds; a primitive is called; nothing is
+-- left to pay with; or the call is refused. The other world has done so already
+abbrev pub AskedSteps : Type 0
+AskedSteps = (primitives : ℕ) (M : World) (T : TalkWorld) → Solid primitives M → (waits : StackWaits primitives M) → ((m : Frame) → last waits.frames ≡ Some m → IsLua m → ⊥) → Stands asks M T → (run asked_row [] M ≡ trapped → ⊥)
+    → ComesTo (run asked_row [] M) T

@@ -1,6 +1,6 @@
 // The laws, each with what it speaks of in `specs/`.
 ghost use Rattle.machine_means.specs.Laws.{EndsJoined, FailsJoined, ResumesJoined, WritesJoined, YieldsJoined};
-ghost use Rattle.machine_means.specs.Stands.{CoroutinesClosed, ErrorsRaised, ErrorsReach, HandingSteps, ProtectedCalls, ResultsReach, TextsRaised};
+ghost use Rattle.machine_means.specs.Stands.{AskedSteps, CoroutinesClosed, ErrorsRaised, ErrorsReach, HandingSteps, ProtectedCalls, ResultsReach, TextsRaised};
 
 /// A cell that is written keeps a world of the machine and one of talking activations joined, whether it is closed or open, and in the
 /// frames of whichever coroutine, the one that runs or another one.
@@ -35,4 +35,11 @@ pub fn frames_keep_worlds_joined()
 /// frame, one step of the machine is one step of the world in which activations talk, and both stand alike again.
 pub fn handing_steps_keep_worlds_joined()
     ensures { HandingSteps }
+{}
+
+/// And from a sound world in which a value is to be called and no Lua function's frame asks for it, one step of the machine comes to where
+/// the other world, which has called it already, stands: a function runs in both, a primitive is called with the same arguments, nothing
+/// is left to pay with, or the call is refused with the same error.
+pub fn asked_steps_keep_worlds_joined()
+    ensures { AskedSteps }
 {}
