@@ -1,15 +1,14 @@
 -- What is asked for is called, in a step of its own: a function is entered, a primitive is called, nothing is left to pay with, or the call is refused.
 use Rattle.std.proofs.Common.{ℕ, zero, suc, ◌+◌, ◌<◌, ◌≡◌, List, [], ◌∷◌, ◌++◌, length, Option, Some, None, refl, sym, ap, subst, ◌∙◌, arith, Bool, true, false, cond}
-use Rattle.std.specs.Prelude.{slice_get, slice_set, nat_le, drop}
+use Rattle.std.specs.Prelude.{slice_get, nat_le}
 use Rattle.int_core.specs.Value.{Value, known, object, nil, boolean, integer, string, primitive, a_table, a_function, a_coroutine, bind, last}
 use Rattle.int_core.specs.Operations.{Callee, callee, not_callable, callee_of, greatest_chain}
 use Rattle.int_core.specs.Limits.{greatest_depth, stack_overflow}
 use Rattle.list_laws.specs.Held.{Held}
-use Rattle.list_laws.proofs.Ends.{upward, length_upward}
 use Rattle.machine_core.specs.World as machine
-use Rattle.machine_core.specs.World.{Frame, lua, pcall, xpcall, handler, in_progress, Stack, push, put_frames}
+use Rattle.machine_core.specs.World.{Frame, lua, pcall, xpcall, handler, Stack, push}
 use Rattle.machine_core.specs.Text.{read}
-use Rattle.machine_core.specs.Moves.{Made, made, call_value, CallShape, is_entered, not_paid, not_entered, TopShape, top_shape, enters, enters_paid, called, new_frame, has_room, push_all, blamed, go, calls_primitive, spent, raised, unwinding, Outcome, trapped, ends, act, run}
+use Rattle.machine_core.specs.Moves.{Made, made, call_value, CallShape, is_entered, not_paid, not_entered, TopShape, top_shape, enters, enters_paid, called, new_frame, has_room, push_all, blamed, go, calls_primitive, spent, raised, unwinding, Outcome, trapped, act, run}
 use Rattle.machine_core.specs.FrameRows.{asked_row, after_asked, refused_under as machine_refuses, gives_up, blames}
 use Rattle.machine_core.specs.Talk.{talk_start}
 use Rattle.lua_meaning.specs.World as talk
@@ -17,17 +16,15 @@ use Rattle.lua_meaning.specs.World.{talking, talks, now_in, raises_text, raises_
 use Rattle.lua_meaning.specs.Calls as calls
 use Rattle.lua_meaning.specs.Calls.{pays_for, error_in_handler}
 use Rattle.code_means.specs.Runs.{codes_run}
-use Rattle.machine_means.specs.Joined.{TalkFrame, TalkWorld, Dressed, Pair, Stacks, Joined}
-use Rattle.machine_means.specs.Works.{RunsOver, Works}
+use Rattle.machine_means.specs.Joined.{TalkFrame, TalkWorld, Dressed, Pair, Joined}
+use Rattle.machine_means.specs.Works.{Works}
 use Rattle.machine_means.specs.Stands.{refused_under, Stands, call_asked, error_raised, error_leaves, primitive_called, budget_spent, code_runs, ComesTo, AtRest, IsLua, AskedSteps}
-use Rattle.machine_means.proofs.Held.{reverse_is}
 use Rattle.machine_means.proofs.Pending.{both_first}
-use Rattle.machine_means.proofs.Switches.{co_put, set_same, running_is}
 use Rattle.machine_means.proofs.Handing.{told_now}
 use Rattle.machine_means.proofs.Loosened.{loosened}
-use Rattle.machine_means.proofs.Frames.{cells_hold, holds_nothing, found}
 use Rattle.machine_means.proofs.AtRest.{stack_now, only, top}
 use Rattle.machine_means.proofs.Raising.{blamed_same, same_room}
+use Rattle.machine_means.proofs.Entered.{works}
 
 -- nothing that joins the worlds looks at what moves, and both have paid the same
 pub paid : (M : machine.World) (T : TalkWorld) (lax : Bool) (fuel : ℕ) (mv : List Value) → Joined lax M T → Joined lax (record M { fuel = fuel; moving = mv }) (record T { fuel = fuel })
@@ -123,52 +120,8 @@ module _ (primitives : ℕ) (M : machine.World) (U : TalkWorld) (k : AtRest prim
     abbrev talks_so : TalkWorld
     talks_so = record U { fuel = fuel; frames = talking n (talk_start f.code vs) ∷ U.frames; now = talks }
 
-    works : Works entered talks_so
-    unfolding push put_frames
-    works =
-        let p = found M U k.waits.coroutine k.waits.frames false k.joined k.waits.running (only primitives M U false k) in
-        let run0 : List Frame → List Held → Type 0 = λ fr hs. Stacks false M.functions U.cells fr U.frames hs in
-        let r = running_is M.functions U.cells run0 k.waits.frames p.0 p.1 p.4 in
-        let st = r.1 in
-        let up : k.waits.frames ≡ upward st.ms = st.listed ∙ reverse_is st.ms in
-        let size : length k.waits.frames ≡ length st.ms = ap (λ l. length l) up ∙ length_upward st.ms in
-        let going : slice_get U.coroutines k.waits.coroutine ≡ Some talk.running = p.2 ∙ ap Some r.0 in
-        let start : machine.Activation = record { pc = 0; registers = Rattle.machine_core.specs.Moves.fitted f.code.own.stack (Rattle.std.specs.Prelude.take f.code.own.params vs); varargs = cond f.code.own.vararg (drop f.code.own.params vs) []; pending = []; opened = 0 } in
-        let fr : machine.LuaFrame = record { function = n; wait = machine.running; own = start } in
-        record {
-          heap = k.joined.heap;
-          globals = k.joined.globals;
-          printed = k.joined.printed;
-          fuel = refl;
-          chain = k.joined.chain;
-          functions = k.joined.functions;
-          now = refl;
-          frame = fr;
-          runs = refl;
-          function = f;
-          there = there;
-          a = start;
-          captured = record { held = []; gone = [] };
-          alike = record { fixed = refl; values = λ r. refl; size = omega arith };
-          not_own = λ r c u m e. absurd m;
-          below = st.ms;
-          talks_below = U.frames;
-          top = refl;
-          held = slice_set k.joined.held k.waits.coroutine ([] ∷ p.1);
-          cells = cells_hold M.cells U.cells k.joined.held k.joined.cells k.waits.coroutine p.1 ([] ∷ p.1) p.3 (holds_nothing p.1);
-          coroutines =
-              subst (λ ds. Rattle.machine_means.specs.Joined.CoroutinesPair M.functions U.cells (RunsOver M.functions U.cells fr st.ms U.frames []) (slice_set M.coroutines k.waits.coroutine (in_progress (k.waits.frames ++ lua fr ∷ []))) ds (slice_set k.joined.held k.waits.coroutine ([] ∷ p.1)))
-              (set_same U.coroutines k.waits.coroutine talk.running going)
-              (co_put M.functions U.cells run0 (RunsOver M.functions U.cells fr st.ms U.frames []) M.coroutines U.coroutines k.joined.held k.waits.coroutine (in_progress k.waits.frames) (in_progress (k.waits.frames ++ lua fr ∷ [])) talk.running talk.running p.1 ([] ∷ p.1)
-              (λ j fr e n. n (sym (only primitives M U false k j fr e))) k.waits.running going p.3
-              (record {
-                more = p.1;
-                is_held = refl;
-                listed = ap (λ l. l ++ lua fr ∷ []) up ∙ sym (reverse_is (lua fr ∷ st.ms));
-                waits = st.below;
-                depth = subst (λ n. n < greatest_depth) size (room_over (length k.waits.frames) greatest_depth room);
-              }) k.joined.coroutines);
-        }
+    works_so : Works entered talks_so
+    works_so = works M U k.waits.coroutine k.waits.frames k.joined k.waits.running (only primitives M U false k) n f there vs fuel (room_over (length k.waits.frames) greatest_depth room)
 
     entering : (env : List Value) → ComesTo (run (after_asked is_entered) env entered) (calls.enters_function codes_run (told fuel) n (slice_get U.functions n) vs (refused_under U.frames))
     entering env =
@@ -177,7 +130,7 @@ module _ (primitives : ℕ) (M : machine.World) (U : TalkWorld) (k : AtRest prim
         ap (λ o. calls.enters_function codes_run (told fuel) n o vs (refused_under U.frames)) g.1
         ∙ ap (λ b. cond b (record U { fuel = fuel; frames = talking n (talk_start g.0.made_of vs) ∷ U.frames; now = talks }) (refused_under U.frames stack_overflow (told fuel))) (same_room primitives M U false k true room)
         ∙ ap (λ p. record U { fuel = fuel; frames = talking n (talk_start p vs) ∷ U.frames; now = talks }) g.2.code in
-        record { ending = go; world = entered; is = refl; stands = subst (λ V. Stands go entered V) (sym says) (code_runs entered talks_so works) }
+        record { ending = go; world = entered; is = refl; stands = subst (λ V. Stands go entered V) (sym says) (code_runs entered talks_so works_so) }
 
   -- a function is called, by what stands at its number
   module _ (n : ℕ) (vs : List Value) (fuel : ℕ) (env : List Value) where

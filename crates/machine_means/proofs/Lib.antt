@@ -21,6 +21,8 @@ pub mod Raising
 pub mod Catching
 pub mod Burying
 pub mod Steps
+pub mod Entered
 pub mod Entering
+pub mod Beginning
 pub mod Resumed
 pub mod Worlds

@@ -2,15 +2,15 @@
 use Rattle.std.specs.Prelude.{◌≡◌, ℕ, Bool, true, false, List, [], ◌∷◌, Option, Some, slice_get}
 use Rattle.int_core.specs.Value.{Value, object, a_coroutine, last}
 use Rattle.int_core.specs.Ask.{faulted}
-use Rattle.machine_core.specs.World.{Frame, lua, Coroutine, World}
+use Rattle.machine_core.specs.World.{Frame, lua, Coroutine, fresh, World}
 use Rattle.machine_core.specs.Moves.{see_top, runs_main, Ending, go, returned, asks, calls_primitive, raised, unwinding, spent, Outcome, trapped, ends, Row, act, run}
 use Rattle.machine_core.specs.FrameRows.{hand_over, blames, handed_to, unwound, raised_row, asked_row}
-use Rattle.machine_core.specs.MachineStep.{pcall_row, xpcall_row, close_row, step_by}
+use Rattle.machine_core.specs.MachineStep.{pcall_row, xpcall_row, resume_row, close_row, step_by}
 use Rattle.lua_meaning.specs.World.{waiting, handling, gives_back, raises_error, unwinds, now_in, raises_text, answered}
 use Rattle.lua_meaning.specs.World as talk
 use Rattle.lua_meaning.specs.Calls.{calls_value, error_in_handler, handed}
 use Rattle.lua_meaning.specs.Calls as calls
-use Rattle.lua_meaning.specs.Primitives.{Primitive, lua_pcall, lua_xpcall, coroutine_close}
+use Rattle.lua_meaning.specs.Primitives.{Primitive, lua_pcall, lua_xpcall, coroutine_close, coroutine_resume}
 use Rattle.lua_meaning.specs.Step.{does_primitive, tick}
 use Rattle.code_means.specs.Runs.{codes_run}
 use Rattle.machine_sound.specs.Sound.{Solid, StackWaits}
@@ -80,6 +80,11 @@ ErrorsRaised = (primitives : ℕ) (M : World) (T : TalkWorld) → AtRest primiti
 abbrev pub CoroutinesClosed : Type 0
 CoroutinesClosed = (primitives : ℕ) (M : World) (T : TalkWorld) → AtRest primitives false M T → (co : ℕ) (vs : List Value) → M.moving ≡ object a_coroutine co ∷ vs → (c : Coroutine) → slice_get M.coroutines co ≡ Some c
     → ComesTo (run close_row [] M) (does_primitive codes_run coroutine_close T (object a_coroutine co ∷ vs))
+
+-- a coroutine that has not begun is resumed: its function runs, or the primitive that it is made of is called, or that is refused
+abbrev pub CoroutinesBegin : Type 0
+CoroutinesBegin = (primitives : ℕ) (M : World) (T : TalkWorld) → AtRest primitives false M T → (co : ℕ) (vs : List Value) → M.moving ≡ object a_coroutine co ∷ vs → (body : Value) → slice_get M.coroutines co ≡ Some (fresh body) → (run resume_row [] M ≡ trapped → ⊥)
+    → ComesTo (run resume_row [] M) (does_primitive codes_run coroutine_resume T (object a_coroutine co ∷ vs))
 
 -- where results are handed to a frame that is no Lua function's, or an error is raised or reaches such a frame
 abbrev pub IsHanding : Ending → Type 0

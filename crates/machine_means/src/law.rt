@@ -1,6 +1,6 @@
 // The laws, each with what it speaks of in `specs/`.
 ghost use Rattle.machine_means.specs.Laws.{EndsJoined, FailsJoined, ResumesJoined, WritesJoined, YieldsJoined};
-ghost use Rattle.machine_means.specs.Stands.{AskedSteps, CoroutinesClosed, ErrorsRaised, ErrorsReach, HandingSteps, ProtectedCalls, ResultsReach, TextsRaised};
+ghost use Rattle.machine_means.specs.Stands.{AskedSteps, CoroutinesBegin, CoroutinesClosed, ErrorsRaised, ErrorsReach, HandingSteps, ProtectedCalls, ResultsReach, TextsRaised};
 
 /// A cell that is written keeps a world of the machine and one of talking activations joined, whether it is closed or open, and in the
 /// frames of whichever coroutine, the one that runs or another one.
@@ -42,4 +42,10 @@ pub fn handing_steps_keep_worlds_joined()
 /// is left to pay with, or the call is refused with the same error.
 pub fn asked_steps_keep_worlds_joined()
     ensures { AskedSteps }
+{}
+
+/// Where a coroutine that has not begun is resumed, its function runs in both worlds, or the primitive that it is made of is called with the
+/// same arguments, or too many others are resumed already, which both say.
+pub fn first_calls_keep_worlds_joined()
+    ensures { CoroutinesBegin }
 {}
