@@ -3,3 +3,6 @@ mod Reading
 pub mod Equal
 mod Tables
 mod Growing
+mod Numbered
+mod Opened
+mod Walk

@@ -2,6 +2,7 @@
 #![tactic(auto)]
 
 mod codes;
+mod functions;
 pub mod law;
 mod objects;
 mod opening;
@@ -9,6 +10,7 @@ mod strings;
 #[cfg(test)]
 mod tests;
 mod texts;
+mod trees;
 mod world;
 
 pub use codes::{Code, Codes};
