@@ -6,3 +6,4 @@ mod Growing
 mod Numbered
 mod Opened
 mod Walk
+mod Added

@@ -1,6 +1,7 @@
 //! The objects of a world: strings, each once for its content (Lua's lstring.c), code, and what kept values stand for.
 #![tactic(auto)]
 
+mod adding;
 mod codes;
 mod functions;
 pub mod law;
