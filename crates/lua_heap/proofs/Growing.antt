@@ -24,16 +24,17 @@ use Rattle.lua_heap.specs.declared.world.Cell.TheVariants.{Closed, Open}
 use Rattle.lua_heap.specs.declared.world.Coro.{Coro}
 use Rattle.lua_heap.specs.declared.world.Coro.TheVariants.{Fresh, Suspended, Running, Normal, Dead, Failed}
 use Rattle.lua_heap.specs.declared.world.World.{World as Memory}
+use Rattle.lua_heap.specs.declared.codes.Code.{Code}
 use Rattle.lua_heap.specs.declared.codes.Codes.{Codes}
 use Rattle.lua_heap.specs.Strings.{interned}
 use Rattle.lua_heap.specs.Reading.{text_of, value}
-use Rattle.lua_heap.specs.Codes.{AreCodes}
+use Rattle.lua_heap.specs.Codes.{IsCode, AreCodes}
 use Rattle.lua_heap.specs.Plain.{table, cell, coroutine, plain}
 use Rattle.lua_heap.specs.Changes.{Interns}
 use Rattle.lua_heap.proofs.Reading.{value_stays, values_stay, rows_stay}
 
 -- what holds of each item on the one side may be used to go over to the other
-each_stays : {A B : Type 0} (f g : A → B) (P : B → Type 0) → ((a : A) → P (g a) → f a ≡ g a) → (xs : List A) → Each P (map g xs) → map f xs ≡ map g xs
+pub each_stays : {A B : Type 0} (f g : A → B) (P : B → Type 0) → ((a : A) → P (g a) → f a ≡ g a) → (xs : List A) → Each P (map g xs) → map f xs ≡ map g xs
 each_stays f g P step [] h = refl
 each_stays f g P step (a ∷ xs) h =
     ap (λ b. b ∷ map f xs) (step a (h 0 (g a) refl)) ∙ ap (λ bs. g a ∷ bs) (each_stays f g P step xs (λ i b e. h (suc i) b e))
@@ -129,7 +130,7 @@ constant_valid True h = tt
 constant_valid (Int n) h = tt
 constant_valid (Text bytes) h = le_of _ _ h
 
-constants_stay : (texts : List (List ℕ)) (s : List ℕ) (cs : List Kept) (ks : List Const) → list_all constant_fits ks ≡ true
+pub constants_stay : (texts : List (List ℕ)) (s : List ℕ) (cs : List Kept) (ks : List Const) → list_all constant_fits ks ≡ true
     → map (value texts) cs ≡ map (λ k. known (constant k)) ks → map (value (texts ++ s ∷ [])) cs ≡ map (value texts) cs
 constants_stay texts s [] ks h e = refl
 constants_stay texts s (c ∷ cs) [] h e = absurd (cc)
@@ -140,7 +141,7 @@ constants_stay texts s (c ∷ cs) (k ∷ ks) h e =
     ap (λ v. v ∷ map (value (texts ++ s ∷ [])) cs) (value_stays none_there texts s c valid)
     ∙ ap (λ vs. value texts c ∷ vs) (constants_stay texts s cs ks (both_of _ _ h).1 rest)
 
-constants_fit : (p : Prototype) → IsChecked p → list_all constant_fits p.own.constants ≡ true
+pub constants_fit : (p : Prototype) → IsChecked p → list_all constant_fits p.own.constants ≡ true
 constants_fit p h =
     let own : Parts = p.own in
     let parts : parts_fit own ≡ true = first_of_two (parts_fit own) _ (described_is_writable p h.code.described) in
@@ -149,22 +150,23 @@ constants_fit p h =
     let entries = rest_of (lists_fit own) bytes in
     first_of_two (list_all constant_fits own.constants) _ (rest_of (list_all word_fits own.code) entries)
 
+pub code_stays : (texts : List (List ℕ)) (s : List ℕ) (n : ℕ) (p : Prototype) (code : Code) → IsCode texts n p code → IsCode (texts ++ s ∷ []) n p code
+code_stays texts s n p code k = record {
+  checked = k.checked;
+  words = k.words;
+  constants = constants_stay texts s code.constants.items p.own.constants (constants_fit p k.checked) k.constants ∙ k.constants;
+  stack = k.stack;
+  params = k.params;
+  vararg = k.vararg;
+  upvalues = k.upvalues;
+  inner = k.inner;
+}
+
 codes_stay : (texts : List (List ℕ)) (s : List ℕ) (codes : Codes) → AreCodes texts codes → AreCodes (texts ++ s ∷ []) codes
 codes_stay texts s codes h = record {
   count = h.count;
   firsts = h.firsts;
-  each = λ n p code e f.
-      let k = h.each n p code e f in
-      record {
-        checked = k.checked;
-        words = k.words;
-        constants = constants_stay texts s code.constants.items p.own.constants (constants_fit p k.checked) k.constants ∙ k.constants;
-        stack = k.stack;
-        params = k.params;
-        vararg = k.vararg;
-        upvalues = k.upvalues;
-        inner = k.inner;
-      };
+  each = λ n p code e f. code_stays texts s n p code (h.each n p code e f);
 }
 
 -- whether the string was there or not

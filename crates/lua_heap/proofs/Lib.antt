@@ -6,3 +6,5 @@ mod Growing
 mod Numbered
 mod Opened
 mod Walk
+mod Added
+mod Listed

@@ -3,5 +3,7 @@ pub mod Reading
 pub mod Codes
 pub mod Plain
 pub mod Changes
+pub mod Adding
+pub mod Cells
 pub mod Opening
 pub mod Law

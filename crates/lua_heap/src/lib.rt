@@ -1,6 +1,8 @@
 //! The objects of a world: strings, each once for its content (Lua's lstring.c), code, and what kept values stand for.
 #![tactic(auto)]
 
+mod adding;
+mod cells;
 mod codes;
 mod functions;
 pub mod law;
