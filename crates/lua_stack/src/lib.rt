@@ -3,8 +3,10 @@
 
 mod calls;
 mod cells;
+mod closing;
 mod frame;
 mod frames;
+mod leaving;
 mod pending;
 mod registers;
 mod stack;

@@ -61,7 +61,7 @@ impl Stack {
 
 /// Where the pending registers of a frame end, which is no further than `room`.
 #[inline(always)]
-fn marks_end(window: Window, room: usize) -> usize
+pub(crate) fn marks_end(window: Window, room: usize) -> usize
     requires { window.marks + window.marked ≤ room }
     ensures { result ≡ window.marks + window.marked }
 {
