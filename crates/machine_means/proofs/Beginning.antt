@@ -118,7 +118,7 @@ module _ (primitives : ℕ) (M : machine.World) (T : TalkWorld) (k : AtRest prim
           (get_set_same (slice_set beside co (in_progress [])) co (in_progress []) (in_progress (new_frame n f.code vs ∷ [])) runs_now)
 
       works_so : Works V talks_so
-      works_so = works (gone []) U co [] (joined []) runs_now alone n f at vs M.fuel (omega arith)
+      works_so = works (gone []) U co [] (joined []) runs_now alone n f at vs M.fuel (omega arith) []
 
       hands : run hand_over (env ++ []) V ≡ ends go V
       hands = hand_over_is V (record { coroutine = co; frames = new_frame n f.code vs ∷ [] }) (env ++ []) stack_entered

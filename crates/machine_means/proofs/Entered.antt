@@ -18,9 +18,9 @@ use Rattle.machine_means.proofs.Switches.{OnlyRuns, co_put, set_same, running_is
 use Rattle.machine_means.proofs.Frames.{cells_hold, holds_nothing, found}
 
 module _ (M : machine.World) (U : TalkWorld) (co : ℕ) (frames : List Frame) (k : Joined false M U) (runs : slice_get M.coroutines co ≡ Some (in_progress frames)) (only : OnlyRuns M.coroutines co)
-    (n : ℕ) (f : machine.Function) (there : slice_get M.functions n ≡ Some f) (vs : List Value) (fuel : ℕ) (room : length frames < greatest_depth) where
+    (n : ℕ) (f : machine.Function) (there : slice_get M.functions n ≡ Some f) (vs : List Value) (fuel : ℕ) (room : length frames < greatest_depth) (mv : List Value) where
   abbrev pub entered : machine.World
-  entered = push (record M { fuel = fuel; moving = [] }) (record { coroutine = co; frames = frames }) (new_frame n f.code vs)
+  entered = push (record M { fuel = fuel; moving = mv }) (record { coroutine = co; frames = frames }) (new_frame n f.code vs)
 
   abbrev pub talks_so : TalkWorld
   talks_so = record U { fuel = fuel; frames = talking n (talk_start f.code vs) ∷ U.frames; now = talks }

@@ -40,7 +40,7 @@ paid M T lax fuel mv k = record {
   coroutines = k.coroutines;
 }
 
-room_over : (n d : ℕ) → nat_le (n + 1) d ≡ true → n < d
+pub room_over : (n d : ℕ) → nat_le (n + 1) d ≡ true → n < d
 room_over n d e = grind (arith, Rattle.std.proofs.lemmas.Bool.Decides.nat_tests)
 
 module _ (primitives : ℕ) (M : machine.World) (U : TalkWorld) (k : AtRest primitives false M U) (no_lua : (m : Frame) → last k.waits.frames ≡ Some m → IsLua m → ⊥) where
@@ -95,7 +95,7 @@ module _ (primitives : ℕ) (M : machine.World) (U : TalkWorld) (k : AtRest prim
   by_top text fuel env mv (machine.closing d us) e (talk.closing d' ws) ts h p = raising_paid text fuel (env ++ []) mv
   by_top text fuel env mv _ e _ ts h p = absurd p
 
-  refused : (text : List ℕ) (fuel : ℕ) (env mv : List Value) → ComesTo (run (after_asked (not_entered text)) env (after fuel mv)) (refused_under U.frames text (told fuel))
+  pub refused : (text : List ℕ) (fuel : ℕ) (env mv : List Value) → ComesTo (run (after_asked (not_entered text)) env (after fuel mv)) (refused_under U.frames text (told fuel))
   refused text fuel env mv = from (last k.waits.frames) refl
     where
       from : (o : Option Frame) → last k.waits.frames ≡ o → ComesTo (run (after_asked (not_entered text)) env (record M { fuel = fuel; moving = mv })) (refused_under U.frames text (record U { fuel = fuel }))
@@ -121,7 +121,7 @@ module _ (primitives : ℕ) (M : machine.World) (U : TalkWorld) (k : AtRest prim
     talks_so = record U { fuel = fuel; frames = talking n (talk_start f.code vs) ∷ U.frames; now = talks }
 
     works_so : Works entered talks_so
-    works_so = works M U k.waits.coroutine k.waits.frames k.joined k.waits.running (only primitives M U false k) n f there vs fuel (room_over (length k.waits.frames) greatest_depth room)
+    works_so = works M U k.waits.coroutine k.waits.frames k.joined k.waits.running (only primitives M U false k) n f there vs fuel (room_over (length k.waits.frames) greatest_depth room) []
 
     entering : (env : List Value) → ComesTo (run (after_asked is_entered) env entered) (calls.enters_function codes_run (told fuel) n (slice_get U.functions n) vs (refused_under U.frames))
     entering env =

@@ -12,7 +12,7 @@ abbrev pub ending_of : TopShape → Ending
 ending_of lua_top = go
 ending_of _ = returned
 
-handed_is : (top : TopShape) (env : List Value) (W : World) → run (handed top) env W ≡ ends (ending_of top) W
+pub handed_is : (top : TopShape) (env : List Value) (W : World) → run (handed top) env W ≡ ends (ending_of top) W
 handed_is lua_top env W = refl
 handed_is pcall_top env W = refl
 handed_is xpcall_top env W = refl

@@ -64,7 +64,7 @@ module _ (M : machine.World) (T : TalkWorld) (dressed : FunctionsPair M.function
   one_more None (Some y) e xs ps ih n = absurd (cc)
   one_more (Some x) None e xs ps ih n = absurd (cc)
 
-  below_places : (lax : Bool) (ms : List Frame) (ts : List TalkFrame) (hs : List Held) → Below lax M.functions T.cells ms ts hs → (n : ℕ) → text_at (filter_map (frame_place M) ms) n ≡ where_among T n (positions_of T ts)
+  pub below_places : (lax : Bool) (ms : List Frame) (ts : List TalkFrame) (hs : List Held) → Below lax M.functions T.cells ms ts hs → (n : ℕ) → text_at (filter_map (frame_place M) ms) n ≡ where_among T n (positions_of T ts)
   below_places lax [] [] [] k n = refl
   below_places lax (m ∷ ms) (t ∷ ts) (h ∷ hs) k n =
       one_more (frame_place M m) (position_of T t) (pair_place lax m t h k.0) (filter_map (frame_place M) ms) (positions_of T ts) (below_places (under m) ms ts hs k.1) n

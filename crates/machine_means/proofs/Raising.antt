@@ -25,7 +25,7 @@ use Rattle.machine_means.proofs.Frames.{own_stack, pushed}
 use Rattle.machine_means.proofs.Places.{where_same}
 use Rattle.machine_means.proofs.AtRest.{stack_now, only}
 
-talks_length : (lax : Bool) (fs : List machine.Function) (vs : List Value) (ms : List Frame) (ts : List TalkFrame) (hs : List Held) → Below lax fs vs ms ts hs → length ts ≡ length ms
+pub talks_length : (lax : Bool) (fs : List machine.Function) (vs : List Value) (ms : List Frame) (ts : List TalkFrame) (hs : List Held) → Below lax fs vs ms ts hs → length ts ≡ length ms
 talks_length lax fs vs [] [] [] k = refl
 talks_length lax fs vs (m ∷ ms) (t ∷ ts) (h ∷ hs) k = ap suc (talks_length (under m) fs vs ms ts hs k.1)
 talks_length lax fs vs _ _ _ k = absurd k
