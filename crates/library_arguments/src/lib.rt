@@ -18,6 +18,6 @@ pub use reading::{
     argument, integer_argument, integer_or, is_absent, number_of, text_argument, text_or,
 };
 pub use refusal::{Fault, Refusal};
-pub use results::Results;
+pub use results::{Results, fit_lengths};
 pub use shape::{Kind, Shape};
 pub use text::{Digits, Text, text_of};

@@ -52,7 +52,7 @@ impl Results {
 }
 
 /// Whether each string has at most 16,777,216 bytes.
-fn fit_lengths(values: &[Plain]) -> bool
+pub fn fit_lengths(values: &[Plain]) -> bool
     ensures { result ≡ list_all fits_length (map known_of values.now) }
 {
     for value in values {

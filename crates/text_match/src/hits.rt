@@ -1,8 +1,8 @@
 // The first match at one of some places.
-ghost use Rattle.std.specs.Prelude.{◌≡◌, ◌≤◌, ◌+◌, length, IfOk};
+ghost use Rattle.std.specs.Prelude.{◌≡◌, ◌≤◌, ◌+◌, length, IfOk, IfSome};
 ghost use Rattle.lua_pattern.specs.Answer.{first_found};
 ghost use Rattle.library_rows.specs.Searches.{counts, ends_there, first_hit};
-ghost use Rattle.text_match.specs.Told.{told_hit};
+ghost use Rattle.text_match.specs.Told.{IsWithin, told_hit};
 
 use lua_pattern::{Capture, Pattern};
 use std::alloc::{AllocError, Global};
@@ -29,7 +29,8 @@ pub fn first_hit(
     left: usize,
 ) -> Result<Option<Hit>, AllocError>
     requires { at + left ≤ length subject.now }
-    ensures { IfOk result (λ hit. told_hit hit ≡ first_hit barred subject.now items.now at left) }
+    ensures first { IfOk result (λ hit. told_hit hit ≡ first_hit barred subject.now items.now at left) }
+    ensures inside { IfOk result (λ hit. IfSome hit (IsWithin (length subject.now))) }
 {
     let mut place = at;
     let mut more = left;
@@ -54,7 +55,8 @@ fn hit_at(
     at: usize,
 ) -> Result<Option<Hit>, AllocError>
     requires { at ≤ length subject.now }
-    ensures { IfOk result (λ hit. told_hit hit ≡ counts barred at (first_found subject.now items.now at)) }
+    ensures first { IfOk result (λ hit. told_hit hit ≡ counts barred at (first_found subject.now items.now at)) }
+    ensures inside { IfOk result (λ hit. IfSome hit (IsWithin (length subject.now))) }
 {
     let Some(found) = items.first_at(alloc, subject, at)? else {
         return Ok(None);

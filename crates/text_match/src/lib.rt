@@ -2,14 +2,12 @@
 //! `library_rows` says what the library's function gives.
 #![tactic(auto)]
 
-mod expanding;
 mod hits;
 mod plain;
 mod searching;
 #[cfg(test)]
 mod tests;
 
-pub use expanding::{ExpandFault, expand};
 pub use hits::{Hit, first_hit};
 pub use plain::find_plain;
 pub use searching::{next_hit, read_items, search};

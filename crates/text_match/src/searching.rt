@@ -1,7 +1,7 @@
 // Searches from a place on.
-ghost use Rattle.std.specs.Prelude.{◌≡◌, ◌≤◌, ◌<◌, ◌-◌, drop, length, IsTrue, Ok, IfOk, IfErr};
+ghost use Rattle.std.specs.Prelude.{◌≡◌, ◌≤◌, ◌<◌, ◌-◌, drop, length, IsTrue, Ok, IfOk, IfErr, IfSome};
 ghost use Rattle.library_rows.specs.Searches.{barred_end, hit_from, is_anchored, next_hit, pattern_items, search};
-ghost use Rattle.text_match.specs.Told.{IsFound, IsRefusedAs, told_hit};
+ghost use Rattle.text_match.specs.Told.{IsFound, IsRefusedAs, IsWithin, told_hit};
 
 use crate::hits::{Hit, first_hit};
 use lua_pattern::{Pattern, PatternFault};
@@ -32,7 +32,8 @@ pub fn search(
     at: usize,
 ) -> Result<Option<Hit>, PatternFault>
     requires { at ≤ length subject.now }
-    ensures { IsFound result (search subject.now pattern.now at) }
+    ensures found { IsFound result (search subject.now pattern.now at) }
+    ensures inside { IfOk result (λ hit. IfSome hit (IsWithin (length subject.now))) }
 {
     if is_anchored(pattern) {
         let items = read_items(alloc, without_anchor(pattern))?;
@@ -58,7 +59,8 @@ pub fn next_hit(
     last: usize,
     raw: bool,
 ) -> Result<Option<Hit>, PatternFault>
-    ensures { IsFound result (next_hit subject.now pattern.now at last raw) }
+    ensures found { IsFound result (next_hit subject.now pattern.now at last raw) }
+    ensures inside { IfOk result (λ hit. IfSome hit (IsWithin (length subject.now))) }
 {
     if is_anchored(pattern) && !raw {
         let items = read_items(alloc, without_anchor(pattern))?;
@@ -87,7 +89,8 @@ fn hit_from(
     left: usize,
 ) -> Result<Option<Hit>, AllocError>
     requires { left ≤ length subject.now - at }
-    ensures { IfOk result (λ hit. hit_from subject.now at last left (Ok items.now) ≡ Ok (told_hit hit)) }
+    ensures found { IfOk result (λ hit. hit_from subject.now at last left (Ok items.now) ≡ Ok (told_hit hit)) }
+    ensures inside { IfOk result (λ hit. IfSome hit (IsWithin (length subject.now))) }
 {
     if subject.len() < at {
         return Ok(None);

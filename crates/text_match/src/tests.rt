@@ -1,5 +1,5 @@
 // Expected values are lua5.4's.
-use crate::{ExpandFault, Hit, expand, find_plain, next_hit, search};
+use crate::{Hit, find_plain, next_hit, search};
 use lua_pattern::PatternFault;
 use std::test::Fail;
 
@@ -42,15 +42,4 @@ fn plain_texts_are_found(rt: HostRuntime) {
     assert_eq!(rt; find_plain(b"a.b.c", b".", 2), Some(3));
     assert_eq!(rt; find_plain(b"abc", b"", 3), Some(3));
     assert_eq!(rt; find_plain(b"abc", b"cd", 0), None);
-}
-
-#[test]
-fn replacements_have_their_captures(rt: HostRuntime) -> Result<(), Fail> {
-    let text = expand(rt.alloc(), b"<%0:%2%%>", &[b"ab", b"a", b"b"])?;
-    assert_eq!(rt; text.as_slice(), b"<ab:b%>".as_slice());
-    let missing = expand(rt.alloc(), b"%3", &[b"ab", b"a", b"b"]);
-    assert!(rt; matches!(missing, Err(ExpandFault::Index)));
-    let wrong = expand(rt.alloc(), b"%", &[b"ab"]);
-    assert!(rt; matches!(wrong, Err(ExpandFault::Escape)));
-    Ok(())
 }

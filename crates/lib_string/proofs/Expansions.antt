@@ -1,17 +1,12 @@
 -- A replacement, a byte at a time.
 use Rattle.std.proofs.Common.{◌≡◌, ℕ, suc, ◌+◌, ◌-◌, ◌<◌, ◌≤◌, Bool, true, false, List, [], ◌∷◌, ◌++◌, length, Option, Some, None, Ok, Err, refl, ap, subst, ◌∙◌, arith}
-use Rattle.std.specs.Prelude.{◌==◌, map, slice_get}
-use Rattle.std.specs.Option.{option_map}
-use Rattle.std.proofs.lemmas.Option.{slice_get-map}
+use Rattle.std.specs.Prelude.{◌==◌, codes}
 use Rattle.int_core.specs.Value.{Shape, string, greatest_string}
-use Rattle.library_rows.specs.Look.{no_word}
-use Rattle.text_functions.specs.Made.{text_shape}
 use Rattle.library_rows.specs.Plainly.{error, too_large}
 use Rattle.library_rows.specs.Arguments.{argument, one, with}
 use Rattle.library_rows.specs.Formats.{is_decimal, onto}
 use Rattle.library_rows.specs.Searches.{capture_text, escaped, expanded, expansion}
 use Rattle.text_functions.proofs.Pieces.{Made, after, IsSoFar, at_first, piece_fits, piece_is_refused, all_there}
-use Rattle.text_match.specs.Expanded.{invalid_index, invalid_use}
 
 -- what follows may be said in another way
 same_rest : (whole : Made) (text : List ℕ) (r s : ℕ → Made) → IsSoFar whole text r → ((room : ℕ) → r room ≡ s room) → IsSoFar whole text s
@@ -51,8 +46,8 @@ module _ (cs : List Shape) (all rest text : List ℕ) (so : IsExpandedSoFar cs a
     failed : (why : List ℕ) (r : ℕ → Made) → IsSoFar (expanded cs false all greatest_string) text r → ((room : ℕ) → r room ≡ Err why) → expansion all cs ≡ error why
     failed why r now e = ap (λ r. with r (λ bytes. one (string bytes))) (now.whole_is ∙ ap (after text) (e (greatest_string - length text)))
 
-    pub lone_escape : (b == 37) ≡ true → behind ≡ [] → expansion all cs ≡ error invalid_use
-    lone_escape same e = failed invalid_use _ (subst (λ bytes. IsSoFar (expanded cs false all greatest_string) text (λ room. expanded cs true bytes room)) e (escape same)) (λ room. refl)
+    pub lone_escape : (b == 37) ≡ true → behind ≡ [] → expansion all cs ≡ error (codes "invalid use of '%' in replacement string")
+    lone_escape same e = failed (codes "invalid use of '%' in replacement string") _ (subst (λ bytes. IsSoFar (expanded cs false all greatest_string) text (λ room. expanded cs true bytes room)) e (escape same)) (λ room. refl)
 
     module _ (same : (b == 37) ≡ true) (code : ℕ) (later : List ℕ) (second : behind ≡ code ∷ later) where
       coded : IsSoFar (expanded cs false all greatest_string) text (λ room. expanded cs true (code ∷ later) room)
@@ -69,29 +64,3 @@ module _ (cs : List Shape) (all rest text : List ℕ) (so : IsExpandedSoFar cs a
 
       pub escape_too_large : (bytes : List ℕ) → escaped cs code ≡ Ok bytes → greatest_string < length text + length bytes → expansion all cs ≡ error too_large
       escape_too_large bytes e large = ap (λ r. with r (λ bytes. one (string bytes))) (piece_is_refused _ text bytes (λ left. expanded cs false later left) (piece bytes e) large)
-
--- what stands behind a `%`
-
-abbrev by_code : List Shape → ℕ → Bool → Bool → Made
-by_code cs code t u = elim t as (λ _. Made) [ true ↦ Ok (37 ∷ []) | false ↦ elim u as (λ _. Made) [ true ↦ capture_text (argument cs (code - 47)) | false ↦ Err invalid_use ] ]
-
-capture_is : (cs : List Shape) (code : ℕ) → 48 ≤ code → argument cs (code - 47) ≡ argument cs (suc (code - 48))
-capture_is cs code h = let e : code - 47 ≡ suc (code - 48) = omega arith in ap (argument cs) e
-
--- a capture that is there, and one that is not
-abbrev or_nothing : Option Shape → Made
-or_nothing o = capture_text (elim o as (λ _. Shape) [ None ↦ no_word | Some s ↦ s ])
-
-pub escaped_there : {A : Type 0} (f : A → List ℕ) (cs : List A) (code : ℕ) (x : A) → (code == 37) ≡ false → is_decimal code ≡ true → 48 ≤ code → slice_get cs (code - 48) ≡ Some x
-    → escaped (map (λ c. text_shape (f c)) cs) code ≡ Ok (f x)
-escaped_there f cs code x other digit least there =
-    let ss : List Shape = map (λ c. text_shape (f c)) cs in
-    ap (λ t. by_code ss code t (is_decimal code)) other ∙ ap (λ u. by_code ss code false u) digit ∙ ap capture_text (capture_is ss code least)
-    ∙ ap or_nothing (slice_get-map (λ c. text_shape (f c)) cs (code - 48)) ∙ ap (λ o. or_nothing (option_map (λ c. text_shape (f c)) o)) there
-
-pub escaped_missing : {A : Type 0} (f : A → List ℕ) (cs : List A) (code : ℕ) → (code == 37) ≡ false → is_decimal code ≡ true → 48 ≤ code → slice_get cs (code - 48) ≡ None
-    → escaped (map (λ c. text_shape (f c)) cs) code ≡ Err invalid_index
-escaped_missing f cs code other digit least there =
-    let ss : List Shape = map (λ c. text_shape (f c)) cs in
-    ap (λ t. by_code ss code t (is_decimal code)) other ∙ ap (λ u. by_code ss code false u) digit ∙ ap capture_text (capture_is ss code least)
-    ∙ ap or_nothing (slice_get-map (λ c. text_shape (f c)) cs (code - 48)) ∙ ap (λ o. or_nothing (option_map (λ c. text_shape (f c)) o)) there

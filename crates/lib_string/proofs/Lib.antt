@@ -1,0 +1,3 @@
+mod Chars
+mod Expansions
+mod Given

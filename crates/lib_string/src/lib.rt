@@ -1,0 +1,19 @@
+//! The functions of `string` (Lua 5.4 manual, 6.4, and `lstrlib.c`) that look at no table, and `tonumber` (6.1). Each takes the shapes of
+//! all arguments and answers what its row in `library_rows` says: its results, or its error.
+#![tactic(auto)]
+
+mod building;
+mod bytes;
+mod expanding;
+mod faults;
+mod matching;
+mod numbers;
+mod repeating;
+mod seeking;
+
+pub use bytes::{byte, char, len, lower, reverse, sub, upper};
+pub use expanding::expand;
+pub use matching::{find, match_pattern};
+pub use numbers::{from, toint, tonumber};
+pub use repeating::rep;
+pub use seeking::{Sought, seek};
