@@ -1,9 +1,10 @@
 -- What a new string leaves as it was.
-use Rattle.std.proofs.Common.{◌≡◌, ℕ, List, [], ◌∷◌, ◌++◌, map, Bool, true, false, refl, ap, sym, subst, ◌∙◌}
-use Rattle.std.specs.Prelude.{bytes_eq, if◌then◌else◌}
+use Rattle.std.proofs.Common.{◌≡◌, ℕ, List, [], ◌∷◌, ◌++◌, map, Bool, true, false, Result, Ok, Err, refl, ap, sym, subst, ◌∙◌, append_assoc}
+use Rattle.std.specs.Prelude.{bytes_eq, if◌then◌else◌, OnErr}
 use Rattle.std.specs.List.{list_any}
 use Rattle.int_core.specs.Heap.{Heap}
 use Rattle.library_rows.specs.Look.{Look, looked}
+use Rattle.list_laws.proofs.Items.{append_nil}
 use Rattle.machine_core.specs.World.{World}
 use Rattle.machine_sound.specs.Sound.{Each, Valid, Sizes, sizes, Sound}
 use Rattle.table_core.specs.declared.value.Value.{Value as Kept}
@@ -25,6 +26,17 @@ arguments_stay keep z texts text vs h = by (list_any (bytes_eq text) texts)
     by true = refl
     by false = (keep z texts text).values vs h
 
+grown_by : List (List ℕ) → List ℕ → List (List ℕ)
+grown_by texts text = if list_any (bytes_eq text) texts then [] else text ∷ []
+
+grown : (texts : List (List ℕ)) (text : List ℕ) → interned texts text ≡ texts ++ grown_by texts text
+unfolding grown_by
+grown texts text = by (list_any (bytes_eq text) texts)
+  where
+    by : (b : Bool) → (if b then texts else texts ++ text ∷ []) ≡ texts ++ (if b then [] else text ∷ [])
+    by true = sym (append_nil texts)
+    by false = refl
+
 pub only_strings : NewStringsKeep → (old new : Memory) (text : List ℕ) (arguments : List Kept) → Stands old arguments → Interns old new text → OnlyStrings old new arguments
 only_strings keep old new text arguments s i =
     let e : plain new s.fuel ≡ plain old s.fuel = i.plain s.primitives s.fuel s.sound in
@@ -42,10 +54,12 @@ only_strings keep old new text arguments s i =
       plain = λ fuel. ap {A = World} (λ W. record W { fuel = fuel }) e;
       codes = i.codes;
       rest = i.rest;
+      more = grown_by old.strings text;
+      grown = i.strings ∙ grown old.strings text;
     }
 
 pub nothing : (W : Memory) (arguments : List Kept) → Stands W arguments → OnlyStrings W W arguments
-nothing W arguments s = record { stands = s; read = refl; plain = λ fuel. refl; codes = λ h. h; rest = refl }
+nothing W arguments s = record { stands = s; read = refl; plain = λ fuel. refl; codes = λ h. h; rest = refl; more = []; grown = sym (append_nil W.strings) }
 
 -- one after another
 pub then_strings : (old mid new : Memory) (arguments : List Kept) → OnlyStrings old mid arguments → OnlyStrings mid new arguments → OnlyStrings old new arguments
@@ -55,6 +69,8 @@ then_strings old mid new arguments a b = record {
   plain = λ fuel. b.plain fuel ∙ a.plain fuel;
   codes = λ h. b.codes (a.codes h);
   rest = b.rest ∙ ap {A = Memory} (λ W. record W { strings = new.strings }) a.rest;
+  more = a.more ++ b.more;
+  grown = b.grown ∙ ap (λ texts. texts ++ b.more) a.grown ∙ append_assoc old.strings a.more b.more;
 }
 
 pub same_heap : (old new : Memory) (arguments : List Kept) → OnlyStrings old new arguments → heap_of old ≡ heap_of new
@@ -93,3 +109,16 @@ changes_both old mid new arguments k e =
       codes = λ h. t.codes (k.codes h);
       rest = e ∙ ap {A = Memory} (λ W. record W { tables = new.tables }) k.rest ∙ ap {A = Memory} (λ W. record old { strings = W.strings; tables = new.tables }) (sym e);
     }
+
+pub same_world : (old new : Memory) → new ≡ old → new ≡ record old { tables = new.tables }
+same_world old new e = e ∙ ap {A = Memory} (λ W. record old { tables = W.tables }) (sym e)
+
+pub changes_nothing : (W : Memory) (arguments : List Kept) → Stands W arguments → Changes W W arguments
+changes_nothing W arguments s = changes_strings W W arguments (nothing W arguments s)
+
+pub same_strings : (old new : Memory) (arguments : List Kept) → Stands old arguments → new ≡ old → OnlyStrings old new arguments
+same_strings old new arguments s e = subst (λ W. OnlyStrings old W arguments) (sym e) (nothing old arguments s)
+
+pub whatever : {A E P : Type 0} (r : Result A E) → P → OnErr r P
+whatever (Ok x) p = tt
+whatever (Err e) p = p

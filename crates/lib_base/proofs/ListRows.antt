@@ -18,7 +18,7 @@ use Rattle.lib_base.specs.Raw.{heap_of, Operates}
 use Rattle.lib_base.specs.Lists.{item, items_from, IsCounted}
 
 -- the values at hand after some were read one after another
-pushed : List Value → List Value → List Value
+unfoldable pub pushed : List Value → List Value → List Value
 pushed [] env = env
 pushed (v ∷ vs) env = pushed vs (v ∷ env)
 

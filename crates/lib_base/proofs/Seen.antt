@@ -1,14 +1,22 @@
 -- What valid values are: the strings that they name are there.
-use Rattle.std.proofs.Common.{◌≡◌, ℕ, List, Option, Some, None, false, refl}
+use Rattle.std.proofs.Common.{◌≡◌, ℕ, List, [], ◌∷◌, Option, Some, None, false, refl, ap, subst}
 use Rattle.std.specs.Prelude.{slice_get}
 use Rattle.int_core.specs.Value.{Value, known, nil, nth, shape}
+use Rattle.int_core.specs.Heap.{raw_get}
 use Rattle.library_rows.specs.Arguments.{is_table}
-use Rattle.machine_sound.specs.Sound.{Each, Valid, Sizes}
+use Rattle.library_rows.specs.Look.{no_word, or_nil, read_field}
+use Rattle.machine_sound.proofs.Heaps.{raw_get_ok}
+use Rattle.machine_sound.proofs.Outside.{heap_of as heap_ok}
+use Rattle.machine_sound.specs.Sound.{Each, OptionOk, Valid, Sizes, sizes}
 use Rattle.table_core.specs.declared.value.TableId.{TableId}
 use Rattle.table_core.specs.declared.value.Value.{Value as Kept}
 use Rattle.table_core.specs.declared.value.Value.TheVariants.{Nil, Bool as Boolean, Int, Str, Prim, Table, Func, Coro}
 use Rattle.lua_heap.specs.Law.{StringsAreThere}
 use Rattle.lua_heap.specs.Reading.{value}
+use Rattle.lua_heap.specs.declared.world.World.{World as Memory}
+use Rattle.lua_heap.specs.Plain.{plain}
+use Rattle.lib_base.specs.Answers.{Stands}
+use Rattle.lib_base.specs.Raw.{heap_of, Operates}
 use Rattle.lib_base.specs.Shapes.{IsThere}
 
 pub there : StringsAreThere → (z : Sizes) (texts : List (List ℕ)) (v : Kept) → Valid z (value texts v) → IsThere texts v
@@ -37,3 +45,15 @@ no_table texts (Prim n) h = refl
 no_table texts (Table id) h = absurd (h id refl)
 no_table texts (Func id) h = refl
 no_table texts (Coro id) h = refl
+
+or_nil_valid : (z : Sizes) (o : Option Value) → OptionOk (Valid z) o → Valid z (or_nil o)
+or_nil_valid z None h = tt
+or_nil_valid z (Some v) h = h
+
+-- so is a value that is read from a table of a sound world
+pub read_there : StringsAreThere → (W : Memory) (arguments : List Kept) → Stands W arguments → (o key v : Kept) → Operates read_field W (o ∷ key ∷ []) W (v ∷ []) no_word → IsThere W.strings v
+read_there law W arguments s o key v d =
+    let z = sizes s.primitives (plain W s.fuel) in
+    let ok = raw_get_ok z (plain W s.fuel).heap (heap_ok s.primitives (plain W s.fuel) s.sound.solid) (value W.strings o) (value W.strings key) in
+    let e : or_nil (raw_get (heap_of W) (value W.strings o) (value W.strings key)) ≡ value W.strings v = ap (λ t. nth t.values 0) d.does in
+    there law z W.strings v (subst (Valid z) e (or_nil_valid z _ ok))

@@ -1,6 +1,6 @@
 -- What the functions answer, beside their rows.
-use Rattle.std.specs.Prelude.{◌≡◌, ℕ, List, map, Result, Ok, Err}
-use Rattle.int_core.specs.Value.{nth}
+use Rattle.std.specs.Prelude.{◌≡◌, ℕ, List, ◌++◌, map, Result, Ok, Err}
+use Rattle.int_core.specs.Value.{Plain, known, nth}
 use Rattle.library_rows.specs.Look.{Look, Done, done, refused, raised, looked}
 use Rattle.machine_sound.specs.Sound.{Each, Valid, sizes, Sound}
 use Rattle.library_arguments.specs.Refusals.{refusal_text}
@@ -29,6 +29,15 @@ pub record OnlyStrings (old new : Memory) (arguments : List Kept) : Type 0 where
   pub plain : (fuel : ℕ) → plain new fuel ≡ plain old fuel
   pub codes : AreCodes old.strings old.codes → AreCodes new.strings new.codes
   pub rest : new ≡ record old { strings = new.strings }
+  pub more : List (List ℕ)
+  pub grown : new.strings ≡ old.strings ++ more
+
+-- a value that stands for what was written out, and still does after more strings
+pub record Means (texts : List (List ℕ)) (v : Kept) (p : Plain) : Type 0 where
+  pub means : (more : List (List ℕ)) → value (texts ++ more) v ≡ known p
+
+pub record MeanAll (texts : List (List ℕ)) (vs : List Kept) (ps : List Plain) : Type 0 where
+  pub means : (more : List (List ℕ)) → map (value (texts ++ more)) vs ≡ map known ps
 
 -- nothing is changed but tables, and that strings may have been added
 pub record Changes (old new : Memory) (arguments : List Kept) : Type 0 where

@@ -4,3 +4,7 @@ pub mod Answers
 pub mod Select
 pub mod Metatables
 pub mod Lists
+pub mod Packing
+pub mod Texts
+pub mod Math
+pub mod Functions

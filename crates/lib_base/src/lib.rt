@@ -3,13 +3,21 @@
 #![tactic(auto)]
 
 mod answer;
-pub mod base;
+mod base;
+mod calls;
+mod joining;
 pub mod law;
-pub mod lists;
+mod lists;
 pub mod math;
-pub mod metatables;
+mod metatables;
+mod packing;
+pub mod plain;
 pub mod raw;
 mod shapes;
 mod strings;
+#[cfg(test)]
+mod tests;
+mod text;
 
 pub use answer::Answer;
+pub use calls::{Function, call};

@@ -28,7 +28,7 @@ pub fn spread(world: &World, arguments: &[Value]) -> Result<Answer, Fault>
 }
 
 /// The number of items, which is the second argument: 0 where it is negative.
-fn count(function: &'static [u8], seen: Shape) -> Result<usize, Refusal>
+pub(crate) fn count(function: &'static [u8], seen: Shape) -> Result<usize, Refusal>
     ensures { IsCount function.now (shape_of seen.entry) result }
 {
     let n = integer_argument(function, 2, seen)?;

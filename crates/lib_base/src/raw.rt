@@ -12,7 +12,7 @@ use table_core::{Key, NoSuchKey, Table, TableId, Value};
 
 /// Tells contracts that tables are read alike, whether their values are kept or what these stand for.
 #[inline(always)]
-fn reads_alike(world: &World)
+pub(crate) fn reads_alike(world: &World)
     ensures { AreAlike world.now.strings }
 {
     tables_are_read();

@@ -2,7 +2,7 @@
 ghost use Rattle.std.specs.Prelude.{◌≡◌, ◌≤◌, length, IfOk};
 ghost use Rattle.int_core.specs.Value.{known, string, greatest_string};
 ghost use Rattle.lua_heap.specs.Reading.{value};
-ghost use Rattle.lib_base.specs.Answers.{OnlyStrings, Stands};
+ghost use Rattle.lib_base.specs.Answers.{Means, OnlyStrings, Stands};
 
 use lua_heap::World;
 use lua_heap::law::new_strings_keep;
@@ -18,6 +18,7 @@ pub(crate) fn string(
     requires short { length bytes.now ≤ greatest_string }
     requires stands { Stands world.old arguments.now }
     ensures named { IfOk result (λ made. value world.new.strings made ≡ known (string bytes.now)) }
+    ensures means { IfOk result (λ made. Means world.new.strings made (string bytes.now)) }
     ensures kept { OnlyStrings world.old world.new arguments.now }
 {
     new_strings_keep();
