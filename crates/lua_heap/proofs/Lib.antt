@@ -3,3 +3,9 @@ mod Reading
 pub mod Equal
 mod Tables
 mod Growing
+mod Numbered
+mod Opened
+mod Walk
+mod Added
+mod Listed
+mod Placed

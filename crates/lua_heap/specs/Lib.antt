@@ -3,5 +3,9 @@ pub mod Reading
 pub mod Codes
 pub mod Plain
 pub mod Changes
+pub mod Adding
+pub mod Cells
+pub mod Places
+pub mod Errors
 pub mod Opening
 pub mod Law

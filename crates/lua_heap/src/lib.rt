@@ -1,14 +1,20 @@
 //! The objects of a world: strings, each once for its content (Lua's lstring.c), code, and what kept values stand for.
 #![tactic(auto)]
 
+mod adding;
+mod cells;
 mod codes;
+mod errors;
+mod functions;
 pub mod law;
 mod objects;
 mod opening;
+mod places;
 mod strings;
 #[cfg(test)]
 mod tests;
 mod texts;
+mod trees;
 mod world;
 
 pub use codes::{Code, Codes};

@@ -2,8 +2,9 @@
 ghost use Rattle.std.specs.Prelude.{◌≡◌, ℕ, true, IfOk, OnOk, map, length, nat_le};
 ghost use Rattle.std.specs.List.{list_all};
 ghost use Rattle.int_core.specs.Value.{greatest_string};
+ghost use Rattle.lua_heap.specs.Cells.{CellsAreListed};
 ghost use Rattle.lua_heap.specs.Codes.{AreCodes};
-ghost use Rattle.lua_heap.specs.Opening.{first_texts, all_interned, opened_world, mark_of};
+ghost use Rattle.lua_heap.specs.Opening.{first_texts, all_interned, opened_world, mark_of, IsMark, Releases};
 ghost use Rattle.lua_heap.specs.Plain.{plain};
 
 use crate::codes::Codes;
@@ -52,6 +53,7 @@ impl World {
         ensures plain { IfOk result (λ world. (fuel : ℕ) → plain world fuel ≡ opened_world fuel) }
         ensures strings { IfOk result (λ world. world.strings ≡ first_texts) }
         ensures codes { IfOk result (λ world. AreCodes world.strings world.codes) }
+        ensures listed { IfOk result (λ world. CellsAreListed world) }
     {
         let mut strings = Strings::new(alloc);
         intern_all(&mut strings, &FIRST_TEXTS)?;
@@ -88,12 +90,26 @@ impl World {
     {
         Mark {
             strings: self.strings.len(),
-            codes: self.codes.len(),
+            codes: self.codes.mark(),
             tables: self.tables.mark(),
             funcs: self.funcs.mark(),
             cells: self.cells.mark(),
             coros: self.coros.mark(),
         }
+    }
+
+    /// Keeps what was there at a mark, and drops what came after.
+    pub fn release_to(&mut self, mark: Mark)
+        requires mark { IsMark self.old mark }
+        requires codes { AreCodes self.old.strings self.old.codes }
+        ensures { Releases self.old self.new mark }
+    {
+        self.coros.release_to(mark.coros);
+        self.cells.release_to(mark.cells);
+        self.funcs.release_to(mark.funcs);
+        self.tables.release_to(mark.tables);
+        self.codes.release_to(mark.codes);
+        self.strings.release_to(mark.strings);
     }
 }
 

@@ -1,6 +1,15 @@
 pub mod Parts
+pub mod Marks
 pub mod Ends
 pub mod Stacked
 pub mod Tops
 pub mod Own
+pub mod OpenCells
+pub mod TopMarks
+pub mod LaidOut
 pub mod Pushed
+pub mod Called
+pub mod Reached
+pub mod Wiped
+pub mod ClosingTop
+pub mod Listed

@@ -1,7 +1,8 @@
 -- How a stack is kept: the registers of all frames stand in one list, each frame has a record that says where its own begin, and the frame on
 -- top is held apart. A frame that waits for a call keeps the registers in front of the called function; the others are nil, and the callee's
 -- registers begin at its arguments. The arguments beyond the parameters stand in front of a frame's registers.
-use Rattle.std.specs.Prelude.{◌≡◌, ℕ, zero, suc, ◌+◌, ◌-◌, ◌≤◌, Bool, true, false, List, [], ◌∷◌, ◌++◌, length, map, take, drop, slice_set, Option, Some, None}
+use Rattle.std.specs.Prelude.{◌≡◌, ℕ, zero, suc, ◌+◌, ◌-◌, ◌<◌, ◌≤◌, Bool, true, false, cond, ◌&&◌, ◌||◌, nat_eq, nat_lt, List, [], ◌∷◌, ◌++◌, length, map, take, drop, slice_get, slice_set, Option, Some, None}
+use Rattle.machine_core.specs.Text.{last_pending}
 use Rattle.table_core.specs.declared.value.Value.{Value as Kept}
 use Rattle.table_core.specs.declared.value.Value.TheVariants.{Nil}
 use Rattle.table_core.specs.declared.value.FuncId.{FuncId}
@@ -9,13 +10,15 @@ use Rattle.lua_stack.specs.declared.frame.Wait.{Wait}
 use Rattle.lua_stack.specs.declared.frame.Wait.TheVariants.{Running as Begins}
 use Rattle.lua_stack.specs.declared.frame.Window.{Window}
 use Rattle.lua_stack.specs.declared.frame.Running.{Running}
+use Rattle.lua_stack.specs.declared.frame.Layout.{Layout}
+use Rattle.lua_stack.specs.declared.frame.Shape.{Shape}
 use Rattle.lua_stack.specs.declared.frame.Record.{Record}
 use Rattle.lua_stack.specs.declared.frame.Kind.{Kind}
 use Rattle.lua_stack.specs.declared.frame.Kind.TheVariants.{Missing, Lua, Pcall, Xpcall, Handler, Closing}
 use Rattle.lua_stack.specs.declared.frame.OpenCell.{OpenCell}
 use Rattle.lua_stack.specs.declared.frame.Top.{Top}
 use Rattle.lua_stack.specs.declared.frame.Top.TheVariants.{Missing as TopMissing, Lua as TopLua, Pcall as TopPcall, Xpcall as TopXpcall, Handler as TopHandler, Closing as TopClosing}
-use Rattle.lua_stack.specs.Frames.{KeptLua, KeptFrame, kept_lua, kept_pcall, kept_xpcall, kept_handler, kept_closing, KeptStack}
+use Rattle.lua_stack.specs.Frames.{KeptLua, KeptFrame, kept_lua, kept_pcall, kept_xpcall, kept_handler, kept_closing, KeptStack, AllAbove}
 
 abbrev pub part : {A : Type 0} → (base count : ℕ) → List A → List A
 part base count xs = take count (drop base xs)
@@ -23,6 +26,10 @@ part base count xs = take count (drop base xs)
 abbrev pub blank : ℕ → List Kept
 blank zero = []
 blank (suc n) = Nil ∷ blank n
+
+-- so many values, with nil behind those that are there
+abbrev pub padded : ℕ → List Kept → List Kept
+padded count xs = xs ++ blank (count - length xs)
 
 -- values written one after another from a place on
 abbrev pub put_all : ℕ → List Kept → List Kept → List Kept
@@ -122,6 +129,61 @@ pub record IsStack (values : List Kept) (pending : List ℕ) (below : List Recor
   pub whole : top.window.kept ≡ top.window.size
   pub none : NoneUnder top.kind below
 
+-- the window of a frame by its number
+abbrev pub window_at : List Record → Window → ℕ → Window
+window_at [] w n = w
+window_at (r ∷ rs) w zero = r.window
+window_at (r ∷ rs) w (suc n) = window_at rs w n
+
+-- how many registers of a frame are its own
+abbrev pub reach_of : Kind → Window → ℕ
+reach_of Lua w = w.kept
+reach_of Missing w = 0
+reach_of Pcall w = 0
+reach_of (Xpcall h) w = 0
+reach_of Handler w = 0
+reach_of (Closing error) w = 0
+
+abbrev pub reach_at : List Record → Kind → Window → ℕ → ℕ
+reach_at [] k w zero = reach_of k w
+reach_at [] k w (suc n) = 0
+reach_at (r ∷ rs) k w zero = reach_of r.kind r.window
+reach_at (r ∷ rs) k w (suc n) = reach_at rs k w n
+
+-- each cell names a register that is its frame's own
+abbrev pub AllWithin : List Record → Kind → Window → List OpenCell → Type 0
+AllWithin below k w [] = Unit {0}
+AllWithin below k w (c ∷ cs) = (c.register < reach_at below k w c.frame) × AllWithin below k w cs
+
+abbrev pub AreInOrder : List OpenCell → Type 0
+AreInOrder [] = Unit {0}
+AreInOrder (c ∷ cs) = AllAbove c.frame c.register cs × AreInOrder cs
+
+-- the first cell, if there is one, does not stand in front of a register of a frame
+pub record IsFirst (frame register : ℕ) (c : OpenCell) : Type 0 where
+  pub frame_at_least : frame ≤ c.frame
+  pub register_at_least : c.frame ≤ frame → register ≤ c.register
+
+abbrev pub FirstFrom : (frame register : ℕ) → List OpenCell → Type 0
+FirstFrom frame register [] = Unit {0}
+FirstFrom frame register (c ∷ cs) = IsFirst frame register c
+
+-- the last cell, which does not stand in front of a register of a frame, is gone
+pub record IsTaken (frame register : ℕ) (old new : List OpenCell) (c : OpenCell) : Type 0 where
+  pub cells : old ≡ new ++ c ∷ []
+  pub first : IsFirst frame register c
+
+-- tests of a cell's place
+abbrev pub is_at : (frame register : ℕ) → OpenCell → Bool
+is_at frame register c = nat_eq c.frame frame && nat_eq c.register register
+
+abbrev pub stands_below : (frame register : ℕ) → OpenCell → Bool
+stands_below frame register c = nat_lt c.frame frame || (nat_eq c.frame frame && nat_lt c.register register)
+
+pub record AreOpen (below : List Record) (k : Kind) (w : Window) (cells : List OpenCell) : Type 0 where
+  pub there : AllWithin below k w cells
+  pub in_order : AreInOrder cells
+
 abbrev pub top_in : Kind → Top
 top_in Missing = TopMissing
 top_in Lua = TopLua
@@ -187,17 +249,64 @@ place_in (Some r) = place_by r.kind r.running
 abbrev pub whole_record : Record → Record
 whole_record r = record r { window = record r.window { kept = r.window.size } }
 
+-- a function's frame over the arguments that stand at a place: those beyond the parameters stay in front of its registers, where it takes them
+pub record IsLaidOut (place given : ℕ) (shape : Shape) (old new : List Kept) (l : Layout) : Type 0 where
+  pub front : take place new ≡ take place old
+  pub length_stays : length new ≡ length old
+  pub start_at_least : place ≤ l.start
+  pub base_at_least : l.start ≤ l.base
+  pub end : l.base + shape.stack ≤ length new
+  pub registers : part l.base shape.stack new ≡ padded shape.stack (take shape.params (part place given old))
+  pub extras : part l.start (l.base - l.start) new ≡ cond shape.vararg (drop shape.params (part place given old)) []
+
 -- a Lua frame that begins, and one that waits and keeps some of its registers
-abbrev pub begun_at : FuncId → Window → (base stack : ℕ) → Record
-begun_at function next base stack = record {
+abbrev pub begun_at : FuncId → Layout → (stack marks : ℕ) → Record
+begun_at function l stack marks = record {
   kind = Lua;
   running = record { function = function; wait = Begins; pc = 0; opened = 0 };
-  window = record next { base = base; kept = stack; size = stack };
+  window = record { start = l.start; base = l.base; kept = stack; size = stack; marks = marks; marked = 0 };
 }
 
-abbrev pub waiting_at : Record → Wait → (kept size : ℕ) → Record
-waiting_at r wait kept size = record {
+abbrev pub waiting_at : Record → Wait → (kept size marked : ℕ) → Record
+waiting_at r wait kept size marked = record {
   kind = Lua;
   running = record r.running { wait = wait; opened = 0 };
-  window = record r.window { kept = kept; size = size };
+  window = record r.window { kept = kept; size = size; marked = marked };
 }
+
+-- a place among pending registers has the last one that is at least so large
+pub record IsLastFrom (register : ℕ) (marks : List ℕ) (at : ℕ) : Type 0 where
+  pub mark : ℕ
+  pub is : slice_get marks at ≡ Some mark
+  pub at_least : register ≤ mark
+  pub later : last_pending register (drop (suc at) marks) ≡ None
+
+-- a frame with so many values
+abbrev pub with_values : Record → ℕ → Record
+with_values r count = record r { window = record r.window { kept = count; size = count } }
+
+-- values that are set to nil, but those whose places stay
+abbrev pub wiped_but : (ℕ → Bool) → ℕ → List Kept → List Kept
+wiped_but stays i [] = []
+wiped_but stays i (v ∷ vs) = cond (stays i) v Nil ∷ wiped_but stays (suc i) vs
+
+abbrev pub error_in : Kind → Option Kept
+error_in (Closing error) = error
+error_in Missing = None
+error_in Lua = None
+error_in Pcall = None
+error_in (Xpcall h) = None
+error_in Handler = None
+
+abbrev pub is_lua : Kind → Bool
+is_lua Lua = true
+is_lua Missing = false
+is_lua Pcall = false
+is_lua (Xpcall h) = false
+is_lua Handler = false
+is_lua (Closing error) = false
+
+-- the first frame that is no Lua frame
+abbrev pub catcher_of : List Record → Top
+catcher_of [] = TopMissing
+catcher_of (r ∷ rs) = cond (is_lua r.kind) (catcher_of rs) (top_in r.kind)

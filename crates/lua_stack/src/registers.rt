@@ -1,11 +1,12 @@
 // The registers of the Lua frame on top.
-ghost use Rattle.std.specs.Prelude.{◌≡◌, ◌+◌, ◌≤◌, Some, length, map, slice_get, take};
+ghost use Rattle.std.specs.Prelude.{◌≡◌, ◌+◌, ◌≤◌, Some, length, map, slice_get, take, OnErr, OnOk};
 ghost use Rattle.int_core.specs.Value.{write, write_all};
 ghost use Rattle.machine_core.specs.Text.{nils};
-ghost use Rattle.lua_stack.specs.Frames.{HasLuaTop, HasRegisters, OnTop, TopBecomes, cut_at, with_registers, with_opened};
+ghost use Rattle.lua_stack.specs.Frames.{HasLuaTop, HasRegisters, NoneFrom, OnTop, TopBecomes, cut_at, with_registers, with_opened};
 
 use crate::stack::Stack;
-use crate::values::{clear, place_of, put, put_one, value_at};
+use crate::values::{clear, end_of, grow, place_of, put, put_one, value_at};
+use std::alloc::AllocError;
 use table_core::Value;
 
 impl Stack {
@@ -38,6 +39,23 @@ impl Stack {
         put(&mut self.values, to, values);
     }
 
+    /// Writes values from a register on as a list that is open: the frame gets as many registers as it takes.
+    pub fn write_list(&mut self, at: usize, values: &[Value]) -> Result<(), AllocError>
+        requires { HasRegisters self.old (at + 1) }
+        ensures ok { OnOk result (TopBecomes self.old self.new (λ f t. with_opened (length values.now) (with_registers (write_all at (map f values.now) t.own.registers) t))) }
+        ensures err { OnErr result (self.new ≡ self.old) }
+    {
+        let to = place_of(self.top.window, at, self.values.len());
+        let end = end_of(to, values.len())?;
+        grow(&mut self.values, end)?;
+        put(&mut self.values, to, values);
+        let size = self.top.window.size.max(at + values.len());
+        self.top.window.kept = size;
+        self.top.window.size = size;
+        self.top.running.opened = values.len();
+        Ok(())
+    }
+
     /// Sets registers in a row to nil.
     pub fn write_nils(&mut self, at: usize, count: usize)
         requires { HasRegisters self.old (at + count) }
@@ -51,6 +69,7 @@ impl Stack {
     pub fn cut_from(&mut self, register: usize, stack: usize)
         requires within { register ≤ stack }
         requires there { HasRegisters self.old stack }
+        requires closed { NoneFrom self.old stack }
         ensures { TopBecomes self.old self.new (λ f t. cut_at register stack t) }
     {
         let from = place_of(self.top.window, register, self.values.len());
@@ -62,12 +81,23 @@ impl Stack {
 
     /// Leaves as many registers as the code has: the list that was open ends.
     pub fn end_list(&mut self, stack: usize)
-        requires { HasRegisters self.old stack }
+        requires there { HasRegisters self.old stack }
+        requires closed { NoneFrom self.old stack }
         ensures { TopBecomes self.old self.new (λ f t. with_opened 0 (with_registers (take stack t.own.registers) t)) }
     {
         self.top.window.kept = stack;
         self.top.window.size = stack;
         self.top.running.opened = 0;
+    }
+
+    /// The arguments beyond the parameters.
+    pub fn varargs(&self) -> &[Value]
+        requires { HasLuaTop self.now }
+        ensures { OnTop self.now (λ f t. map f result.now ≡ t.own.varargs) }
+    {
+        let window = self.top.window;
+        let base = place_of(window, 0, self.values.len());
+        &self.values[window.start..base]
     }
 
     /// The registers.

@@ -29,11 +29,11 @@ use Rattle.machine_means.proofs.Pending.{Bounded, bounded_ok, stack_pending}
 use Rattle.machine_means.proofs.Running.{Resumer, only_runs, resumer}
 use Rattle.machine_means.proofs.Handing.{moved, gives}
 
-none_reversed : {A : Type 0} (xs : List A) → reverse xs ≡ [] → xs ≡ []
+pub none_reversed : {A : Type 0} (xs : List A) → reverse xs ≡ [] → xs ≡ []
 none_reversed [] e = refl
 none_reversed (x ∷ xs) e = absurd (let l : length (reverse (x ∷ xs)) ≡ 0 = ap (λ ys. length ys) e in let n = length-reverse (x ∷ xs) in omega (arith, l, n))
 
-no_frames : (lax : Bool) (fs : List machine.Function) (vs : List Value) (ms : List Frame) (ts : List TalkFrame) (hs : List Held) → ms ≡ [] → Below lax fs vs ms ts hs → ts ≡ []
+pub no_frames : (lax : Bool) (fs : List machine.Function) (vs : List Value) (ms : List Frame) (ts : List TalkFrame) (hs : List Held) → ms ≡ [] → Below lax fs vs ms ts hs → ts ≡ []
 no_frames lax fs vs [] [] [] e k = refl
 no_frames lax fs vs [] (t ∷ ts) hs e k = absurd k
 no_frames lax fs vs [] [] (h ∷ hs) e k = absurd k

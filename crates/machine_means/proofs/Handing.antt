@@ -12,7 +12,7 @@ abbrev pub ending_of : TopShape → Ending
 ending_of lua_top = go
 ending_of _ = returned
 
-handed_is : (top : TopShape) (env : List Value) (W : World) → run (handed top) env W ≡ ends (ending_of top) W
+pub handed_is : (top : TopShape) (env : List Value) (W : World) → run (handed top) env W ≡ ends (ending_of top) W
 handed_is lua_top env W = refl
 handed_is pcall_top env W = refl
 handed_is xpcall_top env W = refl
@@ -20,7 +20,7 @@ handed_is handler_top env W = refl
 handed_is closing_top env W = refl
 handed_is (no_top in_main) env W = refl
 
-hand_over_is : (W : World) (s : Stack) (env : List Value) → stack_of W ≡ Some s → run hand_over env W ≡ ends (ending_of (top_shape W (last s.frames))) W
+pub hand_over_is : (W : World) (s : Stack) (env : List Value) → stack_of W ≡ Some s → run hand_over env W ≡ ends (ending_of (top_shape W (last s.frames))) W
 hand_over_is W s env e =
     ap (λ o. elim (bind (bind o (λ s. Some (top_shape W (last s.frames)))) (λ top. made {A = TopShape} W [] top)) as (λ _. Outcome) [ None ↦ trapped | Some d ↦ run (handed d.told) (env ++ d.values) d.world ]) e
     ∙ handed_is (top_shape W (last s.frames)) (env ++ []) W

@@ -16,9 +16,9 @@ use Rattle.machine_core.specs.MachineStep as rows
 use Rattle.machine_core.specs.MachineStep.{resume_row, after_resume}
 use Rattle.machine_core.specs.Talk.{State}
 use Rattle.lua_meaning.specs.World as talk
-use Rattle.lua_meaning.specs.World.{Now, gives_back, breaks, now_in}
+use Rattle.lua_meaning.specs.World.{gives_back, breaks, now_in}
 use Rattle.lua_meaning.specs.Calls as calls
-use Rattle.lua_meaning.specs.Calls.{refuses, goes_into, goes_along}
+use Rattle.lua_meaning.specs.Calls.{refuses, goes_into}
 use Rattle.lua_meaning.specs.Primitives.{coroutine_resume}
 use Rattle.lua_meaning.specs.Step.{does_primitive}
 use Rattle.code_means.specs.Runs.{codes_run}
@@ -47,10 +47,10 @@ module _ (primitives : ℕ) (M : machine.World) (T : TalkWorld) (solid : Solid p
   stack_now : stack_of M ≡ Some (record { coroutine = all.coroutine; frames = all.frames })
   stack_now = stack_is M all.coroutine all.frames all.last all.running
 
-  begins : M.moving ≡ object a_coroutine co ∷ vs → run resume_row [] M ≡ run (act (resume (read 0) 1) (λ _ told. after_resume told)) env N
+  pub begins : M.moving ≡ object a_coroutine co ∷ vs → run resume_row [] M ≡ run (act (resume (read 0) 1) (λ _ told. after_resume told)) env N
   begins e = ap (λ l. run (act (look (read 0)) (λ _ told. rows.resumes told 0)) l N) e
 
-  move_is : (c : Coroutine) → slice_get M.coroutines co ≡ Some c → move (resume (read 0) 1) env N ≡ moves.resumes N s co c (vs ++ [])
+  pub move_is : (c : Coroutine) → slice_get M.coroutines co ≡ Some c → move (resume (read 0) 1) env N ≡ moves.resumes N s co c (vs ++ [])
   move_is c there =
       ap (λ o. bind {B = Made ResumeShape} o (λ s. bind (slice_get M.coroutines co) (λ c. moves.resumes N s co c (vs ++ [])))) stack_now
       ∙ ap (λ o. bind {B = Made ResumeShape} o (λ c. moves.resumes N s co c (vs ++ []))) there
@@ -59,14 +59,14 @@ module _ (primitives : ℕ) (M : machine.World) (T : TalkWorld) (solid : Solid p
   goes V told e = ap (λ m. elim m as (λ _. Outcome) [ None ↦ trapped | Some d ↦ run (after_resume d.told) (env ++ d.values) d.world ]) e
 
   -- it is refused with a text
-  refusal : (text : List ℕ) (c : Coroutine) → slice_get M.coroutines co ≡ Some c → moves.resumes N s co c (vs ++ []) ≡ made N [] (refused text) → GivesBack (run (act (resume (read 0) 1) (λ _ told. after_resume told)) env N) (refuses T text)
+  pub refusal : (text : List ℕ) (c : Coroutine) → slice_get M.coroutines co ≡ Some c → moves.resumes N s co c (vs ++ []) ≡ made N [] (refused text) → GivesBack (run (act (resume (read 0) 1) (λ _ told. after_resume told)) env N) (refuses T text)
   refusal text c there e =
       let mv : List Value = known (boolean false) ∷ known (string text) ∷ [] in
       let W : machine.World = record M { moving = mv } in
       subst (λ p. GivesBack p (refuses T text)) (sym (goes N (refused text) (move_is c there ∙ e)))
       (gives W (refuses T text) s (env ++ [] ++ []) stack_now (told_now false W T (gives_back mv) (moved false M T mv k)) refl)
 
-  told_is : (d : talk.Coroutine State) → slice_get T.coroutines co ≡ Some d → does_primitive codes_run coroutine_resume T (object a_coroutine co ∷ vs) ≡ calls.resumes codes_run T co d vs
+  pub told_is : (d : talk.Coroutine State) → slice_get T.coroutines co ≡ Some d → does_primitive codes_run coroutine_resume T (object a_coroutine co ∷ vs) ≡ calls.resumes codes_run T co d vs
   told_is d e = ap (λ o. elim o as (λ _. TalkWorld) [ None ↦ breaks T | Some d ↦ calls.resumes codes_run T co d vs ]) e
 
   -- both refuse a coroutine with the same text
@@ -96,17 +96,18 @@ module _ (primitives : ℕ) (M : machine.World) (T : TalkWorld) (solid : Solid p
         let f = runs_first primitives M solid all T false k in
         let kN = moved false M T [] k in
         let only = only_runs primitives M solid all in
-        let V = resuming.gone_into N T all.coroutine co f.0 f.1 apart all.frames target ts kN all.running only there talks vs in
+        let h = resuming.suspended_held N T kN co target ts there talks in
+        let V = resuming.gone_into N T all.coroutine co f.0 f.1 apart all.frames target ts kN all.running only (suspended target) (talk.suspended ts) there talks h.0 h.1 h.2 vs in
         let into : move (resume (read 0) 1) env N ≡ made V [] (resumed is_entered) =
         move_is (suspended target) there ∙ ap (moves.resumes N s co (suspended target)) (append_nil vs)
-        ∙ resuming.resumes_move N T all.coroutine co f.0 f.1 apart all.frames target ts kN all.running only there talks vs l in
+        ∙ resuming.resumes_move N T all.coroutine co f.0 f.1 apart all.frames target ts kN all.running only (suspended target) (talk.suspended ts) there talks h.0 h.1 h.2 vs l in
         let stack : stack_of V ≡ Some (record { coroutine = co; frames = target }) =
         stack_is V co target (last_is M.chain co)
         (get_set_same (Rattle.std.specs.Prelude.slice_set M.coroutines all.coroutine (normal all.frames)) co (suspended target) (in_progress target) (get_set_other M.coroutines all.coroutine co (normal all.frames) apart ∙ there)) in
         subst (λ U. GivesBack (run (act (resume (read 0) 1) (λ _ told. after_resume told)) env N) U) (sym (ap (λ b. cond b (refuses T (codes "too many nested resumes")) (now_in (goes_into T co ts) (gives_back vs))) n))
         (subst (λ p. GivesBack p (now_in (goes_into T co ts) (gives_back vs))) (sym (goes V (resumed is_entered) into))
         (gives V (now_in (goes_into T co ts) (gives_back vs)) (record { coroutine = co; frames = target }) (env ++ []) stack
-        (told_now false V (goes_into T co ts) (gives_back vs) (resuming.resumed_into N T all.coroutine co f.0 f.1 apart all.frames target ts kN all.running only there talks vs)) refl))
+        (told_now false V (goes_into T co ts) (gives_back vs) (resuming.resumed_into N T all.coroutine co f.0 f.1 apart all.frames target ts kN all.running only (suspended target) (talk.suspended ts) there talks h.0 h.1 h.2 vs)) refl))
 
     waits_joined : GivesBack (run (act (resume (read 0) 1) (λ _ told. after_resume told)) env N) (calls.resumes codes_run T co (talk.suspended ts) vs)
     waits_joined = by (nat_lt greatest_resumes (length M.chain)) refl

@@ -32,18 +32,19 @@ pub record Resumer (M : machine.World) (T : TalkWorld) (co : ℕ) : Type 0 where
   pub apart : co ≢ by
   pub waits : slice_get M.coroutines by ≡ Some (normal below)
 
-module _ (primitives : ℕ) (M : machine.World) (solid : Solid primitives M) (all : StackWaits primitives M) where
-  at_end : slice_get M.chain (length M.chain - 1) ≡ Some all.coroutine
-  at_end = (last_get M.chain all.coroutine all.last).0
+-- the last one of the chain runs, alone
+pub alone : (primitives : ℕ) (M : machine.World) → Solid primitives M → (co : ℕ) → last M.chain ≡ Some co → OnlyRuns M.coroutines co
+alone primitives M solid co is_last j frames e =
+    let st : slice_get (map standing M.coroutines) j ≡ Some runs = get_map standing M.coroutines j (in_progress frames) e in
+    let y = solid.chain.running_in j st in
+    ⊎_elim
+    (λ (q : suc y.0 ≡ length M.chain). let i : y.0 ≡ length M.chain - 1 = omega (arith, q) in some_is y.1 (ap (slice_get M.chain) i ∙ (last_get M.chain co is_last).0))
+    (λ q. let w = get_within M.chain y.0 j y.1 in let c : Some runs ≡ Some resumed_another = sym st ∙ solid.chain.before y.0 j y.1 (omega (arith, w, q)) in absurd (cc))
+    (cases_eq (suc y.0) (length M.chain))
 
+module _ (primitives : ℕ) (M : machine.World) (solid : Solid primitives M) (all : StackWaits primitives M) where
   pub only_runs : OnlyRuns M.coroutines all.coroutine
-  only_runs j frames e =
-      let st : slice_get (map standing M.coroutines) j ≡ Some runs = get_map standing M.coroutines j (in_progress frames) e in
-      let y = solid.chain.running_in j st in
-      ⊎_elim
-      (λ (q : suc y.0 ≡ length M.chain). let i : y.0 ≡ length M.chain - 1 = omega (arith, q) in some_is y.1 (ap (slice_get M.chain) i ∙ at_end))
-      (λ q. let w = get_within M.chain y.0 j y.1 in let c : Some runs ≡ Some resumed_another = sym st ∙ solid.chain.before y.0 j y.1 (omega (arith, w, q)) in absurd (cc))
-      (cases_eq (suc y.0) (length M.chain))
+  only_runs = alone primitives M solid all.coroutine all.last
 
   module _ (T : TalkWorld) (lax : Bool) (k : Joined lax M T) where
     pub runs_first : (rest : List ℕ) × (T.chain ≡ all.coroutine ∷ rest)

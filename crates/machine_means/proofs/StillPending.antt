@@ -1,7 +1,6 @@
 -- What code still closes where it is left is what its pending registers hold, the last one first.
-use Rattle.std.proofs.Common.{ℕ, zero, suc, ◌+◌, ◌-◌, ◌<◌, ◌≡◌, List, [], ◌∷◌, ◌++◌, length, take, Option, Some, None, refl, sym, ap, subst, ◌∙◌, arith, Bool, true, cond}
-use Rattle.std.specs.Prelude.{slice_get, map, reverse, nat_eq, nat_le}
-use Rattle.std.proofs.lemmas.Bool.Decides.{nat_tests}
+use Rattle.std.proofs.Common.{ℕ, zero, suc, ◌+◌, ◌<◌, ◌≡◌, List, [], ◌∷◌, length, Some, None, refl, sym, ap, subst, ◌∙◌, arith, Bool, true, cond}
+use Rattle.std.specs.Prelude.{slice_get, map, reverse, nat_eq}
 use Rattle.std.proofs.lemmas.List.{reverse-append, map-append}
 use Rattle.int_core.specs.Value.{Value, known, nil, nth}
 use Rattle.code_core.specs.Prototype.{Prototype}
@@ -10,7 +9,7 @@ use Rattle.machine_core.specs.Text.{last_pending, without_pending, is_pending, b
 use Rattle.machine_core.proofs.Pending.{last_from, without_from}
 use Rattle.machine_core.specs.InstructionRows.{left_so}
 use Rattle.code_means.specs.Runs.{closed_of}
-use Rattle.list_laws.proofs.Ends.{without_last_is, Snoc, empty, with_last, snoc}
+use Rattle.list_laws.proofs.Ends.{Snoc, empty, with_last, snoc}
 use Rattle.list_laws.proofs.Items.{length_more}
 use Rattle.list_laws.proofs.Tests.{eq_refl, or_left, or_right}
 use Rattle.machine_sound.specs.Sound.{Each}

@@ -35,7 +35,7 @@ module _ (fs : List machine.Function) (vs : List Value) where
   apart_runs run run' (machine.failed e p) (talk.failed d q) hs n k = k
   apart_runs run run' _ _ hs n k = absurd k
 
-  all3_apart : (run run' : List machine.Frame → List Held → Type 0) (p : Option machine.Coroutine) (q : Option (talk.Coroutine State)) (s : Option (List Held)) → ((frames : List machine.Frame) → p ≡ Some (in_progress frames) → ⊥) → AllThree (CoroutinePair fs vs run) p q s → AllThree (CoroutinePair fs vs run') p q s
+  pub all3_apart : (run run' : List machine.Frame → List Held → Type 0) (p : Option machine.Coroutine) (q : Option (talk.Coroutine State)) (s : Option (List Held)) → ((frames : List machine.Frame) → p ≡ Some (in_progress frames) → ⊥) → AllThree (CoroutinePair fs vs run) p q s → AllThree (CoroutinePair fs vs run') p q s
   all3_apart run run' (Some a) (Some b) (Some c) n k = apart_runs run run' a b c (λ frames e. n frames (ap Some e)) k
   all3_apart run run' None None None n k = tt
   all3_apart run run' (Some a) (Some b) None n k = absurd k

@@ -27,7 +27,7 @@ pub record Others : Type 0 where
 abbrev pub many : Others → Heap → List Function → List Cell → List Frame → List Value → ℕ → World
 many o H fs ws ms mv fuel = record o.base { heap = H; functions = fs; cells = ws; coroutines = slice_set o.coroutines o.running (in_progress (upward ms)); chain = upward (o.running ∷ o.rest); moving = mv; fuel = fuel }
 
-set_twice : {A : Type 0} (xs : List A) (i : ℕ) (x y : A) → slice_set (slice_set xs i x) i y ≡ slice_set xs i y
+pub set_twice : {A : Type 0} (xs : List A) (i : ℕ) (x y : A) → slice_set (slice_set xs i x) i y ≡ slice_set xs i y
 set_twice [] i x y = refl
 set_twice (z ∷ xs) zero x y = refl
 set_twice (z ∷ xs) (suc i) x y = ap (λ l. z ∷ l) (set_twice xs i x y)

@@ -19,7 +19,7 @@ Runs lax M T vs frames hs = Stacks lax M.functions vs frames T.frames hs
 
 -- a cell that is closed is held by nobody
 module _ (ws : List Cell) (vs : List Value) (hss : List (List Held)) (k : CellsPair ws vs hss) (c : ℕ) (u v : Value) (e : slice_get ws c ≡ Some (closed u)) where
-  free : (i f r : ℕ) → HoldsIn hss i f r c → ⊥
+  pub free : (i f r : ℕ) → HoldsIn hss i f r c → ⊥
   free i f r m = let z : Some (closed u) ≡ Some (open_at i f r) = sym e ∙ k.held_open c i f r m in cc
 
   apart : (d i f r : ℕ) → slice_get ws d ≡ Some (open_at i f r) → c ≢ d
@@ -34,7 +34,7 @@ module _ (ws : List Cell) (vs : List Value) (hss : List (List Held)) (k : CellsP
   within : c < length vs
   within = let i = slice_get_within ws c (closed u) e in let s = k.size in omega (arith, i, s)
 
-  cells_set : CellsPair (slice_set ws c (closed v)) (slice_set vs c v) hss
+  pub cells_set : CellsPair (slice_set ws c (closed v)) (slice_set vs c v) hss
   cells_set = record {
     size = length_set ws c (closed v) ∙ k.size ∙ sym (length_set vs c v);
     shut = λ d w g. ⊎_elim

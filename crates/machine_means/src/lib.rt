@@ -4,4 +4,7 @@
 
 mod law;
 
-pub use law::{switches_keep_worlds_joined, writes_keep_worlds_joined};
+pub use law::{
+    asked_steps_keep_worlds_joined, first_calls_keep_worlds_joined, frames_keep_worlds_joined,
+    handing_steps_keep_worlds_joined, switches_keep_worlds_joined, writes_keep_worlds_joined,
+};

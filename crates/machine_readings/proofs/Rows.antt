@@ -190,7 +190,7 @@ module _ (b d : World) (when : When) (n : ℕ) (g : Function) (pc : ℕ) (w : Wa
       by true = reply_leads b d when n g pc w (raise says_text) (raise_leads b d when n g pc w says_text) env a a' c H fs (shared_in (share c a) vs) fuel ms ts ws al.fixed e f tt q
       by false =
           subst (λ env'. Leads b d (mk_talks d H fs (shared_in (share c a) vs) (talking n (amid t env (record a { registers = brought c.held (shared_out (share c a) (shared_in (share c a) vs)) a.registers }) (record { held = c.held; gone = [] })) ∷ ts) talks fuel) (run (expand_by when t) env' (mk b H fs ws (lua (frame n w a') ∷ ms) [] fuel))) (sym (append_nil env))
-          (reply_leads b d when n g pc w t ih env a a' c H fs (shared_in (share c a) vs) fuel ms ts ws al.fixed e f gd q)
+          (reply_leads b d when n g pc w t ih env a a' c H fs (shared_in (share c a) vs) fuel ms ts ws al.fixed e f gd.1 q)
 
   -- the frame is left: all of its cells are closed
   leaves_stack : (a a' : Activation) → Alike a a' → (c : Captured) (fs : List Function) (vs : List Value) (ms : List Frame) (ts : List TalkFrame) (ws : List Cell) → Working fs ws (shared_in c.gone vs) c.held ms ts

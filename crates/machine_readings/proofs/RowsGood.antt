@@ -1,18 +1,19 @@
 -- Each instruction's row, and what is left of it by each wait, is a text that leads to the same on both sides.
 use Rattle.std.proofs.Common.{◌≡◌, ℕ, zero, suc, ◌+◌, ◌*◌, ◌<◌, ◌==◌, Bool, true, false, cond, List, [], ◌∷◌, Option, Some, None, refl, sym, ap, ◌∙◌, arith}
-use Rattle.std.specs.Prelude.{ℤ, pos, negsuc}
+use Rattle.std.specs.Prelude.{ℤ, pos, negsuc, filter, slice_get, codes}
 use Rattle.int_core.specs.Value.{Value, nil, integer, a_table, a_function, a_coroutine, Shape, is_known, is_object, holds, same_truth, same_plain, same_integer}
 use Rattle.code_core.specs.declared.opcode.Opcode.{Opcode}
 use Rattle.code_core.specs.declared.opcode.Opcode.TheVariants.{Move, LoadI, LoadF, LoadK, LoadKx, LoadFalse, LFalseSkip, LoadTrue, LoadNil, GetUpval, SetUpval, GetTabUp, GetTable, GetI, GetField, SetTabUp, SetTable, SetI, SetField, NewTable, OpSelf, AddI, AddK, SubK, MulK, ModK, PowK, DivK, IDivK, BAndK, BOrK, BXorK, ShrI, ShlI, Add, Sub, Mul, Mod, Pow, Div, IDiv, BAnd, BOr, BXor, Shl, Shr, MmBin, MmBinI, MmBinK, Unm, BNot, Not, Len, Concat, Close, Tbc, Jmp, Eq, Lt, Le, EqK, EqI, LtI, LeI, GtI, GeI, Test, TestSet, Call, TailCall, Return, Return0, Return1, ForLoop, ForPrep, TForPrep, TForCall, TForLoop, SetList, Closure, VarArg, VarArgPrep, ExtraArg}
 use Rattle.code_core.specs.declared.instruction.Instruction.{Instruction}
 use Rattle.code_core.specs.declared.proto.UpDesc.{UpDesc}
+use Rattle.code_core.specs.declared.proto.LocVar.{LocVar}
 use Rattle.code_core.specs.Prototype.{Prototype}
 use Rattle.code_core.specs.Instruction.{opcode_of, a_of, b_of, c_of, sc_of, k_of, bx_of, sj_of}
 use Rattle.code_core.specs.Check.{at, in_front, extra_at}
 use Rattle.machine_core.specs.World.{Wait, running, for_call, for_iterator, for_value, for_truth, dropped, for_concat, for_close, returning, leaving}
 use Rattle.int_core.specs.Operations.{Event, of_add, of_sub, of_mul, of_mod, of_idiv, of_band, of_bor, of_bxor, of_shl, of_shr, computed, by_zero}
 use Rattle.machine_core.specs.Text.{Arg, read, written, Text, write_register, read_register, trap, raise, own, quick, pay, go_by}
-use Rattle.machine_core.specs.InstructionRows.{text_at, text_by, rest_at, rest_by, row_of, value_comes, rest, with_register, with_constant, counted, return_count, then, back, is_true, integer_of_shape, fast, event_numbered, handled, joins, starts, prepares, goes_round, runs, jumps, marks, opens, upvalues_of_inner, fills_by, register_or_constant, read_values, write_values, to_register, to_register_before, closes, returns, fails, next, skip}
+use Rattle.machine_core.specs.InstructionRows.{text_at, text_by, rest_at, rest_by, row_of, value_comes, rest, with_register, with_constant, counted, return_count, then, back, is_true, integer_of_shape, fast, event_numbered, handled, joins, starts, prepares, goes_round, runs, jumps, marks, is_alive, variable_name, opens, upvalues_of_inner, fills_by, register_or_constant, read_values, write_values, to_register, to_register_before, closes, returns, fails, next, skip}
 use Rattle.machine_readings.proofs.Texts.{Good}
 
 -- a wait for which an error is known already
@@ -100,8 +101,12 @@ module _ (p : Prototype) (pc : ℕ) (op : Opcode) (w : Instruction) (E : (wait :
   jumps_good len (pos n) = refl
   jumps_good len (negsuc n) = λ m. refl
 
+  -- where no local variable has a name
+  unnamed : (r : ℕ) → p.own.locals ≡ [] → variable_name p pc r ≡ codes "?"
+  unnamed r e = ap (λ (vs : List LocVar). elim (slice_get (filter (is_alive pc) vs) r) as (λ _. List ℕ) [ None ↦ codes "?" | Some v ↦ elim v.name [ None ↦ codes "?" | Some name ↦ name ] ]) e
+
   marks_good : (len r : ℕ) (t : Text) → ((n : ℕ) → G n t) → G len (marks p pc r t)
-  marks_good len r t f = λ s m l. by_cond (len + m) (holds s) _ _ (λ t n i. f (len + m + n)) (f (len + m))
+  marks_good len r t f = λ s m l. by_cond (len + m) (holds s) _ _ (unnamed r, λ t n i. f (len + m + n)) (f (len + m))
 
   opens_good : (len : ℕ) (us : List UpDesc) (t : Text) → G len t → G len (opens us t)
   opens_good len [] t f = f

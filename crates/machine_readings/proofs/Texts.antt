@@ -1,6 +1,7 @@
 -- What is asked of a text, so that both readings of it lead to the same: it names what it has read, waits where it calls, and goes on as its
 -- wait says.
 use Rattle.std.proofs.Common.{ℕ, suc, ◌+◌, ◌<◌, ◌≤◌, ◌≡◌, List, [], ◌∷◌, ◌++◌, length, drop, refl, ap, ◌∙◌, arith}
+use Rattle.std.specs.Prelude.{codes}
 use Rattle.code_core.specs.Prototype.{Prototype}
 use Rattle.int_core.specs.Value.{Value, nth, bind, Shape, range}
 use Rattle.machine_core.specs.World.{Cell, Wait, running, for_call, for_iterator, for_value, for_truth, dropped, for_concat, for_close, returning, leaving, Activation}
@@ -50,7 +51,7 @@ abbrev pub least : Own → ℕ
 least (read_register r) = 1
 least _ = 0
 
--- a text at an instruction of p, in a frame whose wait is w and where len values have been read
+-- a text at an instruction of p, in a frame whose wait is w and where len values have been read. Without names of variables it names none
 abbrev pub Good : Prototype → ℕ → Wait Value → ℕ → Text → Type 0
 Good p pc w len (go_by z) = w ≡ running
 Good p pc w len (own m k) = (s : Shape) (more : ℕ) → least m ≤ more → Good p pc w (len + more) (k len s)
@@ -60,7 +61,7 @@ Good p pc w len (operate op xs wait prepared t) = IsPlain wait × Reaches len pr
 Good p pc w len (call f slot wait prepared) = IsWaiting wait
 Good p pc w len (tail_call f slot) = Unit {0}
 Good p pc w len (close v e wait prepared) = IsWaiting wait × WaitReach len wait × Reaches len prepared
-Good p pc w len (closable v name t) = Good p pc w len t
+Good p pc w len (closable v name t) = (p.own.locals ≡ [] → name ≡ codes "?") × Good p pc w len t
 Good p pc w len (raise text) = Unit {0}
 Good p pc w len (leave given) = Unit {0}
 Good p pc w len trap = Unit {0}

@@ -1,0 +1,12 @@
+mod BaseRows
+mod Bests
+mod Fields
+mod Following
+mod Interning
+mod JoinRows
+mod ListRows
+mod Meaning
+mod MetatableRows
+mod PackRows
+mod Seen
+mod TextRows

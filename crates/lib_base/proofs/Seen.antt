@@ -1,0 +1,59 @@
+-- What valid values are: the strings that they name are there.
+use Rattle.std.proofs.Common.{◌≡◌, ℕ, List, [], ◌∷◌, Option, Some, None, false, refl, ap, subst}
+use Rattle.std.specs.Prelude.{slice_get}
+use Rattle.int_core.specs.Value.{Value, known, nil, nth, shape}
+use Rattle.int_core.specs.Heap.{raw_get}
+use Rattle.library_rows.specs.Arguments.{is_table}
+use Rattle.library_rows.specs.Look.{no_word, or_nil, read_field}
+use Rattle.machine_sound.proofs.Heaps.{raw_get_ok}
+use Rattle.machine_sound.proofs.Outside.{heap_of as heap_ok}
+use Rattle.machine_sound.specs.Sound.{Each, OptionOk, Valid, Sizes, sizes}
+use Rattle.table_core.specs.declared.value.TableId.{TableId}
+use Rattle.table_core.specs.declared.value.Value.{Value as Kept}
+use Rattle.table_core.specs.declared.value.Value.TheVariants.{Nil, Bool as Boolean, Int, Str, Prim, Table, Func, Coro}
+use Rattle.lua_heap.specs.Law.{StringsAreThere}
+use Rattle.lua_heap.specs.Reading.{value}
+use Rattle.lua_heap.specs.declared.world.World.{World as Memory}
+use Rattle.lua_heap.specs.Plain.{plain}
+use Rattle.lib_base.specs.Answers.{Stands}
+use Rattle.lib_base.specs.Raw.{heap_of, Operates}
+use Rattle.lib_base.specs.Shapes.{IsThere}
+
+pub there : StringsAreThere → (z : Sizes) (texts : List (List ℕ)) (v : Kept) → Valid z (value texts v) → IsThere texts v
+there law z texts Nil h = tt
+there law z texts (Boolean b) h = tt
+there law z texts (Int n) h = tt
+there law z texts (Str id) h = law z texts id h
+there law z texts (Prim n) h = tt
+there law z texts (Table id) h = tt
+there law z texts (Func id) h = tt
+there law z texts (Coro id) h = tt
+
+pub nth_valid : (z : Sizes) (vs : List Value) → Each (Valid z) vs → (at : ℕ) → Valid z (nth vs at)
+nth_valid z vs h at = by (slice_get vs at) refl
+  where
+    by : (o : Option Value) → slice_get vs at ≡ o → Valid z (elim o [ None ↦ known nil | Some v ↦ v ])
+    by None e = tt
+    by (Some v) e = h at v e
+
+pub no_table : (texts : List (List ℕ)) (v : Kept) → ((id : TableId) → v ≡ Table id → ⊥) → is_table (shape (value texts v)) ≡ false
+no_table texts Nil h = refl
+no_table texts (Boolean b) h = refl
+no_table texts (Int n) h = refl
+no_table texts (Str id) h = refl
+no_table texts (Prim n) h = refl
+no_table texts (Table id) h = absurd (h id refl)
+no_table texts (Func id) h = refl
+no_table texts (Coro id) h = refl
+
+or_nil_valid : (z : Sizes) (o : Option Value) → OptionOk (Valid z) o → Valid z (or_nil o)
+or_nil_valid z None h = tt
+or_nil_valid z (Some v) h = h
+
+-- so is a value that is read from a table of a sound world
+pub read_there : StringsAreThere → (W : Memory) (arguments : List Kept) → Stands W arguments → (o key v : Kept) → Operates read_field W (o ∷ key ∷ []) W (v ∷ []) no_word → IsThere W.strings v
+read_there law W arguments s o key v d =
+    let z = sizes s.primitives (plain W s.fuel) in
+    let ok = raw_get_ok z (plain W s.fuel).heap (heap_ok s.primitives (plain W s.fuel) s.sound.solid) (value W.strings o) (value W.strings key) in
+    let e : or_nil (raw_get (heap_of W) (value W.strings o) (value W.strings key)) ≡ value W.strings v = ap (λ t. nth t.values 0) d.does in
+    there law z W.strings v (subst (Valid z) e (or_nil_valid z _ ok))

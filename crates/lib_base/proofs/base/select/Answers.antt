@@ -1,0 +1,20 @@
+use Rattle.std.proofs.Common.{rules, ◌≡◌, ap, ◌∙◌, map, length, drop, false, Ok, None}
+use Rattle.std.specs.Prelude.{◌-◌, codes}
+use Rattle.int_core.specs.Value.{nth, shape}
+use Rattle.library_rows.specs.Arguments.{integer_argument}
+use Rattle.library_rows.specs.Base.{is_count}
+use Rattle.lua_heap.specs.Reading.{value}
+use Rattle.lib_base.specs.Raw.{heap_of}
+use Rattle.lib_base.specs.Select.{selected_place}
+use Rattle.lib_base.proofs.BaseRows.{behind_first, select_none}
+use Rattle.lib_base.proofs.base.select.Goals as goal
+
+pub returns-in-None : goal.returns-in-None
+returns-in-None c =
+    let texts = c.args.world.now.strings in
+    let vs = map (value texts) c.args.arguments.now in
+    let e : is_count (shape (nth vs 0)) ≡ false = search rules in
+    let f : integer_argument (codes "select") 1 (shape (nth vs 0)) ≡ Ok c.in_ok-n.n = search rules in
+    let m : length (drop 1 vs) ≡ length c.args.arguments.now - 1 = behind_first (value texts) c.args.arguments.now in
+    let g : selected_place c.in_ok-n.n (length c.args.arguments.now - 1) ≡ None = search rules in
+    select_none vs (heap_of c.args.world.now) c.in_ok-n.n e f (ap (selected_place c.in_ok-n.n) m ∙ g)

@@ -1,0 +1,24 @@
+use Rattle.std.proofs.lemmas.Result.{on_err_weaker}
+use Rattle.lib_base.proofs.Interning.{changes_strings, same_strings}
+use Rattle.lib_base.proofs.calls.call.Goals as goal
+
+pub returns-in-Assert-clause-changes : goal.returns-in-Assert-clause-changes
+returns-in-Assert-clause-changes c = changes_strings c.args.world.now c.assert.new.world c.args.arguments.now c.assert.ensures.kept
+
+pub returns-in-GetMetatable-clause-changes : goal.returns-in-GetMetatable-clause-changes
+returns-in-GetMetatable-clause-changes c = changes_strings c.args.world.now c.get_metatable.new.world c.args.arguments.now c.get_metatable.ensures.kept
+
+pub returns-in-TypeOf-clause-changes : goal.returns-in-TypeOf-clause-changes
+returns-in-TypeOf-clause-changes c = changes_strings c.args.world.now c.type_of.new.world c.args.arguments.now c.type_of.ensures.kept
+
+pub returns-in-Math-clause-changes : goal.returns-in-Math-clause-changes
+returns-in-Math-clause-changes c = changes_strings c.args.world.now c.math_function.new.world c.args.arguments.now c.math_function.ensures.kept
+
+pub returns-in-Join-clause-changes : goal.returns-in-Join-clause-changes
+returns-in-Join-clause-changes c = changes_strings c.args.world.now c.join.new.world c.args.arguments.now c.join.ensures.kept
+
+pub returns-in-Text-clause-changes : goal.returns-in-Text-clause-changes
+returns-in-Text-clause-changes c = changes_strings c.args.world.now c.text.new.world c.args.arguments.now c.text.ensures.kept
+
+pub returns-in-RawSet-clause-err : goal.returns-in-RawSet-clause-err
+returns-in-RawSet-clause-err c = on_err_weaker c.raw_set.result (same_strings c.args.world.now c.raw_set.new.world c.args.arguments.now c.requires) c.raw_set.ensures.err

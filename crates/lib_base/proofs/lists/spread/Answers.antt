@@ -1,0 +1,16 @@
+use Rattle.std.proofs.Common.{ap, sym, ◌∙◌, map, subst}
+use Rattle.std.specs.Prelude.{codes}
+use Rattle.int_core.specs.Value.{nth, shape}
+use Rattle.library_rows.specs.Look.{done}
+use Rattle.lua_heap.specs.Reading.{value}
+use Rattle.lib_base.specs.Lists.{IsCounted}
+use Rattle.lib_base.specs.Raw.{heap_of}
+use Rattle.lib_base.proofs.ListRows.{spread_is}
+use Rattle.lib_base.proofs.lists.spread.Goals as goal
+
+pub returns : goal.returns
+returns c =
+    let vs = map (value c.args.world.now.strings) c.args.arguments.now in
+    let H = heap_of c.args.world.now in
+    let n : IsCounted (codes "spread") (shape (nth vs 1)) c.in_ok-many.many = subst (λ s. IsCounted (codes "spread") s c.in_ok-many.many) c.argument_shape.ensures c.in_ok-many.ensures in
+    spread_is vs H c.in_ok-id.id c.in_ok-many.many c.in_ok-id.ensures n ∙ ap (done H) (sym c.in_ok-items.ensures)

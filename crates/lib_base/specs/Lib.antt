@@ -1,0 +1,10 @@
+pub mod Raw
+pub mod Shapes
+pub mod Answers
+pub mod Select
+pub mod Metatables
+pub mod Lists
+pub mod Packing
+pub mod Texts
+pub mod Math
+pub mod Functions

@@ -1,0 +1,23 @@
+//! The library functions that look at values and tables, over the world in memory (lbaselib.c, ltablib.c and lmathlib.c of Lua 5.4).
+//! Each gives what its row of `library_rows` says.
+#![tactic(auto)]
+
+mod answer;
+mod base;
+mod calls;
+mod joining;
+pub mod law;
+mod lists;
+pub mod math;
+mod metatables;
+mod packing;
+pub mod plain;
+pub mod raw;
+mod shapes;
+mod strings;
+#[cfg(test)]
+mod tests;
+mod text;
+
+pub use answer::Answer;
+pub use calls::{Function, call};

@@ -1,0 +1,83 @@
+// The text of a value without `__tostring` (Lua 5.4 manual, 6.1, `tostring`).
+ghost use Rattle.std.specs.Prelude.{◌≡◌, IfOk, codes, map};
+ghost use Rattle.int_core.specs.Value.{known, nth, shape, string};
+ghost use Rattle.library_arguments.specs.Shapes.{shape_of};
+ghost use Rattle.library_rows.specs.Base.{kind_text, texts};
+ghost use Rattle.lua_heap.specs.Reading.{value};
+ghost use Rattle.lib_base.specs.Answers.{Answers, OnlyStrings, Stands};
+ghost use Rattle.lib_base.specs.Raw.{heap_of};
+ghost use Rattle.lib_base.specs.Texts.{IsShown, shown_of};
+
+use crate::answer::{Answer, argument, one};
+use crate::raw;
+use crate::shapes::{argument_shape, shape};
+use crate::strings::string;
+use library_arguments::{Digits, Fault, Refusal, Shape};
+use lua_heap::World;
+use lua_heap::law::strings_are_there;
+use std::alloc::{AllocError, Global};
+use table_core::Value;
+use text_functions::MAX_TEXT;
+
+/// The text of a value without `__tostring`, for `tostring` of the prelude: of an object it begins with a string `__name` of its
+/// metatable where there is one, and never shows a number.
+///
+/// # Errors
+///
+/// `resulting string too large` where it has more than 16,777,216 bytes.
+pub fn text(world: &mut World, arguments: &[Value]) -> Result<Answer, Fault>
+    requires { Stands world.old arguments.now }
+    ensures answers { Answers texts arguments.now world.old world.new result }
+    ensures kept { OnlyStrings world.old world.new arguments.now }
+{
+    let name = string(world, arguments, b"__name")?;
+    let bytes = shown(world, arguments, name)?;
+    if bytes.len() > MAX_TEXT {
+        return Err(Fault::Refused(Refusal::Text(b"resulting string too large")));
+    }
+    let made = string(world, arguments, bytes.as_slice())?;
+    let answer = one(world.alloc, made)?;
+    Ok(answer)
+}
+
+/// The text of the first argument, where `name` is the string `__name`.
+fn shown(world: &World, arguments: &[Value], name: Value) -> Result<Vec<u8>, AllocError>
+    requires stands { Stands world.now arguments.now }
+    requires named { value world.now.strings name ≡ known (string (codes "__name")) }
+    ensures { IfOk result (λ bytes. IsShown (map (value world.now.strings) arguments.now) (heap_of world.now) bytes.items) }
+{
+    strings_are_there();
+    let metatable = raw::value_of(raw::metatable(world, argument(arguments, 0)));
+    let field = raw::read_field(world, metatable, name);
+    let seen = argument_shape(world, arguments, 0);
+    let bytes = shown_text(world.alloc, seen, shape(world, field))?;
+    Ok(bytes)
+}
+
+/// The text of a value, from the field `__name` of its metatable.
+fn shown_text(alloc: Global, seen: Shape, name: Shape) -> Result<Vec<u8>, AllocError>
+    ensures { IfOk result (λ bytes. bytes.items ≡ shown_of (shape_of seen.entry) (shape_of name.entry)) }
+{
+    match seen {
+        Shape::Nil => b"nil".to_vec(alloc),
+        Shape::Boolean(true) => b"true".to_vec(alloc),
+        Shape::Boolean(false) => b"false".to_vec(alloc),
+        Shape::Integer(n) => Digits::of(n).as_slice().to_vec(alloc),
+        Shape::String(bytes) => bytes.to_vec(alloc),
+        Shape::Primitive(_) => b"function: object".to_vec(alloc),
+        Shape::Object(_) => object_text(alloc, seen, name),
+    }
+}
+
+/// The text of an object.
+fn object_text(alloc: Global, seen: Shape, name: Shape) -> Result<Vec<u8>, AllocError>
+    ensures { IfOk result (λ bytes. bytes.items ≡ kind_text (shape_of seen.entry) (shape_of name.entry)) }
+{
+    let mut text = Vec::new(alloc);
+    match name {
+        Shape::String(bytes) => text.extend_from_slice(bytes)?,
+        _ => text.extend_from_slice(seen.type_name())?,
+    }
+    text.extend_from_slice(b": object")?;
+    Ok(text)
+}

@@ -1,0 +1,270 @@
+-- Rows that end no turn and pay for nothing: what they come to at once, the other world comes to.
+use Rattle.std.proofs.Common.{ℕ, ◌≡◌, List, [], ◌++◌, length, Option, Some, None, refl, sym, subst, Bool, true, false}
+use Rattle.std.specs.Prelude.{drop, slice_get, nat_lt, cond, ◌&&◌, codes}
+use Rattle.int_core.specs.Value.{Value, known, object, nil, boolean, integer, string, primitive, a_table, a_function, a_coroutine, Shape, is_known, is_object, bind}
+use Rattle.int_core.specs.Limits.{greatest_resumes, stack_overflow}
+use Rattle.list_laws.proofs.Items.{some_same}
+use Rattle.machine_core.specs.World.{Coroutine, fresh, suspended, in_progress, normal, dead, failed, World, Stack, stack_of}
+use Rattle.machine_core.specs.Text.{arg}
+use Rattle.machine_core.specs.Moves.{Made, made, Told, Move, on_own, move_pc, open_register, outside, settle, enter, enter_tail, await, find_close, is_closable, begin_leaving, leave_frame, take_moving, look, give, give_with, blame, place_text, push_frame, call_value, see_top, see_catcher, pop_frame, take_closing, set_error, end_coroutine, fail_coroutine, suspend, resume, begin_closing, consult, create, see_status, see_running, print, move, CallShape, is_entered, is_primitive, not_paid, not_entered, TopShape, lua_top, pcall_top, xpcall_top, handler_top, closing_top, no_top, ClosingShape, one_left, all_closed, closed_with_error, ResumeShape, resumed, refused, enters, has_room, starts_in, resumes, can_start, wait_for_another, closes_in, closes_coroutine, coroutine_number, Row, traps, stop, only, act, Ending, go, returned, asks, calls_primitive, raised, unwinding, spent, main_yielded, main_returned, main_failed, Outcome, trapped, ends, run}
+use Rattle.machine_core.specs.FrameRows.{hand_over, handed, closing_by, handed_to, unwound, raised_row, raised_to, coroutine_fails}
+use Rattle.machine_core.specs.MachineStep.{after_entry, after_resume, after_closing, resumes as row_resumes, closes_coroutine as row_closes, resume_row, close_row}
+use Rattle.lua_meaning.specs.Primitives.{Primitive}
+use Rattle.machine_means.specs.Joined.{TalkWorld}
+use Rattle.machine_means.specs.Laws.{GivesBack}
+use Rattle.machine_means.specs.Stands.{Stands, results_come, ComesTo}
+use Rattle.means_steps.specs.Steps.{EndsSo, Leads, GoesOn}
+
+-- what a move of such a row tells
+
+abbrev pub Unpaid : CallShape → Type 0
+Unpaid not_paid = ⊥
+Unpaid _ = Unit {0}
+
+abbrev pub ResumedUnpaid : ResumeShape → Type 0
+ResumedUnpaid (resumed s) = Unpaid s
+ResumedUnpaid (refused text) = Unit {0}
+
+abbrev pub Tells : (m : Move) → Told m → Type 0
+Tells (resume x slot) told = ResumedUnpaid told
+Tells (begin_closing x) told = ResumedUnpaid told
+Tells _ told = Unit {0}
+
+bind_some : {A B : Type 0} (o : Option A) (f : A → Option B) (y : B) → bind o f ≡ Some y → (x : A) × (o ≡ Some x) × (f x ≡ Some y)
+bind_some None f y e = absurd (cc)
+bind_some (Some x) f y e = (x, refl, e)
+
+made_call : (W : World) (vs : List Value) (t : CallShape) (d : Made CallShape) → Unpaid t → made W vs t ≡ Some d → Unpaid d.told
+made_call W vs t d k e = subst (λ (d : Made CallShape). Unpaid d.told) (some_same _ d e) k
+
+made_resume : (W : World) (vs : List Value) (t : ResumeShape) (d : Made ResumeShape) → ResumedUnpaid t → made W vs t ≡ Some d → ResumedUnpaid d.told
+made_resume W vs t d k e = subst (λ (d : Made ResumeShape). ResumedUnpaid d.told) (some_same _ d e) k
+
+enters_unpaid : (W : World) (f : Value) (args : List Value) (d : Made CallShape) → enters W f args ≡ Some d → Unpaid d.told
+enters_unpaid W (known (primitive n)) args d e = made_call _ _ (is_primitive n) d tt e
+enters_unpaid W (known nil) args d e = absurd (cc)
+enters_unpaid W (known (boolean b)) args d e = absurd (cc)
+enters_unpaid W (known (integer i)) args d e = absurd (cc)
+enters_unpaid W (known (string t)) args d e = absurd (cc)
+enters_unpaid W (object a_table n) args d e = absurd (cc)
+enters_unpaid W (object a_coroutine n) args d e = absurd (cc)
+enters_unpaid W (object a_function n) args d e = let b = bind_some (slice_get W.functions n) _ d e in by _ _ _ _ (has_room W 1) b.2
+  where
+    by : (V V' : World) (vs vs' : List Value) (r : Bool) → cond r (made V vs is_entered) (made V' vs' (not_entered stack_overflow)) ≡ Some d → Unpaid d.told
+    by V V' vs vs' true e = made_call V vs is_entered d tt e
+    by V V' vs vs' false e = made_call V' vs' (not_entered stack_overflow) d tt e
+
+starts_unpaid : (W : World) (co : ℕ) (c : Coroutine) (args : List Value) (d : Made ResumeShape) → starts_in W co c args ≡ Some d → ResumedUnpaid d.told
+starts_unpaid W co (fresh body) args d e =
+    let b = bind_some (enters (Rattle.machine_core.specs.Moves.go_into W co []) body args) _ d e in
+    made_resume _ _ (resumed b.0.told) d (enters_unpaid _ body args b.0 b.1) b.2
+starts_unpaid W co (suspended frames) args d e = made_resume _ _ (resumed is_entered) d tt e
+starts_unpaid W co (in_progress frames) args d e = made_resume _ _ (refused _) d tt e
+starts_unpaid W co (normal frames) args d e = made_resume _ _ (refused _) d tt e
+starts_unpaid W co dead args d e = made_resume _ _ (refused _) d tt e
+starts_unpaid W co (failed v us) args d e = made_resume _ _ (refused _) d tt e
+
+resumes_unpaid : (W : World) (s : Stack) (co : ℕ) (c : Coroutine) (args : List Value) (d : Made ResumeShape) → resumes W s co c args ≡ Some d → ResumedUnpaid d.told
+resumes_unpaid W s co c args d e = by (can_start c && nat_lt greatest_resumes (length W.chain)) e
+  where
+    by : (b : Bool) → cond b (made W [] (refused (codes "too many nested resumes"))) (starts_in (cond (can_start c) (wait_for_another W s) W) co c args) ≡ Some d → ResumedUnpaid d.told
+    by true e = made_resume _ _ (refused (codes "too many nested resumes")) d tt e
+    by false e = starts_unpaid (cond (can_start c) (wait_for_another W s) W) co c args d e
+
+closes_unpaid : (W D : World) (s : Stack) (v : Option Value) (us : List Value) (d : Made ResumeShape) → closes_in W D s v us ≡ Some d → ResumedUnpaid d.told
+closes_unpaid W D s v us d e = by _ _ _ _ (has_room W 1) e
+  where
+    by : (V V' : World) (vs vs' : List Value) (r : Bool) → cond r (made V vs (resumed is_entered)) (made V' vs' (resumed (not_entered stack_overflow))) ≡ Some d → ResumedUnpaid d.told
+    by V V' vs vs' true e = made_resume V vs (resumed is_entered) d tt e
+    by V V' vs vs' false e = made_resume V' vs' (resumed (not_entered stack_overflow)) d tt e
+
+closing_unpaid : (W : World) (s : Stack) (co : ℕ) (c : Coroutine) (d : Made ResumeShape) → closes_coroutine W s co c ≡ Some d → ResumedUnpaid d.told
+closing_unpaid W s co (fresh body) d e = closes_unpaid W _ s None [] d e
+closing_unpaid W s co (suspended frames) d e = closes_unpaid W _ s None _ d e
+closing_unpaid W s co (failed v us) d e = closes_unpaid W _ s (Some v) us d e
+closing_unpaid W s co dead d e = closes_unpaid W W s None [] d e
+closing_unpaid W s co (in_progress frames) d e = made_resume _ _ (refused _) d tt e
+closing_unpaid W s co (normal frames) d e = made_resume _ _ (refused _) d tt e
+
+tells_so : (m : Move) (env : List Value) (W : World) (d : Made (Told m)) → move m env W ≡ Some d → Tells m d.told
+tells_so (resume x slot) env W d e =
+    let a = bind_some (stack_of W) _ d e in
+    let b = bind_some (coroutine_number (arg env x)) _ d a.2 in
+    let c = bind_some (slice_get W.coroutines b.0) _ d b.2 in
+    resumes_unpaid W a.0 b.0 c.0 (drop slot env) d c.2
+tells_so (begin_closing x) env W d e =
+    let a = bind_some (stack_of W) _ d e in
+    let b = bind_some (coroutine_number (arg env x)) _ d a.2 in
+    let c = bind_some (slice_get W.coroutines b.0) _ d b.2 in
+    closing_unpaid W a.0 b.0 c.0 d c.2
+tells_so (on_own m) env W d e = tt
+tells_so (move_pc z) env W d e = tt
+tells_so (open_register r) env W d e = tt
+tells_so (outside q) env W d e = tt
+tells_so (settle op xs) env W d e = tt
+tells_so (enter f slot wait ps) env W d e = tt
+tells_so (enter_tail f slot) env W d e = tt
+tells_so (await f slot wait ps) env W d e = tt
+tells_so (find_close v x) env W d e = tt
+tells_so (is_closable x) env W d e = tt
+tells_so (begin_leaving text) env W d e = tt
+tells_so (leave_frame x) env W d e = tt
+tells_so take_moving env W d e = tt
+tells_so (look x) env W d e = tt
+tells_so (give xs) env W d e = tt
+tells_so (give_with xs slot) env W d e = tt
+tells_so (blame text) env W d e = tt
+tells_so (place_text x level) env W d e = tt
+tells_so (push_frame over) env W d e = tt
+tells_so (call_value f slot) env W d e = tt
+tells_so see_top env W d e = tt
+tells_so see_catcher env W d e = tt
+tells_so pop_frame env W d e = tt
+tells_so take_closing env W d e = tt
+tells_so (set_error x) env W d e = tt
+tells_so end_coroutine env W d e = tt
+tells_so (fail_coroutine x) env W d e = tt
+tells_so suspend env W d e = tt
+tells_so (consult l slot) env W d e = tt
+tells_so (create x) env W d e = tt
+tells_so (see_status x) env W d e = tt
+tells_so see_running env W d e = tt
+tells_so (print x) env W d e = tt
+
+-- rows within a turn: they end none, and pay for nothing
+abbrev pub EndsNoTurn : Row → Type 0
+EndsNoTurn traps = Unit {0}
+EndsNoTurn (stop ending) = GoesOn ending
+EndsNoTurn (only slot r) = EndsNoTurn r
+EndsNoTurn (act m k) = (n : ℕ) (told : Told m) → Tells m told → EndsNoTurn (k n told)
+
+abbrev pub GoesOnIn : Outcome → Type 0
+GoesOnIn trapped = Unit {0}
+GoesOnIn (ends ending W) = GoesOn ending
+
+pub goes_on_in : (r : Row) → EndsNoTurn r → (env : List Value) (W : World) → GoesOnIn (run r env W)
+goes_on_in traps k env W = tt
+goes_on_in (stop ending) k env W = k
+goes_on_in (only slot r) k env W = goes_on_in r k (drop slot env) W
+goes_on_in (act m t) k env W = by (move m env W) refl (λ d z. goes_on_in (t (length env) d.told) (k (length env) d.told (tells_so m env W d z)) (env ++ d.values) d.world)
+  where
+    by : (o : Option (Made (Told m))) → move m env W ≡ o → ((d : Made (Told m)) → move m env W ≡ Some d → GoesOnIn (run (t (length env) d.told) (env ++ d.values) d.world)) → GoesOnIn (elim o as (λ _. Outcome) [ None ↦ trapped | Some d ↦ run (t (length env) d.told) (env ++ d.values) d.world ])
+    by None z ih = tt
+    by (Some d) z ih = ih d z
+
+ends_so : (shown : List ℕ) (ending : Ending) (W : World) (T : TalkWorld) → GoesOn ending → Stands ending W T → EndsSo shown ending W T
+ends_so shown go W T g s = s
+ends_so shown returned W T g s = s
+ends_so shown asks W T g s = s
+ends_so shown (calls_primitive m) W T g s = s
+ends_so shown raised W T g s = s
+ends_so shown unwinding W T g s = s
+ends_so shown spent W T g s = absurd g
+ends_so shown main_yielded W T g s = absurd g
+ends_so shown main_returned W T g s = absurd g
+ends_so shown main_failed W T g s = absurd g
+
+-- what such a row comes to at once
+pub comes_leads : (library : ℕ → Option Primitive) (shown : List ℕ) (r : Row) (env : List Value) (W : World) (T : TalkWorld) → EndsNoTurn r → ComesTo (run r env W) T → Leads library shown T (run r env W)
+comes_leads library shown r env W T k c =
+    subst (λ o. Leads library shown T o) (sym c.is) (0, ends_so shown c.ending c.world T (subst GoesOnIn c.is (goes_on_in r k env W)) c.stands)
+
+-- the rows of frames that are no Lua functions'
+
+handed_free : (top : TopShape) → EndsNoTurn (handed top)
+handed_free lua_top = tt
+handed_free pcall_top = tt
+handed_free xpcall_top = tt
+handed_free handler_top = tt
+handed_free closing_top = tt
+handed_free (no_top b) = tt
+
+pub hand_free : EndsNoTurn hand_over
+hand_free = λ _ top _. handed_free top
+
+closing_free : (s : ClosingShape) (v : ℕ) → EndsNoTurn (closing_by s v)
+closing_free one_left v = λ _ _ _ _ _ _. tt
+closing_free all_closed v = λ _ _ _ _ _ _. hand_free
+closing_free closed_with_error v = λ _ _ _ _ _ _. hand_free
+
+pub handed_to_free : (top : TopShape) → (top ≡ no_top true → ⊥) → EndsNoTurn (handed_to top)
+handed_to_free lua_top n = tt
+handed_to_free pcall_top n = λ _ _ _ _ _ _ _ _ _. hand_free
+handed_to_free xpcall_top n = λ _ _ _ _ _ _ _ _ _. hand_free
+handed_to_free handler_top n = λ _ _ _ _ _ _ _ _ _. tt
+handed_to_free closing_top n = λ _ _ _ v s _. closing_free s v
+handed_to_free (no_top false) n = λ _ _ _ _ _ _ _ _ _. hand_free
+handed_to_free (no_top true) n = absurd (n refl)
+
+pub either : (b : Bool) (x y : Row) → EndsNoTurn x → EndsNoTurn y → EndsNoTurn (cond b x y)
+either true x y k l = k
+either false x y k l = l
+
+fails_free : EndsNoTurn coroutine_fails
+fails_free = λ _ _ _ _ _ _ _ _ _. hand_free
+
+pub unwound_free : (top : TopShape) → (top ≡ lua_top → ⊥) → (top ≡ no_top true → ⊥) → EndsNoTurn (unwound top)
+unwound_free lua_top n m = absurd (n refl)
+unwound_free pcall_top n m = λ _ _ _ _ _ _ _ _ _. hand_free
+unwound_free xpcall_top n m = λ _ _ _ _ _ _ _ _ _. hand_free
+unwound_free handler_top n m = λ _ _ _ _ _ _. tt
+unwound_free closing_top n m = λ _ _ _ _ _ _ v s _. closing_free s v
+unwound_free (no_top true) n m = absurd (m refl)
+unwound_free (no_top false) n m = fails_free
+
+raised_free : (top : TopShape) (h : ℕ) → EndsNoTurn (raised_to top h)
+raised_free xpcall_top h = λ _ _ _ _ room _. either room _ _ (λ _ _ _. tt) (λ _ _ _. tt)
+raised_free (no_top false) h = fails_free
+raised_free (no_top true) h = tt
+raised_free lua_top h = tt
+raised_free pcall_top h = tt
+raised_free handler_top h = tt
+raised_free closing_top h = tt
+
+pub raised_row_free : EndsNoTurn raised_row
+raised_row_free = λ h top _. raised_free top h
+
+-- results on their way
+pub gives_leads : (library : ℕ → Option Primitive) (shown : List ℕ) (o : Outcome) (T : TalkWorld) → GivesBack o T → Leads library shown T o
+gives_leads library shown o T g =
+    subst (λ o. Leads library shown T o) (sym g.is) (0, ends_so shown g.ending g.world T (subst GoesOnIn g.reached (goes_on_in hand_over hand_free [] g.world)) (results_come g.ending g.world T g.reached g.now g.joined))
+
+-- a coroutine's function was called, or a closing frame pushed
+
+pub entry_free : (s : CallShape) → Unpaid s → EndsNoTurn (after_entry s)
+entry_free is_entered k = tt
+entry_free (is_primitive n) k = tt
+entry_free not_paid k = k
+entry_free (not_entered text) k = λ _ _ _. tt
+
+after_resume_free : (s : ResumeShape) → ResumedUnpaid s → EndsNoTurn (after_resume s)
+after_resume_free (resumed is_entered) k = hand_free
+after_resume_free (resumed (is_primitive n)) k = tt
+after_resume_free (resumed not_paid) k = absurd k
+after_resume_free (resumed (not_entered text)) k = λ _ _ _. tt
+after_resume_free (refused text) k = λ _ _ _. hand_free
+
+after_closing_free : (s : ResumeShape) → ResumedUnpaid s → EndsNoTurn (after_closing s)
+after_closing_free (resumed is_entered) k = λ v s _. closing_free s v
+after_closing_free (resumed (is_primitive n)) k = tt
+after_closing_free (resumed not_paid) k = absurd k
+after_closing_free (resumed (not_entered text)) k = λ _ _ _. tt
+after_closing_free (refused text) k = λ _ _ _. tt
+
+resumes_free : (s : Shape) (co : ℕ) → EndsNoTurn (row_resumes s co)
+resumes_free (is_object a_coroutine) co = λ _ told k. after_resume_free told k
+resumes_free (is_object a_table) co = λ _ _ _. tt
+resumes_free (is_object a_function) co = λ _ _ _. tt
+resumes_free (is_known p) co = λ _ _ _. tt
+
+pub resume_free : EndsNoTurn resume_row
+resume_free = λ co _ _ _ s _. resumes_free s co
+
+closes_free : (s : Shape) (co : ℕ) → EndsNoTurn (row_closes s co)
+closes_free (is_object a_coroutine) co = λ _ told k. after_closing_free told k
+closes_free (is_object a_table) co = λ _ _ _. tt
+closes_free (is_object a_function) co = λ _ _ _. tt
+closes_free (is_known p) co = λ _ _ _. tt
+
+pub close_free : EndsNoTurn close_row
+close_free = λ co _ _ _ s _. closes_free s co

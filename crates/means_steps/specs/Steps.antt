@@ -1,0 +1,93 @@
+-- What a step of the machine with a Lua frame on top is in the world in which activations talk: some ticks of it.
+use Rattle.std.specs.Prelude.{◌≡◌, ℕ, ◌<◌, false, List, [], ◌∷◌, Option, Some, slice_get, slice_set}
+use Rattle.int_core.specs.Value.{Value}
+use Rattle.library_rows.specs.Look as look
+use Rattle.library_rows.specs.Look.{Look, looked}
+use Rattle.int_core.specs.Heap.{Heap}
+use Rattle.machine_core.specs.World.{Frame, suspended, in_progress, World}
+use Rattle.machine_core.specs.Moves.{Ending, go, returned, asks, calls_primitive, raised, unwinding, spent, main_yielded, main_returned, main_failed, Row, Outcome, trapped, ends, run}
+use Rattle.machine_core.specs.MachineStep.{look_row, step_by}
+use Rattle.lua_meaning.specs.World as talk
+use Rattle.lua_meaning.specs.Primitives.{Primitive, Done, done, refused, row}
+use Rattle.lua_meaning.specs.Step.{does_primitive, after_row, ticks}
+use Rattle.code_means.specs.Runs.{codes_run}
+use Rattle.machine_sound.specs.Sound.{Solid, Settled}
+use Rattle.machine_sound.specs.Laws.{SoundAfter}
+use Rattle.machine_means.specs.Joined.{TalkWorld, Joined}
+use Rattle.machine_means.specs.Works.{Works}
+use Rattle.machine_means.specs.Stands.{Stands, AtRest}
+
+-- the main coroutine waits for the next turn: were it to go on, both would be joined
+pub record MainWaits (W : World) (T : TalkWorld) : Type 0 where
+  pub co : ℕ
+  pub frames : List Frame
+  pub main : W.main ≡ Some co
+  pub idle : W.chain ≡ []
+  pub there : slice_get W.coroutines co ≡ Some (suspended frames)
+  pub joined : Joined false (record W { coroutines = slice_set W.coroutines co (in_progress frames); chain = co ∷ [] }) T
+
+-- an error is all that moves, and the other world ends with it
+pub record FailsWith (W : World) (T : TalkWorld) : Type 0 where
+  pub error : Value
+  pub moves : W.moving ≡ error ∷ []
+  pub ended : T.now ≡ talk.ends (talk.failed_with error)
+
+-- where the budget is spent the machine goes back to where its step began: the other world says so too, and has printed what had been printed by then
+-- What the main coroutine hands to the session is all that moves
+abbrev pub EndsSo : (shown : List ℕ) → Ending → World → TalkWorld → Type 0
+EndsSo shown spent W T = (T.now ≡ talk.ends talk.spent) × (T.printed ≡ shown)
+EndsSo shown go W T = Stands go W T
+EndsSo shown returned W T = Stands returned W T
+EndsSo shown asks W T = Stands asks W T
+EndsSo shown (calls_primitive n) W T = Stands (calls_primitive n) W T
+EndsSo shown raised W T = Stands raised W T
+EndsSo shown unwinding W T = Stands unwinding W T
+EndsSo shown main_yielded W T = (T.now ≡ talk.ends (talk.yielded W.moving)) × ((W.printed ≡ T.printed) × MainWaits W T)
+EndsSo shown main_returned W T = (T.now ≡ talk.ends (talk.returned W.moving)) × (W.printed ≡ T.printed)
+EndsSo shown main_failed W T = FailsWith W T × (W.printed ≡ T.printed)
+
+-- what a row comes to stands beside the other world some ticks later; where the row traps nothing is said
+abbrev pub Leads : (known : ℕ → Option Primitive) → (shown : List ℕ) → TalkWorld → Outcome → Type 0
+Leads known shown T trapped = Unit {0}
+Leads known shown T (ends ending W) = (j : ℕ) × EndsSo shown ending W (ticks codes_run known j T)
+
+-- a function runs: one step of the machine, which is an instruction
+abbrev pub RunningSteps : Type 0
+RunningSteps = (primitives : ℕ) (rows : ℕ → Row) (known : ℕ → Option Primitive) (M : World) (T : TalkWorld) → Solid primitives M → Settled primitives M → Works M T → Leads known M.printed T (step_by rows go M)
+
+-- what a library row that looks at values and tables alone came to, and what the other world says of it
+abbrev pub SameDone : look.Done → Option Done → Type 0
+SameDone (look.done H vs) d = d ≡ Some (done H vs)
+SameDone (look.refused text) d = d ≡ Some (refused text)
+SameDone (look.raised H v) d = ⊥
+
+-- such a row of the machine, and a primitive of the other world
+pub record LooksAs (l : Look) (p : Primitive) : Type 0 where
+  pub looks : (T : TalkWorld) (vs : List Value) → does_primitive codes_run p T vs ≡ after_row T (row p T.heap vs)
+  pub same : (H : Heap) (vs : List Value) → SameDone (looked l vs H) (row p H vs)
+
+-- a primitive's row is called where all frames wait, and so is the primitive in the other world
+abbrev pub PrimitiveJoined : Row → Primitive → Type 0
+PrimitiveJoined r p = (library : ℕ → Option Primitive) (primitives : ℕ) (M : World) (T : TalkWorld) → AtRest primitives false M T → Leads library M.printed (does_primitive codes_run p T M.moving) (run r [] M)
+
+-- so it is with every row that looks at values and tables alone
+abbrev pub LookRowsJoined : Type 0
+LookRowsJoined = (l : Look) (p : Primitive) → LooksAs l p → PrimitiveJoined (look_row l) p
+
+-- each number is that of the same primitive in both
+abbrev pub SameLibrary : (primitives : ℕ) → (ℕ → Row) → (ℕ → Option Primitive) → Type 0
+SameLibrary primitives rows library = (n : ℕ) → n < primitives → (p : Primitive) × (library n ≡ Some p) × PrimitiveJoined (rows n) p
+
+abbrev pub GoesOn : Ending → Type 0
+GoesOn go = Unit {0}
+GoesOn returned = Unit {0}
+GoesOn asks = Unit {0}
+GoesOn (calls_primitive n) = Unit {0}
+GoesOn raised = Unit {0}
+GoesOn unwinding = Unit {0}
+GoesOn _ = ⊥
+
+-- whatever the last step ended with: one step of the machine
+abbrev pub StepsLead : Type 0
+StepsLead = (primitives : ℕ) (rows : ℕ → Row) (library : ℕ → Option Primitive) → SameLibrary primitives rows library → (ending : Ending) → GoesOn ending → (M : World) (T : TalkWorld) → SoundAfter primitives ending M → Stands ending M T
+    → Leads library M.printed T (step_by rows ending M)

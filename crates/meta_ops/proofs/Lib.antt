@@ -1,0 +1,7 @@
+mod Fields
+mod Links
+mod Bits
+mod OperatorLemmas
+mod Storing
+mod Staying
+mod Joining
