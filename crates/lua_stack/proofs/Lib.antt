@@ -13,3 +13,4 @@ pub mod Reached
 pub mod Wiped
 pub mod ClosingTop
 pub mod Listed
+pub mod PendingValues

@@ -310,3 +310,19 @@ is_lua (Closing error) = false
 abbrev pub catcher_of : List Record → Top
 catcher_of [] = TopMissing
 catcher_of (r ∷ rs) = cond (is_lua r.kind) (catcher_of rs) (top_in r.kind)
+
+-- a register of a frame, and nil where there is none
+abbrev pub kept_at : List Kept → ℕ → Kept
+kept_at registers n = elim (slice_get registers n) [ None ↦ Nil | Some v ↦ v ]
+
+-- the values of a frame's pending registers
+abbrev pub marked_by : List Kept → List ℕ → Kind → Window → List Kept
+marked_by values pending Lua w = map (kept_at (registers_at values w)) (part w.marks w.marked pending)
+marked_by values pending Missing w = []
+marked_by values pending Pcall w = []
+marked_by values pending (Xpcall h) w = []
+marked_by values pending Handler w = []
+marked_by values pending (Closing error) w = []
+
+abbrev pub marked_values : List Kept → List ℕ → Record → List Kept
+marked_values values pending r = marked_by values pending r.kind r.window

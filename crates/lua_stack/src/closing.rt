@@ -130,7 +130,7 @@ fn catcher_in(below: &[Record]) -> Top
 
 /// A frame below.
 #[inline(always)]
-fn frame_in(below: &[Record], at: usize) -> Record
+pub(crate) fn frame_in(below: &[Record], at: usize) -> Record
     requires { at < length below.now }
     ensures { slice_get below.now at ≡ Some result }
 {

@@ -16,7 +16,7 @@ impl Stack {
         requires closed { NoneFrom self.old (max stack (behind from count)) }
         ensures { TopBecomes self.old self.new (λ f t. with_opened 0 (with_registers (blanked (λ i. is_pending t.own.pending i || (nat_le from i && nat_lt i (from + count))) 0 (max stack (behind from count)) t.own.registers) t)) }
     {
-        let end = behind(from, count, self.values.len());
+        let end = results_end(from, count, self.values.len());
         self.keep(from, end, stack.max(end));
     }
 
@@ -53,7 +53,7 @@ impl Stack {
 }
 
 /// The place behind so many registers, which is no further than `room`. None of them names no place.
-fn behind(from: usize, count: usize, room: usize) -> usize
+fn results_end(from: usize, count: usize, room: usize) -> usize
     requires { behind from count ≤ room }
     ensures { result ≡ behind from count }
 {
@@ -75,7 +75,7 @@ fn stays(marks: &[usize], from: usize, end: usize, register: usize) -> bool
 fn is_marked(marks: &[usize], register: usize) -> bool
     ensures { result ≡ is_pending marks.now register }
 {
-    marks.iter().any(|mark| register == *mark)
+    marks.contains(&register)
 }
 
 /// Sets the values of a frame to nil, but those that stay.

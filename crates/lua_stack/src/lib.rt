@@ -10,6 +10,8 @@ mod leaving;
 mod pending;
 mod registers;
 mod stack;
+#[cfg(test)]
+mod tests;
 mod values;
 
 pub use frame::{OpenCell, Shape, Top, Wait};

@@ -8,5 +8,5 @@ use Rattle.lua_stack.proofs.stack.Stack.keep_results.Goals as goal
 pub returns : goal.returns
 returns c =
     let m : c.max.result ≡ max c.args.stack (behind c.args.from c.args.count) = search rules in
-    results_kept c.args.self.now c.keep.new.self c.args.from c.args.count c.behind-end.result (max c.args.stack (behind c.args.from c.args.count)) c.behind-end.ensures
-    (subst (λ n. TopBecomes c.args.self.now c.keep.new.self (λ f t. with_opened 0 (with_registers (blanked (λ i. is_pending t.own.pending i || (nat_le c.args.from i && nat_lt i c.behind-end.result)) 0 n t.own.registers) t))) m c.keep.ensures)
+    results_kept c.args.self.now c.keep.new.self c.args.from c.args.count c.results_end-end.result (max c.args.stack (behind c.args.from c.args.count)) c.results_end-end.ensures
+    (subst (λ n. TopBecomes c.args.self.now c.keep.new.self (λ f t. with_opened 0 (with_registers (blanked (λ i. is_pending t.own.pending i || (nat_le c.args.from i && nat_lt i c.results_end-end.result)) 0 n t.own.registers) t))) m c.keep.ensures)
