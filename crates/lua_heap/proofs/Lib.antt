@@ -9,3 +9,4 @@ mod Walk
 mod Added
 mod Listed
 mod Placed
+mod Resumed

@@ -119,6 +119,7 @@ pub closed_listed : (cells : List KeptCell) (lists : List (Option (List OpenCell
 closed_listed cells lists n v w e a = record {
   listed = λ id co frame register own there is. a.listed id co frame register own there (closed_as_before cells n v w e id.0 co frame register is);
   opened = λ id co frame register own there is. open_as_before cells n v w e id.0 co frame register (a.opened id co frame register own there is);
+  held = λ id co frame register is. a.held id co frame register (closed_as_before cells n v w e id.0 co frame register is);
 }
 
 -- where a coroutine is written whose list is as before, all lists are
@@ -128,10 +129,15 @@ coroutine_listed cells coros co c d e f a = subst (AreListed cells) (sym (map_se
 
 -- what comes last
 
+without_last_cell : (cells : List KeptCell) (v : Kept) (n : ℕ) (co : CoroId) (frame register : ℕ) → slice_get (cells ++ Closed v ∷ []) n ≡ Some (Open co frame register) → slice_get cells n ≡ Some (Open co frame register)
+without_last_cell cells v n co frame register is =
+    ⊎_elim (λ e. e) (λ last. absurd (let same : Closed v ≡ Open co frame register = last.1 in cc)) (get_either cells (Closed v) n (Open co frame register) is)
+
 pub cell_last : (cells : List KeptCell) (lists : List (Option (List OpenCell))) (v : Kept) → AreListed cells lists → AreListed (cells ++ Closed v ∷ []) lists
 cell_last cells lists v a = record {
-  listed = λ id co frame register own there is. a.listed id co frame register own there (⊎_elim (λ e. e) (λ last. absurd (let same : Closed v ≡ Open co frame register = last.1 in cc)) (get_either cells (Closed v) id.0 (Open co frame register) is));
+  listed = λ id co frame register own there is. a.listed id co frame register own there (without_last_cell cells v id.0 co frame register is);
   opened = λ id co frame register own there is. get_old cells (Closed v ∷ []) id.0 (Open co frame register) (a.opened id co frame register own there is);
+  held = λ id co frame register is. a.held id co frame register (without_last_cell cells v id.0 co frame register is);
 }
 
 without_last_list : (lists : List (Option (List OpenCell))) (co : ℕ) (own : List OpenCell) → slice_get (lists ++ None ∷ []) co ≡ Some (Some own) → slice_get lists co ≡ Some (Some own)
@@ -141,6 +147,7 @@ pub coroutine_last : (cells : List KeptCell) (lists : List (Option (List OpenCel
 coroutine_last cells lists a = record {
   listed = λ id co frame register own there is. a.listed id co frame register own (without_last_list lists co.0 own there) is;
   opened = λ id co frame register own there is. a.opened id co frame register own (without_last_list lists co.0 own there) is;
+  held = λ id co frame register is. let h = a.held id co frame register is in (h.0, get_old lists (None ∷ []) co.0 (Some h.0) h.1);
 }
 
 -- the world after a write

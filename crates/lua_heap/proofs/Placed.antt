@@ -60,7 +60,7 @@ source_case : (source : Option (List ℕ)) (line : Option ℕ)
 source_case None line = refl
 source_case (Some name) line = line_case name line
 
-last_mapped : {A B : Type 0} (f : A → B) (xs : List A) → last (map f xs) ≡ option_map f (last xs)
+pub last_mapped : {A B : Type 0} (f : A → B) (xs : List A) → last (map f xs) ≡ option_map f (last xs)
 last_mapped f [] = refl
 last_mapped f (x ∷ xs) =
     ap (slice_get (f x ∷ map f xs)) (mapped_length f xs) ∙ slice_get-map f (x ∷ xs) (length xs)

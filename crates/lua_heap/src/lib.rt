@@ -4,6 +4,7 @@
 mod adding;
 mod cells;
 mod codes;
+mod coroutines;
 mod errors;
 mod functions;
 pub mod law;

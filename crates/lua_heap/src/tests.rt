@@ -56,3 +56,14 @@ fn a_text_gets_no_place_where_nothing_runs(rt: HostRuntime) -> Result<(), Fail> 
     assert_eq!(rt; seven, Value::Int(7));
     Ok(())
 }
+
+#[test]
+fn a_coroutine_runs_and_waits(rt: HostRuntime) -> Result<(), Fail> {
+    let mut world = World::new(rt.alloc())?;
+    let co = world.add_coro(Coro::Fresh(Value::Nil))?;
+    world.go_into(co)?;
+    assert_eq!(rt; world.chain.len(), 1);
+    world.suspend_running();
+    assert_eq!(rt; world.chain.len(), 0);
+    Ok(())
+}

@@ -1,0 +1,134 @@
+// Coroutines that resume each other: who runs, and who waits (lua_resume and lua_yield of ldo.c). A stack moves whole; no value is copied.
+ghost use Rattle.std.specs.Prelude.{◌≡◌, ℕ, ◌<◌, List, Some, length, OnOk, OnErr, slice_get, slice_set};
+ghost use Rattle.machine_core.specs.Moves.{awake, back_to_resumer, go_into, put_coroutine, suspend_running, wait_for_another};
+ghost use Rattle.machine_core.specs.World.{in_progress, suspended, stack_of, Stack as RunningStack};
+ghost use Rattle.int_core.specs.Value.{last};
+ghost use Rattle.lua_stack.specs.Frames.{KeptStack};
+ghost use Rattle.lua_heap.specs.declared.world.Coro.TheVariants.{Running, Suspended, Normal};
+ghost use Rattle.lua_heap.specs.Cells.{CellsAreListed, list_or_empty, open_cells_in};
+ghost use Rattle.lua_heap.specs.Plain.{coroutine, plain};
+
+use crate::world::{Coro, World};
+use lua_stack::Stack;
+use std::alloc::{AllocError, Global};
+use std::mem;
+use table_core::CoroId;
+
+impl World {
+    /// Puts a coroutine in the place of another.
+    pub fn put_coroutine(&mut self, co: CoroId, coro: Coro)
+        requires { co.0 < length self.old.coros.objects }
+        ensures plain { (fuel : ℕ) → plain self.new fuel ≡ put_coroutine (plain self.old fuel) co.0 (coroutine self.old.strings coro) }
+        ensures coros { self.new.coros.objects ≡ slice_set self.old.coros.objects co.0 coro }
+        ensures rest { self.new ≡ record self.old { coros = self.new.coros } }
+    {
+        *self.coros.get_mut(co.0) = coro;
+    }
+
+    /// The running coroutine waits for one that it resumes.
+    pub fn wait_for_another(&mut self)
+        ensures plain { (fuel : ℕ) (s : RunningStack) → stack_of (plain self.old fuel) ≡ Some s → plain self.new fuel ≡ wait_for_another (plain self.old fuel) s }
+        ensures listed { CellsAreListed self.old → CellsAreListed self.new }
+        ensures rest { self.new ≡ record self.old { coros = self.new.coros } }
+    {
+        if let Some(co) = self.top_of_chain() {
+            if co.0 < self.coros.len() {
+                wait(self.coros.get_mut(co.0));
+            }
+        }
+    }
+
+    /// The running coroutine waits to be resumed, and the one that resumed it goes on.
+    pub fn suspend_running(&mut self)
+        ensures plain { (fuel : ℕ) (s : RunningStack) → stack_of (plain self.old fuel) ≡ Some s → plain self.new fuel ≡ suspend_running (plain self.old fuel) s }
+        ensures listed { CellsAreListed self.old → CellsAreListed self.new }
+        ensures rest { self.new ≡ record self.old { coros = self.new.coros; chain = self.new.chain } }
+    {
+        self.suspend_top();
+        self.back_to_resumer();
+    }
+
+    /// The last of the chain leaves it, and the one that resumed it goes on.
+    pub fn back_to_resumer(&mut self)
+        ensures plain { (fuel : ℕ) → plain self.new fuel ≡ back_to_resumer (plain self.old fuel) }
+        ensures listed { CellsAreListed self.old → CellsAreListed self.new }
+        ensures rest { self.new ≡ record self.old { coros = self.new.coros; chain = self.new.chain } }
+    {
+        self.chain.pop();
+        if let Some(co) = self.top_of_chain() {
+            if co.0 < self.coros.len() {
+                wake(self.coros.get_mut(co.0), self.alloc);
+            }
+        }
+    }
+
+    /// Another coroutine runs, from where it stands. A refusal changes nothing.
+    pub fn go_into(&mut self, co: CoroId) -> Result<(), AllocError>
+        requires { co.0 < length self.old.coros.objects }
+        ensures plain { OnOk result ((fuel : ℕ) → plain self.new fuel ≡ go_into (plain self.old fuel) co.0 (awake (slice_get (plain self.old fuel).coroutines co.0))) }
+        ensures listed { CellsAreListed self.old → CellsAreListed self.new }
+        ensures rest { self.new ≡ record self.old { coros = self.new.coros; chain = self.new.chain } }
+        ensures err { OnErr result ((fuel : ℕ) → plain self.new fuel ≡ plain self.old fuel) }
+    {
+        self.chain.push(co)?;
+        wake(self.coros.get_mut(co.0), self.alloc);
+        Ok(())
+    }
+
+    /// The running coroutine waits to be resumed, and nobody runs.
+    fn suspend_top(&mut self)
+        ensures plain { (fuel : ℕ) (s : RunningStack) → stack_of (plain self.old fuel) ≡ Some s → plain self.new fuel ≡ put_coroutine (plain self.old fuel) s.coroutine (suspended s.frames) }
+        ensures listed { CellsAreListed self.old → CellsAreListed self.new }
+        ensures rest { self.new ≡ record self.old { coros = self.new.coros } }
+    {
+        if let Some(co) = self.top_of_chain() {
+            if co.0 < self.coros.len() {
+                suspend(self.coros.get_mut(co.0));
+            }
+        }
+    }
+
+    /// The coroutine that runs.
+    fn top_of_chain(&self) -> Option<CoroId>
+        ensures { result ≡ last self.now.chain.items }
+    {
+        self.chain.last().copied()
+    }
+}
+
+/// A coroutine that runs waits for another.
+fn wait(coro: &mut Coro)
+    ensures waits { (stack : KeptStack) → coro.old ≡ Running stack → coro.new ≡ Normal stack }
+    ensures cells { open_cells_in coro.new ≡ open_cells_in coro.old }
+{
+    match mem::replace(coro, Coro::Dead) {
+        Coro::Running(stack) => *coro = Coro::Normal(stack),
+        other => *coro = other,
+    }
+}
+
+/// A coroutine that runs waits to be resumed.
+fn suspend(coro: &mut Coro)
+    ensures waits { (stack : KeptStack) → coro.old ≡ Running stack → coro.new ≡ Suspended stack }
+    ensures cells { open_cells_in coro.new ≡ open_cells_in coro.old }
+{
+    match mem::replace(coro, Coro::Dead) {
+        Coro::Running(stack) => *coro = Coro::Suspended(stack),
+        other => *coro = other,
+    }
+}
+
+/// A coroutine runs, with the frames that it has.
+fn wake(coro: &mut Coro, alloc: Global)
+    ensures runs { (texts : List (List ℕ)) → coroutine texts coro.new ≡ in_progress (awake (Some (coroutine texts coro.old))) }
+    ensures cells { open_cells_in coro.new ≡ Some (list_or_empty (open_cells_in coro.old)) }
+{
+    match mem::replace(coro, Coro::Dead) {
+        Coro::Suspended(stack) => *coro = Coro::Running(stack),
+        Coro::Running(stack) => *coro = Coro::Running(stack),
+        Coro::Normal(stack) => *coro = Coro::Running(stack),
+        Coro::Fresh(_) => *coro = Coro::Running(Stack::new(alloc)),
+        Coro::Dead => *coro = Coro::Running(Stack::new(alloc)),
+        Coro::Failed { .. } => *coro = Coro::Running(Stack::new(alloc)),
+    }
+}
