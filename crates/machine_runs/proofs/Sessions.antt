@@ -1,0 +1,97 @@
+-- Sessions of small scripts. What each prints and how it ends is what the manual says of it, in the words of report lines.
+use Rattle.std.proofs.Common.{ℕ, ◌≡◌, List, [], ◌∷◌, Option, Some, None, refl, true, false}
+use Rattle.std.specs.Prelude.{option_map, codes}
+use Rattle.std.specs.Fmt.{digits}
+use Rattle.code_core.specs.declared.opcode.Opcode.TheVariants.{Move, LoadI, LoadK, GetTabUp, GetField, OpSelf, Call, Return0, Return1}
+use Rattle.code_core.specs.declared.instruction.Instruction.{Instruction}
+use Rattle.code_core.specs.declared.proto.Const.{Const}
+use Rattle.code_core.specs.declared.proto.Const.TheVariants.{Str}
+use Rattle.code_core.specs.Opcode.{opcodes, number_of}
+use Rattle.code_core.specs.Instruction.{abc, abx}
+use Rattle.code_core.specs.Prototype.{Prototype, none}
+use Rattle.library_rows.specs.Library.{Entry, entry, of_globals}
+use Rattle.machine_core.specs.World.{put_top, put_frames, push, pop}
+use Rattle.machine_core.specs.Moves.{traps, with_own, back_to_resumer, popped, bury, suspend_running, wait_for_another, go_into, put_coroutine, add_printed}
+use Rattle.machine_core.specs.MachineStep.{woken}
+use Rattle.machine_core.specs.PrimitiveRows.{row_numbered}
+use Rattle.machine_runs.specs.Libraries.{primitive_values, constant_values, library_table, environment}
+use Rattle.machine_runs.specs.Opening.{opening, begun, handed_line}
+use Rattle.machine_runs.specs.Runs.{wakes, Close, has_returned, has_failed, has_spent, is_suspended, Run, run_from}
+
+abbrev function : (params stack : ℕ) → List Instruction → List Const → Prototype
+function params stack code constants = record {
+  own = record {
+    source = None;
+    line_defined = 0;
+    last_line = 0;
+    params = params;
+    vararg = false;
+    stack = stack;
+    code = code;
+    constants = constants;
+    upvalues = record { in_stack = true; index = 0; kind = 0 } ∷ [];
+    line_info = [];
+    abs_lines = [];
+    locals = [];
+    up_names = [];
+  };
+  inner = none;
+}
+
+-- function print(s) out(s) end
+abbrev print_code : Prototype
+print_code = function 1 3 (abc GetTabUp 1 0 0 false ∷ abc Move 2 0 0 false ∷ abc Call 1 2 1 false ∷ abc Return0 1 1 0 false ∷ []) (Str (codes "out") ∷ [])
+
+abbrev prelude : List (Entry Prototype)
+prelude = entry of_globals (codes "print") print_code ∷ []
+
+-- print("hi") local line = coroutine.yield(1) return line
+abbrev asks_once : Prototype
+asks_once = function 0 3 (
+    abc GetTabUp 0 0 0 false ∷ abx LoadK 1 1 ∷ abc Call 0 2 1 false
+    ∷ abc GetTabUp 0 0 2 false ∷ abc GetField 0 0 3 false ∷ abx LoadI 1 65536 ∷ abc Call 0 2 2 false ∷ abc Return1 0 2 0 false ∷ [])
+    (Str (codes "print") ∷ Str (codes "hi") ∷ Str (codes "coroutine") ∷ Str (codes "yield") ∷ [])
+
+-- return ("ab"):upper()
+abbrev uses_method : Prototype
+uses_method = function 0 3 (abx LoadK 0 0 ∷ abc OpSelf 0 0 1 true ∷ abc Call 0 2 2 false ∷ abc Return1 0 2 0 false ∷ []) (Str (codes "ab") ∷ Str (codes "upper") ∷ [])
+
+-- error("no")
+abbrev fails : Prototype
+fails = function 0 3 (abc GetTabUp 0 0 0 false ∷ abx LoadK 1 1 ∷ abc Call 0 2 1 false ∷ abc Return0 0 1 0 false ∷ []) (Str (codes "error") ∷ Str (codes "no") ∷ [])
+
+abbrev shown : Option Run → Option (List ℕ × Close)
+shown o = option_map (λ (r : Run). (r.printed, r.close)) o
+
+abbrev session : Prototype → List (List ℕ) → (budget : ℕ) → Option (List ℕ × Close)
+session main input budget = shown (run_from (row_numbered traps) 20 (begun (opening prelude) main) input budget)
+
+-- a line is what `coroutine.yield` returns
+asks_and_returns : session asks_once (codes "x" ∷ []) 100 ≡ Some (codes "hiyield\t1\nreturn\tx\n", has_returned)
+unfolding opcodes number_of put_top put_frames push pop with_own back_to_resumer popped bury suspend_running wait_for_another go_into put_coroutine add_printed woken primitive_values constant_values library_table environment opening begun handed_line wakes digits
+asks_and_returns = refl
+
+-- without a line the script is suspended
+waits_for_a_line : session asks_once [] 100 ≡ Some (codes "hiyield\t1\n", is_suspended)
+unfolding opcodes number_of put_top put_frames push pop with_own back_to_resumer popped bury suspend_running wait_for_another go_into put_coroutine add_printed woken primitive_values constant_values library_table environment opening begun handed_line wakes digits
+waits_for_a_line = refl
+
+-- `print` is a call, and so is what it does: one unit suffices for the first of them alone
+has_too_little : session asks_once [] 1 ≡ Some (codes "", has_spent)
+unfolding opcodes number_of put_top put_frames push pop with_own back_to_resumer popped bury suspend_running wait_for_another go_into put_coroutine add_printed woken primitive_values constant_values library_table environment opening begun handed_line wakes digits
+has_too_little = refl
+
+-- each turn has the whole budget: three calls in the first, none in the second
+each_turn_has_it : session asks_once (codes "x" ∷ []) 3 ≡ Some (codes "hiyield\t1\nreturn\tx\n", has_returned)
+unfolding opcodes number_of put_top put_frames push pop with_own back_to_resumer popped bury suspend_running wait_for_another go_into put_coroutine add_printed woken primitive_values constant_values library_table environment opening begun handed_line wakes digits
+each_turn_has_it = refl
+
+-- strings have the functions of their library as methods
+has_methods : session uses_method [] 100 ≡ Some (codes "return\tAB\n", has_returned)
+unfolding opcodes number_of put_top put_frames push pop with_own back_to_resumer popped bury suspend_running wait_for_another go_into put_coroutine add_printed woken primitive_values constant_values library_table environment opening begun handed_line wakes digits
+has_methods = refl
+
+-- an error that nothing catches ends the script
+has_failed_so : session fails [] 100 ≡ Some (codes "error\tno\n", has_failed)
+unfolding opcodes number_of put_top put_frames push pop with_own back_to_resumer popped bury suspend_running wait_for_another go_into put_coroutine add_printed woken primitive_values constant_values library_table environment opening begun handed_line wakes digits
+has_failed_so = refl

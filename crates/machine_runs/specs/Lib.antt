@@ -1,0 +1,4 @@
+pub mod Libraries
+pub mod Opening
+pub mod Runs
+pub mod Laws
