@@ -9,7 +9,7 @@ use Rattle.machine_core.specs.MachineStep.{step_by}
 use Rattle.lua_meaning.specs.World.{breaks}
 use Rattle.lua_meaning.specs.Calls as calls
 use Rattle.lua_meaning.specs.Primitives.{Primitive}
-use Rattle.lua_meaning.specs.Step.{does_primitive, has_ended, tick_by}
+use Rattle.lua_meaning.specs.Step.{does_primitive, tick, tick_by}
 use Rattle.code_means.specs.Runs.{codes_run}
 use Rattle.machine_sound.specs.Sound.{Solid, Settled, StackWaits}
 use Rattle.machine_means.specs.Joined.{TalkWorld, Joined}
@@ -21,7 +21,6 @@ use Rattle.machine_means.proofs.Protected.{results_reach, errors_reach}
 use Rattle.machine_means.proofs.Catching.{errors_raised}
 use Rattle.machine_means.proofs.Steps.{none_last, no_talks}
 use Rattle.means_steps.specs.Steps.{Leads, SameLibrary, StepsLead}
-use Rattle.means_steps.proofs.Leads.{leads_tick}
 use Rattle.means_steps.proofs.Within.{comes_leads, gives_leads, handed_to_free, unwound_free, raised_row_free}
 use Rattle.means_steps.proofs.Steps.{running_steps}
 use Rattle.means_steps.proofs.Hears.{results_heard, error_heard}
@@ -85,7 +84,7 @@ not_calling (no_top b) n e = cc
 
 module _ (primitives : ℕ) (rows : ℕ → Row) (library : ℕ → Option Primitive) (same : SameLibrary primitives rows library) (M : World) (T : TalkWorld) (solid : Solid primitives M) where
   -- a Lua frame is on top
-  goes : Settled primitives M → Stands go M T → Leads library M.printed T (step_by rows go M)
+  goes : Settled primitives M → Stands go M T → Leads library M.printed (tick codes_run library T) (step_by rows go M)
   goes s (code_runs _ _ w) = running_steps primitives rows library M T solid s w
   goes s (results_come _ _ _ reached now joined) =
       let t = s.is_top in
@@ -121,9 +120,8 @@ module _ (primitives : ℕ) (rows : ℕ → Row) (library : ℕ → Option Primi
             subst (λ o. Leads library M.printed (calls.handed codes_run T M.moving T.frames) o) (sym (seen false e))
             (gives_leads library M.printed (run (handed_to (no_top false)) [] M) (calls.handed codes_run T M.moving T.frames) (ends_joined primitives M T (record { solid = solid; waits = waits; resumed = e; joined = joined }) none))
 
-    returns : Stands returned M T → Leads library M.printed T (step_by rows returned M)
+    returns : Stands returned M T → Leads library M.printed (tick codes_run library T) (step_by rows returned M)
     returns (results_come _ _ _ reached now joined) =
-        leads_tick library M.printed T (step_by rows returned M) (ap has_ended now)
         (subst (λ X. Leads library M.printed X (step_by rows returned M)) (sym (ap (λ nw. tick_by codes_run library nw T) now)) (hands_on (last waits.frames) refl (no_lua (last waits.frames) (handed_ending returned joined reached)) joined))
       where
         no_lua : (o : Option Frame) → Some (ending_of (top_shape M o)) ≡ Some returned → LuaIn o → ⊥
@@ -135,9 +133,8 @@ module _ (primitives : ℕ) (rows : ℕ → Row) (library : ℕ → Option Primi
         no_lua (Some (closing v us)) e i = i
 
     -- an error was raised
-    raises : Stands raised M T → Leads library M.printed T (step_by rows raised M)
+    raises : Stands raised M T → Leads library M.printed (tick codes_run library T) (step_by rows raised M)
     raises (error_raised _ _ e moves now joined) =
-        leads_tick library M.printed T (step_by rows raised M) (ap has_ended now)
         (subst (λ X. Leads library M.printed X (step_by rows raised M)) (sym (ap (λ nw. tick_by codes_run library nw T) now))
         (comes_leads library M.printed raised_row [] M (calls.raised_to codes_run T e T.frames) raised_row_free (errors_raised primitives M T (record { solid = solid; waits = waits; joined = joined }) e moves)))
     raises (results_come _ _ _ reached now joined) = absurd (not_raised (top_shape M (last waits.frames)) (handed_ending raised joined reached))
@@ -168,15 +165,14 @@ module _ (primitives : ℕ) (rows : ℕ → Row) (library : ℕ → Option Primi
             (subst (λ X. Leads library M.printed X (run (unwound (no_top false)) [] M)) (sym (ap (calls.unwound codes_run T e) (no_talks primitives M T solid waits true joined none)))
             (gives_leads library M.printed (run (unwound (no_top false)) [] M) (calls.fails_all codes_run T e) (fails_joined primitives M T (record { solid = solid; waits = waits; resumed = q; joined = joined }) e moves)))
 
-    leaves : Stands unwinding M T → Leads library M.printed T (step_by rows unwinding M)
+    leaves : Stands unwinding M T → Leads library M.printed (tick codes_run library T) (step_by rows unwinding M)
     leaves (error_leaves _ _ e moves now joined) = by (last waits.frames) refl
       where
-        rest : (o : Option Frame) → last waits.frames ≡ o → (LuaIn o → ⊥) → Leads library M.printed T (step_by rows unwinding M)
+        rest : (o : Option Frame) → last waits.frames ≡ o → (LuaIn o → ⊥) → Leads library M.printed (tick codes_run library T) (step_by rows unwinding M)
         rest o at n =
-            leads_tick library M.printed T (step_by rows unwinding M) (ap has_ended now)
             (subst (λ X. Leads library M.printed X (step_by rows unwinding M)) (sym (ap (λ nw. tick_by codes_run library nw T) now)) (unwinds_on joined e moves o at n))
 
-        by : (o : Option Frame) → last waits.frames ≡ o → Leads library M.printed T (step_by rows unwinding M)
+        by : (o : Option Frame) → last waits.frames ≡ o → Leads library M.printed (tick codes_run library T) (step_by rows unwinding M)
         by (Some (lua fr)) at = error_heard rows library primitives M T solid waits.coroutine waits.frames waits.last waits.running fr at joined e moves now
         by None at = rest None at (λ z. z)
         by (Some pcall) at = rest (Some pcall) at (λ z. z)
@@ -186,10 +182,9 @@ module _ (primitives : ℕ) (rows : ℕ → Row) (library : ℕ → Option Primi
     leaves (results_come _ _ _ reached now joined) = absurd (not_unwinding (top_shape M (last waits.frames)) (handed_ending unwinding joined reached))
 
     -- a primitive is called
-    calls_one : (n : ℕ) → n < primitives → Stands (calls_primitive n) M T → Leads library M.printed T (step_by rows (calls_primitive n) M)
+    calls_one : (n : ℕ) → n < primitives → Stands (calls_primitive n) M T → Leads library M.printed (tick codes_run library T) (step_by rows (calls_primitive n) M)
     calls_one n l (primitive_called _ _ _ now joined) =
         let p = same n l in
-        leads_tick library M.printed T (step_by rows (calls_primitive n) M) (ap has_ended now)
         (subst (λ X. Leads library M.printed X (step_by rows (calls_primitive n) M)) (sym (ap (λ nw. tick_by codes_run library nw T) now ∙ ap (λ o. elim o as (λ _. TalkWorld) [ None ↦ breaks T | Some p ↦ does_primitive codes_run p T M.moving ]) p.1))
         (p.2 library primitives M T (record { solid = solid; waits = waits; joined = joined })))
     calls_one n l (results_come _ _ _ reached now joined) = absurd (not_calling (top_shape M (last waits.frames)) n (handed_ending (calls_primitive n) joined reached))

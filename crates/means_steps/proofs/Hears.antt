@@ -19,7 +19,7 @@ use Rattle.lua_meaning.specs.World as talk
 use Rattle.lua_meaning.specs.World.{Asker, talking, waiting, raising, talks, gives_back, unwinds, shared_in, shared_out, answered}
 use Rattle.lua_meaning.specs.Calls as calls_in
 use Rattle.lua_meaning.specs.Primitives.{Primitive}
-use Rattle.lua_meaning.specs.Step.{has_ended, tick, tick_by}
+use Rattle.lua_meaning.specs.Step.{tick, tick_by}
 use Rattle.code_means.specs.Runs.{codes_run}
 use Rattle.machine_sound.specs.Sound.{Solid}
 use Rattle.machine_sound.proofs.Frames.{stack_is}
@@ -33,7 +33,6 @@ use Rattle.machine_means.proofs.Running.{alone}
 use Rattle.means_steps.proofs.Middle.{Around, Middle, frame, framed, others_of}
 use Rattle.means_steps.proofs.TopMoves.{stack_at, with_top}
 use Rattle.means_steps.specs.Steps.{Leads}
-use Rattle.means_steps.proofs.Leads.{leads_tick}
 use Rattle.means_steps.proofs.Answered.{fixed_of, told_left, reply_leads}
 use Rattle.means_steps.proofs.Rows.{row_leads}
 use Rattle.means_steps.proofs.Steps.{cells_there, top_steps, wakes, knows_told}
@@ -157,10 +156,10 @@ module _ (rows : ℕ → Row) (known : ℕ → Option Primitive) (primitives : �
   unfolding woken put_top put_frames
   woken_is g below = ap (λ xs. record M { coroutines = slice_set M.coroutines co (in_progress (xs ++ lua (frame fr.function running fr.own) ∷ [])); moving = [] }) (without_last_is (upward below) (lua fr))
 
-  pub results_heard : Joined false M T → T.now ≡ gives_back M.moving → Leads known M.printed T (step_by rows go M)
+  pub results_heard : Joined false M T → T.now ≡ gives_back M.moving → Leads known M.printed (tick codes_run known T) (step_by rows go M)
   results_heard joined now = from (listens primitives M T false solid co frames at_end going joined fr on_top_is)
     where
-      from : (lo : Bool) × Listens primitives M T false solid co frames at_end going joined fr lo × (false ≡ false → lo ≡ false) → Leads known M.printed T (step_by rows go M)
+      from : (lo : Bool) × Listens primitives M T false solid co frames at_end going joined fr lo × (false ≡ false → lo ≡ false) → Leads known M.printed (tick codes_run known T) (step_by rows go M)
       from (lo, x, quiet) =
           let g : Function = x.asleep.function in
           let m = x.middle in
@@ -176,7 +175,7 @@ module _ (rows : ℕ → Row) (known : ℕ → Option Primitive) (primitives : �
           let k1 : Middle M1 T T.cells co fr.function g x.g' running fr.own x.held x.below x.ts = framed M.chain M.functions M.cells M.coroutines T.functions T.coroutines T.cells co fr.function g x.g' fr.wait fr.own x.held x.below x.ts m running fr.own in
           let l = delivered primitives M T false solid co frames at_end going joined known M.printed around (sym joined.printed) fr lo x (values mv) (heard_all lo (quiet refl) (values mv)) running M1 T (sym joined.printed) around k1 x.registers (rest_at_good fr.wait g.code fr.own.pc (length (told_values fr.wait (values mv))) (knows_told fr.wait mv)) in
           let ticked : tick codes_run known T ≡ answered T x.asker (values mv) x.ts = ap (λ nw. tick_by codes_run known nw T) now ∙ ap (λ fs. calls_in.handed codes_run T mv fs) is in
-          subst (λ o. Leads known M.printed T o) (sym stepped) (leads_tick known M.printed T out (ap has_ended now) (subst (λ X. Leads known M.printed X out) (sym ticked) l))
+          subst (λ o. Leads known M.printed (tick codes_run known T) o) (sym stepped) (subst (λ X. Leads known M.printed X out) (sym ticked) l)
 
   seen : (row : TopShape → Row) → run (act see_top (λ _ top. row top)) [] M ≡ run (row lua_top) [] M
   seen row =
@@ -184,10 +183,10 @@ module _ (rows : ℕ → Row) (known : ℕ → Option Primitive) (primitives : �
       ∙ ap (λ o. run (row (top_shape M o)) [] M) on_top_is
 
   -- an error reaches it
-  pub error_heard : Joined true M T → (e : Value) → M.moving ≡ e ∷ [] → T.now ≡ unwinds e → Leads known M.printed T (step_by rows unwinding M)
+  pub error_heard : Joined true M T → (e : Value) → M.moving ≡ e ∷ [] → T.now ≡ unwinds e → Leads known M.printed (tick codes_run known T) (step_by rows unwinding M)
   error_heard joined e moves now = from (listens primitives M T true solid co frames at_end going joined fr on_top_is)
     where
-      from : (lo : Bool) × Listens primitives M T true solid co frames at_end going joined fr lo × (true ≡ false → lo ≡ false) → Leads known M.printed T (step_by rows unwinding M)
+      from : (lo : Bool) × Listens primitives M T true solid co frames at_end going joined fr lo × (true ≡ false → lo ≡ false) → Leads known M.printed (tick codes_run known T) (step_by rows unwinding M)
       from (lo, x, quiet) =
           let g : Function = x.asleep.function in
           let N : World = record M { moving = [] } in
@@ -197,7 +196,7 @@ module _ (rows : ℕ → Row) (known : ℕ → Option Primitive) (primitives : �
           let some_told : 0 < length (told_values fr.wait (left e)) = subst (λ (xs : List Value). 0 < length xs) (sym (told_left fr.wait e)) (omega arith) in
           let l = delivered primitives M T true solid co frames at_end going joined known M.printed around (sym joined.printed) fr lo x (left e) (heard_left lo e) fr.wait N T (sym joined.printed) around x.middle x.registers (fails_good g.code fr.own.pc fr.wait (length (told_values fr.wait (left e))) some_told) in
           let ticked : tick codes_run known T ≡ answered T x.asker (left e) x.ts = ap (λ nw. tick_by codes_run known nw T) now ∙ left_there T x.asker x.ts lo e x.is_top in
-          subst (λ o. Leads known M.printed T o) (sym stepped) (leads_tick known M.printed T out (ap has_ended now) (subst (λ X. Leads known M.printed X out) (sym ticked) l))
+          subst (λ o. Leads known M.printed (tick codes_run known T) o) (sym stepped) (subst (λ X. Leads known M.printed X out) (sym ticked) l)
 
   -- what it asked for cannot be called; the budget may have become less
   pub refusal_heard : (joined : Joined false M T) (text : List ℕ) (m : ℕ) (env : List Value) → Leads known M.printed (refused_under T.frames text (record T { fuel = m })) (run (after_asked (not_entered text)) env (record M { fuel = m; moving = [] }))

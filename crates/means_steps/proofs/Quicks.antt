@@ -41,13 +41,13 @@ inner_named lines source (more own inner rest) (suc i) q k e = inner_named lines
 abbrev both_last : Option Function → Option (talk.Function Prototype) → Type 0
 both_last p q = Both Dressed p q
 
-lengths : (fs : List Function) (gs : List (talk.Function Prototype)) → FunctionsPair fs gs → length fs ≡ length gs
+pub lengths : (fs : List Function) (gs : List (talk.Function Prototype)) → FunctionsPair fs gs → length fs ≡ length gs
 lengths [] [] k = refl
 lengths [] (g ∷ gs) k = absurd (k 0)
 lengths (f ∷ fs) [] k = absurd (k 0)
 lengths (f ∷ fs) (g ∷ gs) k = ap suc (lengths fs gs (λ n. k (suc n)))
 
-pairs_more : (fs : List Function) (gs : List (talk.Function Prototype)) (f : Function) (g : talk.Function Prototype) → FunctionsPair fs gs → Dressed f g → FunctionsPair (fs ++ f ∷ []) (gs ++ g ∷ [])
+pub pairs_more : (fs : List Function) (gs : List (talk.Function Prototype)) (f : Function) (g : talk.Function Prototype) → FunctionsPair fs gs → Dressed f g → FunctionsPair (fs ++ f ∷ []) (gs ++ g ∷ [])
 pairs_more [] [] f g k d zero = d
 pairs_more [] [] f g k d (suc n) = tt
 pairs_more [] (y ∷ gs) f g k d n = absurd (k 0)

@@ -18,6 +18,8 @@ use Rattle.machine_readings.proofs.RowsGood.{Knows, text_good}
 use Rattle.lua_meaning.specs.World as talk
 use Rattle.lua_meaning.specs.World.{Asker, talking, waiting, raising, talks, gives_back, unwinds, shared_in, shared_out, answered}
 use Rattle.lua_meaning.specs.Primitives.{Primitive}
+use Rattle.lua_meaning.specs.Step.{tick}
+use Rattle.code_means.specs.Runs.{codes_run}
 use Rattle.machine_sound.specs.Sound.{Solid}
 use Rattle.machine_sound.proofs.Frames.{stack_is}
 use Rattle.machine_means.specs.Joined.{TalkFrame, TalkWorld, Dressed, FunctionsPair, IsHeard, Asleep, RegistersPair, LuaPair, Pair, Stacks, Joined, CoroutinesPair}
@@ -29,7 +31,7 @@ use Rattle.machine_means.proofs.Switches.{OnlyRuns, running_is}
 use Rattle.means_steps.proofs.Middle.{Around, Middle, frame, others_of}
 use Rattle.means_steps.proofs.TopMoves.{stack_at}
 use Rattle.means_steps.specs.Steps.{Leads, RunningSteps}
-use Rattle.means_steps.proofs.Leads.{leads_on, talk_tick}
+use Rattle.means_steps.proofs.Leads.{talk_tick}
 use Rattle.means_steps.proofs.Answered.{fixed_of}
 use Rattle.means_steps.proofs.Rows.{row_leads}
 
@@ -92,12 +94,12 @@ module _ (rows : ℕ → Row) (known : ℕ → Option Primitive) (primitives : �
   around : Around M T
   around = record { heap = k.heap; globals = k.globals; printed = k.printed; fuel = k.fuel; chain = k.chain }
 
-  pub running_step : Leads known M.printed T (step_by rows go M)
+  pub running_step : Leads known M.printed (tick codes_run known T) (step_by rows go M)
   running_step =
       let d = both_first Dressed k.function (slice_get M.functions k.frame.function) (slice_get T.functions k.frame.function) k.there (k.functions k.frame.function) in
       from d.0 d.1 d.2
     where
-      from : (g' : talk.Function Prototype) → slice_get T.functions k.frame.function ≡ Some g' → Dressed k.function g' → Leads known M.printed T (step_by rows go M)
+      from : (g' : talk.Function Prototype) → slice_get T.functions k.frame.function ≡ Some g' → Dressed k.function g' → Leads known M.printed (tick codes_run known T) (step_by rows go M)
       from g' talks_there dressed =
           let m = middle g' talks_there in
           let a : Activation = k.a in
@@ -111,9 +113,9 @@ module _ (rows : ℕ → Row) (known : ℕ → Option Primitive) (primitives : �
           let same_pc : run (expand (text_at k.function.code k.frame.own.pc)) [] M ≡ run (expand (text_at k.function.code a.pc)) [] M = ap (λ pc. run (expand (text_at k.function.code pc)) [] M) (sym fixed.pc) in
           let m1 : Middle M T (shared_in k.captured.gone T.cells) co k.frame.function k.function g' running k.frame.own k.captured.held k.below k.talks_below = subst (λ w. Middle M T (shared_in k.captured.gone T.cells) co k.frame.function k.function g' w k.frame.own k.captured.held k.below k.talks_below) k.runs m in
           let row = row_leads known M.printed at_once k.frame.function k.function g' dressed a.pc running (text_at k.function.code a.pc) [] a k.frame.own k.captured M V co k.below k.talks_below al refl (text_good k.function.code a.pc) refl (sym k.printed) around m1 in
-          let ticked = leads_on known M.printed T k.frame.function s k.talks_below (run (expand (text_at k.function.code a.pc)) [] M)
-          (subst (λ X. Leads known M.printed X (run (expand (text_at k.function.code a.pc)) [] M)) (sym (talk_tick T k.frame.function s k.talks_below k.function g' talks_there dressed)) row) in
-          subst (λ o. Leads known M.printed T o) (sym (stepped ∙ runs_on ∙ same_pc)) (subst (λ X. Leads known M.printed X (run (expand (text_at k.function.code a.pc)) [] M)) same ticked)
+          let ticked : Leads known M.printed (tick codes_run known V) (run (expand (text_at k.function.code a.pc)) [] M) =
+          subst (λ X. Leads known M.printed X (run (expand (text_at k.function.code a.pc)) [] M)) (sym (talk_tick T k.frame.function s k.talks_below k.function g' talks_there dressed)) row in
+          subst (λ o. Leads known M.printed (tick codes_run known T) o) (sym (stepped ∙ runs_on ∙ same_pc)) (subst (λ X. Leads known M.printed (tick codes_run known X) (run (expand (text_at k.function.code a.pc)) [] M)) same ticked)
 
 pub running_steps : RunningSteps
 running_steps primitives rows known M T solid settled k =

@@ -9,7 +9,7 @@ use Rattle.machine_core.specs.Moves.{Ending, go, returned, asks, calls_primitive
 use Rattle.machine_core.specs.MachineStep.{look_row, step_by}
 use Rattle.lua_meaning.specs.World as talk
 use Rattle.lua_meaning.specs.Primitives.{Primitive, Done, done, refused, row}
-use Rattle.lua_meaning.specs.Step.{does_primitive, after_row, ticks}
+use Rattle.lua_meaning.specs.Step.{does_primitive, after_row, tick, ticks}
 use Rattle.code_means.specs.Runs.{codes_run}
 use Rattle.machine_sound.specs.Sound.{Solid, Settled}
 use Rattle.machine_sound.specs.Laws.{SoundAfter}
@@ -51,9 +51,9 @@ abbrev pub Leads : (known : ℕ → Option Primitive) → (shown : List ℕ) →
 Leads known shown T trapped = Unit {0}
 Leads known shown T (ends ending W) = (j : ℕ) × EndsSo shown ending W (ticks codes_run known j T)
 
--- a function runs: one step of the machine, which is an instruction
+-- a function runs: one step of the machine, which is an instruction, and a tick at least
 abbrev pub RunningSteps : Type 0
-RunningSteps = (primitives : ℕ) (rows : ℕ → Row) (known : ℕ → Option Primitive) (M : World) (T : TalkWorld) → Solid primitives M → Settled primitives M → Works M T → Leads known M.printed T (step_by rows go M)
+RunningSteps = (primitives : ℕ) (rows : ℕ → Row) (known : ℕ → Option Primitive) (M : World) (T : TalkWorld) → Solid primitives M → Settled primitives M → Works M T → Leads known M.printed (tick codes_run known T) (step_by rows go M)
 
 -- what a library row that looks at values and tables alone came to, and what the other world says of it
 abbrev pub SameDone : look.Done → Option Done → Type 0
@@ -87,7 +87,12 @@ GoesOn raised = Unit {0}
 GoesOn unwinding = Unit {0}
 GoesOn _ = ⊥
 
+-- the other world has done a call already that was asked for; all else takes it a tick at least
+abbrev pub forward : (ℕ → Option Primitive) → Ending → TalkWorld → TalkWorld
+forward library asks T = T
+forward library _ T = tick codes_run library T
+
 -- whatever the last step ended with: one step of the machine
 abbrev pub StepsLead : Type 0
 StepsLead = (primitives : ℕ) (rows : ℕ → Row) (library : ℕ → Option Primitive) → SameLibrary primitives rows library → (ending : Ending) → GoesOn ending → (M : World) (T : TalkWorld) → SoundAfter primitives ending M → Stands ending M T
-    → Leads library M.printed T (step_by rows ending M)
+    → Leads library M.printed (forward library ending T) (step_by rows ending M)
