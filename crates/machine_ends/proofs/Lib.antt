@@ -1,0 +1,14 @@
+pub mod Weights
+pub mod Pending
+pub mod Held
+pub mod OwnMoves
+pub mod Outside
+pub mod Calls
+pub mod Others
+pub mod Coroutines
+pub mod Rows
+pub mod Texts
+pub mod Opcodes
+pub mod FrameRows
+pub mod Steps
+pub mod Ends
