@@ -197,7 +197,7 @@ frames_reversed : (rs : List Record) → AllFrames rs → AllFrames (reverse rs)
 frames_reversed [] a = tt
 frames_reversed (r ∷ rs) a = subst AllFrames (sym (reverse_one r rs)) (frames_append (reverse rs) (r ∷ []) (frames_reversed rs a.1) (a.0, tt))
 
-reverse_map : {A B : Type 0} (f : A → B) (xs : List A) → reverse (map f xs) ≡ map f (reverse xs)
+pub reverse_map : {A B : Type 0} (f : A → B) (xs : List A) → reverse (map f xs) ≡ map f (reverse xs)
 reverse_map f [] = refl
 reverse_map f (x ∷ xs) = reverse_one (f x) (map f xs) ∙ ap (λ l. l ++ f x ∷ []) (reverse_map f xs) ∙ sym (ap (map f) (reverse_one x xs) ∙ map_more f (reverse xs) (x ∷ []))
 

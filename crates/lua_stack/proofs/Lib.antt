@@ -14,3 +14,4 @@ pub mod Wiped
 pub mod ClosingTop
 pub mod Listed
 pub mod PendingValues
+pub mod Told

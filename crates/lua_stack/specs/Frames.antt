@@ -1,11 +1,11 @@
 -- What contracts see of a coroutine's stack: its frames from the bottom, with the values that are kept, and its open cells in the order of
 -- their frames and registers. `frames` reads them as the machine's frames, by what the kept values stand for.
-use Rattle.std.specs.Prelude.{◌≡◌, ◌+◌, ◌-◌, ◌<◌, ◌≤◌, ℕ, suc, cond, ◌&&◌, nat_eq, nat_lt, length, List, [], ◌∷◌, ◌++◌, map, filter, flat_map, Option, Some, None, slice_get, slice_set}
+use Rattle.std.specs.Prelude.{◌≡◌, ◌+◌, ◌-◌, ◌<◌, ◌≤◌, ℕ, suc, Bool, cond, ◌&&◌, nat_eq, nat_lt, length, List, [], ◌∷◌, ◌++◌, map, filter, flat_map, Option, Some, None, slice_get, slice_set}
 use Rattle.int_core.specs.Value.{Value, known, nil, bind, last, range}
 use Rattle.code_core.specs.Prototype.{Prototype}
 use Rattle.machine_core.specs.Text.{blanked}
-use Rattle.machine_core.specs.Moves.{new_frame, pending_values}
-use Rattle.machine_core.specs.World.{Wait, running, for_call, for_iterator, for_value, for_truth, dropped, for_concat, for_close, returning, leaving, LuaFrame, Frame, lua, pcall, xpcall, handler, closing, lua_frame, write_in_frame}
+use Rattle.machine_core.specs.Moves.{new_frame, pending_values, TopShape, lua_top, pcall_top, xpcall_top, handler_top, closing_top, no_top, top_shape, handler_value, runs_main}
+use Rattle.machine_core.specs.World.{Wait, running, for_call, for_iterator, for_value, for_truth, dropped, for_concat, for_close, returning, leaving, LuaFrame, Frame, lua, pcall, xpcall, handler, closing, lua_frame, write_in_frame, World}
 use Rattle.table_core.specs.declared.value.Value.{Value as Kept}
 use Rattle.table_core.specs.declared.value.Value.TheVariants.{Nil}
 use Rattle.table_core.specs.declared.value.FuncId.{FuncId}
@@ -255,3 +255,25 @@ kept_catcher (kept_closing error left ∷ fs) = Some (kept_closing error left)
 -- the values of pending registers, frame by frame from the bottom
 pub record ArePending (s : KeptStack) (values : List Kept) : Type 0 where
   pub read : (f : Kept → Value) → f Nil ≡ known nil → map f values ≡ flat_map pending_values (frames f s)
+
+-- what the machine is told of a frame on top, and of one that catches an error
+
+abbrev pub shape_of : (in_main : Bool) → Top → TopShape
+shape_of in_main TopMissing = no_top in_main
+shape_of in_main TopLua = lua_top
+shape_of in_main TopPcall = pcall_top
+shape_of in_main (TopXpcall h) = xpcall_top
+shape_of in_main TopHandler = handler_top
+shape_of in_main TopClosing = closing_top
+
+abbrev pub handlers_of : (Kept → Value) → Top → List Value
+handlers_of f TopMissing = []
+handlers_of f TopLua = []
+handlers_of f TopPcall = []
+handlers_of f (TopXpcall h) = f h ∷ []
+handlers_of f TopHandler = []
+handlers_of f TopClosing = []
+
+pub record Tells (top : Top) (frame : (Kept → Value) → Option Frame) : Type 0 where
+  pub shape : (f : Kept → Value) (W : World) → top_shape W (frame f) ≡ shape_of (runs_main W) top
+  pub handlers : (f : Kept → Value) → handler_value (frame f) ≡ handlers_of f top

@@ -1,7 +1,8 @@
 // The frames of `coroutine.close`, and the frame that an error reaches.
 ghost use Rattle.std.specs.Prelude.{◌≡◌, ◌<◌, [], ◌∷◌, ◌++◌, Some, length, reverse, slice_get, OnErr, OnOk};
 ghost use Rattle.int_core.specs.Value.{last, without_last};
-ghost use Rattle.lua_stack.specs.Frames.{HasClosingTop, OnClosing, kept_catcher, kept_closing, top_is};
+ghost use Rattle.machine_core.specs.Moves.{catcher};
+ghost use Rattle.lua_stack.specs.Frames.{HasClosingTop, OnClosing, Tells, frames, kept_catcher, kept_closing, top_is};
 ghost use Rattle.lua_stack.specs.View.{catcher_of, error_in, is_lua, with_values};
 
 use crate::frame::{Kind, Record, Top, Window};
@@ -67,7 +68,8 @@ impl Stack {
 
     /// The nearest frame from the top that is no Lua frame.
     pub fn catcher(&self) -> Top
-        ensures { result ≡ top_is (kept_catcher (reverse self.now.frames)) }
+        ensures frame { result ≡ top_is (kept_catcher (reverse self.now.frames)) }
+        ensures told { Tells result (λ f. catcher (reverse (frames f self.now))) }
     {
         if is_lua(self.top.kind) {
             return catcher_in(&self.below);

@@ -1,6 +1,7 @@
 // The stack of a coroutine.
 ghost use Rattle.std.specs.Prelude.{◌≡◌, [], length};
-ghost use Rattle.lua_stack.specs.Frames.{HasLuaTop, IsTop, OnTop, TopBecomes, with_pc, with_wait, with_opened, wait_of};
+ghost use Rattle.int_core.specs.Value.{last};
+ghost use Rattle.lua_stack.specs.Frames.{HasLuaTop, IsTop, OnTop, Tells, TopBecomes, frames, with_pc, with_wait, with_opened, wait_of};
 ghost use Rattle.lua_stack.specs.View.{top_in};
 
 use crate::frame::{Kind, OpenCell, Record, Running, Top, Wait, Window};
@@ -75,7 +76,8 @@ impl Stack {
 
     /// What is on top.
     pub fn top(&self) -> Top
-        ensures { IsTop self.now result }
+        ensures frame { IsTop self.now result }
+        ensures told { Tells result (λ f. last (frames f self.now)) }
     {
         top_of(self.top.kind)
     }
