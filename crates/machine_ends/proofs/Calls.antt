@@ -5,7 +5,7 @@ use Rattle.std.specs.List.{list_all}
 use Rattle.int_core.specs.Value.{nil, boolean, integer, string, primitive, a_table, a_function, a_coroutine, Value, known, object, bind, last, without_last}
 use Rattle.int_core.specs.Operations.{Callee, callee, not_callable, callee_of, greatest_chain}
 use Rattle.code_core.specs.Prototype.{instruction_count}
-use Rattle.machine_core.specs.World.{Function, Wait, running, leaving, LuaFrame, Frame, lua, in_progress, World, Stack, stack_of, Place, place_of, put_frames, put_top, push, pop}
+use Rattle.machine_core.specs.World.{Function, Wait, running, leaving, LuaFrame, Frame, lua, World, Stack, stack_of, Place, put_frames, put_top, push, pop, for_concat}
 use Rattle.machine_core.specs.Text.{Arg, arg, Own, close_cells, keep_pending, pay, Given, given_values, done}
 use Rattle.machine_core.specs.Moves.{Made, made, outside, enter, enter_tail, await, begin_leaving, leave_frame, named, new_frame, push_all, has_room, enters, enters_paid, called, popped, called_tail, with_own, blamed, CallShape, is_entered, is_primitive, not_paid, not_entered, TopShape, lua_top, top_shape, top_now, do_outside, move}
 use Rattle.machine_sound.specs.Sound.{Each}
@@ -14,9 +14,10 @@ use Rattle.machine_ends.specs.Measure.{Within, wait_weight, own_weight, frame_we
 use Rattle.machine_ends.specs.Falls.{on_lua, anywhere, tail_refused, no_mark, saved, is_small, after_pay, after_enter}
 use Rattle.machine_ends.proofs.Weights.{Runs, stack_runs, cos_run, frames_last, frames_push}
 use Rattle.machine_ends.proofs.Pending.{done_pc, done_saved, named_weight}
-use Rattle.machine_ends.proofs.Held.{spare, HeldLua, HeldOther, Held, Holds, place_in, at_place, with_top, top_last, top_is}
+use Rattle.machine_ends.proofs.Held.{spare, HeldLua, Holds, place_in, at_place, with_top, top_last, top_is, RunsIf}
 use Rattle.machine_ends.proofs.OwnMoves.{PutSo, own_so}
 use Rattle.machine_ends.proofs.Outside.{through, here}
+use Rattle.int_core.specs.Limits.{stack_overflow}
 
 abbrev AllWithin : ℕ → List Function → Type 0
 AllWithin most fs = Each (λ (f : Function). instruction_count f.code ≤ most) fs
@@ -51,7 +52,7 @@ pub enters_so : (most : ℕ) (P : World) (f : Value) (vs : List Value) (d : Made
 enters_so most P (known (primitive n)) vs = here (λ (d : Made CallShape). EnteredSo most P d.told d.world) _ (refl, omega arith)
 enters_so most P (object a_function n) vs = through (λ (d : Made CallShape). EnteredSo most P d.told d.world) (slice_get P.functions n) _ (λ f e. by f (has_room P 1))
   where
-    by : (f : Function) (b : Bool) → (d : Made CallShape) → cond b (made (push_all P (new_frame n f.code vs ∷ [])) [] is_entered) (made P [] (not_entered Rattle.int_core.specs.Limits.stack_overflow)) ≡ Some d → EnteredSo most P d.told d.world
+    by : (f : Function) (b : Bool) → (d : Made CallShape) → cond b (made (push_all P (new_frame n f.code vs ∷ [])) [] is_entered) (made P [] (not_entered stack_overflow)) ≡ Some d → EnteredSo most P d.told d.world
     by f true = here (λ (d : Made CallShape). EnteredSo most P d.told d.world) _ (let k = push_one most P (new_frame n f.code vs) in (k.0, omega arith))
     by f false = here (λ (d : Made CallShape). EnteredSo most P d.told d.world) _ refl
 enters_so most P (known nil) vs = λ d e. absurd (cc)
@@ -91,7 +92,7 @@ called_so most W P (callee f vs) e = by W.fuel e
 -- what a frame may wait for in a call that is paid
 small_weight : {V : Type 0} (w : Wait V) → IsTrue (is_small w) → wait_weight w ≤ 2570
 small_weight running h = omega arith
-small_weight (Rattle.machine_core.specs.World.for_concat left) h = let k = le_of left 255 h in omega arith
+small_weight (for_concat left) h = let k = le_of left 255 h in omega arith
 small_weight _ h = omega arith
 
 with_own_fuel : (W : World) (p : Place) (w : Wait Value) (ms : List Own) (env : List Value) → (with_own W p w ms env).fuel ≡ W.fuel
@@ -116,7 +117,7 @@ module _ (most bound : ℕ) (rich : Bool) (c : ℕ) (seen : Option ℕ) (runs : 
 
   -- paying
   pub pay_move : (d : Made Bool) → move (outside pay) env W ≡ Some d → Holds most bound (after_pay rich c runs d.told) d.world
-  pay_move d e = let q = at_place W h.stack h.top (do_outside pay env W) d h.stands' h.is_top e in by W.fuel refl d q.2
+  pay_move d e = let q = at_place W h.stack h.top (do_outside pay env W) d h.running_is h.is_top e in by W.fuel refl d q.2
     where
       low : (b : Bool) (fuel : ℕ) → W.fuel ≡ suc fuel → world_weight most W + spare most b c ≤ bound + wait_weight h.top.wait
           → world_weight most (record W { fuel = fuel }) + (40 * most + (c + 3000)) ≤ bound + wait_weight h.top.wait
@@ -127,7 +128,7 @@ module _ (most bound : ℕ) (rich : Bool) (c : ℕ) (seen : Option ℕ) (runs : 
       by zero e = here (λ (d : Made Bool). Holds most bound (after_pay rich c runs d.told) d.world) _ (record { within = within; held = tt })
       by (suc fuel) e = here (λ (d : Made Bool). Holds most bound (after_pay rich c runs d.told) d.world) _ (record {
         within = within;
-        held = record { stack = h.stack; stands' = record { last_is = h.stands'.last_is; there = h.stands'.there }; top = h.top; is_top = h.is_top; low = low rich fuel e h.low; pending = tt; wait = h.wait };
+        held = record { stack = h.stack; running_is = record { last_is = h.running_is.last_is; there = h.running_is.there }; top = h.top; is_top = h.is_top; low = low rich fuel e h.low; pending = tt; wait = h.wait };
       })
 
   -- calls
@@ -140,7 +141,7 @@ module _ (most bound : ℕ) (rich : Bool) (c : ℕ) (seen : Option ℕ) (runs : 
     P = with_own W (place_in h.stack h.top g) (named env wait) prepared env
 
     so : PutSo most W P h.stack h.top waits
-    so = own_so most W h.stack h.top g (named env wait) prepared env h.stands' h.is_top
+    so = own_so most W h.stack h.top g (named env wait) prepared env h.running_is h.is_top
 
     weighs : world_weight most P + (wait_weight h.top.wait + saved seen prepared) ≤ world_weight most W + wait_weight wait
     weighs =
@@ -154,7 +155,7 @@ module _ (most bound : ℕ) (rich : Bool) (c : ℕ) (seen : Option ℕ) (runs : 
       within = within_in V (k.functions ∙ so.functions);
       held = record {
         stack = with_top h.stack (lua waits);
-        stands' = record { last_is = ap last k.chain ∙ so.runs.last_is; there = ap (λ cs. slice_get cs h.stack.coroutine) k.coroutines ∙ so.runs.there };
+        running_is = record { last_is = ap last k.chain ∙ so.runs.last_is; there = ap (λ cs. slice_get cs h.stack.coroutine) k.coroutines ∙ so.runs.there };
         top = waits;
         is_top = top_last h.stack (lua waits);
         low = (let a = k.weight in let b = weighs in let l = plain_low in let n = named_weight env wait in omega arith);
@@ -172,14 +173,14 @@ module _ (most bound : ℕ) (rich : Bool) (c : ℕ) (seen : Option ℕ) (runs : 
   pub enter_move : (f : Arg) (slot : ℕ) (wait : Wait Arg) (prepared : List Own) → IsTrue (list_all no_mark prepared) → IsTrue (is_small wait) → (d : Made CallShape) → move (enter f slot wait prepared) env W ≡ Some d
       → Holds most bound (after_enter d.told (on_lua false c None false)) d.world
   enter_move f slot wait prepared n z d e =
-      let q = at_place W h.stack h.top (λ p. called W (with_own W p (named env wait) prepared env) (arg env f) (drop slot env)) d h.stands' h.is_top e in
+      let q = at_place W h.stack h.top (λ p. called W (with_own W p (named env wait) prepared env) (arg env f) (drop slot env)) d h.running_is h.is_top e in
       entered_so prepared wait n q.0 z d.told d.world
       (called_so most W (with_own W (place_in h.stack h.top q.0) (named env wait) prepared env) (callee_of greatest_chain W.heap (arg env f) (drop slot env)) (with_own_fuel W (place_in h.stack h.top q.0) (named env wait) prepared env) d q.2)
 
   pub await_move : (f : Arg) (slot : ℕ) (wait : Wait Arg) (prepared : List Own) → IsTrue (list_all no_mark prepared) → wait_weight wait ≤ c + saved seen prepared → (d : Made (Unit {0})) → move (await f slot wait prepared) env W ≡ Some d
       → Holds most bound (anywhere false (c + saved seen prepared - wait_weight wait) None) d.world
   await_move f slot wait prepared n z d e =
-      let q = at_place W h.stack h.top (λ p. made (record (with_own W p (named env wait) prepared env) { moving = arg env f ∷ drop slot env }) [] tt) d h.stands' h.is_top e in
+      let q = at_place W h.stack h.top (λ p. made (record (with_own W p (named env wait) prepared env) { moving = arg env f ∷ drop slot env }) [] tt) d h.running_is h.is_top e in
       here (λ (d : Made (Unit {0})). Holds most bound (anywhere false (c + saved seen prepared - wait_weight wait) None) d.world) _ (record {
         within = within_in (record (with_own W (place_in h.stack h.top q.0) (named env wait) prepared env) { moving = arg env f ∷ drop slot env }) (so prepared wait n q.0).functions;
         held = record { low = (let b = weighs prepared wait n q.0 in let l = plain_low in omega arith); known = tt };
@@ -188,11 +189,11 @@ module _ (most bound : ℕ) (rich : Bool) (c : ℕ) (seen : Option ℕ) (runs : 
   -- leaving
 
   left_so : (g : Function) (e : Value) → PutSo most W (with_own W (place_in h.stack h.top g) (leaving e) (close_cells 0 ∷ keep_pending ∷ []) []) h.stack h.top (record h.top { wait = leaving e; own = done (close_cells 0 ∷ keep_pending ∷ []) g.code [] h.top.own })
-  left_so g e = own_so most W h.stack h.top g (leaving e) (close_cells 0 ∷ keep_pending ∷ []) [] h.stands' h.is_top
+  left_so g e = own_so most W h.stack h.top g (leaving e) (close_cells 0 ∷ keep_pending ∷ []) [] h.running_is h.is_top
 
   pub begin_move : (text : List ℕ) (d : Made (Unit {0})) → move (begin_leaving text) env W ≡ Some d → Holds most bound (anywhere rich c (Some lua_top)) d.world
   begin_move text d e =
-      let q = at_place W h.stack h.top (λ p. made (record (with_own W p (leaving (blamed W text)) (close_cells 0 ∷ keep_pending ∷ []) []) { moving = blamed W text ∷ [] }) [] tt) d h.stands' h.is_top e in
+      let q = at_place W h.stack h.top (λ p. made (record (with_own W p (leaving (blamed W text)) (close_cells 0 ∷ keep_pending ∷ []) []) { moving = blamed W text ∷ [] }) [] tt) d h.running_is h.is_top e in
       let o = left_so q.0 (blamed W text) in
       let V : World = record (with_own W (place_in h.stack h.top q.0) (leaving (blamed W text)) (close_cells 0 ∷ keep_pending ∷ []) []) { moving = blamed W text ∷ [] } in
       here (λ (d : Made (Unit {0})). Holds most bound (anywhere rich c (Some lua_top)) d.world) (record { world = V; values = []; told = tt }) (record {
@@ -211,9 +212,9 @@ module _ (most bound : ℕ) (rich : Bool) (c : ℕ) (seen : Option ℕ) (runs : 
 
   pub leave_move : (given : Given) (d : Made TopShape) → move (leave_frame given) env W ≡ Some d → Holds most bound (anywhere rich (c + 3) (Some d.told)) d.world
   leave_move given d e =
-      let q = at_place W h.stack h.top (λ p. let V = record (popped W p) { moving = given_values env given } in bind (top_now V) (λ top. made V [] top)) d h.stands' h.is_top e in
+      let q = at_place W h.stack h.top (λ p. let V = record (popped W p) { moving = given_values env given } in bind (top_now V) (λ top. made V [] top)) d h.running_is h.is_top e in
       let V : World = record (popped W (place_in h.stack h.top q.0)) { moving = given_values env given } in
-      let o = popped_so most W h.stack h.top q.0 h.stands' h.is_top in
+      let o = popped_so most W h.stack h.top q.0 h.running_is h.is_top in
       through (λ (d : Made TopShape). Holds most bound (anywhere rich (c + 3) (Some d.told)) d.world) (top_now V) _ (λ top t. here (λ (d : Made TopShape). Holds most bound (anywhere rich (c + 3) (Some d.told)) d.world) _ (record {
         within = within_in V o.0;
         held = record { low = low rich (world_weight most V) o.2 h.low; known = t };
@@ -225,7 +226,7 @@ module _ (most bound : ℕ) (rich : Bool) (c : ℕ) (seen : Option ℕ) (runs : 
 
   tail_so : (g : Function) (fuel : ℕ) → W.fuel ≡ suc fuel → (s : CallShape) (V : World) → EnteredSo most (record (popped W (place_in h.stack h.top g)) { fuel = fuel }) s V → Holds most bound (after_enter s (tail_refused c)) V
   tail_so g fuel e s V k =
-      let o = popped_so most W h.stack h.top g h.stands' h.is_top in
+      let o = popped_so most W h.stack h.top g h.running_is h.is_top in
       by s k o.0 o.2 (paid_weight most fuel (popped W (place_in h.stack h.top g)) (o.1 ∙ e))
     where
       X : World
@@ -240,10 +241,10 @@ module _ (most bound : ℕ) (rich : Bool) (c : ℕ) (seen : Option ℕ) (runs : 
 
   pub tail_move : (f : Arg) (slot : ℕ) → IsTrue runs → (d : Made CallShape) → move (enter_tail f slot) env W ≡ Some d → Holds most bound (after_enter d.told (tail_refused c)) d.world
   tail_move f slot t d e =
-      let q = at_place W h.stack h.top (λ p. called_tail W p (callee_of greatest_chain W.heap (arg env f) (drop slot env))) d h.stands' h.is_top e in
+      let q = at_place W h.stack h.top (λ p. called_tail W p (callee_of greatest_chain W.heap (arg env f) (drop slot env))) d h.running_is h.is_top e in
       by q.0 (callee_of greatest_chain W.heap (arg env f) (drop slot env)) d q.2
     where
-      is_running : (b : Bool) → IsTrue b → Rattle.machine_ends.proofs.Held.RunsIf b h.top.wait → h.top.wait ≡ running
+      is_running : (b : Bool) → IsTrue b → RunsIf b h.top.wait → h.top.wait ≡ running
       is_running true t w = w
       is_running false t w = absurd (cc)
 
@@ -255,6 +256,6 @@ module _ (most bound : ℕ) (rich : Bool) (c : ℕ) (seen : Option ℕ) (runs : 
       by : (g : Function) (x : Callee) (d : Made CallShape) → called_tail W (place_in h.stack h.top g) x ≡ Some d → Holds most bound (after_enter d.told (tail_refused c)) d.world
       by g (not_callable text) = here (λ (d : Made CallShape). Holds most bound (after_enter d.told (tail_refused c)) d.world) _ (record {
         within = within;
-        held = inl (record { stack = h.stack; stands' = h.stands'; top = h.top; is_top = h.is_top; low = plain_low; pending = tt; wait = is_running runs t h.wait });
+        held = inl (record { stack = h.stack; running_is = h.running_is; top = h.top; is_top = h.is_top; low = plain_low; pending = tt; wait = is_running runs t h.wait });
       })
       by g (callee x vs) = paid g x vs W.fuel refl

@@ -1,15 +1,15 @@
 -- Rows of frames that are no Lua functions', of errors on their way, and of primitives make the measure smaller.
 use Rattle.std.proofs.Common.{ℕ, zero, suc, ◌+◌, ◌<◌, List, [], ◌∷◌, Option, Some, None, refl, arith, Bool, true, false, cond}
-use Rattle.std.specs.Prelude.{ℤ, pos, negsuc, codes}
+use Rattle.std.specs.Prelude.{ℤ, pos, negsuc, codes, slice_get}
 use Rattle.int_core.specs.Limits.{stack_overflow}
 use Rattle.int_core.specs.Value.{boolean, a_table, a_function, a_coroutine, Shape, is_known, is_object}
 use Rattle.library_rows.specs.Look.{Look}
 use Rattle.library_rows.specs.Library.{Primitive, base_error, base_pcall, base_xpcall, coroutine_close, coroutine_create, coroutine_isyieldable, coroutine_resume, coroutine_running, coroutine_status, coroutine_yield, prelude_build, prelude_out, Entry, all_entries, row_of}
 use Rattle.machine_core.specs.Text.{written, read}
 use Rattle.machine_core.specs.InstructionRows.{fails}
-use Rattle.machine_core.specs.Moves.{Over, over_pcall, over_xpcall, over_handler, take_moving, give, give_with, see_top, fail_coroutine, CallShape, is_entered, is_primitive, not_paid, not_entered, TopShape, lua_top, pcall_top, xpcall_top, handler_top, closing_top, no_top, ClosingShape, one_left, all_closed, closed_with_error, ResumeShape, resumed, refused, LookShape, is_given, is_refused, is_raised, Row, traps, stop, act, asks, main_yielded}
-use Rattle.machine_core.specs.FrameRows.{then, handed, hand_over, raises, by_asking, expand_by, goes_on_by, gives_up, coroutine_fails, raised_to, raised_row, caught, blames, refused_under, after_asked, asked_row, closing_by, closing_row, unwound, handed_to}
-use Rattle.machine_core.specs.MachineStep.{errs_at, level_in, after_entry, after_resume, resumes, after_closing, closes_coroutine, can_call, creates, sees_status, after_look, look_row, yield_row}
+use Rattle.machine_core.specs.Moves.{create as make_coroutine, Over, over_pcall, over_xpcall, over_handler, take_moving, give_with, see_top, CallShape, is_entered, is_primitive, not_paid, not_entered, TopShape, lua_top, pcall_top, xpcall_top, handler_top, closing_top, no_top, ClosingShape, one_left, all_closed, closed_with_error, ResumeShape, resumed, refused, LookShape, is_given, is_refused, is_raised, Row, traps, stop, act, asks, main_yielded}
+use Rattle.machine_core.specs.FrameRows.{then, handed, hand_over, raises, goes_on_by, gives_up, coroutine_fails, raised_to, raised_row, caught, blames, refused_under, after_asked, asked_row, closing_by, closing_row, unwound, handed_to, over_frame}
+use Rattle.machine_core.specs.MachineStep.{errs_at, level_in, after_resume, resumes, after_closing, closes_coroutine, can_call, creates, sees_status, after_look, look_row, yield_row, gives_back, wrong_type}
 use Rattle.machine_core.specs.PrimitiveRows.{own_row, primitive_row, row_numbered}
 use Rattle.machine_ends.specs.Falls.{anywhere, ended, After, not_made, not_told, stands, after_enter, after_closing as closed_after, after_beginning, may_be, Falls}
 use Rattle.machine_ends.specs.Falls as to
@@ -165,7 +165,7 @@ asked_over_handler = (tt, λ f t. (tt, λ n s. handler_asked s))
 blamed : (text : List ℕ) → RichAt (blames text)
 blamed text = blames_fall true 100 None text (omega arith)
 
-over_falls : (over : Over) (r : Row) → Falls (anywhere true 97 (Some (to.over_top over))) r → RichAt (Rattle.machine_core.specs.FrameRows.over_frame over r)
+over_falls : (over : Over) (r : Row) → Falls (anywhere true 97 (Some (to.over_top over))) r → RichAt (over_frame over r)
 over_falls over r f = (refl, λ n room. by room)
   where
     by : (room : Bool) → Falls (to.after_push over true 100 None room) (cond room r (blames stack_overflow))
@@ -207,7 +207,7 @@ closes_fall (is_known p) co = (tt, λ n t. (let l : 7 < 100 = omega arith in l))
 creates_fall : (s : Shape) (f : ℕ) → RichAt (creates s f)
 creates_fall s f = by (can_call s)
   where
-    by : (b : Bool) → RichAt (cond b (act (Rattle.machine_core.specs.Moves.create (read f)) (λ co _. Rattle.machine_core.specs.MachineStep.gives_back (read co ∷ []))) (blames (Rattle.machine_core.specs.MachineStep.wrong_type 1 (codes "create") (codes "function") s)))
+    by : (b : Bool) → RichAt (cond b (act (make_coroutine (read f)) (λ co _. gives_back (read co ∷ []))) (blames (wrong_type 1 (codes "create") (codes "function") s)))
     by true = (refl, λ co t. (tt, λ n t. hand_over_falls true 95 None (omega arith)))
     by false = (tt, λ n t. (let l : 7 < 100 = omega arith in l))
 
@@ -256,8 +256,12 @@ module _ (build : Row) (b : PrimitiveFalls build) where
       from None = own_falls p
 
   pub numbered_falls : (k : ℕ) → RichAt (row_numbered build k)
-  numbered_falls k = from (Rattle.std.specs.Prelude.slice_get all_entries k)
+  numbered_falls k = from (slice_get all_entries k)
     where
       from : (o : Option (Entry Primitive)) → RichAt (elim (elim o as (λ _. Option Primitive) [ None ↦ None | Some e ↦ Some e.entry ]) as (λ _. Row) [ None ↦ traps | Some p ↦ primitive_row build p ])
       from None = tt
       from (Some e) = primitive_falls e.entry
+
+-- a `load` that refuses every text falls so, as do all rows beside it
+pub refusing_falls : (text : List ℕ) → PrimitiveFalls (blames text)
+refusing_falls text = blamed text

@@ -20,7 +20,7 @@ RunsIf false w = Unit {0}
 
 pub record HeldLua (most bound : ℕ) (rich : Bool) (c : ℕ) (seen : Option ℕ) (runs : Bool) (W : World) : Type 0 where
   pub stack : Stack
-  pub stands' : Runs W stack
+  pub running_is : Runs W stack
   pub top : LuaFrame
   pub is_top : last stack.frames ≡ Some (lua top)
   pub low : world_weight most W + spare most rich c ≤ bound + wait_weight top.wait
@@ -106,7 +106,7 @@ lua_of most bound rich c top W p h e =
     let a = bind_some {B = Place} (λ s. bind (bind (last s.frames) lua_frame) (λ t. bind (slice_get W.functions t.function) (λ g. Some (place_in s t g)))) (stack_of W) p e in
     let b = bind_some {B = Place} (λ t. bind (slice_get W.functions t.function) (λ g. Some (place_in a.0 t g))) (bind (last a.0.frames) lua_frame) p a.2 in
     let c' = bind_some lua_frame (last a.0.frames) b.0 b.1 in
-    record { stack = a.0; stands' = stack_runs W a.0 a.1; top = b.0; is_top = c'.1 ∙ ap Some (lua_is c'.0 b.0 c'.2); low = low (wait_weight b.0.wait) rich h.low; pending = tt; wait = tt }
+    record { stack = a.0; running_is = stack_runs W a.0 a.1; top = b.0; is_top = c'.1 ∙ ap Some (lua_is c'.0 b.0 c'.2); low = low (wait_weight b.0.wait) rich h.low; pending = tt; wait = tt }
   where
     lua_is : (x : Frame) (f : LuaFrame) → lua_frame x ≡ Some f → x ≡ lua f
     lua_is (lua g) f e = let k : Some g ≡ Some f = e in let q : g ≡ f = cc in ap lua q

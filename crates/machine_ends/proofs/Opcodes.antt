@@ -14,13 +14,14 @@ use Rattle.code_core.specs.Prototype.{Prototype}
 use Rattle.code_core.specs.Check.{at, in_front, extra_at}
 use Rattle.int_core.specs.Value.{Value}
 use Rattle.machine_core.specs.World.{Wait, running, for_call, for_iterator, for_value, for_truth, dropped, for_concat, for_close, returning, leaving}
-use Rattle.machine_core.specs.Text.{Arg, read, written, Own, write_register, drop_pending, cut_from, read_register, read_constant, Quick, pay, Text, go_by, own, open_cell, quick, operate, call, tail_call, close, raise, leave, trap}
-use Rattle.machine_core.specs.InstructionRows.{integer_of_shape, spelled, with_number, then, next, skip, to_register, register_or_constant, joins, tested, truth_decides, to_register_before, value_comes, rest, handled, gets, sets, fills_by, starts, runs, prepares, goes_round, back, jumps, marks, opens, with_extra, row_of, text_by, text_at, rest_by, rest_at, variable_name, writes_integer, upvalues_of_inner, return_count}
+use Rattle.machine_core.specs.Text.{closable, Arg, read, written, write_register, drop_pending, cut_from, read_register, read_constant, pay, Text, go_by, own, open_cell, quick, operate, tail_call, raise, trap, mark_pending}
+use Rattle.machine_core.specs.InstructionRows.{integer_of_shape, spelled, with_number, then, next, skip, to_register, register_or_constant, joins, tested, truth_decides, to_register_before, value_comes, rest, handled, gets, sets, fills_by, starts, runs, prepares, goes_round, back, jumps, marks, opens, with_extra, row_of, text_by, text_at, rest_by, rest_at, variable_name, writes_integer, upvalues_of_inner, rounds, fills}
 use Rattle.machine_core.specs.Moves.{CallShape, is_entered, is_primitive, not_paid, not_entered, stop, spent}
 use Rattle.machine_core.specs.FrameRows.{raises, after_call, When, at_once, by_asking, expand_by}
 use Rattle.machine_ends.specs.Measure.{wait_weight}
 use Rattle.machine_ends.specs.Falls.{on_lua, tail_refused, after_pay, after_enter, IsForward, Falls}
 use Rattle.machine_ends.proofs.Texts.{Comes, forward, next_falls, skip_falls, register_falls, raises_falls, call_falls, operate_falls, operate_kept, fast_falls, write_falls, read_falls, returns_fall, closes_fall, fails_falls}
+use Rattle.machine_sound.proofs.Values.{le_true}
 
 low : 7 < 30
 low = omega arith
@@ -85,7 +86,7 @@ compares_falls op x y w = operate_falls at_once 30 op (x ∷ y ∷ []) for_truth
 -- concatenation
 
 small : (i : ℕ) → i ≤ 255 → IsTrue (nat_le i 255)
-small i l = Rattle.machine_sound.proofs.Values.le_true i 255 l
+small i l = le_true i 255 l
 
 joins_once : (r i : ℕ) (x : Arg) → i ≤ 255 → Comes 30 (expand_by at_once (joins r i x))
 joins_once r zero x l = reg r x
@@ -107,11 +108,11 @@ concat_falls w (suc n) e = (tt, λ v s. joins_once (a_of w) n (read v) (let b = 
 marks_fall : (p : Prototype) (pc r : ℕ) (t : Text) → Comes 30 (expand_by at_once t) → Comes 10 (expand_by at_once t) → Comes 30 (expand_by at_once (marks p pc r t))
 marks_fall p pc r t f g = (tt, λ v s. by v (holds s))
   where
-    named : (yes : Bool) → Comes 30 (cond yes (expand_by at_once (then (Rattle.machine_core.specs.Text.mark_pending r) t)) (raises (codes "variable '" ++ variable_name p pc r ++ codes "' got a non-closable value")))
+    named : (yes : Bool) → Comes 30 (cond yes (expand_by at_once (then (mark_pending r) t)) (raises (codes "variable '" ++ variable_name p pc r ++ codes "' got a non-closable value")))
     named true = (refl, λ n s. g)
     named false = error (codes "variable '" ++ variable_name p pc r ++ codes "' got a non-closable value")
 
-    by : (v : ℕ) (b : Bool) → Comes 30 (expand_by at_once (cond b (Rattle.machine_core.specs.Text.closable (read v) (variable_name p pc r) (then (Rattle.machine_core.specs.Text.mark_pending r) t)) t))
+    by : (v : ℕ) (b : Bool) → Comes 30 (expand_by at_once (cond b (closable (read v) (variable_name p pc r) (then (mark_pending r) t)) t))
     by v true = (tt, λ n yes. named yes)
     by v false = f
 
@@ -137,7 +138,7 @@ starts_fall : (a bx : ℕ) (from limit step : ℤ) → Comes 30 (expand_by at_on
 starts_fall a bx from limit step = by (same_integer step (pos 0)) (runs from limit step)
   where
     by : (zero_step goes : Bool) → Comes 30 (expand_by at_once (cond zero_step (raise (codes "'for' step is zero"))
-        (cond goes (writes_integer (a + 1) (Rattle.machine_core.specs.InstructionRows.rounds from limit step) (writes_integer (a + 3) from next)) (go_by (pos (bx + 2))))))
+        (cond goes (writes_integer (a + 1) (rounds from limit step) (writes_integer (a + 3) from next)) (go_by (pos (bx + 2))))))
     by true goes = error (codes "'for' step is zero")
     by false true = (tt, λ n s. (tt, λ m t. next_falls at_once 30))
     by false false = forward at_once 30 None (pos (bx + 2)) (ahead (bx + 2) (omega arith))
@@ -183,8 +184,8 @@ fills_fall (is_known p) t w end z f = (tt, λ n u. low)
 list_falls : (p : Prototype) (pc : ℕ) (w : Instruction) → Comes 30 (expand_by at_once (row_of p pc SetList w))
 list_falls p pc w = by (k_of w)
   where
-    by : (b : Bool) → Comes 30 (expand_by at_once (cond b (with_extra p pc (λ ax. Rattle.machine_core.specs.InstructionRows.fills w (c_of w + 256 * ax) (pos 2))) (Rattle.machine_core.specs.InstructionRows.fills w (c_of w) (pos 1))))
-    by true = extra_falls p pc (λ ax. Rattle.machine_core.specs.InstructionRows.fills w (c_of w + 256 * ax) (pos 2)) (λ ax. (tt, λ t s. fills_fall s t w (c_of w + 256 * ax) (pos 2) tt))
+    by : (b : Bool) → Comes 30 (expand_by at_once (cond b (with_extra p pc (λ ax. fills w (c_of w + 256 * ax) (pos 2))) (fills w (c_of w) (pos 1))))
+    by true = extra_falls p pc (λ ax. fills w (c_of w + 256 * ax) (pos 2)) (λ ax. (tt, λ t s. fills_fall s t w (c_of w + 256 * ax) (pos 2) tt))
     by false = (tt, λ t s. fills_fall s t w (c_of w) (pos 1) tt)
 
 opens_fall : (us : List UpDesc) (t : Text) → Comes 30 (expand_by at_once t) → Comes 30 (expand_by at_once (opens us t))

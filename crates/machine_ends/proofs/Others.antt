@@ -4,9 +4,9 @@ use Rattle.std.specs.Prelude.{slice_get, IsTrue, nat_le}
 use Rattle.int_core.specs.Value.{Value, Shape, last, without_last}
 use Rattle.int_core.specs.Operations.{callee_of, greatest_chain}
 use Rattle.library_rows.specs.Look.{Look, Done, done as came, refused as was_refused, raised as was_raised, looked}
-use Rattle.machine_core.specs.World.{LuaFrame, Frame, lua, pcall, xpcall, handler, closing, in_progress, World, Stack, stack_of, Place, place_of, put_frames, push, pop, put_top}
+use Rattle.machine_core.specs.World.{Frame, lua, pcall, xpcall, handler, closing, World, Stack, stack_of, place_of, put_frames, push, pop, put_top, Function}
 use Rattle.machine_core.specs.Text.{Arg, arg, Own, Given}
-use Rattle.machine_core.specs.Moves.{Over, over_pcall, over_xpcall, over_handler, Move, on_own, take_moving, look, give, give_with, blame, place_text, find_close, see_status, see_running, print, consult, push_frame, call_value, see_top, see_catcher, pop_frame, take_closing, set_error, begin_leaving, leave_frame, Made, made, Told, frame_over, push_all, has_room, called, CallShape, is_entered, is_primitive, not_paid, not_entered, TopShape, lua_top, pcall_top, xpcall_top, handler_top, closing_top, no_top, top_shape, top_now, ClosingShape, one_left, all_closed, closed_with_error, LookShape, next_closing, with_error, consulted, add_printed, bytes_in, coroutine_number, status_of, move}
+use Rattle.machine_core.specs.Moves.{Over, over_pcall, over_xpcall, over_handler, on_own, take_moving, look, give, give_with, blame, place_text, find_close, see_status, see_running, print, consult, push_frame, call_value, see_top, see_catcher, pop_frame, take_closing, set_error, begin_leaving, leave_frame, Made, made, frame_over, CallShape, is_entered, is_primitive, not_paid, not_entered, TopShape, lua_top, pcall_top, xpcall_top, handler_top, closing_top, no_top, top_shape, top_now, ClosingShape, one_left, LookShape, next_closing, with_error, consulted, add_printed, bytes_in, coroutine_number, move, Status, error_or_nil}
 use Rattle.machine_sound.specs.Sound.{Each}
 use Rattle.machine_sound.proofs.Lists.{bind_some, last_push}
 use Rattle.machine_sound.proofs.Values.{le_of}
@@ -17,6 +17,9 @@ use Rattle.machine_ends.proofs.Held.{spare, HeldOther, Holds, HoldsAfter, Known,
 use Rattle.machine_ends.proofs.Outside.{through, here}
 use Rattle.machine_ends.proofs.Calls.{push_weight, push_functions, CalledSo, called_so, begin_move, leave_move}
 use Rattle.machine_ends.proofs.OwnMoves.{own_move}
+use Rattle.code_core.specs.Prototype.{instruction_count}
+use Rattle.int_core.specs.Heap.{Heap}
+use Rattle.int_core.specs.Limits.{greatest_depth}
 
 pub over_weight : (most : ℕ) (over : Over) (env : List Value) → frame_weight most (frame_over over env) ≡ 3
 over_weight most over_pcall env = refl
@@ -65,7 +68,7 @@ frame_there W None t e h = absurd (let k = ap is_frame e in cc)
 
 module _ (most bound : ℕ) (rich : Bool) (c : ℕ) (top : Option TopShape) (env : List Value) (W : World) (within : Within most W) (h : HeldOther most bound rich c top W) where
   within_in : (V : World) → V.functions ≡ W.functions → Within most V
-  within_in V e = subst (λ fs. Each (λ (f : Rattle.machine_core.specs.World.Function). Rattle.code_core.specs.Prototype.instruction_count f.code ≤ most) fs) (sym e) within
+  within_in V e = subst (λ fs. Each (λ (f : Function). instruction_count f.code ≤ most) fs) (sym e) within
 
   pub plain_low : world_weight most W + c ≤ bound
   plain_low = by rich h.low
@@ -78,7 +81,7 @@ module _ (most bound : ℕ) (rich : Bool) (c : ℕ) (top : Option TopShape) (env
   Kept d = Holds most bound (anywhere rich c top) d.world
 
   -- nothing changed that counts
-  kept : (H : Rattle.int_core.specs.Heap.Heap) (moving : List Value) (printed : List ℕ) → Holds most bound (anywhere rich c top) (record W { heap = H; moving = moving; printed = printed })
+  kept : (H : Heap) (moving : List Value) (printed : List ℕ) → Holds most bound (anywhere rich c top) (record W { heap = H; moving = moving; printed = printed })
   kept H moving printed = record { within = within; held = record { low = low rich h.low; known = known top h.known } }
     where
       low : (b : Bool) → world_weight most W + spare most b c ≤ bound → world_weight most W + spare most b c ≤ bound
@@ -112,7 +115,7 @@ module _ (most bound : ℕ) (rich : Bool) (c : ℕ) (top : Option TopShape) (env
   pub found_close : (v e : Arg) (d : Made (Unit {0})) → move (find_close v e) env W ≡ Some d → Holds most bound (anywhere rich c top) d.world
   found_close v e = here Kept _ still
 
-  pub seen_status : (x : Arg) (d : Made Rattle.machine_core.specs.Moves.Status) → move (see_status x) env W ≡ Some d → Holds most bound (anywhere rich c top) d.world
+  pub seen_status : (x : Arg) (d : Made Status) → move (see_status x) env W ≡ Some d → Holds most bound (anywhere rich c top) d.world
   seen_status x = through Kept (coroutine_number (arg env x)) _ (λ co e. through Kept (slice_get W.coroutines co) _ (λ b k. here Kept _ still))
 
   pub seen_running : (d : Made (Unit {0})) → move see_running env W ≡ Some d → Holds most bound (anywhere rich c top) d.world
@@ -179,10 +182,10 @@ module _ (most bound : ℕ) (rich : Bool) (c : ℕ) (top : Option TopShape) (env
       room false s r = here (λ (d : Made Bool). Holds most bound (after_push over rich c top d.told) d.world) _ still
 
       by : (o : Option Stack) → stack_of W ≡ o → (d : Made Bool)
-          → cond (elim o as (λ _. Bool) [ None ↦ false | Some s ↦ nat_le (length s.frames + 1) Rattle.int_core.specs.Limits.greatest_depth ]) (made (elim o as (λ _. World) [ None ↦ W | Some s ↦ push W s (frame_over over env) ]) [] true) (made W [] false) ≡ Some d
+          → cond (elim o as (λ _. Bool) [ None ↦ false | Some s ↦ nat_le (length s.frames + 1) greatest_depth ]) (made (elim o as (λ _. World) [ None ↦ W | Some s ↦ push W s (frame_over over env) ]) [] true) (made W [] false) ≡ Some d
           → Holds most bound (after_push over rich c top d.told) d.world
       by None e = here (λ (d : Made Bool). Holds most bound (after_push over rich c top d.told) d.world) _ still
-      by (Some s) e = room (nat_le (length s.frames + 1) Rattle.int_core.specs.Limits.greatest_depth) s (stack_runs W s e)
+      by (Some s) e = room (nat_le (length s.frames + 1) greatest_depth) s (stack_runs W s e)
 
   -- calls
 
@@ -241,7 +244,7 @@ module _ (most bound : ℕ) (rich : Bool) (c : ℕ) (top : Option TopShape) (env
   next_so n s (closing e (v ∷ left)) r l = by (last (v ∷ left)) refl
     where
       by : (o : Option Value) → last (v ∷ left) ≡ o → (d : Made ClosingShape)
-          → elim o as (λ _. Option (Made ClosingShape)) [ None ↦ None | Some x ↦ made (put_top W s (closing e (without_last (v ∷ left)))) (x ∷ Rattle.machine_core.specs.Moves.error_or_nil e ∷ []) one_left ] ≡ Some d
+          → elim o as (λ _. Option (Made ClosingShape)) [ None ↦ None | Some x ↦ made (put_top W s (closing e (without_last (v ∷ left)))) (x ∷ error_or_nil e ∷ []) one_left ] ≡ Some d
           → Holds most bound (after_closing d.told rich c) d.world
       by None q = λ d e. absurd (cc)
       by (Some x) q = here (λ (d : Made ClosingShape). Holds most bound (after_closing d.told rich c) d.world) _ (let k = chain_longer (v ∷ left) x q in closing_so s e e (v ∷ left) (without_last (v ∷ left)) 1 (c + 20) r l (omega arith) (omega arith))

@@ -2,11 +2,11 @@
 use Rattle.std.proofs.Common.{ℕ, zero, suc, ◌+◌, ◌-◌, ◌≤◌, ◌≡◌, ⊎_elim, List, [], ◌∷◌, ◌++◌, Option, Some, None, refl, subst, sym, ap, ◌∙◌, length, arith, Bool, true, false, cond, drop}
 use Rattle.std.specs.Prelude.{slice_get, slice_set, nat_lt}
 use Rattle.std.proofs.lemmas.Bool.{cases_eq}
-use Rattle.int_core.specs.Value.{Value, bind, last}
-use Rattle.int_core.specs.Heap.{Heap, filled_table}
+use Rattle.int_core.specs.Value.{Value, bind, last, write}
+use Rattle.int_core.specs.Heap.{Heap, filled_table, add_table}
 use Rattle.int_core.specs.Operations.{Operation, Settled, found, ask, fault, cannot_arise, does}
 use Rattle.code_core.specs.Prototype.{Prototypes, none, more, Prototype, list_of, instruction_count, inner_instructions}
-use Rattle.machine_core.specs.World.{Function, Cell, closed, open_at, LuaFrame, Frame, lua, pcall, xpcall, handler, closing, Coroutine, fresh, suspended, in_progress, normal, dead, failed, World, Stack, frames_of, with_frames, write_in_frame, write_in_coroutine, write_cell, read_cell, find_open, Place, place_of}
+use Rattle.machine_core.specs.World.{Function, Cell, closed, open_at, LuaFrame, Frame, lua, pcall, xpcall, handler, closing, Coroutine, fresh, suspended, in_progress, normal, dead, failed, World, write_in_frame, write_in_coroutine, write_cell, read_cell, find_open, Place, place_of, Wait}
 use Rattle.machine_core.specs.Text.{Arg, arg, args_of, read_upvalue, write_upvalue, make_table, make_function, fill_table}
 use Rattle.machine_core.specs.Moves.{Made, open_register, outside, settle, find_close, is_closable, take_moving, SettledShape, own_cell, captured, opened_cells, settled, move}
 use Rattle.machine_sound.proofs.Lists.{get_set_same, get_set_other, each_push}
@@ -14,7 +14,7 @@ use Rattle.machine_ends.specs.Measure.{Within, wait_weight, frame_weight, frames
 use Rattle.machine_ends.specs.Falls.{on_lua}
 use Rattle.machine_ends.proofs.Weights.{Runs, cos_set}
 use Rattle.machine_ends.proofs.Pending.{Seen}
-use Rattle.machine_ends.proofs.Held.{spare, HeldLua, Holds, MoveHolds, HoldsAfter, place_in, place_is}
+use Rattle.machine_ends.proofs.Held.{spare, HeldLua, Holds, place_in, RunsIf, at_place}
 
 -- what holds of all that may come
 
@@ -92,7 +92,7 @@ last_write : (register : ℕ) (v : Value) (fs : List Frame) (i : ℕ) (f : Frame
 last_write register v [] i f t e l = absurd (cc)
 last_write register v (g ∷ []) zero f t e l =
     let a : Some g ≡ Some f = e in let b : Some g ≡ Some (lua t) = l in let q : f ≡ lua t = cc in
-    subst (λ f. SameTop t (write_in_frame register v f ∷ [])) (sym q) (record { top = record t { own = record t.own { registers = Rattle.int_core.specs.Value.write register v t.own.registers } }; is_top = refl; wait = refl; pending = refl })
+    subst (λ f. SameTop t (write_in_frame register v f ∷ [])) (sym q) (record { top = record t { own = record t.own { registers = write register v t.own.registers } }; is_top = refl; wait = refl; pending = refl })
 last_write register v (g ∷ []) (suc i) f t e l = absurd (cc)
 last_write register v (g ∷ h ∷ fs) zero f t e l = record { top = t; is_top = l; wait = refl; pending = refl }
 last_write register v (g ∷ h ∷ fs) (suc i) f t e l =
@@ -122,7 +122,7 @@ module _ (most bound : ℕ) (rich : Bool) (c : ℕ) (runs : Bool) where
   same_so : (seen newly : Option ℕ) (W V : World) (h : HeldLua most bound rich c seen runs W) → Within most V → Runs V h.stack → world_weight most V ≡ world_weight most W → Seen newly h.top.own.pending → Holds most bound (on_lua rich c newly runs) V
   same_so seen newly W V h w r e n = record {
     within = w;
-    held = record { stack = h.stack; stands' = r; top = h.top; is_top = h.is_top; low = low rich h.low; pending = n; wait = h.wait };
+    held = record { stack = h.stack; running_is = r; top = h.top; is_top = h.is_top; low = low rich h.low; pending = n; wait = h.wait };
   }
     where
       low : (b : Bool) → world_weight most W + spare most b c ≤ bound + wait_weight h.top.wait → world_weight most V + spare most b c ≤ bound + wait_weight h.top.wait
@@ -133,16 +133,16 @@ module _ (most bound : ℕ) (rich : Bool) (c : ℕ) (runs : Bool) where
       → Holds most bound (on_lua rich c None runs) (record W { coroutines = slice_set W.coroutines co (write_in_coroutine i register v d) })
   written_so seen W h co i register v d w e = ⊎_elim
       (λ (q : co ≡ h.stack.coroutine).
-      let d_is : d ≡ in_progress h.stack.frames = (let a : slice_get W.coroutines co ≡ Some (in_progress h.stack.frames) = ap (slice_get W.coroutines) q ∙ h.stands'.there in same_some d (in_progress h.stack.frames) (sym e ∙ a)) in
+      let d_is : d ≡ in_progress h.stack.frames = (let a : slice_get W.coroutines co ≡ Some (in_progress h.stack.frames) = ap (slice_get W.coroutines) q ∙ h.running_is.there in same_some d (in_progress h.stack.frames) (sym e ∙ a)) in
       let t = then_top i register v h.stack.frames h.top h.is_top in
       record {
         within = w;
         held = record {
           stack = record { coroutine = h.stack.coroutine; frames = frames_then i register v h.stack.frames };
-          stands' = record {
-            last_is = h.stands'.last_is;
+          running_is = record {
+            last_is = h.running_is.last_is;
             there = subst (λ co. slice_get (slice_set W.coroutines co (write_in_coroutine i register v d)) h.stack.coroutine ≡ Some (in_progress (frames_then i register v h.stack.frames))) (sym q)
-                (get_set_same W.coroutines h.stack.coroutine (in_progress h.stack.frames) (write_in_coroutine i register v d) h.stands'.there ∙ ap (λ c. Some (write_in_coroutine i register v c)) d_is ∙ ap Some (running_then i register v h.stack.frames));
+                (get_set_same W.coroutines h.stack.coroutine (in_progress h.stack.frames) (write_in_coroutine i register v d) h.running_is.there ∙ ap (λ c. Some (write_in_coroutine i register v c)) d_is ∙ ap Some (running_then i register v h.stack.frames));
           };
           top = t.top;
           is_top = t.is_top;
@@ -155,7 +155,7 @@ module _ (most bound : ℕ) (rich : Bool) (c : ℕ) (runs : Bool) where
         within = w;
         held = record {
           stack = h.stack;
-          stands' = record { last_is = h.stands'.last_is; there = get_set_other W.coroutines co h.stack.coroutine (write_in_coroutine i register v d) q ∙ h.stands'.there };
+          running_is = record { last_is = h.running_is.last_is; there = get_set_other W.coroutines co h.stack.coroutine (write_in_coroutine i register v d) q ∙ h.running_is.there };
           top = h.top;
           is_top = h.is_top;
           low = low rich h.top.wait refl h.low;
@@ -168,22 +168,22 @@ module _ (most bound : ℕ) (rich : Bool) (c : ℕ) (runs : Bool) where
       same_some : (x y : Coroutine) → Some x ≡ Some y → x ≡ y
       same_some x y e = cc
 
-      low : (b : Bool) (x : Rattle.machine_core.specs.World.Wait Value) → x ≡ h.top.wait → world_weight most W + spare most b c ≤ bound + wait_weight h.top.wait
+      low : (b : Bool) (x : Wait Value) → x ≡ h.top.wait → world_weight most W + spare most b c ≤ bound + wait_weight h.top.wait
           → world_weight most (record W { coroutines = slice_set W.coroutines co (write_in_coroutine i register v d) }) + spare most b c ≤ bound + wait_weight x
       low b x q l = let k = cos_set most W.coroutines co d (write_in_coroutine i register v d) e in let j = coroutine_write most i register v d in let z = ap wait_weight q in omega arith
 
-      still : (b : Bool) (x : Rattle.machine_core.specs.World.Wait Value) → x ≡ h.top.wait → Rattle.machine_ends.proofs.Held.RunsIf b h.top.wait → Rattle.machine_ends.proofs.Held.RunsIf b x
+      still : (b : Bool) (x : Wait Value) → x ≡ h.top.wait → RunsIf b h.top.wait → RunsIf b x
       still true x q k = q ∙ k
       still false x q k = tt
 
   written_cell : (seen : Option ℕ) (W : World) (h : HeldLua most bound rich c seen runs W) (n : ℕ) (cell : Cell) (v : Value) → Within most W → Holds most bound (on_lua rich c None runs) (write_cell W n cell v)
   unfolding write_cell
-  written_cell seen W h n (closed x) v w = same_so seen None W (record W { cells = slice_set W.cells n (closed v) }) h w (record { last_is = h.stands'.last_is; there = h.stands'.there }) refl tt
+  written_cell seen W h n (closed x) v w = same_so seen None W (record W { cells = slice_set W.cells n (closed v) }) h w (record { last_is = h.running_is.last_is; there = h.running_is.there }) refl tt
   written_cell seen W h n (open_at co i register) v w = from (slice_get W.coroutines co) refl
     where
       from : (o : Option Coroutine) → slice_get W.coroutines co ≡ o
           → Holds most bound (on_lua rich c None runs) (elim o as (λ _. World) [ None ↦ W | Some c ↦ record W { coroutines = slice_set W.coroutines co (write_in_coroutine i register v c) } ])
-      from None e = same_so seen None W W h w h.stands' refl tt
+      from None e = same_so seen None W W h w h.running_is refl tt
       from (Some d) e = written_so seen W h co i register v d w e
 
   module _ (seen : Option ℕ) (env : List Value) (W : World) (within : Within most W) (h : HeldLua most bound rich c seen runs W) where
@@ -192,11 +192,11 @@ module _ (most bound : ℕ) (rich : Bool) (c : ℕ) (runs : Bool) where
     Kept d = Holds most bound (on_lua rich c None runs) d.world
 
     same_frames : (newly : Option ℕ) → Seen newly h.top.own.pending → (H : Heap) (cells : List Cell) (moving : List Value) → Holds most bound (on_lua rich c newly runs) (record W { heap = H; cells = cells; moving = moving })
-    same_frames newly n H cells moving = same_so seen newly W (record W { heap = H; cells = cells; moving = moving }) h within (record { last_is = h.stands'.last_is; there = h.stands'.there }) refl n
+    same_frames newly n H cells moving = same_so seen newly W (record W { heap = H; cells = cells; moving = moving }) h within (record { last_is = h.running_is.last_is; there = h.running_is.there }) refl n
 
     at_top : {A : Type 0} (P : A → Type 0) (F : Place → Option A) → ((g : Function) → slice_get W.functions h.top.function ≡ Some g → (d : A) → F (place_in h.stack h.top g) ≡ Some d → P d) → (d : A) → bind (place_of W) F ≡ Some d → P d
     at_top P F f d e =
-        let q = Rattle.machine_ends.proofs.Held.at_place W h.stack h.top F d h.stands' h.is_top e in f q.0 q.1 d q.2
+        let q = at_place W h.stack h.top F d h.running_is h.is_top e in f q.0 q.1 d q.2
 
     pub open_move : (r : ℕ) (d : Made (Unit {0})) → move (open_register r) env W ≡ Some d → Holds most bound (on_lua rich c None runs) d.world
     open_move r = at_top Kept _ (λ g e. if_so Kept (nat_lt r (length h.top.own.registers)) _ (λ t. here Kept _ (same_frames None tt W.heap (opened_cells (find_open h.stack.coroutine (length h.stack.frames - 1) r W.cells) h.stack.coroutine (length h.stack.frames - 1) r W.cells) W.moving)))
@@ -208,7 +208,7 @@ module _ (most bound : ℕ) (rich : Bool) (c : ℕ) (runs : Bool) where
     write_move u x = at_top Kept _ (λ g e. through Kept (own_cell W (place_in h.stack h.top g) u) _ (λ y i. through Kept (read_cell W y.1) _ (λ v j. here Kept _ (written_cell seen W h y.0 y.1 (arg env x) within))))
 
     pub table_move : (d : Made Bool) → move (outside make_table) env W ≡ Some d → Holds most bound (on_lua rich c None runs) d.world
-    table_move = at_top Kept _ (λ g e. here Kept _ (same_frames None tt (Rattle.int_core.specs.Heap.add_table W.heap) W.cells W.moving))
+    table_move = at_top Kept _ (λ g e. here Kept _ (same_frames None tt (add_table W.heap) W.cells W.moving))
 
     pub fill_move : (t : Arg) (end slot : ℕ) (d : Made Bool) → move (outside (fill_table t end slot)) env W ≡ Some d → Holds most bound (on_lua rich c None runs) d.world
     fill_move t end slot = at_top Kept _ (λ g e. through Kept (filled_table W.heap (arg env t) end (drop slot env)) _ (λ H i. here Kept _ (same_frames None tt H W.cells W.moving)))
@@ -217,7 +217,7 @@ module _ (most bound : ℕ) (rich : Bool) (c : ℕ) (runs : Bool) where
     function_move n = at_top Kept _ (λ g e. through Kept (slice_get (list_of g.code.inner) n) _ (λ q i. through Kept (captured q.own.upvalues h.stack.coroutine (length h.stack.frames - 1) g.cells W.cells) _ (λ cells j.
         here Kept _ (same_so seen None W (record W { functions = W.functions ++ record { code = q; cells = cells } ∷ [] }) h
         (each_push (λ (f : Function). instruction_count f.code ≤ most) W.functions (record { code = q; cells = cells }) within (let a = inner_within g.code.inner n q i in let b = within h.top.function g e in omega arith))
-        (record { last_is = h.stands'.last_is; there = h.stands'.there }) refl tt))))
+        (record { last_is = h.running_is.last_is; there = h.running_is.there }) refl tt))))
 
     settled_so : (g : Function) (s : Settled) (d : Made SettledShape) → settled W (place_in h.stack h.top g) s ≡ Some d → Holds most bound (on_lua rich c None runs) d.world
     settled_so g (found H vs) = here Kept _ (same_frames None tt H W.cells W.moving)

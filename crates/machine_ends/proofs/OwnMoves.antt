@@ -49,13 +49,13 @@ module _ (most bound : ℕ) (rich : Bool) (c : ℕ) (seen : Option ℕ) (runs : 
   changed : (m : Own) (g : Function) (k d : ℕ) (newly : Option ℕ) → length (effect m g.code env h.top.own).pending ≤ length h.top.own.pending + k → d + 20 * k ≤ c → Seen newly (effect m g.code env h.top.own).pending
       → Holds most bound (on_lua rich d newly runs) (with_own W (place_in h.stack h.top g) h.top.wait (m ∷ []) env)
   changed m g k d newly l q n =
-      let o = own_so most W h.stack h.top g h.top.wait (m ∷ []) env h.stands' h.is_top in
+      let o = own_so most W h.stack h.top g h.top.wait (m ∷ []) env h.running_is h.is_top in
       let e = ap (λ pc. 40 * (most - pc)) (effect_pc m g.code env h.top.own) in
       record {
         within = subst (λ fs. Each (λ (f : Function). instruction_count f.code ≤ most) fs) (sym o.functions) within;
         held = record {
           stack = with_top h.stack (lua (after m g));
-          stands' = o.runs;
+          running_is = o.runs;
           top = after m g;
           is_top = top_last h.stack (lua (after m g));
           low = low rich h.low o.weight;
@@ -93,7 +93,7 @@ module _ (most bound : ℕ) (rich : Bool) (c : ℕ) (seen : Option ℕ) (runs : 
 
   pub own_move : (m : Own) → own_needs m c → (d : Made Shape) → move (on_own m) env W ≡ Some d → Holds most bound (after_own m rich c runs d.told) d.world
   own_move m n d e =
-      let q = at_place W h.stack h.top (do_own m env W) d h.stands' h.is_top e in
+      let q = at_place W h.stack h.top (do_own m env W) d h.running_is h.is_top e in
       let x = cond_made (fits m q.0.code h.top.own) (record { world = with_own W (place_in h.stack h.top q.0) h.top.wait (m ∷ []) env; values = reads m q.0.code env h.top.own; told = tells m q.0.code env h.top.own }) d q.2 in
       subst (λ (d : Made Shape). Holds most bound (after_own m rich c runs d.told) d.world) x (own_held m q.0 n)
 
@@ -112,12 +112,12 @@ module _ (most bound : ℕ) (c : ℕ) (seen : Option ℕ) (runs : Bool) (env : L
       → Holds most bound (on_lua false d None runs) (put_top W h.stack (lua (record h.top { own = record h.top.own { pc = to } })))
   jumped rich h g to d low =
       let f = record h.top { own = record h.top.own { pc = to } } in
-      let o = put_so most W h.stack h.top f W.cells h.stands' h.is_top in
+      let o = put_so most W h.stack h.top f W.cells h.running_is h.is_top in
       record {
         within = subst (λ fs. Each (λ (f : Function). instruction_count f.code ≤ most) fs) (sym o.functions) within;
         held = record {
           stack = with_top h.stack (lua f);
-          stands' = o.runs;
+          running_is = o.runs;
           top = f;
           is_top = top_last h.stack (lua f);
           low = (let k = o.weight in omega arith);
@@ -128,7 +128,7 @@ module _ (most bound : ℕ) (c : ℕ) (seen : Option ℕ) (runs : Bool) (env : L
 
   pub pc_move : (rich : Bool) (h : HeldLua most bound rich c seen runs W) (z : ℤ) → (rich ≡ false → IsForward z) → (d : Made (Unit {0})) → move (move_pc z) env W ≡ Some d → Holds most bound (after_move_pc rich c runs) d.world
   pc_move rich h z f d e =
-      let q = at_place W h.stack h.top (λ p. moved_pc W p z) d h.stands' h.is_top e in
+      let q = at_place W h.stack h.top (λ p. moved_pc W p z) d h.running_is h.is_top e in
       let a = bind_some (λ pc. bind (at q.0.code pc) (λ _. made (put_top W h.stack (lua (record h.top { own = record h.top.own { pc = pc } }))) [] tt)) (place_from h.top.own.pc z) d q.2 in
       let b = bind_some (λ _. made (put_top W h.stack (lua (record h.top { own = record h.top.own { pc = a.0 } }))) [] tt) (at q.0.code a.0) d a.2 in
       let l = get_within q.0.code.own.code a.0 b.0 b.1 in

@@ -1,6 +1,6 @@
 -- A row that falls makes the measure smaller, or ends the turn.
 use Rattle.std.proofs.Common.{ℕ, ◌+◌, ◌<◌, ◌≤◌, ◌≡◌, ◌⊎◌, inl, inr, ⊎_elim, List, ◌++◌, Option, Some, None, refl, subst, ap, length, arith, Bool, true, false, drop}
-use Rattle.std.specs.Prelude.{IsTrue, nat_le}
+use Rattle.std.specs.Prelude.{IsTrue, nat_le, ℤ}
 use Rattle.int_core.specs.Value.{Value}
 use Rattle.machine_core.specs.World.{World}
 use Rattle.machine_core.specs.Text.{read_upvalue, write_upvalue, make_table, make_function, fill_table, pay}
@@ -17,7 +17,7 @@ use Rattle.machine_ends.proofs.Others.{taken, looked_at, given, given_with, blam
 use Rattle.machine_ends.proofs.Coroutines.{ended as ended_so, failed_so, suspended_so, created, resumed_so, begun_so}
 
 module _ (most bound : ℕ) where
-  forward_if : (rich : Bool) (c : ℕ) (seen : Option ℕ) (runs : Bool) (z : Rattle.std.specs.Prelude.ℤ) → lua_needs rich c seen runs (move_pc z) → rich ≡ false → IsForward z
+  forward_if : (rich : Bool) (c : ℕ) (seen : Option ℕ) (runs : Bool) (z : ℤ) → lua_needs rich c seen runs (move_pc z) → rich ≡ false → IsForward z
   forward_if true c seen runs z n e = absurd (cc)
   forward_if false c seen runs z n e = n
 

@@ -65,7 +65,7 @@ module _ (most : ℕ) where
     runs_low : f.wait ≡ running → (p : Prototype) → Low W (world_weight most W + 0) (run (expand (text_at p f.own.pc)) [] W)
     runs_low q p = run_falls most (world_weight most W + 0) (expand (text_at p f.own.pc)) (on_lua false 30 None true) [] W (record {
       within = w;
-      held = record { stack = s; stands' = r; top = f; is_top = l; low = (let k = ap wait_weight q in omega arith); pending = tt; wait = q };
+      held = record { stack = s; running_is = r; top = f; is_top = l; low = (let k = ap wait_weight q in omega arith); pending = tt; wait = q };
     }) (text_falls p f.own.pc)
 
     woken_is : woken W s f ≡ record (put_top W s (lua (record f { wait = running }))) { moving = [] }
@@ -81,7 +81,7 @@ module _ (most : ℕ) where
           within = subst (λ fs. Each (λ (f : Function). instruction_count f.code ≤ most) fs) (sym woken_so.functions) w;
           held = record {
             stack = with_top s (lua (record f { wait = running }));
-            stands' = record { last_is = woken_so.runs.last_is; there = woken_so.runs.there };
+            running_is = record { last_is = woken_so.runs.last_is; there = woken_so.runs.there };
             top = record f { wait = running };
             is_top = top_last s (lua (record f { wait = running }));
             low = (let k = woken_so.weight in omega arith);

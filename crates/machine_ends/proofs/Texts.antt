@@ -6,12 +6,12 @@ use Rattle.std.proofs.lemmas.Bool.Decides.{nat_tests}
 use Rattle.int_core.specs.Value.{nil, boolean, integer, string, primitive, Shape, is_known, is_object}
 use Rattle.int_core.specs.Operations.{Event, Operation, computed, by_zero}
 use Rattle.machine_core.specs.World.{Wait, for_close, returning, leaving}
-use Rattle.machine_core.specs.Text.{Arg, read, written, Own, write_register, close_cells, take_pending, keep_pending, keep_results, mark_pending, see_pending, Given, results, thrown, Text, go_by, own, operate, call, close, raise, leave, trap}
-use Rattle.machine_core.specs.InstructionRows.{next, skip, to_register, is_true, left_so, returned_so, fails, returns, closes, read_values, write_values, fast}
+use Rattle.machine_core.specs.Text.{Arg, read, written, Own, write_register, close_cells, take_pending, keep_pending, keep_results, results, thrown, Text, go_by, own, operate, close, raise, leave, read_registers}
+use Rattle.machine_core.specs.InstructionRows.{next, skip, to_register, is_true, left_so, returned_so, fails, returns, closes, read_values, write_values, fast, then}
 use Rattle.machine_core.specs.Moves.{SettledShape, is_found, is_asked, is_fault, CallShape, is_entered, is_primitive, not_paid, not_entered, TopShape, lua_top, pcall_top, xpcall_top, handler_top, closing_top, no_top, Row, only}
 use Rattle.machine_core.specs.FrameRows.{handed, raises, after_call, call_row, ask_row, When, at_once, by_asking, calls_row, prepares, leave_row, expand_by}
 use Rattle.machine_ends.specs.Measure.{wait_weight}
-use Rattle.machine_ends.specs.Falls.{on_lua, anywhere, no_mark, saved, is_small, IsForward, seen_by, Falls}
+use Rattle.machine_ends.specs.Falls.{on_lua, anywhere, no_mark, saved, is_small, IsForward, seen_by, Falls, after_enter}
 
 -- a Lua frame runs or goes on with some credit
 abbrev pub Comes : ℕ → Row → Type 0
@@ -35,7 +35,7 @@ raises_falls false c seen runs text l = (tt, λ n t. l)
 
 -- calls
 
-after_falls : (c : ℕ) → 7 < c → (s : CallShape) → Falls (Rattle.machine_ends.specs.Falls.after_enter s (on_lua false c None false)) (after_call s)
+after_falls : (c : ℕ) → 7 < c → (s : CallShape) → Falls (after_enter s (on_lua false c None false)) (after_call s)
 after_falls c l is_entered = omega arith
 after_falls c l (is_primitive n) = omega arith
 after_falls c l not_paid = tt
@@ -82,7 +82,7 @@ fast_falls event r None b = next_falls at_once 30
 fast_falls event r (Some m) None = next_falls at_once 30
 fast_falls event r (Some m) (Some n) = by (computed event m n)
   where
-    by : (o : Option ℤ) → Comes 30 (expand_by at_once (elim o as (λ _. Text) [ None ↦ raise (by_zero event) | Some k ↦ Rattle.machine_core.specs.InstructionRows.then (write_register r (written (integer k))) skip ]))
+    by : (o : Option ℤ) → Comes 30 (expand_by at_once (elim o as (λ _. Text) [ None ↦ raise (by_zero event) | Some k ↦ then (write_register r (written (integer k))) skip ]))
     by None = raises_falls false 30 None true (by_zero event) (omega arith)
     by (Some k) = (tt, λ n s. skip_falls at_once 30)
 
@@ -154,11 +154,11 @@ close_falls by_asking c r v e wait ms n z l m = close_asks c r true v e wait ms 
 pub returns_fall : (w : When) (c from count : ℕ) → MayClose w c → Comes c (expand_by w (returns from count))
 returns_fall w c from count m = (tt, λ v s. told v s)
   where
-    given : (v : ℕ) → Comes c (expand_by w (own (Rattle.machine_core.specs.Text.read_registers from count) (λ w' _. leave (results w'))))
+    given : (v : ℕ) → Comes c (expand_by w (own (read_registers from count) (λ w' _. leave (results w'))))
     given v = (tt, λ n s. results_fall c None true n)
 
     told : (v : ℕ) (s : Shape) → Falls (on_lua false c (seen_by 0 s) true)
-        (expand_by w (cond (is_true s) (close (read v) (written nil) (returning count) (returned_so from count)) (own (Rattle.machine_core.specs.Text.read_registers from count) (λ w' _. leave (results w')))))
+        (expand_by w (cond (is_true s) (close (read v) (written nil) (returning count) (returned_so from count)) (own (read_registers from count) (λ w' _. leave (results w')))))
     told v (is_known (boolean true)) = close_falls w c 0 (read v) (written nil) (returning count) (keep_results from count ∷ []) refl refl (omega arith) m
     told v (is_known (boolean false)) = given v
     told v (is_known nil) = given v
@@ -170,11 +170,11 @@ returns_fall w c from count m = (tt, λ v s. told v s)
 pub closes_fall : (w : When) (c r : ℕ) → MayClose w c → Comes c (expand_by w (closes r))
 closes_fall w c r m = (tt, λ v s. told v s)
   where
-    gone : Comes c (expand_by w (Rattle.machine_core.specs.InstructionRows.then (close_cells r) next))
+    gone : Comes c (expand_by w (then (close_cells r) next))
     gone = (tt, λ n s. next_falls w c)
 
     told : (v : ℕ) (s : Shape) → Falls (on_lua false c (seen_by r s) true)
-        (expand_by w (cond (is_true s) (close (read v) (written nil) for_close (close_cells r ∷ take_pending r ∷ [])) (Rattle.machine_core.specs.InstructionRows.then (close_cells r) next)))
+        (expand_by w (cond (is_true s) (close (read v) (written nil) for_close (close_cells r ∷ take_pending r ∷ [])) (then (close_cells r) next)))
     told v (is_known (boolean true)) = close_falls w c r (read v) (written nil) for_close [] refl refl (omega arith) m
     told v (is_known (boolean false)) = gone
     told v (is_known nil) = gone

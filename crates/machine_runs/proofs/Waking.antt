@@ -9,7 +9,7 @@ use Rattle.machine_core.specs.World.{closed, open_at, Frame, lua, Coroutine, fre
 use Rattle.machine_core.specs.Moves.{made, Made, CallShape, is_entered, is_primitive, not_paid, not_entered, TopShape, lua_top, pcall_top, xpcall_top, handler_top, closing_top, no_top, top_shape, top_now, resumed, starts_in, can_start, enters, put_coroutine, go_into, Ending, Row, Outcome, trapped, ends, run}
 use Rattle.machine_core.specs.MachineStep.{after_resume, and_then, steps}
 use Rattle.machine_core.specs.FrameRows.{handed, hand_over}
-use Rattle.machine_sound.specs.Sound.{Each, sizes, Valid, FrameOk, FrameWaits, AllWait, CoroutineOk, Standing, runs, resumed_another, standing, ChainOk, registers_in, registers_of, CellOk, Solid, Settled, StackWaits, on_top, all_wait, Sound}
+use Rattle.machine_sound.specs.Sound.{Each, sizes, Valid, FrameOk, FrameWaits, AllWait, CoroutineOk, Standing, runs, resumed_another, standing, ChainOk, registers_in, registers_of, CellOk, Solid, Settled, StackWaits, idle, on_top, all_wait, Sound}
 use Rattle.machine_sound.specs.Laws.{SoundAfter, StepGood, PrimitivesSafe}
 use Rattle.machine_sound.proofs.Lists.{each_none, each_set, bind_at, get_set_same, get_set_other, length_set, get_map, last_push}
 use Rattle.machine_sound.proofs.Grow.{Grows, values_on, valid_on, each_waits_on}
@@ -215,5 +215,5 @@ then_good n (ends e W) f g k = k e W g
 pub turn_good : (n : ℕ) (rows : ℕ → Row) → PrimitivesSafe n rows → (count : ℕ) (W : World) (budget : ℕ) → Sound n W → MayTurn W → StepGood n (turn rows count W budget)
 turn_good n rows p count W budget s t =
     then_good n (wakes (with_budget W budget)) (steps rows count)
-    (wakes_good n (with_budget W budget) (record { solid = budget_solid n W budget s.solid; rests = Rattle.machine_sound.specs.Sound.idle t.idle }) (budget_turn W budget t))
+    (wakes_good n (with_budget W budget) (record { solid = budget_solid n W budget s.solid; rests = idle t.idle }) (budget_turn W budget t))
     (runs_good n rows p count)
