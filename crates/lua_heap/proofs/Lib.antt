@@ -10,3 +10,4 @@ mod Added
 mod Listed
 mod Placed
 mod Resumed
+mod Captured

@@ -27,12 +27,12 @@ set_past [] n x h = refl
 set_past (y ∷ ys) zero x h = absurd (omega (arith, h))
 set_past (y ∷ ys) (suc n) x h = ap (λ l. y ∷ l) (set_past ys n x (omega (arith, h)))
 
-set_own : {A : Type 0} (xs : List A) (n : ℕ) (x : A) → slice_get xs n ≡ Some x → slice_set xs n x ≡ xs
+pub set_own : {A : Type 0} (xs : List A) (n : ℕ) (x : A) → slice_get xs n ≡ Some x → slice_set xs n x ≡ xs
 set_own [] n x e = absurd (cc)
 set_own (y ∷ ys) zero x e = ap (λ z. z ∷ ys) (sym (some_same y x e))
 set_own (y ∷ ys) (suc n) x e = ap (λ l. y ∷ l) (set_own ys n x e)
 
-set_cases : {A : Type 0} (xs : List A) (n k : ℕ) (x y : A) → slice_get (slice_set xs n x) k ≡ Some y → ((n ≡ k) × (x ≡ y)) ⊎ (slice_get xs k ≡ Some y)
+pub set_cases : {A : Type 0} (xs : List A) (n k : ℕ) (x y : A) → slice_get (slice_set xs n x) k ≡ Some y → ((n ≡ k) × (x ≡ y)) ⊎ (slice_get xs k ≡ Some y)
 set_cases [] n k x y e = absurd (cc)
 set_cases (z ∷ zs) zero zero x y e = inl (refl, some_same x y e)
 set_cases (z ∷ zs) zero (suc k) x y e = inr e

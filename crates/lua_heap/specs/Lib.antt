@@ -5,6 +5,7 @@ pub mod Plain
 pub mod Changes
 pub mod Adding
 pub mod Cells
+pub mod Captures
 pub mod Places
 pub mod Errors
 pub mod Opening

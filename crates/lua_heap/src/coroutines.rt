@@ -89,7 +89,7 @@ impl World {
     }
 
     /// The coroutine that runs.
-    fn top_of_chain(&self) -> Option<CoroId>
+    pub(crate) fn top_of_chain(&self) -> Option<CoroId>
         ensures { result ≡ last self.now.chain.items }
     {
         self.chain.last().copied()

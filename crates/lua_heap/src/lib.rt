@@ -2,6 +2,7 @@
 #![tactic(auto)]
 
 mod adding;
+mod captures;
 mod cells;
 mod codes;
 mod coroutines;
