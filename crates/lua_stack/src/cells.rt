@@ -10,6 +10,13 @@ use std::alloc::AllocError;
 use table_core::{CellId, Value};
 
 impl Stack {
+    /// The cells that are open, in the order of their frames and registers.
+    pub fn open_cells(&self) -> &[OpenCell]
+        ensures { result.now ≡ self.now.open_cells }
+    {
+        &self.open_cells
+    }
+
     /// The cell that is open at a register of the frame on top.
     pub fn find_cell(&self, register: usize) -> Option<CellId>
         ensures { result ≡ cell_at (top_number self.now) register self.now.open_cells }

@@ -30,7 +30,7 @@ pub struct OpenCell {
 }
 
 /// What a call needs to know of a function's code.
-#[derive(Clone, Copy, Debug)]
+#[derive(Clone, Copy)]
 pub struct Shape {
     pub params: usize,
     pub vararg: bool,
