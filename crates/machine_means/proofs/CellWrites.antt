@@ -13,7 +13,7 @@ use Rattle.list_laws.proofs.Items.{get_set_same, get_set_other}
 use Rattle.list_laws.specs.Held.{Held}
 use Rattle.machine_means.specs.Joined.{Holds}
 use Rattle.machine_means.proofs.Held.{reverse_is}
-use Rattle.machine_readings.proofs.FrameNumbers.{value_in, put_frame, length_put, set_frame}
+use Rattle.machine_means.proofs.FrameNumbers.{value_in, put_frame, length_put, set_frame}
 use Rattle.machine_means.specs.Joined.{TalkFrame, Stacks, CoroutinePair, AllThree, CoroutinesPair, HoldsOf, CellsPair}
 use Rattle.machine_means.proofs.FrameWrites.{Apart, below_write, one_owner, apart_in, stack_values}
 

@@ -20,7 +20,7 @@ use Rattle.lua_meaning.specs.Calls as calls
 use Rattle.lua_meaning.specs.Calls.{closes_on, calls_value}
 use Rattle.code_means.specs.Runs.{codes_run}
 use Rattle.machine_sound.proofs.Frames.{stack_is}
-use Rattle.machine_readings.proofs.Texts.{nth_mid, drop_mid}
+use Rattle.machine_means.proofs.Lists.{nth_mid, drop_mid, set_twice}
 use Rattle.machine_means.specs.Joined.{TalkFrame, TalkWorld, Stacks, Joined}
 use Rattle.machine_means.specs.Stands.{call_asked, ComesTo}
 use Rattle.machine_means.proofs.Held.{reverse_is}
@@ -28,7 +28,6 @@ use Rattle.machine_means.proofs.Switches.{OnlyRuns}
 use Rattle.machine_means.proofs.Handing.{moved, told_now, gives}
 use Rattle.machine_means.proofs.Frames.{HoldsSame, frames_put}
 use Rattle.machine_means.proofs.AtRest.{from_gives}
-use Rattle.machine_means.proofs.Worlds.{set_twice}
 
 nth_next : (xs ys : List Value) (y z : Value) → nth (xs ++ y ∷ z ∷ ys) (suc (length xs)) ≡ z
 nth_next [] ys y z = refl

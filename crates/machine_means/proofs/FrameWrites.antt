@@ -16,7 +16,7 @@ use Rattle.list_laws.proofs.Items.{length_set}
 use Rattle.list_laws.specs.Held.{Held, Has}
 use Rattle.machine_means.specs.Joined.{Holds, RegistersPair}
 use Rattle.machine_means.proofs.Held.{holds_less}
-use Rattle.machine_readings.proofs.FrameNumbers.{value_in, frame_top, frame_below, put_frame}
+use Rattle.machine_means.proofs.FrameNumbers.{value_in, frame_top, frame_below, put_frame}
 use Rattle.machine_means.specs.Joined.{TalkFrame, Pair, under, Below, Stacks, HoldsOf, HoldsIn, CellsPair, Asleep}
 
 -- what is held by one stack alone

@@ -1,5 +1,7 @@
 pub mod Held
-pub mod Shared
+pub mod Lists
+pub mod FrameNumbers
+pub mod Sharing
 pub mod StillPending
 pub mod FrameWrites
 pub mod CellWrites
@@ -25,4 +27,3 @@ pub mod Entered
 pub mod Entering
 pub mod Beginning
 pub mod Resumed
-pub mod Worlds

@@ -21,7 +21,7 @@ use Rattle.machine_sound.specs.Sound.{Each, Sizes, FrameOk}
 use Rattle.machine_sound.proofs.Lists.{each_front, each_last, some_is}
 use Rattle.machine_means.specs.Joined.{TalkFrame, TalkWorld, Dressed, Both, FunctionsPair, IsHeard, LuaPair, Pair, under, Below, Stacks}
 use Rattle.machine_means.proofs.Held.{reverse_is}
-use Rattle.machine_means.proofs.Shared.{share_in}
+use Rattle.machine_means.proofs.Sharing.{share_in}
 use Rattle.machine_means.proofs.StillPending.{closed_is}
 
 -- what stands beside an item

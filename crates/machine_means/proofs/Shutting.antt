@@ -14,7 +14,7 @@ use Rattle.list_laws.proofs.Items.{get_set_same, get_set_other}
 use Rattle.list_laws.specs.Held.{Held, Has}
 use Rattle.machine_means.specs.Joined.{Holds}
 use Rattle.machine_means.proofs.Held.{holds_less, reverse_is}
-use Rattle.machine_readings.proofs.FrameNumbers.{frame_top, frame_below}
+use Rattle.machine_means.proofs.FrameNumbers.{frame_top, frame_below}
 use Rattle.machine_means.specs.Joined.{TalkFrame, Pair, under, Below, Stacks, HoldsOf, CellsPair}
 use Rattle.machine_means.proofs.FrameWrites.{below_length}
 

@@ -16,9 +16,9 @@ use Rattle.machine_core.specs.Moves.{begin_leaving, blamed, frame_place, cells_a
 use Rattle.machine_core.specs.FrameRows.{When, expand_by}
 use Rattle.machine_core.specs.RowFits.{IsWaiting}
 use Rattle.machine_core.specs.Talk.{State, amid, talk, says_so, heard, captured_after, captured_done}
-use Rattle.machine_readings.proofs.Sim.{Fixed, Alike}
-use Rattle.machine_readings.proofs.Local.{effect_alike, done_alike}
-use Rattle.machine_readings.proofs.Texts.{Good}
+use Rattle.means_steps.proofs.Alike.{Fixed, Alike}
+use Rattle.means_steps.proofs.Local.{effect_alike, done_alike}
+use Rattle.means_steps.proofs.Texts.{Good}
 use Rattle.lua_meaning.specs.World as talk
 use Rattle.lua_meaning.specs.World.{Asker, talking, waiting, raising, talks, as_known, without_name, shared_in, shared_out, second, raises_error, now_in, on_frames}
 use Rattle.lua_meaning.specs.Asks.{turns, handle}
@@ -29,8 +29,8 @@ use Rattle.machine_means.specs.Stands.{error_raised}
 use Rattle.machine_means.proofs.Held.{reverse_is}
 use Rattle.machine_means.proofs.Handing.{moved, told_now}
 use Rattle.machine_means.proofs.Places.{below_places}
-use Rattle.machine_means.proofs.Worlds.{brought_own, set_twice}
-use Rattle.means_steps.proofs.Sharing.{shared_append, flush_on, flush_off, shared_length, share_in}
+use Rattle.machine_means.proofs.Lists.{set_twice}
+use Rattle.machine_means.proofs.Sharing.{shared_append, flush_on, flush_off, shared_length, share_in, brought_own}
 use Rattle.means_steps.proofs.Middle.{Around, MiddleOf, Middle, frame, framed, others_values, once, top_range, not_below, not_apart, not_shut}
 use Rattle.means_steps.proofs.Closes.{closes_from}
 use Rattle.means_steps.proofs.Rests.{waits_joined}

@@ -13,7 +13,7 @@ use Rattle.list_laws.proofs.Tests.{eq_not}
 use Rattle.machine_core.specs.World as machine
 use Rattle.machine_core.specs.World.{Function, Cell, closed, open_at, Wait, Activation, Frame, lua, Coroutine, fresh, suspended, in_progress, normal, dead, failed, frames_of, read_cell, write_cell, write_in_coroutine, write_in_frame}
 use Rattle.machine_core.specs.Talk.{State}
-use Rattle.machine_readings.proofs.FrameNumbers.{frame_top, frame_below, value_in, put_frame, length_put, set_frame}
+use Rattle.machine_means.proofs.FrameNumbers.{frame_top, frame_below, value_in, put_frame, length_put, set_frame}
 use Rattle.lua_meaning.specs.World as talk
 use Rattle.machine_means.specs.Joined.{TalkFrame, TalkWorld, RegistersPair, Stacks, CoroutinePair, AllThree, Holds, HoldsOf, HoldsIn}
 use Rattle.machine_means.proofs.Held.{holds_less, reverse_is}

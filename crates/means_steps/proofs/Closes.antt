@@ -16,7 +16,7 @@ use Rattle.lua_meaning.specs.World.{shared_in}
 use Rattle.machine_means.specs.Joined.{TalkFrame, HoldsOf, HoldsIn, Holds}
 use Rattle.machine_means.proofs.Held.{holds_less}
 use Rattle.machine_means.proofs.FrameWrites.{below_length, below_values}
-use Rattle.means_steps.proofs.Sharing.{gone_on, gone_off, shared_length}
+use Rattle.machine_means.proofs.Sharing.{gone_on, gone_off, shared_length}
 use Rattle.means_steps.proofs.Middle.{MiddleOf, others_values, others_held, own_holds, once, top_range, not_below, not_apart, not_shut}
 
 get_map : {A B : Type 0} (f : A → B) (xs : List A) (i : ℕ) (x : A) → slice_get xs i ≡ Some x → slice_get (map f xs) i ≡ Some (f x)

@@ -15,7 +15,7 @@ use Rattle.machine_core.specs.FrameRows.{hand_over, blames}
 use Rattle.machine_core.specs.MachineStep as rows
 use Rattle.machine_core.specs.MachineStep.{can_call, create_row, error_row, errs_at}
 use Rattle.machine_core.specs.Talk.{State}
-use Rattle.machine_readings.proofs.Texts.{nth_mid}
+use Rattle.machine_means.proofs.Lists.{nth_mid}
 use Rattle.lua_meaning.specs.World as talk
 use Rattle.lua_meaning.specs.World.{gives_back, raises_error, raises_text, now_in}
 use Rattle.lua_meaning.specs.Primitives.{Primitive, lua_error, coroutine_create, wrong_type}

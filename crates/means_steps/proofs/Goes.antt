@@ -14,9 +14,9 @@ use Rattle.machine_core.specs.Moves as moves
 use Rattle.machine_core.specs.Moves.{Made, made, on_own, move_pc, open_register, settle, enter, enter_tail, await, find_close, is_closable, leave_frame, opened_cells, place_from, cells_after, cells_done, named, enters_paid, called_tail, settled, top_shape, is_found, is_asked, is_fault, SettledShape, CallShape, not_entered, go, asks, unwinding, spent, Row, stop, only, act, Outcome, trapped, ends, run}
 use Rattle.machine_core.specs.FrameRows.{When, expand_by}
 use Rattle.machine_core.specs.Talk.{State, before, amid, talk, says_so, captured_after}
-use Rattle.machine_readings.proofs.Sim.{Alike}
-use Rattle.machine_readings.proofs.Texts.{least_read}
-use Rattle.machine_readings.proofs.Local.{fits_alike, reads_alike, tells_alike, effect_alike, effect_pc}
+use Rattle.means_steps.proofs.Alike.{Alike}
+use Rattle.means_steps.proofs.Texts.{least_read}
+use Rattle.means_steps.proofs.Local.{fits_alike, reads_alike, tells_alike, effect_alike, effect_pc}
 use Rattle.lua_meaning.specs.World as talk
 use Rattle.lua_meaning.specs.World.{Asker, talking, waiting, talks, gives_back, unwinds, ends as ends_turn, breaks, now_in, on_frames, as_known, without_name, shared_in, shared_out, second, answered, answered_at_once}
 use Rattle.lua_meaning.specs.Asks.{turns}

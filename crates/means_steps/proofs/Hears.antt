@@ -13,8 +13,8 @@ use Rattle.machine_core.specs.Moves.{TopShape, lua_top, top_shape, made, see_top
 use Rattle.machine_core.specs.FrameRows.{by_asking, goes_on_by, raises, unwound, refused_under as machine_refuses, after_asked}
 use Rattle.machine_core.specs.MachineStep.{woken, step_by}
 use Rattle.machine_core.specs.Talk.{State, amid}
-use Rattle.machine_readings.proofs.Texts.{Good}
-use Rattle.machine_readings.proofs.RowsGood.{rest_at_good, fails_good}
+use Rattle.means_steps.proofs.Texts.{Good}
+use Rattle.means_steps.proofs.RowsGood.{rest_at_good, fails_good}
 use Rattle.lua_meaning.specs.World as talk
 use Rattle.lua_meaning.specs.World.{Asker, talking, waiting, raising, talks, gives_back, unwinds, shared_in, shared_out, answered}
 use Rattle.lua_meaning.specs.Calls as calls_in

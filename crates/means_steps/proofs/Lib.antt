@@ -1,4 +1,7 @@
-pub mod Sharing
+pub mod Alike
+pub mod Texts
+pub mod RowsGood
+pub mod Local
 pub mod Middle
 pub mod Closes
 pub mod Rests

@@ -24,7 +24,7 @@ use Rattle.machine_sound.specs.Sound.{Solid, StackWaits}
 use Rattle.machine_sound.proofs.Frames.{stack_is}
 use Rattle.machine_means.specs.Joined.{TalkWorld, Joined}
 use Rattle.machine_means.proofs.Switches.{set_same}
-use Rattle.machine_means.proofs.Worlds.{set_twice}
+use Rattle.machine_means.proofs.Lists.{set_twice}
 use Rattle.machine_means.proofs.Handing.{told_now}
 use Rattle.machine_means.proofs.Steps.{no_talks}
 use Rattle.means_steps.specs.Steps.{Leads}

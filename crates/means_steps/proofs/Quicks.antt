@@ -11,8 +11,8 @@ use Rattle.machine_core.specs.Text.{Arg, arg, Quick, read_upvalue, write_upvalue
 use Rattle.machine_core.specs.Moves.{outside, made, Made, captured, stop, spent, Outcome, run}
 use Rattle.machine_core.specs.FrameRows.{When, expand_by}
 use Rattle.machine_core.specs.Talk.{State, amid, talk, says_so, names_of}
-use Rattle.machine_readings.proofs.Sim.{Alike}
-use Rattle.machine_readings.proofs.Texts.{Good}
+use Rattle.means_steps.proofs.Alike.{Alike}
+use Rattle.means_steps.proofs.Texts.{Good}
 use Rattle.lua_meaning.specs.World as talk
 use Rattle.lua_meaning.specs.World.{Asker, talking, talks, ends, breaks, now_in, as_known, shared_in, second, cell_of, without_name, answered_at_once}
 use Rattle.lua_meaning.specs.Asks.{turns, handle, made_in, of_maker, cells_named, gets_function, pays_unit, one}

@@ -17,9 +17,9 @@ use Rattle.machine_core.specs.Moves as moves
 use Rattle.machine_core.specs.Moves.{Made, made, on_own, move_pc, open_register, settle, enter, enter_tail, await, find_close, is_closable, leave_frame, opened_cells, place_from, cells_after, cells_done, named, enters_paid, called_tail, settled, top_shape, is_found, is_asked, is_fault, SettledShape, CallShape, not_entered, go, asks, unwinding, spent, Row, stop, only, act, Outcome, trapped, ends, run}
 use Rattle.machine_core.specs.FrameRows.{When, expand_by, calls_row, prepares, raises, after_call, after_leaving}
 use Rattle.machine_core.specs.Talk.{State, amid, heard, captured_done, marked}
-use Rattle.machine_readings.proofs.Sim.{Alike}
-use Rattle.machine_readings.proofs.Texts.{Reaches, effect_front, reads_nothing, plain_waits, plain_reach, plain_told, rest_named}
-use Rattle.machine_readings.proofs.Local.{done_alike, done_pc}
+use Rattle.means_steps.proofs.Alike.{Alike}
+use Rattle.means_steps.proofs.Texts.{Reaches, effect_front, reads_nothing, plain_waits, plain_reach, plain_told, rest_named}
+use Rattle.means_steps.proofs.Local.{done_alike, done_pc}
 use Rattle.lua_meaning.specs.World as talk
 use Rattle.lua_meaning.specs.World.{Asker, talking, waiting, talks, gives_back, unwinds, ends as ends_turn, breaks, now_in, on_frames, as_known, without_name, shared_in, shared_out, second, answered, answered_at_once}
 use Rattle.lua_meaning.specs.Calls as calls_in
@@ -32,8 +32,8 @@ use Rattle.machine_means.specs.Stands.{results_come, error_leaves}
 use Rattle.machine_means.proofs.Handing.{ending_of, handed_is, hand_over_is, moved, told_now}
 use Rattle.machine_means.proofs.Loosened.{loosened}
 use Rattle.machine_means.proofs.Switches.{OnlyRuns, set_same}
-use Rattle.machine_means.proofs.Worlds.{set_twice}
-use Rattle.means_steps.proofs.Sharing.{shared_append}
+use Rattle.machine_means.proofs.Lists.{set_twice}
+use Rattle.machine_means.proofs.Sharing.{shared_append}
 use Rattle.means_steps.proofs.Middle.{Around, MiddleOf, Middle, frame}
 use Rattle.means_steps.proofs.Closes.{closes_all}
 use Rattle.means_steps.proofs.Rests.{left_joined, left_alone}

@@ -13,8 +13,8 @@ use Rattle.machine_core.specs.FrameRows.{at_once, expand, goes_on_by}
 use Rattle.machine_core.specs.MachineStep.{woken, lua_step, frame_step, top_step, step_by}
 use Rattle.machine_core.specs.RowFits.{IsWaiting}
 use Rattle.machine_core.specs.Talk.{State, before}
-use Rattle.machine_readings.proofs.Sim.{Alike}
-use Rattle.machine_readings.proofs.RowsGood.{Knows, text_good}
+use Rattle.means_steps.proofs.Alike.{Alike}
+use Rattle.means_steps.proofs.RowsGood.{Knows, text_good}
 use Rattle.lua_meaning.specs.World as talk
 use Rattle.lua_meaning.specs.World.{Asker, talking, waiting, raising, talks, gives_back, unwinds, shared_in, shared_out, answered}
 use Rattle.lua_meaning.specs.Primitives.{Primitive}

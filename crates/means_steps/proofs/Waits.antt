@@ -14,9 +14,10 @@ use Rattle.machine_core.specs.Moves.{enter, await, cells_done, named, enters_pai
 use Rattle.machine_core.specs.FrameRows.{When, at_once, by_asking, expand_by, calls_row, raises, after_call}
 use Rattle.machine_core.specs.RowFits.{IsWaiting}
 use Rattle.machine_core.specs.Talk.{State, amid, heard, captured_done, marked}
-use Rattle.machine_readings.proofs.Sim.{Fixed, Alike}
-use Rattle.machine_readings.proofs.Texts.{Reaches, WaitReach, named_front, done_front, cells_front, named_waits, nth_mid, drop_mid}
-use Rattle.machine_readings.proofs.Local.{done_alike, done_pc}
+use Rattle.means_steps.proofs.Alike.{Fixed, Alike}
+use Rattle.means_steps.proofs.Texts.{Reaches, WaitReach, named_front, done_front, cells_front, named_waits}
+use Rattle.machine_means.proofs.Lists.{nth_mid, drop_mid}
+use Rattle.means_steps.proofs.Local.{done_alike, done_pc}
 use Rattle.lua_meaning.specs.World as talk
 use Rattle.lua_meaning.specs.World.{Asker, talking, waiting, talks, gives_back, unwinds, ends as ends_turn, breaks, now_in, on_frames, as_known, without_name, shared_in, shared_out, second, answered, answered_at_once}
 use Rattle.lua_meaning.specs.Calls.{calls_value, pays_for}

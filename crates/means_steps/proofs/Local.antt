@@ -6,16 +6,10 @@ use Rattle.std.proofs.lemmas.Bool.Decides.{nat_tests}
 use Rattle.code_core.specs.Prototype.{Prototype}
 use Rattle.code_core.specs.Check.{mark, fixed, open_from}
 use Rattle.int_core.specs.Value.{Value, Shape, is_known, integer, known, nil, nth, range, write, write_all, shape}
-use Rattle.int_core.specs.Ask.{Captured, held_below, gone_from}
-use Rattle.machine_core.specs.World.{Function, Cell, Activation, Frame, close_from}
+use Rattle.machine_core.specs.World.{Activation}
 use Rattle.machine_core.specs.Text.{arg, Own, read_register, read_registers, read_list, read_constant, read_varargs, see, write_register, write_registers, write_list, write_nils, end_list, cut_from, close_cells, mark_pending, see_pending, take_pending, drop_pending, keep_results, keep_pending, reads, tells, effect, fits, done, blanked, nils, is_pending, is_there, list_end, list_values, last_pending, without_pending, value_if, behind}
-use Rattle.machine_core.specs.Moves.{cells_after, cells_done}
-use Rattle.machine_core.specs.Talk.{captured_after, captured_done}
-use Rattle.machine_core.specs.TalkRun.{TalkFrame, shared_in}
 use Rattle.list_laws.proofs.Values.{nth_write_same, nth_write_other}
-use Rattle.machine_readings.proofs.Cells.{shared_append}
-use Rattle.machine_readings.proofs.Sim.{Fixed, Alike, Working}
-use Rattle.machine_readings.proofs.Closing.{close_work}
+use Rattle.means_steps.proofs.Alike.{Fixed, Alike}
 
 -- registers that have the same values, where one side may have more of them
 
@@ -228,35 +222,3 @@ effect_pc keep_pending p env a = refl
 pub done_pc : (ms : List Own) (p : Prototype) (env : List Value) (a : Activation) → (done ms p env a).pc ≡ a.pc
 done_pc [] p env a = refl
 done_pc (m ∷ ms) p env a = done_pc ms p env (effect m p env a) ∙ effect_pc m p env a
-
-module _ (fs : List Function) (vs : List Value) (p : Prototype) (env : List Value) (ms : List Frame) (ts : List TalkFrame) where
-  -- one move
-  pub own_keeps : (m : Own) (a a' : Activation) → Alike a a' → (c : Captured) (ws : List Cell) → Working fs ws (shared_in c.gone vs) c.held ms ts
-      → Working fs (cells_after m 0 (length ms) a' ws) (shared_in (captured_after m a c).gone vs) (captured_after m a c).held ms ts
-  own_keeps (close_cells r) a a' e c ws k =
-      subst (λ xs. Working fs (close_from 0 (length ms) r a'.registers ws) xs (held_below r c.held) ms ts) (sym (shared_append (gone_from r c.held a.registers) c.gone vs))
-      (close_work r fs ws (shared_in c.gone vs) a.registers a'.registers e.values c.held ms ts k)
-  own_keeps (read_register r) a a' e c ws k = k
-  own_keeps (read_registers from count) a a' e c ws k = k
-  own_keeps (read_list from) a a' e c ws k = k
-  own_keeps (read_constant n) a a' e c ws k = k
-  own_keeps read_varargs a a' e c ws k = k
-  own_keeps (see x) a a' e c ws k = k
-  own_keeps (write_register r x) a a' e c ws k = k
-  own_keeps (write_registers at count slot) a a' e c ws k = k
-  own_keeps (write_list at slot) a a' e c ws k = k
-  own_keeps (write_nils at count) a a' e c ws k = k
-  own_keeps end_list a a' e c ws k = k
-  own_keeps (cut_from r) a a' e c ws k = k
-  own_keeps (mark_pending r) a a' e c ws k = k
-  own_keeps (see_pending r) a a' e c ws k = k
-  own_keeps (take_pending r) a a' e c ws k = k
-  own_keeps (drop_pending r) a a' e c ws k = k
-  own_keeps (keep_results from count) a a' e c ws k = k
-  own_keeps keep_pending a a' e c ws k = k
-
-  -- some moves one after another
-  pub done_keeps : (os : List Own) (a a' : Activation) → Alike a a' → (c : Captured) (ws : List Cell) → Working fs ws (shared_in c.gone vs) c.held ms ts
-      → Working fs (cells_done os p 0 (length ms) env a' ws) (shared_in (captured_done os p env a c).gone vs) (captured_done os p env a c).held ms ts
-  done_keeps [] a a' e c ws k = k
-  done_keeps (m ∷ os) a a' e c ws k = done_keeps os (effect m p env a) (effect m p env a') (effect_alike p env a a' e m) (captured_after m a c) (cells_after m 0 (length ms) a' ws) (own_keeps m a a' e c ws k)

@@ -1,10 +1,10 @@
 -- Captured locals in cells: written to them before an ask, taken back at its answer, closed.
 use Rattle.std.proofs.Common.{ℕ, ◌<◌, ◌≤◌, ◌≡◌, ◌⊎◌, inl, inr, ⊎_elim, List, [], ◌∷◌, ◌++◌, length, refl, sym, ap, subst, ◌∙◌, arith}
-use Rattle.std.specs.Prelude.{Bool, true, false, cond, nat_lt, slice_set}
+use Rattle.std.specs.Prelude.{Bool, true, false, cond, map, nat_lt, slice_set}
 use Rattle.std.proofs.lemmas.Bool.{cases_eq}
 use Rattle.int_core.specs.Value.{Value, nth, write}
 use Rattle.int_core.specs.Ask.{shared_by, gone_from, brought}
-use Rattle.machine_core.specs.TalkRun.{shared_in, shared_out}
+use Rattle.lua_meaning.specs.World.{second, shared_in, shared_out}
 use Rattle.list_laws.specs.Held.{Held, Has}
 use Rattle.list_laws.proofs.Values.{nth_write_same, nth_write_other, write_more, nth_set_same, nth_set_other}
 use Rattle.list_laws.proofs.Items.{length_set}
@@ -83,3 +83,8 @@ module _ (a : ℕ) (regs vs : List Value) where
       by false e ih =
           let f = lt_true s.0 a in
           nth_set_other s.1 (nth regs s.0) (shared_in (gone_from a h regs) vs) c (λ d. absurd (let g : true ≡ false = sym (f (n s.0 (inl (refl, sym d)))) ∙ e in cc)) ∙ ih
+
+-- an answer that comes at once, with the values that the ask carried, changes no register
+pub brought_own : (h : List (ℕ × ℕ)) (ys xs : List Value) (gone : List (ℕ × Value)) → ((r : ℕ) → nth xs r ≡ nth ys r) → (r : ℕ) → nth (brought h (map second (shared_by h ys ++ gone)) xs) r ≡ nth ys r
+brought_own [] ys xs gone e r = e r
+brought_own (s ∷ h) ys xs gone e r = brought_own h ys (write s.0 (nth ys s.0) xs) gone (λ q. ⊎_elim (λ d. ap (nth (write s.0 (nth ys s.0) xs)) d ∙ nth_write_same s.0 (nth ys s.0) xs ∙ ap (nth ys) (sym d)) (λ n. nth_write_other s.0 (nth ys s.0) xs q n ∙ e q) (cases_eq q s.0)) r

@@ -1,6 +1,6 @@
 -- What is asked of a text, so that both readings of it lead to the same: it names what it has read, waits where it calls, and goes on as its
 -- wait says.
-use Rattle.std.proofs.Common.{ℕ, suc, ◌+◌, ◌<◌, ◌≤◌, ◌≡◌, List, [], ◌∷◌, ◌++◌, length, drop, refl, ap, ◌∙◌, arith}
+use Rattle.std.proofs.Common.{ℕ, ◌+◌, ◌<◌, ◌≤◌, ◌≡◌, List, [], ◌∷◌, ◌++◌, length, refl, ap, ◌∙◌, arith}
 use Rattle.std.specs.Prelude.{codes}
 use Rattle.code_core.specs.Prototype.{Prototype}
 use Rattle.int_core.specs.Value.{Value, nth, bind, Shape, range}
@@ -216,13 +216,3 @@ rest_named env (for_concat i) p pc = refl
 rest_named env for_close p pc = refl
 rest_named env (returning i) p pc = refl
 rest_named env (leaving x) p pc = refl
-
--- lists of what was read
-
-pub nth_mid : (env vs : List Value) (v : Value) → nth (env ++ v ∷ vs) (length env) ≡ v
-nth_mid [] vs v = refl
-nth_mid (x ∷ env) vs v = nth_mid env vs v
-
-pub drop_mid : (env vs : List Value) (v : Value) → drop (suc (length env)) (env ++ v ∷ vs) ≡ vs
-drop_mid [] vs v = refl
-drop_mid (x ∷ env) vs v = drop_mid env vs v

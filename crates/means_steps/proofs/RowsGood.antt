@@ -14,7 +14,7 @@ use Rattle.machine_core.specs.World.{Wait, running, for_call, for_iterator, for_
 use Rattle.int_core.specs.Operations.{Event, of_add, of_sub, of_mul, of_mod, of_idiv, of_band, of_bor, of_bxor, of_shl, of_shr, computed, by_zero}
 use Rattle.machine_core.specs.Text.{Arg, read, written, Text, write_register, read_register, trap, raise, own, quick, pay, go_by}
 use Rattle.machine_core.specs.InstructionRows.{text_at, text_by, rest_at, rest_by, row_of, value_comes, rest, with_register, with_constant, counted, return_count, then, back, is_true, integer_of_shape, fast, event_numbered, handled, joins, starts, prepares, goes_round, runs, jumps, marks, is_alive, variable_name, opens, upvalues_of_inner, fills_by, register_or_constant, read_values, write_values, to_register, to_register_before, closes, returns, fails, next, skip}
-use Rattle.machine_readings.proofs.Texts.{Good}
+use Rattle.means_steps.proofs.Texts.{Good}
 
 -- a wait for which an error is known already
 abbrev pub Knows : {V : Type 0} → Wait V → Type 0
