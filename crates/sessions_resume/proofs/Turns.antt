@@ -1,0 +1,102 @@
+-- Turns from worlds that agree.
+use Rattle.std.proofs.Common.{ℕ, List, [], ◌∷◌, ◌++◌, Option, Some, None, refl, subst, ap}
+use Rattle.std.specs.Prelude.{slice_get}
+use Rattle.int_core.specs.Value.{a_coroutine, Value}
+use Rattle.machine_core.specs.World.{Frame, Coroutine, World}
+use Rattle.machine_core.specs.Moves.{Made, made, CallShape, is_entered, is_primitive, not_paid, not_entered, TopShape, lua_top, pcall_top, xpcall_top, handler_top, closing_top, no_top, ResumeShape, resumed, refused, put_coroutine, go_into, starts_in, enters, Row, Outcome, run}
+use Rattle.machine_core.specs.MachineStep.{after_resume, and_then, steps}
+use Rattle.machine_core.specs.FrameRows.{handed}
+use Rattle.machine_alike.specs.Agree.{Pairs, SameNumber, SameValues, SameFrames, SameCoroutine, same_fresh, same_suspended, same_in_progress, same_normal, same_dead, same_failed, Agree, AgreeInTurn}
+use Rattle.machine_alike.specs.Laws.{SameOutcome, both_trap, both_end, MadeAlike, Alike, NoneMade}
+use Rattle.machine_alike.proofs.Pairwise.{each_bind, zip_append}
+use Rattle.machine_alike.proofs.Same.{extends_self, coroutine_at}
+use Rattle.machine_alike.proofs.Frames.{made_same, moving_agrees, coroutine_agrees}
+use Rattle.machine_alike.proofs.Calls.{enters_same}
+use Rattle.machine_alike.proofs.Rows.{outcome_on, rows_keep}
+use Rattle.machine_alike.proofs.Keeps.{steps_keep}
+use Rattle.machine_runs.specs.Runs.{resumed_main, after_waking, wakes, with_budget, turn}
+
+-- rows that make no function
+
+handed_none : (t : TopShape) → NoneMade (handed t)
+handed_none lua_top = tt
+handed_none pcall_top = tt
+handed_none xpcall_top = tt
+handed_none handler_top = tt
+handed_none closing_top = tt
+handed_none (no_top b) = tt
+
+resumed_none : (s : ResumeShape) → NoneMade (after_resume s)
+resumed_none (resumed is_entered) = λ n t. handed_none t
+resumed_none (resumed (is_primitive n)) = tt
+resumed_none (resumed not_paid) = tt
+resumed_none (resumed (not_entered text)) = λ n t. tt
+resumed_none (refused text) = λ n t. λ n t. handed_none t
+
+-- main goes on
+
+chain_agrees : (p : Pairs) (W X : World) (i j : ℕ) → AgreeInTurn p W X → SameNumber p a_coroutine i j → AgreeInTurn p (record W { chain = W.chain ++ i ∷ [] }) (record X { chain = X.chain ++ j ∷ [] })
+chain_agrees p W X i j a h = record {
+  objects = a.objects;
+  roots = record {
+    globals = a.roots.globals;
+    string_metatable = a.roots.string_metatable;
+    prelude_environment = a.roots.prelude_environment;
+    prelude_functions = a.roots.prelude_functions;
+    special_key = a.roots.special_key;
+    max_depth = a.roots.max_depth;
+    main = a.roots.main;
+    chain = zip_append (SameNumber p a_coroutine) W.chain X.chain (i ∷ []) (j ∷ []) a.roots.chain (h, tt);
+  };
+  moving = a.moving;
+  printed = a.printed;
+  fuel = a.fuel;
+}
+
+into_agrees : (p : Pairs) (W X : World) (i j : ℕ) (fs gs : List Frame) → AgreeInTurn p W X → SameNumber p a_coroutine i j → SameFrames p fs gs → AgreeInTurn p (go_into W i fs) (go_into X j gs)
+unfolding go_into put_coroutine
+into_agrees p W X i j fs gs a h k = coroutine_agrees p (record W { chain = W.chain ++ i ∷ [] }) (record X { chain = X.chain ++ j ∷ [] }) i j _ _ (chain_agrees p W X i j a h) h (same_in_progress fs gs k)
+
+refuses : (p : Pairs) (W X : World) (text : List ℕ) → AgreeInTurn p W X → Alike p ResumeShape (made W [] (refused text)) (made X [] (refused text))
+refuses p W X text a = made_same p p ResumeShape W X [] [] (refused text) (refused text) (extends_self p) a tt refl
+
+starts : (p : Pairs) (W X : World) (i j : ℕ) (vs ws : List Value) → AgreeInTurn p W X → SameNumber p a_coroutine i j → SameValues p vs ws → (c d : Coroutine) → SameCoroutine p c d → Alike p ResumeShape (starts_in W i c vs) (starts_in X j d ws)
+starts p W X i j vs ws a h s c d (same_fresh v w k) =
+    each_bind (MadeAlike p CallShape) (MadeAlike p ResumeShape) _ _
+    (λ x y l. record { now = l.now; more = l.more; agree = l.agree; values = tt; told = ap resumed l.told })
+    (enters (go_into W i []) v vs) (enters (go_into X j []) w ws)
+    (enters_same p (go_into W i []) (go_into X j []) v w vs ws (into_agrees p W X i j [] [] a h tt) k s)
+starts p W X i j vs ws a h s c d (same_suspended fs gs k) =
+    made_same p p ResumeShape _ _ [] [] (resumed is_entered) (resumed is_entered) (extends_self p) (moving_agrees p (go_into W i fs) (go_into X j gs) vs ws (into_agrees p W X i j fs gs a h k) s) tt refl
+starts p W X i j vs ws a h s c d (same_in_progress fs gs k) = refuses p W X _ a
+starts p W X i j vs ws a h s c d (same_normal fs gs k) = refuses p W X _ a
+starts p W X i j vs ws a h s c d same_dead = refuses p W X _ a
+starts p W X i j vs ws a h s c d (same_failed v w xs ys k l) = refuses p W X _ a
+
+resumes : (p : Pairs) (W X : World) → AgreeInTurn p W X → Alike p ResumeShape (resumed_main W) (resumed_main X)
+resumes p W X a =
+    each_bind (SameNumber p a_coroutine) (MadeAlike p ResumeShape) _ _
+    (λ i j h. each_bind (SameCoroutine p) (MadeAlike p ResumeShape) _ _
+    (λ c d k. starts p (record W { moving = [] }) (record X { moving = [] }) i j W.moving X.moving (moving_agrees p W X [] [] a tt) h a.moving c d k)
+    (slice_get W.coroutines i) (slice_get X.coroutines j) (coroutine_at p W X a i j h))
+    W.main X.main a.roots.main
+
+waking : (p : Pairs) (d e : Option (Made ResumeShape)) → Alike p ResumeShape d e → SameOutcome p (after_waking d) (after_waking e)
+waking p None None h = both_trap
+waking p None (Some e) h = absurd h
+waking p (Some d) None h = absurd h
+waking p (Some d) (Some e) h = outcome_on p h.now (run (after_resume d.told) [] d.world) (run (after_resume e.told) [] e.world) h.more
+    (subst (λ t. SameOutcome h.now (run (after_resume d.told) [] d.world) (run (after_resume t) [] e.world)) h.told (rows_keep (after_resume d.told) (resumed_none d.told) h.now [] [] d.world e.world tt h.agree))
+
+wakes_alike : (p : Pairs) (W X : World) → AgreeInTurn p W X → SameOutcome p (wakes W) (wakes X)
+unfolding wakes
+wakes_alike p W X a = waking p (resumed_main W) (resumed_main X) (resumes p W X a)
+
+module _ (rows : ℕ → Row) (none : (n : ℕ) → NoneMade (rows n)) where
+  goes_on : (p : Pairs) (count : ℕ) (o u : Outcome) → SameOutcome p o u → SameOutcome p (and_then o (steps rows count)) (and_then u (steps rows count))
+  goes_on p count o u both_trap = both_trap
+  goes_on p count o u (both_end q e W X more a) = outcome_on p q (steps rows count e W) (steps rows count e X) more (steps_keep rows none count e q W X a)
+
+  pub turns_alike : (p : Pairs) (W X : World) → Agree p W X → SameValues p W.moving X.moving → (count budget : ℕ) → SameOutcome p (turn rows count W budget) (turn rows count X budget)
+  turns_alike p W X a s count budget = goes_on p count (wakes (with_budget W budget)) (wakes (with_budget X budget))
+      (wakes_alike p (with_budget W budget) (with_budget X budget) (record { objects = a.objects; roots = a.roots; moving = s; printed = refl; fuel = refl }))
