@@ -1,9 +1,12 @@
 // Searches from a place on.
-ghost use Rattle.std.specs.Prelude.{◌≡◌, ◌≤◌, ◌<◌, ◌-◌, drop, length, IsTrue, Ok, IfOk, IfErr, IfSome};
+ghost use Rattle.std.specs.Prelude.{◌≡◌, ◌≤◌, ◌<◌, ◌-◌, ◌+◌, drop, length, IsTrue, Ok, IfOk, IfErr, IfSome};
 ghost use Rattle.library_rows.specs.Searches.{barred_end, hit_from, is_anchored, next_hit, pattern_items, search};
+ghost use Rattle.std.specs.List.{list_any};
+ghost use Rattle.text_match.specs.Ordinary.{is_special, plain_hit};
 ghost use Rattle.text_match.specs.Told.{IsFound, IsRefusedAs, IsWithin, told_hit};
 
 use crate::hits::{Hit, first_hit};
+use crate::plain::find_plain;
 use lua_pattern::{Pattern, PatternFault};
 use std::alloc::{AllocError, Global};
 
@@ -20,12 +23,62 @@ pub fn read_items(alloc: Global, pattern: &[u8]) -> Result<Pattern, PatternFault
     Ok(items)
 }
 
-/// The first match from a place on; with a `^` before the pattern at that place alone.
+/// The first match from a place on; with a `^` before the pattern at that place alone. A pattern in which each byte stands for itself is
+/// searched as a plain text.
 ///
 /// # Errors
 ///
 /// The first rule that the pattern breaks, or else that it is too complex; or memory runs out.
 pub fn search(
+    alloc: Global,
+    subject: &[u8],
+    pattern: &[u8],
+    at: usize,
+) -> Result<Option<Hit>, PatternFault>
+    requires { at ≤ length subject.now }
+    ensures found { IsFound result (search subject.now pattern.now at) }
+    ensures inside { IfOk result (λ hit. IfSome hit (IsWithin (length subject.now))) }
+{
+    if has_special(pattern) {
+        let hit = search_items(alloc, subject, pattern, at)?;
+        return Ok(hit);
+    }
+    let place = find_plain(subject, pattern, at);
+    Ok(plain_hit(alloc, pattern, subject.len(), place))
+}
+
+/// Whether a byte of a pattern stands for something else.
+fn has_special(pattern: &[u8]) -> bool
+    ensures { result ≡ list_any is_special pattern.now }
+{
+    pattern.iter().any(|byte| is_special(*byte))
+}
+
+fn is_special(byte: u8) -> bool
+    ensures { result ≡ is_special byte }
+{
+    matches!(
+        byte,
+        b'$' | b'%' | b'(' | b')' | b'*' | b'+' | b'-' | b'.' | b'?' | b'[' | b'^'
+    )
+}
+
+/// The match of a plain text at a place, within so many bytes.
+fn plain_hit(alloc: Global, text: &[u8], len: usize, place: Option<usize>) -> Option<Hit>
+    requires { IfSome place (λ start. start + length text.now ≤ len) }
+    ensures told { told_hit result ≡ plain_hit text.now place }
+    ensures inside { IfSome result (IsWithin len) }
+{
+    let start = place?;
+    Some(Hit {
+        start,
+        end: start + text.len(),
+        captures: Vec::new(alloc),
+    })
+}
+
+/// The first match of a pattern by its items.
+fn search_items(
     alloc: Global,
     subject: &[u8],
     pattern: &[u8],

@@ -21,6 +21,8 @@ fn the_first_match_is_found(rt: HostRuntime) -> Result<(), Fail> {
     assert_eq!(rt; places(anchored)?, Some((2, 3, 0)));
     let elsewhere = search(rt.alloc(), b"hello", b"^o", 2);
     assert_eq!(rt; places(elsewhere)?, None);
+    let plain = search(rt.alloc(), b"hello wow", b"wow", 2);
+    assert_eq!(rt; places(plain)?, Some((6, 9, 0)));
     let broken = search(rt.alloc(), b"hello", b"[", 0);
     assert!(rt; matches!(broken, Err(PatternFault::Malformed(2))));
     Ok(())
