@@ -5,16 +5,12 @@ use Rattle.std.proofs.lemmas.List.{drop_more, at_drop_all}
 use Rattle.std.specs.Prelude.{codes, map}
 use Rattle.int_core.specs.Value.{Shape as Seen}
 use Rattle.library_rows.specs.Arguments.{integer_argument, with}
-use Rattle.library_rows.specs.Formats.{then_ok}
 use Rattle.library_rows.specs.Plainly.{Outcome, error}
 use Rattle.library_rows.specs.Strings.{byte_in, chars}
 use Rattle.library_arguments.specs.declared.shape.Shape.{Shape}
 use Rattle.library_arguments.specs.Shapes.{shape_of, shapes_of}
+use Rattle.library_arguments.proofs.Readings.{with_then}
 use Rattle.lib_string.specs.Bytes.{byte_argument}
-
-with_then : {A B : Type 0} (r : Result A (List ℕ)) (f : A → Result B (List ℕ)) (k : B → Outcome) → with r (λ x. with (f x) k) ≡ with (then_ok r f) k
-with_then (Ok x) f k = refl
-with_then (Err text) f k = refl
 
 chars_first : (n : ℕ) (s : Seen) (ss : List Seen) (k : List ℕ → Outcome) → chars n (s ∷ ss) k ≡ with (byte_argument n s) (λ b. chars (suc n) ss (λ bytes. k (b ∷ bytes)))
 chars_first n s ss k = with_then (integer_argument (codes "char") n s) (byte_in n) (λ b. chars (suc n) ss (λ bytes. k (b ∷ bytes)))

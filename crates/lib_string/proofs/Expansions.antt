@@ -9,7 +9,7 @@ use Rattle.library_rows.specs.Searches.{capture_text, escaped, expanded, expansi
 use Rattle.text_functions.proofs.Pieces.{Made, after, IsSoFar, at_first, piece_fits, piece_is_refused, all_there}
 
 -- what follows may be said in another way
-same_rest : (whole : Made) (text : List ℕ) (r s : ℕ → Made) → IsSoFar whole text r → ((room : ℕ) → r room ≡ s room) → IsSoFar whole text s
+pub same_rest : (whole : Made) (text : List ℕ) (r s : ℕ → Made) → IsSoFar whole text r → ((room : ℕ) → r room ≡ s room) → IsSoFar whole text s
 same_rest whole text r s so e = record { short = so.short; whole_is = so.whole_is ∙ ap (after text) (e (greatest_string - length text)) }
 
 by_percent : (t : Bool) (x y : Made) (u : Bool) → t ≡ u → elim t as (λ _. Made) [ true ↦ x | false ↦ y ] ≡ elim u as (λ _. Made) [ true ↦ x | false ↦ y ]

@@ -1,3 +1,6 @@
 mod Chars
 mod Expansions
 mod Given
+mod Digits
+mod Parts
+mod Fillings

@@ -6,6 +6,9 @@ mod building;
 mod bytes;
 mod expanding;
 mod faults;
+mod filling;
+mod format_reading;
+mod formatting;
 mod matching;
 mod numbers;
 mod repeating;
@@ -13,6 +16,7 @@ mod seeking;
 
 pub use bytes::{byte, char, len, lower, reverse, sub, upper};
 pub use expanding::expand;
+pub use filling::{kinds, layout};
 pub use matching::{find, match_pattern};
 pub use numbers::{from, toint, tonumber};
 pub use repeating::rep;

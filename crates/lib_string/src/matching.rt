@@ -1,7 +1,6 @@
 // Searches for patterns and plain texts.
-ghost use Rattle.std.specs.Prelude.{◌≡◌, ◌≤◌, ◌+◌, ◌++◌, pos, length, map, Ok, OnOk, IfOk, IfSome};
+ghost use Rattle.std.specs.Prelude.{◌≡◌, ◌≤◌, ◌+◌, ◌++◌, length, map, Ok, OnOk, IfOk, IfSome};
 ghost use Rattle.lua_pattern.specs.Firsts.{IsBefore};
-ghost use Rattle.int_core.specs.Value.{integer};
 ghost use Rattle.library_rows.specs.Searches.{capture_value, captured, find_row, found_match, found_places, found_text, match_row};
 ghost use Rattle.text_match.specs.Told.{IsWithin, told_hit};
 ghost use Rattle.library_arguments.specs.Answers.{IsAnswer};
@@ -104,8 +103,8 @@ fn found_text(
     };
     let _whole = subject.len();
     let mut values = Vec::with_capacity(alloc, 2)?;
-    values.push(integer(place + 1)?)?;
-    values.push(integer(place + text.len())?)?;
+    values.push(Plain::place(place)?)?;
+    values.push(Plain::number(place + text.len())?)?;
     let results = Results::many(values)?;
     Ok(results)
 }
@@ -119,8 +118,8 @@ fn found_places(alloc: Global, subject: &[u8], hit: Option<Hit>) -> Result<Resul
         return Ok(Results::One(Plain::Nil));
     };
     let mut values = Vec::new(alloc);
-    values.push(integer(hit.start + 1)?)?;
-    values.push(integer(hit.end)?)?;
+    values.push(Plain::place(hit.start)?)?;
+    values.push(Plain::number(hit.end)?)?;
     append_captures(alloc, &mut values, subject, &hit)?;
     let results = Results::many(values)?;
     Ok(results)
@@ -170,23 +169,6 @@ fn capture_value(alloc: Global, subject: &[u8], capture: Capture) -> Result<Plai
     let _whole = subject.len();
     match capture {
         Capture::Text { start, end } => Ok(Plain::String(subject[start..end].to_vec(alloc)?)),
-        Capture::Position(at) => Ok(integer(at + 1)?),
-    }
-}
-
-/// A number as an integer. One beyond 2^63, which no place in memory has, counts as want of memory.
-pub(crate) fn integer(n: usize) -> Result<Plain, AllocError>
-    ensures { IfOk result (λ value. known_of value ≡ integer (pos n)) }
-{
-    Ok(Plain::Integer(whole_number(n)?))
-}
-
-/// A number as an integer of 64 bits.
-pub(crate) fn whole_number(n: usize) -> Result<i64, AllocError>
-    ensures { IfOk result (λ value. value ≡ pos n) }
-{
-    match i64::try_from(n) {
-        Ok(value) => Ok(value),
-        Err(_) => Err(AllocError),
+        Capture::Position(at) => Ok(Plain::place(at)?),
     }
 }

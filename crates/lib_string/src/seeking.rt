@@ -6,9 +6,10 @@ ghost use Rattle.library_arguments.specs.Shapes.{known_of, shapes_of};
 ghost use Rattle.lib_string.specs.Searches.{IsSought, hit_of};
 
 use crate::faults::pattern_fault;
-use crate::matching::{append_captures, whole_number};
+use crate::matching::append_captures;
 use library_arguments::{
     Fault, Plain, Refusal, Shape, argument, fit_lengths, integer_argument, text_argument,
+    whole_number,
 };
 use std::alloc::{AllocError, Global};
 use text_match::{Hit, next_hit};

@@ -13,7 +13,7 @@ mod tests;
 mod text;
 
 pub use law::{answers_are_done, refusals_are_done};
-pub use plain::Plain;
+pub use plain::{Plain, whole_number};
 pub use reading::{
     argument, integer_argument, integer_or, is_absent, number_of, text_argument, text_or,
 };

@@ -92,7 +92,7 @@ pub(crate) fn is_continuation(byte: u8) -> bool
 }
 
 /// How many bytes a text begins with that continue a sequence.
-pub(crate) fn continued(text: &[u8]) -> usize
+pub fn continued(text: &[u8]) -> usize
     ensures value { result ≡ prefix_len is_continuation text.now }
     ensures within { result ≤ length text.now }
 {
@@ -121,7 +121,7 @@ fn is_accepted(lax: bool, code: u64) -> bool
 }
 
 /// The bytes of a text from a place on.
-pub(crate) fn behind(text: &[u8], at: usize) -> &[u8]
+pub fn behind(text: &[u8], at: usize) -> &[u8]
     requires { at ≤ length text.now }
     ensures { result.now ≡ drop at text.now }
 {

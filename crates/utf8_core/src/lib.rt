@@ -11,7 +11,7 @@ mod tests;
 mod walking;
 
 pub use counting::count;
-pub use decoding::{Decoded, decode};
+pub use decoding::{Decoded, behind, continued, decode};
 pub use encoding::push_code;
-pub use offsets::{back, forward, sequence_start};
+pub use offsets::{back, continues_at, forward, sequence_start};
 pub use walking::{Step, walk};

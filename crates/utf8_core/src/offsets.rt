@@ -5,7 +5,7 @@ ghost use Rattle.library_rows.specs.Codepoints.{continued, continues_at, sequenc
 use crate::decoding::{behind, continued, is_continuation};
 
 /// Whether a byte stands at a place that continues a sequence.
-fn continues_at(text: &[u8], at: usize) -> bool
+pub fn continues_at(text: &[u8], at: usize) -> bool
     ensures { result ≡ continues_at text.now at }
 {
     match text.get(at) {

@@ -1,0 +1,3 @@
+mod Sequences
+mod Encodings
+mod Moves

@@ -1,0 +1,95 @@
+// Expected values are lua5.4's.
+use crate::{char, codepoint, codes, len, offset, walk_on};
+use library_arguments::{Fault, Plain, Results, Shape};
+use std::alloc::Global;
+use std::test::Fail;
+
+/// The integers among some results; another value counts as -1.
+fn integers(alloc: Global, answer: Result<Results, Fault>) -> Result<Vec<i64>, Fail> {
+    let mut found = Vec::new(alloc);
+    match answer {
+        Ok(Results::One(value)) => found.push(integer(&value))?,
+        Ok(Results::Many(values)) => {
+            for value in &values {
+                found.push(integer(value))?;
+            }
+        }
+        Err(_) => {}
+    }
+    Ok(found)
+}
+
+fn integer(value: &Plain) -> i64 {
+    match value {
+        Plain::Integer(n) => *n,
+        _ => -1,
+    }
+}
+
+/// The one string among some results, and an empty one where there is none.
+fn string(answer: &Result<Results, Fault>) -> &[u8] {
+    match answer {
+        Ok(Results::One(Plain::String(bytes))) => bytes.as_slice(),
+        _ => &[],
+    }
+}
+
+/// The text of an error, and an empty one where there is none.
+fn error_of(alloc: Global, answer: Result<Results, Fault>) -> Result<Vec<u8>, Fail> {
+    match answer {
+        Err(Fault::Refused(why)) => Ok(why.text(alloc)?),
+        _ => Ok(Vec::new(alloc)),
+    }
+}
+
+#[test]
+fn sequences_are_counted(rt: HostRuntime) -> Result<(), Fail> {
+    let text = Shape::String(b"a\xc3\xa4\xe2\x82\xac");
+    let all = integers(rt.alloc(), len(rt.alloc(), &[text]))?;
+    assert_eq!(rt; all.as_slice(), [3].as_slice());
+    let numbers = codepoint(rt.alloc(), &[text, Shape::Integer(1), Shape::Integer(-1)]);
+    let numbers = integers(rt.alloc(), numbers)?;
+    assert_eq!(rt; numbers.as_slice(), [97, 228, 8364].as_slice());
+    let broken = integers(rt.alloc(), len(rt.alloc(), &[Shape::String(b"ab\xff")]))?;
+    assert_eq!(rt; broken.as_slice(), [-1, 3].as_slice());
+    let back = integers(rt.alloc(), offset(&[text, Shape::Integer(-1)]))?;
+    assert_eq!(rt; back.as_slice(), [4].as_slice());
+    Ok(())
+}
+
+#[test]
+fn numbers_become_sequences(rt: HostRuntime) -> Result<(), Fail> {
+    let text = char(rt.alloc(), &[Shape::Integer(228), Shape::String(b"0x20ac")]);
+    assert_eq!(rt; string(&text), b"\xc3\xa4\xe2\x82\xac".as_slice());
+    let large = char(rt.alloc(), &[Shape::Integer(97), Shape::Integer(-1)]);
+    let error = error_of(rt.alloc(), large)?;
+    assert_eq!(rt;
+        error.as_slice(),
+        b"bad argument #2 to 'char' (value out of range)".as_slice()
+    );
+    Ok(())
+}
+
+#[test]
+fn a_walk_gives_places_and_numbers(rt: HostRuntime) -> Result<(), Fail> {
+    let text = Shape::String(b"a\xc3\xa4");
+    let start = codes(rt.alloc(), &[text]);
+    assert!(rt; matches!(start, Ok(Results::Many(_))));
+    let second = integers(
+        rt.alloc(),
+        walk_on(rt.alloc(), false, &[text, Shape::Integer(1)]),
+    )?;
+    assert_eq!(rt; second.as_slice(), [2, 228].as_slice());
+    let end = integers(
+        rt.alloc(),
+        walk_on(rt.alloc(), false, &[text, Shape::Integer(2)]),
+    )?;
+    assert_eq!(rt; end.len(), 0);
+    let outside = offset(&[text, Shape::Integer(1), Shape::Integer(5)]);
+    let error = error_of(rt.alloc(), outside)?;
+    assert_eq!(rt;
+        error.as_slice(),
+        b"bad argument #3 to 'offset' (position out of bounds)".as_slice()
+    );
+    Ok(())
+}
