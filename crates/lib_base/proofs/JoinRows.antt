@@ -77,7 +77,7 @@ module _ (H : Heap) (t : Value) where
 
   -- the rows
 
-  reads_shapes_are : (many i slot : ℕ) (k : List Shape → Look) (env : List Value) → nth env slot ≡ t →
+  pub reads_shapes_are : (many i slot : ℕ) (k : List Shape → Look) (env : List Value) → nth env slot ≡ t →
       looked (reads_shapes many i slot k) env H ≡ looked (k (shapes many i)) (pushed (items_from H t many i) env) H
   unfolding pushed
   reads_shapes_are zero i slot k env e = refl

@@ -1,5 +1,6 @@
 mod BaseRows
 mod Bests
+mod ExpandRows
 mod Fields
 mod Following
 mod Interning
@@ -8,5 +9,6 @@ mod ListRows
 mod Meaning
 mod MetatableRows
 mod PackRows
+mod SeekRows
 mod Seen
 mod TextRows

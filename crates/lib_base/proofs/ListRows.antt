@@ -94,3 +94,19 @@ module _ (W : Memory) (id : TableId) where
       map_more : (vs : List Kept) → map (value W.strings) (vs ++ v ∷ []) ≡ map (value W.strings) vs ++ value W.strings v ∷ []
       map_more [] = refl
       map_more (w ∷ vs) = ap (λ ws. value W.strings w ∷ ws) (map_more vs)
+
+-- the shapes of the items from 0 on, one item more
+pub next_shape : (W : Memory) (id : TableId) (i : ℕ) (v : Kept) → Operates read_field W (Table id ∷ Int (pos i) ∷ []) W (v ∷ []) no_word →
+    map shape (items_from (heap_of W) (object a_table id.0) (i + 1) 0) ≡ map shape (items_from (heap_of W) (object a_table id.0) i 0) ++ shape (value W.strings v) ∷ []
+next_shape W id i v o =
+    let H = heap_of W in
+    let t = object a_table id.0 in
+    let more : i + 1 ≡ suc i = omega arith in
+    let from : i + 0 ≡ i = omega arith in
+    ap (λ n. map shape (items_from H t n 0)) more
+    ∙ ap (map shape) (one_more H t i 0 ∙ ap (λ n. items_from H t i 0 ++ item H t n ∷ []) from ∙ ap (λ w. items_from H t i 0 ++ w ∷ []) (item_read W id i v o))
+    ∙ map_last (items_from H t i 0)
+  where
+    map_last : (vs : List Value) → map shape (vs ++ value W.strings v ∷ []) ≡ map shape vs ++ shape (value W.strings v) ∷ []
+    map_last [] = refl
+    map_last (w ∷ vs) = ap (λ ss. shape w ∷ ss) (map_last vs)

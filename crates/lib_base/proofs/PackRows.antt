@@ -38,7 +38,7 @@ drop_tail [] (suc i) v rest e = absurd (cc)
 drop_tail (w ∷ vs) zero v rest e = cc
 drop_tail (w ∷ vs) (suc i) v rest e = drop_tail vs i v rest e
 
-drop_next : (vs : List Value) (at : ℕ) → at < length vs → drop at vs ≡ nth vs at ∷ drop (suc at) vs
+pub drop_next : (vs : List Value) (at : ℕ) → at < length vs → drop at vs ≡ nth vs at ∷ drop (suc at) vs
 drop_next [] at h = absurd (omega (arith, h))
 drop_next (v ∷ vs) zero h = refl
 drop_next (v ∷ vs) (suc at) h = drop_next vs at (omega (arith, h))
@@ -51,7 +51,7 @@ module _ (H : Heap) where
   abbrev pub last : Value
   last = object a_table (length H.tables)
 
-  set_last : (rows : List (Value × Value)) (k v : Value) → raw_set (with_rows rows) (length H.tables) k v ≡ with_rows (set table_values rows k v)
+  pub set_last : (rows : List (Value × Value)) (k v : Value) → raw_set (with_rows rows) (length H.tables) k v ≡ with_rows (set table_values rows k v)
   unfolding raw_set
   set_last rows k v =
       ap {A = Option Table} (λ o. elim o as (λ _. Heap) [
@@ -97,15 +97,19 @@ module _ (texts : List (List ℕ)) (a : AreAlike texts) where
       ∙ ap (λ k. set table_values (filled 0 (map (value texts) vs) []) k (known (integer (pos (length vs))))) n
       ∙ ap (λ m. set table_values (filled 0 (map (value texts) vs) []) (known (string (codes "n"))) (known (integer (pos m)))) (sym l)
 
+-- a table that is added is the one that comes last
+pub added_rows : (W V : Memory) (t : Contents) (rows : List (Value × Value)) → AddsTable W V t → map (row W.strings) t.rows ≡ rows → t.metatable ≡ None → heap_of V ≡ with_rows (heap_of W) rows
+added_rows W V t rows added r m =
+    ap {A = World} (λ W. W.heap) (added.plain 0)
+    ∙ ap (λ rows. record (heap_of W) { tables = (heap_of W).tables ++ record { rows = rows; metatable = option_map (λ m. m.0) t.metatable } ∷ [] }) r
+    ∙ ap (λ m. record (heap_of W) { tables = (heap_of W).tables ++ record { rows = rows; metatable = option_map (λ m. m.0) m } ∷ [] }) m
+
+pub last_is : (W : Memory) (id : TableId) → id.0 ≡ length W.tables.objects → last (heap_of W) ≡ object a_table id.0
+last_is W id i = ap (λ n. object a_table n) (length-map W.tables.objects (table W.strings) ∙ sym i)
+
 pub packed_told : (W V : Memory) (t : Contents) (id : TableId) (vs : List Value) → AddsTable W V t → id.0 ≡ length W.tables.objects → map (row W.strings) t.rows ≡ packed_rows vs → t.metatable ≡ None →
     looked packs vs (heap_of W) ≡ done (heap_of V) (object a_table id.0 ∷ [])
 packed_told W V t id vs added i r m =
     pack_is (heap_of W) vs
-    ∙ ap (λ n. done (with_rows (heap_of W) (packed_rows vs)) (object a_table n ∷ [])) (length-map W.tables.objects (table W.strings) ∙ sym i)
-    ∙ ap (λ H. done H (object a_table id.0 ∷ [])) (sym after)
-  where
-    after : heap_of V ≡ with_rows (heap_of W) (packed_rows vs)
-    after =
-        ap {A = World} (λ W. W.heap) (added.plain 0)
-        ∙ ap (λ rows. record (heap_of W) { tables = (heap_of W).tables ++ record { rows = rows; metatable = option_map (λ m. m.0) t.metatable } ∷ [] }) r
-        ∙ ap (λ m. record (heap_of W) { tables = (heap_of W).tables ++ record { rows = packed_rows vs; metatable = option_map (λ m. m.0) m } ∷ [] }) m
+    ∙ ap (λ v. done (with_rows (heap_of W) (packed_rows vs)) (v ∷ [])) (last_is W id i)
+    ∙ ap (λ H. done H (object a_table id.0 ∷ [])) (sym (added_rows W V t (packed_rows vs) added r m))

@@ -8,3 +8,5 @@ pub mod Packing
 pub mod Texts
 pub mod Math
 pub mod Functions
+pub mod Expanding
+pub mod Matches

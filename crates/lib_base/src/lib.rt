@@ -5,6 +5,7 @@
 mod answer;
 mod base;
 mod calls;
+mod expanding;
 mod joining;
 pub mod law;
 mod lists;
@@ -13,11 +14,13 @@ mod metatables;
 mod packing;
 pub mod plain;
 pub mod raw;
+mod seeking;
 mod shapes;
 mod strings;
 #[cfg(test)]
 mod tests;
 mod text;
+pub mod texts;
 
 pub use answer::Answer;
 pub use calls::{Function, call};

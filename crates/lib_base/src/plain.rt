@@ -75,7 +75,7 @@ fn value_of(world: &mut World, arguments: &[Value], written: &Plain) -> Result<V
 }
 
 /// The values of what is written out, one after another.
-fn values_of(
+pub(crate) fn values_of(
     world: &mut World,
     arguments: &[Value],
     all: &[Plain],

@@ -1,5 +1,7 @@
 // The next match, for `gmatch` and `gsub`, which are Lua text.
-ghost use Rattle.std.specs.Prelude.{◌≡◌, ◌∷◌, Ok, IfOk, IfSome, length, map};
+ghost use Rattle.std.specs.Prelude.{◌≡◌, ◌∷◌, true, Ok, IfOk, IfSome, length, map};
+ghost use Rattle.std.specs.List.{list_all};
+ghost use Rattle.library_rows.specs.Plainly.{fits_length};
 ghost use Rattle.library_rows.specs.Searches.{captured_or_whole, gives_hit, natural, seeks, whole};
 ghost use Rattle.text_match.specs.Told.{IsWithin, told_hit};
 ghost use Rattle.library_arguments.specs.Shapes.{known_of, shapes_of};
@@ -33,7 +35,8 @@ pub struct Sought {
 /// The text or the pattern is none, a place no integer, the pattern is refused, or a value has more than 16,777,216 bytes; or memory runs
 /// out.
 pub fn seek(alloc: Global, shapes: &[Shape]) -> Result<Option<Sought>, Fault>
-    ensures { IsSought result (seeks (shapes_of shapes.now)) }
+    ensures row { IsSought result (seeks (shapes_of shapes.now)) }
+    ensures fits { IfOk result (λ found. IfSome found (λ s. list_all fits_length (map known_of s.values.items) ≡ true)) }
 {
     let text = text_argument(b"seek", 1, argument(shapes, 1))?;
     let pattern = text_argument(b"seek", 2, argument(shapes, 2))?;
@@ -54,7 +57,8 @@ pub fn seek(alloc: Global, shapes: &[Shape]) -> Result<Option<Sought>, Fault>
 /// A match with its values, where there is one.
 fn given(alloc: Global, subject: &[u8], hit: Option<Hit>) -> Result<Option<Sought>, Fault>
     requires { IfSome hit (IsWithin (length subject.now)) }
-    ensures { IsSought result (gives_hit subject.now (Ok (told_hit hit))) }
+    ensures row { IsSought result (gives_hit subject.now (Ok (told_hit hit))) }
+    ensures fits { IfOk result (λ found. IfSome found (λ s. list_all fits_length (map known_of s.values.items) ≡ true)) }
 {
     let Some(hit) = hit else {
         return Ok(None);

@@ -12,7 +12,13 @@ pub returns-in-TypeOf-clause-changes : goal.returns-in-TypeOf-clause-changes
 returns-in-TypeOf-clause-changes c = changes_strings c.args.world.now c.type_of.new.world c.args.arguments.now c.type_of.ensures.kept
 
 pub returns-in-Math-clause-changes : goal.returns-in-Math-clause-changes
-returns-in-Math-clause-changes c = changes_strings c.args.world.now c.math_function.new.world c.args.arguments.now c.math_function.ensures.kept
+returns-in-Math-clause-changes c = changes_strings c.args.world.now c.plain_function.new.world c.args.arguments.now c.plain_function.ensures.kept
+
+pub returns-in-OverTexts-clause-changes : goal.returns-in-OverTexts-clause-changes
+returns-in-OverTexts-clause-changes c = changes_strings c.args.world.now c.plain_function-in-OverTexts.new.world c.args.arguments.now c.plain_function-in-OverTexts.ensures.kept
+
+pub returns-in-Expand-clause-changes : goal.returns-in-Expand-clause-changes
+returns-in-Expand-clause-changes c = changes_strings c.args.world.now c.expand.new.world c.args.arguments.now c.expand.ensures.kept
 
 pub returns-in-Join-clause-changes : goal.returns-in-Join-clause-changes
 returns-in-Join-clause-changes c = changes_strings c.args.world.now c.join.new.world c.args.arguments.now c.join.ensures.kept

@@ -1,0 +1,12 @@
+use Rattle.std.proofs.Common.{ap, sym, ◌∙◌, map}
+use Rattle.int_core.specs.Value.{known}
+use Rattle.library_arguments.specs.Answers.{results_of}
+use Rattle.library_rows.specs.Look.{done}
+use Rattle.lib_base.proofs.Interning.{same_heap}
+use Rattle.lib_base.proofs.expanding.expand.Goals as goal
+
+pub returns-clause-answers : goal.returns-clause-answers
+returns-clause-answers c =
+    c.in_ok-results.ensures.0
+    ∙ ap (λ H. done H (map known (results_of c.in_ok-results.results))) (same_heap c.args.world.now c.given.new.world c.args.arguments.now c.given.ensures.kept)
+    ∙ sym c.in_ok-answer.ensures.answers

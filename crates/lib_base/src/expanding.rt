@@ -1,0 +1,68 @@
+// A replacement with captures from a table, for `string.gsub` of the prelude (Lua 5.4 manual, 6.4).
+ghost use Rattle.std.specs.Prelude.{◌≡◌, IfOk, map};
+ghost use Rattle.int_core.specs.Value.{a_table, object, shape};
+ghost use Rattle.library_arguments.specs.Shapes.{shapes_of};
+ghost use Rattle.library_rows.specs.Base.{expand};
+ghost use Rattle.lua_heap.specs.Reading.{value};
+ghost use Rattle.lib_base.specs.Answers.{Answers, OnlyStrings, Stands};
+ghost use Rattle.lib_base.specs.Expanding.{IsExpanded};
+ghost use Rattle.lib_base.specs.Lists.{items_from};
+ghost use Rattle.lib_base.specs.Raw.{heap_of};
+
+use crate::answer::{Answer, argument};
+use crate::plain::given;
+use crate::raw;
+use crate::shapes::{argument_shape, shape, wrong_type};
+use library_arguments::{
+    Fault, Results, Shape, answers_are_done, refusals_are_done, text_argument,
+};
+use lua_heap::World;
+use lua_heap::law::strings_are_there;
+use std::alloc::AllocError;
+use table_core::{TableId, Value};
+
+/// The replacement that is the first argument, with the captures of the table that is the second one.
+pub fn expand(world: &mut World, arguments: &[Value]) -> Result<Answer, Fault>
+    requires { Stands world.old arguments.now }
+    ensures answers { Answers expand arguments.now world.old world.new result }
+    ensures kept { OnlyStrings world.old world.new arguments.now }
+{
+    let results = expanded(world, arguments)?;
+    let answer = given(world, arguments, &results)?;
+    Ok(answer)
+}
+
+/// What it gives, before it becomes values.
+fn expanded(world: &World, arguments: &[Value]) -> Result<Results, Fault>
+    requires { Stands world.now arguments.now }
+    ensures { IsExpanded (map (value world.now.strings) arguments.now) (heap_of world.now) result }
+{
+    answers_are_done();
+    refusals_are_done();
+    let text = text_argument(b"expand", 1, argument_shape(world, arguments, 0))?;
+    let Value::Table(id) = argument(arguments, 1) else {
+        let other = argument_shape(world, arguments, 1);
+        return Err(Fault::Refused(wrong_type(b"expand", 2, b"table", other)));
+    };
+    let captures = captures(world, arguments, id)?;
+    let results = lib_string::expand(world.alloc, text.as_slice(), captures.as_slice())?;
+    Ok(results)
+}
+
+/// What is seen of the values at 0 to 9 of a table.
+fn captures<'a>(
+    world: &'a World,
+    arguments: &[Value],
+    id: TableId,
+) -> Result<Vec<Shape<'a>>, AllocError>
+    requires { Stands world.now arguments.now }
+    ensures { IfOk result (λ captures. shapes_of captures.items ≡ map shape (items_from (heap_of world.now) (object a_table id.0) 10 0)) }
+{
+    strings_are_there();
+    let mut captures = Vec::new(world.alloc);
+    for i in 0..10usize {
+        let item = raw::read_field(world, Value::Table(id), Value::Int(i as i64));
+        captures.push(shape(world, item))?;
+    }
+    Ok(captures)
+}
