@@ -1,5 +1,5 @@
 -- The frame on top, as the last of the frames.
-use Rattle.std.proofs.Common.{◌≡◌, ℕ, List, [], ◌∷◌, ◌++◌, length, map, Option, Some, None, refl, ap, sym, ◌∙◌, subst}
+use Rattle.std.proofs.Common.{◌≡◌, ℕ, List, [], ◌∷◌, ◌++◌, map, Some, refl, ap, sym, ◌∙◌, subst}
 use Rattle.int_core.specs.Value.{last, without_last}
 use Rattle.list_laws.proofs.Ends.{last_is, without_last_is}
 use Rattle.list_laws.proofs.Items.{some_same}
@@ -12,7 +12,7 @@ use Rattle.lua_stack.specs.declared.frame.Window.{Window}
 use Rattle.lua_stack.specs.declared.frame.Top.{Top}
 use Rattle.lua_stack.specs.declared.stack.Stack.TheInside.{Inside}
 use Rattle.table_core.specs.declared.value.Value.{Value as Kept}
-use Rattle.lua_stack.specs.Frames.{KeptLua, KeptFrame, kept_lua, KeptStack, HasLuaTop, top_is, IsTop, frames, frame_of}
+use Rattle.lua_stack.specs.Frames.{kept_lua, KeptStack, HasLuaTop, top_is, IsTop, frames, frame_of}
 use Rattle.int_core.specs.Value.{Value}
 use Rattle.machine_core.specs.World.{LuaFrame, Frame, lua}
 use Rattle.lua_stack.specs.View.{frame_at, frame_in, lua_at, tops, top_in, seen, NoneUnder, IsStack}

@@ -10,13 +10,15 @@ use Rattle.table_core.specs.declared.value.Value.TheVariants.{Nil}
 use Rattle.lua_stack.specs.declared.frame.Running.{Running}
 use Rattle.lua_stack.specs.declared.frame.Record.{Record}
 use Rattle.lua_stack.specs.declared.frame.Window.{Window}
+use Rattle.lua_stack.specs.declared.frame.Kind.TheVariants.{Lua}
 use Rattle.lua_stack.specs.declared.stack.Stack.TheInside.{Inside}
-use Rattle.lua_stack.specs.Frames.{KeptLua, KeptStack, cut_at, HasLuaTop, HasRegisters, OnTop, TopBecomes, with_registers, with_opened, lua_of, wait_of}
-use Rattle.lua_stack.specs.View.{part, blank, put_all, seen, lua_at, registers_at, IsStack}
+use Rattle.lua_stack.specs.Frames.{KeptStack, HasLuaTop, HasRegisters, NoneFrom, OnTop, TopBecomes, with_registers, with_opened, wait_of}
+use Rattle.lua_stack.specs.View.{part, blank, put_all, seen, lua_at, registers_at, IsStack, AreOpen}
 use Rattle.list_laws.proofs.Items.{some_same}
 use Rattle.lua_stack.proofs.Parts.{length_part, length_blank, length_put_all, no_blank, part_kept, part_put_in, take_put_all, take_take, put_tail, length_take_le, map_take}
 use Rattle.lua_stack.proofs.Stacked.{stacked_longer, under_more}
-use Rattle.lua_stack.proofs.Ends.{map_more, shown, stands}
+use Rattle.lua_stack.proofs.Ends.{map_more, shown, stands, lua_on_top}
+use Rattle.lua_stack.proofs.OpenCells.{resized_open, none_from}
 use Rattle.lua_stack.proofs.Tops.{Reads, retop, on_top}
 
 pub lua_top : {s : KeptStack} {n : ℕ} → HasRegisters s n → HasLuaTop s
@@ -43,7 +45,7 @@ room_in a s n v i h =
 pub place_in : (a : Inside) (s : KeptStack) (n : ℕ) → shown a ≡ s → stands a → HasRegisters s n → a.top.window.base + n ≤ length a.values.items
 place_in a s n v i h = let r = room_in a s n v i h in let e = i.within.end in let k = i.whole in omega (arith, r, e, k)
 
-get_part : (xs : List Kept) (b n r : ℕ) → r < n → slice_get (part b n xs) r ≡ slice_get xs (b + r)
+pub get_part : (xs : List Kept) (b n r : ℕ) → r < n → slice_get (part b n xs) r ≡ slice_get xs (b + r)
 get_part xs zero n r l = let e : zero + r ≡ r = omega arith in get_take xs n r l ∙ ap (slice_get xs) (sym e)
   where
     get_take : (xs : List Kept) (n r : ℕ) → r < n → slice_get (take n xs) r ≡ slice_get xs r
@@ -58,7 +60,7 @@ get_part [] (suc b) n r l = none n
     none (suc n) = refl
 get_part (x ∷ xs) (suc b) n r l = let e : suc b + r ≡ suc (b + r) = omega arith in get_part xs b n r l ∙ ap (slice_get (x ∷ xs)) (sym e)
 
-get_map : (f : Kept → Value) (xs : List Kept) (n : ℕ) (v : Kept) → slice_get xs n ≡ Some v → slice_get (map f xs) n ≡ Some (f v)
+pub get_map : (f : Kept → Value) (xs : List Kept) (n : ℕ) (v : Kept) → slice_get xs n ≡ Some v → slice_get (map f xs) n ≡ Some (f v)
 get_map f [] n v e = absurd (cc)
 get_map f (x ∷ xs) zero v e = ap (λ v. Some (f v)) (some_same x v e)
 get_map f (x ∷ xs) (suc n) v e = get_map f xs n v e
@@ -85,7 +87,7 @@ restands a values i e =
       none = i.none;
     }
 
-map_set : (f : Kept → Value) (xs : List Kept) (r : ℕ) (v : Kept) → r < length xs → map f (slice_set xs r v) ≡ write r (f v) (map f xs)
+pub map_set : (f : Kept → Value) (xs : List Kept) (r : ℕ) (v : Kept) → r < length xs → map f (slice_set xs r v) ≡ write r (f v) (map f xs)
 map_set f [] r v l = absurd (omega arith)
 map_set f (x ∷ xs) zero v l = refl
 map_set f (x ∷ xs) (suc r) v l = ap (λ l. f x ∷ l) (map_set f xs r v (omega arith))
@@ -161,6 +163,13 @@ resized_stands a values n i e l =
       whole = refl;
       none = k.none;
     }
+
+pub cut_open : (a : Inside) (s : KeptStack) (n : ℕ) → shown a ≡ s → (i : stands a) → AreOpen a.below.items a.top.kind a.top.window a.open_cells.items → HasRegisters s n → NoneFrom s n
+    → AreOpen a.below.items a.top.kind (resized a.top n).window a.open_cells.items
+cut_open a s n v i o h c =
+    let is : a.top.kind ≡ Lua = lua_on_top a s v i (lua_top h) in
+    subst (λ k. AreOpen a.below.items k (resized a.top n).window a.open_cells.items) (sym is)
+    (resized_open a.below.items a.top.window (resized a.top n).window a.open_cells.items (subst (λ k. AreOpen a.below.items k a.top.window a.open_cells.items) is o) (none_from a s n v i c))
 
 abbrev made_closed : (Kept → Value) → Running → List ℕ → List Value → List Value → LuaFrame
 made_closed f r pending registers varargs = made f (record r { opened = 0 }) pending registers varargs

@@ -1,23 +1,22 @@
 -- Frames that are pushed and popped.
-use Rattle.std.proofs.Common.{◌≡◌, ℕ, zero, suc, ◌+◌, ◌-◌, ◌<◌, ◌≤◌, Bool, true, false, List, [], ◌∷◌, ◌++◌, length, map, take, drop, Option, Some, None, refl, ap, sym, ◌∙◌, subst, arith, le_refl}
+use Rattle.std.proofs.Common.{◌≡◌, ℕ, zero, suc, ◌+◌, ◌-◌, ◌<◌, ◌≤◌, true, false, List, [], ◌∷◌, ◌++◌, length, map, take, drop, Option, Some, None, refl, ap, sym, ◌∙◌, subst, arith, le_refl}
 use Rattle.std.specs.Prelude.{slice_get, option_map}
-use Rattle.int_core.specs.Value.{without_last}
+use Rattle.int_core.specs.Value.{known, nil, without_last}
 use Rattle.list_laws.proofs.Ends.{without_last_is}
 use Rattle.list_laws.proofs.Items.{get_old, get_new, append_nil}
 use Rattle.table_core.specs.declared.value.Value.{Value as Kept}
-use Rattle.table_core.specs.declared.value.FuncId.{FuncId}
 use Rattle.lua_stack.specs.declared.frame.Window.{Window}
 use Rattle.lua_stack.specs.declared.frame.Running.{Running}
 use Rattle.lua_stack.specs.declared.frame.Record.{Record}
-use Rattle.lua_stack.specs.declared.frame.OpenCell.{OpenCell}
 use Rattle.lua_stack.specs.declared.frame.Kind.{Kind}
 use Rattle.lua_stack.specs.declared.frame.Kind.TheVariants.{Missing, Lua, Pcall, Xpcall, Handler, Closing}
 use Rattle.lua_stack.specs.declared.stack.Stack.TheInside.{Inside}
-use Rattle.lua_stack.specs.Frames.{KeptFrame, KeptStack, kept_lua, kept_closing, kept_place}
-use Rattle.lua_stack.specs.View.{part, blank, put_all, frame_at, frame_in, lua_at, registers_at, tops, tops_of, seen, IsStack, IsFrame, IsUnder, AllUnder, IsWithin, AreStacked, NoneUnder, record_behind, is_missing, is_plain, plain_frame, place_by, place_in, whole_record}
+use Rattle.lua_stack.specs.Frames.{AllBelow, KeptFrame, KeptStack, NoneFrom, OnTop, frame_of, lua_of, kept_lua, kept_closing, kept_place}
+use Rattle.lua_stack.specs.View.{AreOpen, part, blank, put_all, frame_at, frame_in, lua_at, registers_at, tops, tops_of, IsStack, IsFrame, IsUnder, AllUnder, IsWithin, AreStacked, NoneUnder, record_behind, is_missing, is_plain, plain_frame, place_by, place_in, whole_record}
 use Rattle.lua_stack.proofs.Parts.{part_kept, part_put_in, put_tail, take_put_all, take_take, length_blank, length_part, length_put_all, no_blank}
 use Rattle.lua_stack.proofs.Stacked.{IsLastOf, stacked_more, stacked_less, stacked_longer, under_next, under_more, below_kept}
-use Rattle.lua_stack.proofs.Ends.{map_more, shown, stands}
+use Rattle.lua_stack.proofs.Ends.{map_more, shown, stands, lua_frames}
+use Rattle.lua_stack.proofs.OpenCells.{below_pushed, closed_top, emptied_open, none_from, popped_open}
 
 -- the frame on top as one of those below
 
@@ -95,6 +94,11 @@ pushed_stands a below k top i e p q =
       none = none_under k (a.below.items ++ tops a.top) (plain_is k p);
     }))
 
+pub pushed_open : (a : Inside) (below : List Record) (top : Record) → AreOpen a.below.items a.top.kind a.top.window a.open_cells.items → below ≡ a.below.items ++ tops a.top
+    → AreOpen below top.kind top.window a.open_cells.items
+pushed_open a below top o e =
+    subst (λ below. AreOpen below top.kind top.window a.open_cells.items) (sym e) (below_pushed a.below.items a.top.running a.top.kind a.top.window top.kind top.window a.open_cells.items o)
+
 plain_seen : (values : List Kept) (pending : List ℕ) (k : Kind) (r : Running) (w : Window) → is_plain k ≡ true → frame_in values pending k r w ≡ plain_frame k
 plain_seen values pending Missing r w e = absurd (cc)
 plain_seen values pending Lua r w e = absurd (cc)
@@ -164,6 +168,13 @@ missing_none (Xpcall h) below r e = refl
 missing_none Handler below r e = refl
 missing_none (Closing x) below r e = refl
 
+-- what holds where the frame on top is a Lua frame
+lua_closed : (a : Inside) (s : KeptStack) (P : Type 0) → shown a ≡ s → a.top.kind ≡ Lua → OnTop s (λ f t. P) → P
+lua_closed a s P v is h =
+    h (λ x. known nil) (map (frame_of (λ x. known nil)) (map (frame_at a.values.items a.pending.items) a.below.items)) (lua_of (λ x. known nil) (lua_at a.values.items a.pending.items a.top.running a.top.window))
+    (ap (λ (s : KeptStack). map (frame_of (λ x. known nil)) s.frames) (sym v) ∙ ap (map (frame_of (λ x. known nil))) (lua_frames a.values.items a.pending.items a.below.items a.top is)
+    ∙ map_more (frame_of (λ x. known nil)) (map (frame_at a.values.items a.pending.items) a.below.items) (kept_lua (lua_at a.values.items a.pending.items a.top.running a.top.window) ∷ []))
+
 module _ (a : Inside) (below : List Record) (r : Record) (i : stands a) (e : a.below.items ≡ below ++ r ∷ []) where
   pub last_of : IsLastOf (length a.values.items) (length a.pending.items) below r
   last_of = stacked_less (length a.values.items) (length a.pending.items) below r (subst (AreStacked (length a.values.items) (length a.pending.items)) e i.stacked)
@@ -211,11 +222,33 @@ module _ (a : Inside) (below : List Record) (r : Record) (i : stands a) (e : a.b
       ∙ ap (λ rs. without_last (map F (a.below.items ++ rs))) (sym (tops_there a.top.kind a.top (missing_none a.top.kind below r (subst (NoneUnder a.top.kind) e i.none))))
       ∙ ap (λ (s : KeptStack). without_last s.frames) v
 
+  -- the cells of the frame that goes are closed
+  pub cells_popped : (s : KeptStack) (top : Record) → shown a ≡ s → AreOpen a.below.items a.top.kind a.top.window a.open_cells.items → OnTop s (λ f t. NoneFrom s 0) → top ≡ whole_record r
+      → AreOpen below top.kind top.window a.open_cells.items
+  cells_popped s top v o h t =
+      let c : AllBelow (length a.below.items) 0 a.open_cells.items =
+      closed_top a.below.items a.top.kind a.top.window a.open_cells.items (λ is. none_from a s 0 v i (lua_closed a s (NoneFrom s 0) v is h)) o.there in
+      subst (λ (t : Record). AreOpen below t.kind t.window a.open_cells.items) (sym t)
+      (popped_open below r a.top.kind a.top.window a.open_cells.items last_of.within.kept (subst (λ b. AreOpen b a.top.kind a.top.window a.open_cells.items) e o) (subst (λ b. AllBelow (length b) 0 a.open_cells.items) e c))
+
 -- the last frame
 pub emptied_stands : (a : Inside) (below : List Record) → stands a → a.below.items ≡ below ++ [] → below ≡ [] → IsStack a.values.items a.pending.items below (record a.top { kind = Missing })
 emptied_stands a below i e z =
     let b : a.below.items ≡ below = e ∙ append_nil below in
     subst (λ below. IsStack a.values.items a.pending.items below (record a.top { kind = Missing })) b (record { stacked = i.stacked; under = i.under; within = i.within; whole = i.whole; none = b ∙ z })
+
+pub cells_emptied : (a : Inside) (s : KeptStack) (below : List Record) (j : Kind) (w : Window) → shown a ≡ s → stands a → AreOpen a.below.items a.top.kind a.top.window a.open_cells.items → OnTop s (λ f t. NoneFrom s 0)
+    → a.below.items ≡ below ++ [] → below ≡ [] → AreOpen below j w a.open_cells.items
+cells_emptied a s below j w v i o h e z =
+    let b : a.below.items ≡ [] = e ∙ append_nil below ∙ z in
+    let c : AllBelow (length a.below.items) 0 a.open_cells.items =
+    closed_top a.below.items a.top.kind a.top.window a.open_cells.items (λ is. none_from a s 0 v i (lua_closed a s (NoneFrom s 0) v is h)) o.there in
+    subst (λ below. AreOpen below j w a.open_cells.items) (sym z)
+    (emptied_open a.top.kind a.top.window j w a.open_cells.items (subst (λ b. AreOpen b a.top.kind a.top.window a.open_cells.items) b o) (subst (λ b. AllBelow (length b) 0 a.open_cells.items) b c))
+
+pub empty_is : {A : Type 0} (xs : List A) → length xs ≡ 0 → xs ≡ []
+empty_is [] e = refl
+empty_is (x ∷ xs) e = absurd (omega (arith, e))
 
 pub emptied_frames : (a : Inside) (s : KeptStack) (below : List Record) → shown a ≡ s → a.below.items ≡ [] → below ≡ []
     → map (frame_at a.values.items a.pending.items) (below ++ tops (record a.top { kind = Missing })) ≡ without_last s.frames

@@ -1,16 +1,16 @@
 -- Frames below one another: pushed, popped, and not seen to change where values above them are written.
-use Rattle.std.proofs.Common.{◌≡◌, ℕ, ◌+◌, ◌-◌, ◌≤◌, List, [], ◌∷◌, ◌++◌, length, map, take, drop, refl, ap, sym, ◌∙◌, arith}
+use Rattle.std.proofs.Common.{◌≡◌, ℕ, ◌+◌, ◌-◌, ◌≤◌, List, [], ◌∷◌, ◌++◌, map, take, refl, ap, ◌∙◌, arith}
 use Rattle.table_core.specs.declared.value.Value.{Value as Kept}
 use Rattle.lua_stack.specs.declared.frame.Window.{Window}
 use Rattle.lua_stack.specs.declared.frame.Running.{Running}
 use Rattle.lua_stack.specs.declared.frame.Record.{Record}
 use Rattle.lua_stack.specs.declared.frame.Kind.{Kind}
 use Rattle.lua_stack.specs.declared.frame.Kind.TheVariants.{Missing, Lua, Pcall, Xpcall, Handler, Closing}
-use Rattle.lua_stack.specs.Frames.{KeptLua, KeptFrame, kept_lua, kept_closing}
-use Rattle.lua_stack.specs.View.{part, blank, frame_at, frame_in, lua_at, IsUnder, AllUnder, AllOver, IsWithin, IsFrame, AreStacked}
+use Rattle.lua_stack.specs.Frames.{KeptFrame, kept_lua, kept_closing}
+use Rattle.lua_stack.specs.View.{part, blank, frame_at, frame_in, IsUnder, AllUnder, AllOver, IsWithin, IsFrame, AreStacked}
 use Rattle.lua_stack.proofs.Parts.{part_kept}
 
-abbrev lua_with : Running → Window → List Kept → List Kept → List ℕ → KeptFrame
+abbrev pub lua_with : Running → Window → List Kept → List Kept → List ℕ → KeptFrame
 lua_with r w kept extra marks = kept_lua (record {
   function = r.function;
   wait = r.wait;

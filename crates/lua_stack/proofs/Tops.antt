@@ -2,11 +2,10 @@
 use Rattle.std.proofs.Common.{◌≡◌, ℕ, ◌≤◌, List, [], ◌∷◌, ◌++◌, length, map, take, Some, refl, ap, sym, ◌∙◌, subst}
 use Rattle.int_core.specs.Value.{Value, known, nil}
 use Rattle.list_laws.proofs.Items.{some_same}
-use Rattle.machine_core.specs.World.{LuaFrame, Frame, lua, lua_frame}
+use Rattle.machine_core.specs.World.{LuaFrame, lua, lua_frame}
 use Rattle.table_core.specs.declared.value.Value.{Value as Kept}
 use Rattle.table_core.specs.declared.value.Value.TheVariants.{Nil}
 use Rattle.lua_stack.specs.declared.frame.Record.{Record}
-use Rattle.lua_stack.specs.declared.frame.OpenCell.{OpenCell}
 use Rattle.lua_stack.specs.declared.frame.Kind.TheVariants.{Lua}
 use Rattle.lua_stack.specs.declared.stack.Stack.TheInside.{Inside}
 use Rattle.lua_stack.specs.Frames.{KeptLua, KeptFrame, kept_lua, KeptStack, HasLuaTop, TopBecomes, OnTop, frames, frame_of, lua_of}

@@ -1,14 +1,15 @@
 -- What contracts see of a coroutine's stack: its frames from the bottom, with the values that are kept, and its open cells in the order of
 -- their frames and registers. `frames` reads them as the machine's frames, by what the kept values stand for.
-use Rattle.std.specs.Prelude.{◌≡◌, ◌≤◌, ℕ, suc, nat_lt, length, List, [], ◌∷◌, ◌++◌, map, Option, Some, None, slice_get}
-use Rattle.int_core.specs.Value.{Value, known, nil, last, range}
+use Rattle.std.specs.Prelude.{◌≡◌, ◌+◌, ◌-◌, ◌<◌, ◌≤◌, ℕ, suc, cond, ◌&&◌, nat_eq, nat_lt, length, List, [], ◌∷◌, ◌++◌, map, Option, Some, None, slice_get, slice_set}
+use Rattle.int_core.specs.Value.{Value, known, nil, bind, last, range}
 use Rattle.code_core.specs.Prototype.{Prototype}
 use Rattle.machine_core.specs.Text.{blanked}
 use Rattle.machine_core.specs.Moves.{new_frame}
-use Rattle.machine_core.specs.World.{Wait, running, for_call, for_iterator, for_value, for_truth, dropped, for_concat, for_close, returning, leaving, LuaFrame, Frame, lua, pcall, xpcall, handler, closing}
+use Rattle.machine_core.specs.World.{Wait, running, for_call, for_iterator, for_value, for_truth, dropped, for_concat, for_close, returning, leaving, LuaFrame, Frame, lua, pcall, xpcall, handler, closing, lua_frame, write_in_frame}
 use Rattle.table_core.specs.declared.value.Value.{Value as Kept}
 use Rattle.table_core.specs.declared.value.Value.TheVariants.{Nil}
 use Rattle.table_core.specs.declared.value.FuncId.{FuncId}
+use Rattle.table_core.specs.declared.value.CellId.{CellId}
 use Rattle.lua_stack.specs.declared.frame.Wait.{Wait as KeptWait}
 use Rattle.lua_stack.specs.declared.frame.Wait.TheVariants.{Running, ForCall, ForIterator, ForValue, ForTruth, Dropped, ForConcat, ForClose, Returning, Leaving}
 use Rattle.lua_stack.specs.declared.frame.OpenCell.{OpenCell}
@@ -152,4 +153,69 @@ cut_at register stack t = with_opened 0 (with_registers (blanked (λ i. nat_lt i
 pub record Calls (old new : KeptStack) (register given : ℕ) (wait : KeptWait) (stack : ℕ) (function : FuncId) (shape : Shape) : Type 0 where
   pub called : (f : Kept → Value) → f Nil ≡ known nil → (p : Prototype) → IsShapeOf p shape → (below : List Frame) (t : LuaFrame) → frames f old ≡ below ++ lua t ∷ []
       → frames f new ≡ below ++ lua (with_wait (wait_of f wait) (cut_at register stack t)) ∷ new_frame function.0 p (range (suc register) given t.own.registers) ∷ []
+  pub cells : new.open_cells ≡ old.open_cells
+
+-- open cells
+
+-- a cell stands in front of a register of a frame
+pub record IsBelow (frame register : ℕ) (c : OpenCell) : Type 0 where
+  pub frame_at_most : c.frame ≤ frame
+  pub register_less : frame ≤ c.frame → c.register < register
+
+abbrev pub AllBelow : (frame register : ℕ) → List OpenCell → Type 0
+AllBelow frame register [] = Unit {0}
+AllBelow frame register (c ∷ cs) = IsBelow frame register c × AllBelow frame register cs
+
+-- each stands behind a register of a frame
+abbrev pub AllAbove : (frame register : ℕ) → List OpenCell → Type 0
+AllAbove frame register [] = Unit {0}
+AllAbove frame register (c ∷ cs) = (frame ≤ c.frame) × (c.frame ≤ frame → register < c.register) × AllAbove frame register cs
+
+-- the cell that is open at a register of a frame
+abbrev pub cell_at : (frame register : ℕ) → List OpenCell → Option CellId
+cell_at frame register [] = None
+cell_at frame register (c ∷ cs) = cond (nat_eq c.frame frame && nat_eq c.register register) (Some c.cell) (cell_at frame register cs)
+
+abbrev pub opened_at : CellId → (frame register : ℕ) → OpenCell
+opened_at cell frame register = record { cell = cell; frame = frame; register = register }
+
+-- the number of the frame on top
+abbrev pub top_number : KeptStack → ℕ
+top_number s = length s.frames - 1
+
+pub record HasOpen (s : KeptStack) (frame register : ℕ) : Type 0 where
+  pub cell : CellId
+  pub is : cell_at frame register s.open_cells ≡ Some cell
+
+-- the frame on top has no open cell at a register or above
+pub record NoneFrom (s : KeptStack) (register : ℕ) : Type 0 where
+  pub below : AllBelow (top_number s) register s.open_cells
+
+-- a cell is put in its place among the others
+pub record Adds (old new : List OpenCell) (c : OpenCell) : Type 0 where
+  pub before : List OpenCell
+  pub after : List OpenCell
+  pub was : old ≡ before ++ after
+  pub is : new ≡ before ++ c ∷ after
+  pub below : AllBelow c.frame c.register before
+  pub above : AllAbove c.frame c.register after
+
+-- the last cell is one of the frame on top, at a register or above, and it is gone
+pub record TakesLast (old new : KeptStack) (register : ℕ) (c : OpenCell) : Type 0 where
+  pub cells : old.open_cells ≡ new.open_cells ++ c ∷ []
+  pub frame : c.frame ≡ top_number old
+  pub register_at_least : register ≤ c.register
+  pub room : HasRegisters old (c.register + 1)
+
+-- the register of a frame
+abbrev pub register_in : (frame register : ℕ) → List Frame → Option Value
+register_in frame register fs = bind (bind (slice_get fs frame) lua_frame) (λ t. slice_get t.own.registers register)
+
+-- what stands in it, by each reading of the values
+pub record RegisterIs (s : KeptStack) (frame register : ℕ) (v : Kept) : Type 0 where
+  pub reads : (f : Kept → Value) → register_in frame register (frames f s) ≡ Some (f v)
+
+-- it is written, and all else stays
+pub record RegisterBecomes (old new : KeptStack) (frame register : ℕ) (v : Kept) : Type 0 where
+  pub writes : (f : Kept → Value) (g : Frame) → slice_get (frames f old) frame ≡ Some g → frames f new ≡ slice_set (frames f old) frame (write_in_frame register (f v) g)
   pub cells : new.open_cells ≡ old.open_cells

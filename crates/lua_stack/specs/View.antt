@@ -1,7 +1,7 @@
 -- How a stack is kept: the registers of all frames stand in one list, each frame has a record that says where its own begin, and the frame on
 -- top is held apart. A frame that waits for a call keeps the registers in front of the called function; the others are nil, and the callee's
 -- registers begin at its arguments. The arguments beyond the parameters stand in front of a frame's registers.
-use Rattle.std.specs.Prelude.{◌≡◌, ℕ, zero, suc, ◌+◌, ◌-◌, ◌≤◌, Bool, true, false, List, [], ◌∷◌, ◌++◌, length, map, take, drop, slice_set, Option, Some, None}
+use Rattle.std.specs.Prelude.{◌≡◌, ℕ, zero, suc, ◌+◌, ◌-◌, ◌<◌, ◌≤◌, Bool, true, false, ◌&&◌, ◌||◌, nat_eq, nat_lt, List, [], ◌∷◌, ◌++◌, length, map, take, drop, slice_set, Option, Some, None}
 use Rattle.table_core.specs.declared.value.Value.{Value as Kept}
 use Rattle.table_core.specs.declared.value.Value.TheVariants.{Nil}
 use Rattle.table_core.specs.declared.value.FuncId.{FuncId}
@@ -15,7 +15,7 @@ use Rattle.lua_stack.specs.declared.frame.Kind.TheVariants.{Missing, Lua, Pcall,
 use Rattle.lua_stack.specs.declared.frame.OpenCell.{OpenCell}
 use Rattle.lua_stack.specs.declared.frame.Top.{Top}
 use Rattle.lua_stack.specs.declared.frame.Top.TheVariants.{Missing as TopMissing, Lua as TopLua, Pcall as TopPcall, Xpcall as TopXpcall, Handler as TopHandler, Closing as TopClosing}
-use Rattle.lua_stack.specs.Frames.{KeptLua, KeptFrame, kept_lua, kept_pcall, kept_xpcall, kept_handler, kept_closing, KeptStack}
+use Rattle.lua_stack.specs.Frames.{KeptLua, KeptFrame, kept_lua, kept_pcall, kept_xpcall, kept_handler, kept_closing, KeptStack, AllAbove}
 
 abbrev pub part : {A : Type 0} → (base count : ℕ) → List A → List A
 part base count xs = take count (drop base xs)
@@ -121,6 +121,61 @@ pub record IsStack (values : List Kept) (pending : List ℕ) (below : List Recor
   pub within : IsWithin (length values) (length pending) top.window
   pub whole : top.window.kept ≡ top.window.size
   pub none : NoneUnder top.kind below
+
+-- the window of a frame by its number
+abbrev pub window_at : List Record → Window → ℕ → Window
+window_at [] w n = w
+window_at (r ∷ rs) w zero = r.window
+window_at (r ∷ rs) w (suc n) = window_at rs w n
+
+-- how many registers of a frame are its own
+abbrev pub reach_of : Kind → Window → ℕ
+reach_of Lua w = w.kept
+reach_of Missing w = 0
+reach_of Pcall w = 0
+reach_of (Xpcall h) w = 0
+reach_of Handler w = 0
+reach_of (Closing error) w = 0
+
+abbrev pub reach_at : List Record → Kind → Window → ℕ → ℕ
+reach_at [] k w zero = reach_of k w
+reach_at [] k w (suc n) = 0
+reach_at (r ∷ rs) k w zero = reach_of r.kind r.window
+reach_at (r ∷ rs) k w (suc n) = reach_at rs k w n
+
+-- each cell names a register that is its frame's own
+abbrev pub AllWithin : List Record → Kind → Window → List OpenCell → Type 0
+AllWithin below k w [] = Unit {0}
+AllWithin below k w (c ∷ cs) = (c.register < reach_at below k w c.frame) × AllWithin below k w cs
+
+abbrev pub AreInOrder : List OpenCell → Type 0
+AreInOrder [] = Unit {0}
+AreInOrder (c ∷ cs) = AllAbove c.frame c.register cs × AreInOrder cs
+
+-- the first cell, if there is one, does not stand in front of a register of a frame
+pub record IsFirst (frame register : ℕ) (c : OpenCell) : Type 0 where
+  pub frame_at_least : frame ≤ c.frame
+  pub register_at_least : c.frame ≤ frame → register ≤ c.register
+
+abbrev pub FirstFrom : (frame register : ℕ) → List OpenCell → Type 0
+FirstFrom frame register [] = Unit {0}
+FirstFrom frame register (c ∷ cs) = IsFirst frame register c
+
+-- the last cell, which does not stand in front of a register of a frame, is gone
+pub record IsTaken (frame register : ℕ) (old new : List OpenCell) (c : OpenCell) : Type 0 where
+  pub cells : old ≡ new ++ c ∷ []
+  pub first : IsFirst frame register c
+
+-- tests of a cell's place
+abbrev pub is_at : (frame register : ℕ) → OpenCell → Bool
+is_at frame register c = nat_eq c.frame frame && nat_eq c.register register
+
+abbrev pub stands_below : (frame register : ℕ) → OpenCell → Bool
+stands_below frame register c = nat_lt c.frame frame || (nat_eq c.frame frame && nat_lt c.register register)
+
+pub record AreOpen (below : List Record) (k : Kind) (w : Window) (cells : List OpenCell) : Type 0 where
+  pub there : AllWithin below k w cells
+  pub in_order : AreInOrder cells
 
 abbrev pub top_in : Kind → Top
 top_in Missing = TopMissing

@@ -1,7 +1,7 @@
 // Frames that are pushed and popped, and those that are found by their numbers.
 ghost use Rattle.std.specs.Prelude.{◌≡◌, ◌+◌, ◌-◌, ◌<◌, ◌≤◌, [], ◌∷◌, ◌++◌, true, Some, length, slice_get, OnOk, OnErr};
 ghost use Rattle.int_core.specs.Value.{without_last};
-ghost use Rattle.lua_stack.specs.Frames.{kept_pcall, kept_xpcall, kept_handler, kept_place};
+ghost use Rattle.lua_stack.specs.Frames.{OnTop, NoneFrom, kept_pcall, kept_xpcall, kept_handler, kept_place};
 ghost use Rattle.lua_stack.specs.View.{tops, is_missing, is_plain, plain_frame, place_in, record_behind, whole_record};
 
 use crate::frame::{Kind, Record, Window};
@@ -50,9 +50,10 @@ impl Stack {
         Ok(())
     }
 
-    /// Takes the frame on top away.
+    /// Takes the frame on top away, once its cells are closed.
     pub fn pop(&mut self)
-        requires { 0 < length self.old.frames }
+        requires there { 0 < length self.old.frames }
+        requires closed { OnTop self.old (λ f t. NoneFrom self.old 0) }
         ensures frames { self.new.frames ≡ without_last self.old.frames }
         ensures cells { self.new.open_cells ≡ self.old.open_cells }
     {

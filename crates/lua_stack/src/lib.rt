@@ -1,6 +1,7 @@
 //! The stack of a coroutine (Lua 5.4's ldo.c): its frames, their registers in one list, and its open cells.
 #![tactic(auto)]
 
+mod cells;
 mod frame;
 mod frames;
 mod registers;

@@ -2,7 +2,7 @@
 ghost use Rattle.std.specs.Prelude.{◌≡◌, ◌+◌, ◌≤◌, Some, length, map, slice_get, take};
 ghost use Rattle.int_core.specs.Value.{write, write_all};
 ghost use Rattle.machine_core.specs.Text.{nils};
-ghost use Rattle.lua_stack.specs.Frames.{HasLuaTop, HasRegisters, OnTop, TopBecomes, cut_at, with_registers, with_opened};
+ghost use Rattle.lua_stack.specs.Frames.{HasLuaTop, HasRegisters, NoneFrom, OnTop, TopBecomes, cut_at, with_registers, with_opened};
 
 use crate::stack::Stack;
 use crate::values::{clear, place_of, put, put_one, value_at};
@@ -51,6 +51,7 @@ impl Stack {
     pub fn cut_from(&mut self, register: usize, stack: usize)
         requires within { register ≤ stack }
         requires there { HasRegisters self.old stack }
+        requires closed { NoneFrom self.old stack }
         ensures { TopBecomes self.old self.new (λ f t. cut_at register stack t) }
     {
         let from = place_of(self.top.window, register, self.values.len());
@@ -62,7 +63,8 @@ impl Stack {
 
     /// Leaves as many registers as the code has: the list that was open ends.
     pub fn end_list(&mut self, stack: usize)
-        requires { HasRegisters self.old stack }
+        requires there { HasRegisters self.old stack }
+        requires closed { NoneFrom self.old stack }
         ensures { TopBecomes self.old self.new (λ f t. with_opened 0 (with_registers (take stack t.own.registers) t)) }
     {
         self.top.window.kept = stack;

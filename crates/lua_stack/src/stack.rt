@@ -25,11 +25,11 @@ impl Model for Stack {
 
     ghost Value = { KeptStack };
 
-    ghost use Rattle.lua_stack.specs.View.{seen, IsStack};
+    ghost use Rattle.lua_stack.specs.View.{seen, IsStack, AreOpen};
 
     ghost view = { λ s. seen s.values.items s.pending.items s.below.items s.top s.open_cells.items };
 
-    ghost invariant = { λ s. IsStack s.values.items s.pending.items s.below.items s.top };
+    ghost invariant = { λ s. IsStack s.values.items s.pending.items s.below.items s.top × AreOpen s.below.items s.top.kind s.top.window s.open_cells.items };
 }
 
 impl Stack {

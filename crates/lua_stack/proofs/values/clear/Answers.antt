@@ -1,4 +1,4 @@
-use Rattle.std.proofs.Common.{rules, ◌≡◌, ◌<◌, ◌∙◌}
+use Rattle.std.proofs.Common.{rules, ◌<◌, ◌∙◌}
 use Rattle.lua_stack.proofs.Parts.{clear_step, length_set}
 use Rattle.table_core.specs.declared.value.Value.TheVariants.{Nil}
 use Rattle.lua_stack.proofs.values.clear.Goals as goal

@@ -1,5 +1,4 @@
-use Rattle.std.proofs.Common.{rules, ◌≡◌, ◌<◌, ◌∙◌, Some}
-use Rattle.std.specs.Prelude.{slice_get, slice_set}
+use Rattle.std.proofs.Common.{◌∙◌}
 use Rattle.lua_stack.proofs.Parts.{put_step, length_set}
 use Rattle.lua_stack.proofs.values.put.Goals as goal
 

@@ -1,4 +1,4 @@
-use Rattle.std.proofs.Common.{rules, ◌≡◌, ◌∙◌, ◌++◌, ap, sym}
+use Rattle.std.proofs.Common.{◌∙◌, ◌++◌, ap}
 use Rattle.std.specs.Prelude.{slice_get}
 use Rattle.lua_stack.specs.View.{tops}
 use Rattle.lua_stack.proofs.Pushed.{place_found}
