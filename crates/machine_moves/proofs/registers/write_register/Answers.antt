@@ -1,0 +1,29 @@
+use Rattle.std.proofs.Common.{◌≡◌, ℕ, List, [], ◌∷◌, length, Some, refl, ap, sym, ◌∙◌}
+use Rattle.std.specs.Prelude.{map, slice_get}
+use Rattle.int_core.specs.Value.{Value as Meant, known, nil, shape, write}
+use Rattle.lua_heap.specs.Reading.{value as meant}
+use Rattle.machine_core.specs.World.{LuaFrame}
+use Rattle.machine_core.specs.Text.{Arg, arg, written, nils, read_register as reads, write_register as writes, write_nils}
+use Rattle.lua_stack.specs.Frames.{with_registers, with_pc}
+use Rattle.move_laws.proofs.Running.{has_stack, registers_there, lua_top, own_made, own_read, pc_made, of_top, nth_is}
+use Rattle.machine_moves.proofs.Stacks.{within, found_runs, less, at_most}
+use Rattle.machine_moves.proofs.registers.write_register.Goals as goal
+
+pub running-co-requires : goal.running-co-requires
+running-co-requires c = has_stack c.args.world.now c.requires.place c.requires.is
+
+pub get_mut-requires : goal.get_mut-requires
+get_mut-requires c = within c.running-co.ensures
+
+pub set-requires : goal.set-requires
+set-requires c =
+    let r = found_runs c.get_mut.result.now c.in-Running.stack c.running-co.ensures c.get_mut.ensures.value c.in-Running.is in
+    registers_there c.args.world.now c.running-co.result c.in-Running.stack c.requires.place _ r c.requires.is (less _ _ c.requires.fits)
+
+pub returns-clause-makes : goal.returns-clause-makes
+returns-clause-makes c =
+    let r = found_runs c.get_mut.result.now c.in-Running.stack c.running-co.ensures c.get_mut.ensures.value c.in-Running.is in
+    let p = c.requires.place in
+    λ env x e. own_made c.args.world.now _ c.running-co.result c.in-Running.stack c.set.new.self p (λ f t. with_registers (write c.args.register (f c.args.v) t.own.registers) t) (writes c.args.register x) env
+    r c.requires.is c.requires.fits (record { rest = refl; objects = refl }) c.set.ensures (λ co frame cells. refl)
+    (ap (λ (u : Meant). with_registers (write c.args.register u p.top.own.registers) p.top) e)
