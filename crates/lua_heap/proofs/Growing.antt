@@ -1,17 +1,18 @@
 -- A new string changes nothing of a sound world.
-use Rattle.std.proofs.Common.{◌≡◌, ℕ, zero, suc, List, [], ◌∷◌, ◌++◌, map, Option, Some, None, Bool, true, false, refl, ap, sym, subst, ◌∙◌}
-use Rattle.std.specs.Prelude.{◌+◌, bytes_eq, if◌then◌else◌, pos, length, nat_lt, ◌&&◌}
+use Rattle.std.proofs.Common.{◌≡◌, ℕ, suc, List, [], ◌∷◌, ◌++◌, map, Option, Some, None, Bool, true, false, refl, ap, sym, subst, ◌∙◌}
+use Rattle.std.specs.Prelude.{bytes_eq, if◌then◌else◌}
 use Rattle.std.specs.List.{list_all, list_any}
 use Rattle.code_core.specs.declared.proto.Const.{Const}
 use Rattle.code_core.specs.declared.proto.Const.TheVariants.{Nil, False, True, Int, Str as Text}
-use Rattle.code_core.specs.Prototype.{Parts, Prototype, count}
-use Rattle.code_core.specs.Check.{IsChecked, none_or_one_per, is_line, lines_from}
-use Rattle.code_core.specs.Writable.{greatest_depth, number_fits, name_fits, byte_fits, word_fits, change_fits, upvalue_fits, line_fits, local_fits, constant_fits, lists_fit, entries_fit, parts_fit, all_fit, depth, is_writable}
+use Rattle.code_core.specs.Prototype.{Parts, Prototype}
+use Rattle.code_core.specs.Check.{IsChecked}
+use Rattle.code_core.specs.Writable.{number_fits, name_fits, byte_fits, word_fits, constant_fits, lists_fit, parts_fit}
+use Rattle.code_core.proofs.CheckedLemmas.{first_of_two, rest_of, described_is_writable}
 use Rattle.machine_core.specs.Text.{constant}
 use Rattle.machine_sound.proofs.Values.{both_of, le_of}
 use Rattle.int_core.specs.Value.{known, string}
 use Rattle.machine_core.specs.World.{leaving, LuaFrame, lua, xpcall, closing, closed, Coroutine, fresh, suspended, in_progress, normal, failed, World}
-use Rattle.machine_sound.specs.Sound.{Sizes, sizes, Each, Valid, WaitOk, LuaOk, FrameOk, FramesOk, AllWait, CoroutineOk, CellOk, TableOk, OptionOk, Solid, Sound}
+use Rattle.machine_sound.specs.Sound.{Sizes, sizes, Each, Valid, WaitOk, LuaOk, FrameOk, CoroutineOk, CellOk, TableOk, OptionOk, Solid, Sound}
 use Rattle.table_core.specs.Table.{Contents}
 use Rattle.table_core.specs.declared.value.Value.{Value as Kept}
 use Rattle.table_core.specs.declared.value.Value.TheVariants.{Str}
@@ -23,16 +24,17 @@ use Rattle.lua_heap.specs.declared.world.Cell.TheVariants.{Closed, Open}
 use Rattle.lua_heap.specs.declared.world.Coro.{Coro}
 use Rattle.lua_heap.specs.declared.world.Coro.TheVariants.{Fresh, Suspended, Running, Normal, Dead, Failed}
 use Rattle.lua_heap.specs.declared.world.World.{World as Memory}
+use Rattle.lua_heap.specs.declared.codes.Code.{Code}
 use Rattle.lua_heap.specs.declared.codes.Codes.{Codes}
 use Rattle.lua_heap.specs.Strings.{interned}
 use Rattle.lua_heap.specs.Reading.{text_of, value}
-use Rattle.lua_heap.specs.Codes.{AreCodes}
+use Rattle.lua_heap.specs.Codes.{IsCode, AreCodes}
 use Rattle.lua_heap.specs.Plain.{table, cell, coroutine, plain}
 use Rattle.lua_heap.specs.Changes.{Interns}
 use Rattle.lua_heap.proofs.Reading.{value_stays, values_stay, rows_stay}
 
 -- what holds of each item on the one side may be used to go over to the other
-each_stays : {A B : Type 0} (f g : A → B) (P : B → Type 0) → ((a : A) → P (g a) → f a ≡ g a) → (xs : List A) → Each P (map g xs) → map f xs ≡ map g xs
+pub each_stays : {A B : Type 0} (f g : A → B) (P : B → Type 0) → ((a : A) → P (g a) → f a ≡ g a) → (xs : List A) → Each P (map g xs) → map f xs ≡ map g xs
 each_stays f g P step [] h = refl
 each_stays f g P step (a ∷ xs) h =
     ap (λ b. b ∷ map f xs) (step a (h 0 (g a) refl)) ∙ ap (λ bs. g a ∷ bs) (each_stays f g P step xs (λ i b e. h (suc i) b e))
@@ -128,7 +130,7 @@ constant_valid True h = tt
 constant_valid (Int n) h = tt
 constant_valid (Text bytes) h = le_of _ _ h
 
-constants_stay : (texts : List (List ℕ)) (s : List ℕ) (cs : List Kept) (ks : List Const) → list_all constant_fits ks ≡ true
+pub constants_stay : (texts : List (List ℕ)) (s : List ℕ) (cs : List Kept) (ks : List Const) → list_all constant_fits ks ≡ true
     → map (value texts) cs ≡ map (λ k. known (constant k)) ks → map (value (texts ++ s ∷ [])) cs ≡ map (value texts) cs
 constants_stay texts s [] ks h e = refl
 constants_stay texts s (c ∷ cs) [] h e = absurd (cc)
@@ -139,37 +141,32 @@ constants_stay texts s (c ∷ cs) (k ∷ ks) h e =
     ap (λ v. v ∷ map (value (texts ++ s ∷ [])) cs) (value_stays none_there texts s c valid)
     ∙ ap (λ vs. value texts c ∷ vs) (constants_stay texts s cs ks (both_of _ _ h).1 rest)
 
-last_of_four : (a b c d : Bool) → (a && (b && (c && d))) ≡ true → d ≡ true
-last_of_four a b c d h = (both_of c d (both_of b (c && d) (both_of a (b && (c && d)) h).1).1).1
-
-constants_fit : (p : Prototype) → IsChecked p → list_all constant_fits p.own.constants ≡ true
+pub constants_fit : (p : Prototype) → IsChecked p → list_all constant_fits p.own.constants ≡ true
 constants_fit p h =
     let own : Parts = p.own in
-    let writable : is_writable p ≡ true =
-    last_of_four (none_or_one_per (length own.line_info) (length own.code)) (list_all is_line (lines_from own.abs_lines 0 (Some (pos own.line_defined)) own.line_info))
-    (none_or_one_per (length own.up_names) (length own.upvalues)) (is_writable p) h.code.described in
-    let parts : parts_fit own ≡ true = (both_of (parts_fit own) (all_fit own p.inner && (nat_lt (depth p.inner) greatest_depth && number_fits (1 + count p.inner))) writable).0 in
-    let lists : (byte_fits own.params && (byte_fits own.stack && (lists_fit own && entries_fit own))) ≡ true =
-    last_of_four (name_fits own.source) (number_fits own.line_defined) (number_fits own.last_line) (byte_fits own.params && (byte_fits own.stack && (lists_fit own && entries_fit own))) parts in
-    let entries : entries_fit own ≡ true = last_of_four (byte_fits own.params) (byte_fits own.stack) (lists_fit own) (entries_fit own) lists in
-    let rest : Bool = list_all upvalue_fits own.upvalues && (list_all change_fits own.line_info && (list_all line_fits own.abs_lines && (list_all local_fits own.locals && list_all name_fits own.up_names))) in
-    (both_of (list_all constant_fits own.constants) rest (both_of (list_all word_fits own.code) (list_all constant_fits own.constants && rest) entries).1).0
+    let parts : parts_fit own ≡ true = first_of_two (parts_fit own) _ (described_is_writable p h.code.described) in
+    let numbers = rest_of (number_fits own.last_line) (rest_of (number_fits own.line_defined) (rest_of (name_fits own.source) parts)) in
+    let bytes = rest_of (byte_fits own.stack) (rest_of (byte_fits own.params) numbers) in
+    let entries = rest_of (lists_fit own) bytes in
+    first_of_two (list_all constant_fits own.constants) _ (rest_of (list_all word_fits own.code) entries)
+
+pub code_stays : (texts : List (List ℕ)) (s : List ℕ) (n : ℕ) (p : Prototype) (code : Code) → IsCode texts n p code → IsCode (texts ++ s ∷ []) n p code
+code_stays texts s n p code k = record {
+  checked = k.checked;
+  words = k.words;
+  constants = constants_stay texts s code.constants.items p.own.constants (constants_fit p k.checked) k.constants ∙ k.constants;
+  stack = k.stack;
+  params = k.params;
+  vararg = k.vararg;
+  upvalues = k.upvalues;
+  inner = k.inner;
+}
 
 codes_stay : (texts : List (List ℕ)) (s : List ℕ) (codes : Codes) → AreCodes texts codes → AreCodes (texts ++ s ∷ []) codes
 codes_stay texts s codes h = record {
   count = h.count;
-  each = λ n p code e f.
-      let k = h.each n p code e f in
-      record {
-        checked = k.checked;
-        words = k.words;
-        constants = constants_stay texts s code.constants.items p.own.constants (constants_fit p k.checked) k.constants ∙ k.constants;
-        stack = k.stack;
-        params = k.params;
-        vararg = k.vararg;
-        upvalues = k.upvalues;
-        inner = k.inner;
-      };
+  firsts = h.firsts;
+  each = λ n p code e f. code_stays texts s n p code (h.each n p code e f);
 }
 
 -- whether the string was there or not

@@ -3,3 +3,7 @@ mod Reading
 pub mod Equal
 mod Tables
 mod Growing
+mod Numbered
+mod Opened
+mod Walk
+mod Added

@@ -1,7 +1,7 @@
 -- Rows are read and written alike under a map of values that keeps equality, nil and the integers.
 use Rattle.std.proofs.Common.{◌≡◌, ℕ, zero, suc, ◌+◌, List, [], ◌∷◌, ◌++◌, length, map, filter, Option, Some, None, refl, ap, sym, ◌∙◌, Bool, true, false, cond, not}
 use Rattle.std.specs.Prelude.{ℤ, pos, ◌||◌, nat_lt, count_by, unwrap_or, option_map}
-use Rattle.std.specs.Map.{lookup, set_value, keys_of}
+use Rattle.std.specs.Map.{lookup, set_value}
 use Rattle.std.proofs.lemmas.List.Sums.{sum_by-cons}
 use Rattle.int_core.specs.Rows.{Values, is_nil, is_cleared, is_filled, has_row, get, kept, set, behind, border_from, border}
 

@@ -1,14 +1,18 @@
 -- What the reading of kept values keeps, and what a new string leaves as it was.
 use Rattle.std.specs.Prelude.{◌≡◌, ℕ, ◌<◌, List, [], ◌∷◌, ◌++◌, length, map}
 use Rattle.int_core.specs.Rows.{get, set, border}
-use Rattle.int_core.specs.Value.{Value, same, table_values}
-use Rattle.machine_sound.specs.Sound.{Sizes, Each, Valid}
+use Rattle.int_core.specs.Value.{same, table_values}
+use Rattle.code_core.specs.Prototype.{Prototype}
+use Rattle.code_core.specs.Check.{IsChecked}
+use Rattle.machine_sound.specs.Sound.{Sizes, Each, Valid, Sound}
 use Rattle.table_core.specs.Value.{value_eq, lua_values}
 use Rattle.table_core.specs.declared.value.StrId.{StrId}
 use Rattle.table_core.specs.declared.value.Value.{Value as Kept}
 use Rattle.table_core.specs.declared.value.Value.TheVariants.{Str}
 use Rattle.lua_heap.specs.Strings.{AreApart, AreShort}
 use Rattle.lua_heap.specs.Reading.{value, row}
+use Rattle.lua_heap.specs.Codes.{prototype_at}
+use Rattle.lua_heap.specs.Opening.{opened_world}
 
 -- raw equality of kept values is that of the values that they stand for
 abbrev pub EqualityIsRaw : Type 0
@@ -34,3 +38,11 @@ pub record NewStringKeeps (z : Sizes) (texts : List (List ℕ)) (text : List ℕ
 
 abbrev pub NewStringsKeep : Type 0
 NewStringsKeep = (z : Sizes) (texts : List (List ℕ)) (text : List ℕ) → NewStringKeeps z texts text
+
+-- the number of a function's code is that of code that is there, where what it stands for is checked
+abbrev pub CheckedCodeIsThere : Type 0
+CheckedCodeIsThere = (ps : List Prototype) (n : ℕ) → IsChecked (prototype_at ps n) → n < length ps
+
+-- a world in which nothing has run is sound
+abbrev pub NewWorldsAreSound : Type 0
+NewWorldsAreSound = (primitives fuel : ℕ) → Sound primitives (opened_world fuel)

@@ -1,5 +1,5 @@
 // The laws of the values that are kept.
-ghost use Rattle.lua_heap.specs.Law.{EqualityIsRaw, TablesAreRead, StringsAreThere, NewStringsKeep};
+ghost use Rattle.lua_heap.specs.Law.{EqualityIsRaw, TablesAreRead, StringsAreThere, NewStringsKeep, CheckedCodeIsThere, NewWorldsAreSound};
 
 /// Kept values are equal exactly where the values that they stand for are.
 pub fn equality_is_raw()
@@ -19,4 +19,14 @@ pub fn strings_are_there()
 /// A new string changes no valid value.
 pub fn new_strings_keep()
     ensures { NewStringsKeep }
+{}
+
+/// Code that is checked is there.
+pub fn checked_code_is_there()
+    ensures { CheckedCodeIsThere }
+{}
+
+/// A new world is sound.
+pub fn new_worlds_are_sound()
+    ensures { NewWorldsAreSound }
 {}

@@ -1,7 +1,9 @@
 //! The objects of a world: strings, each once for its content (Lua's lstring.c), code, and what kept values stand for.
 #![tactic(auto)]
 
+mod adding;
 mod codes;
+mod functions;
 pub mod law;
 mod objects;
 mod opening;
@@ -9,6 +11,7 @@ mod strings;
 #[cfg(test)]
 mod tests;
 mod texts;
+mod trees;
 mod world;
 
 pub use codes::{Code, Codes};

@@ -3,7 +3,7 @@ ghost use Rattle.std.specs.Prelude.{◌≡◌, ℕ, true, IfOk, OnOk, map, lengt
 ghost use Rattle.std.specs.List.{list_all};
 ghost use Rattle.int_core.specs.Value.{greatest_string};
 ghost use Rattle.lua_heap.specs.Codes.{AreCodes};
-ghost use Rattle.lua_heap.specs.Opening.{first_texts, all_interned, opened_world, mark_of};
+ghost use Rattle.lua_heap.specs.Opening.{first_texts, all_interned, opened_world, mark_of, IsMark, Releases};
 ghost use Rattle.lua_heap.specs.Plain.{plain};
 
 use crate::codes::Codes;
@@ -88,12 +88,26 @@ impl World {
     {
         Mark {
             strings: self.strings.len(),
-            codes: self.codes.len(),
+            codes: self.codes.mark(),
             tables: self.tables.mark(),
             funcs: self.funcs.mark(),
             cells: self.cells.mark(),
             coros: self.coros.mark(),
         }
+    }
+
+    /// Keeps what was there at a mark, and drops what came after.
+    pub fn release_to(&mut self, mark: Mark)
+        requires mark { IsMark self.old mark }
+        requires codes { AreCodes self.old.strings self.old.codes }
+        ensures { Releases self.old self.new mark }
+    {
+        self.coros.release_to(mark.coros);
+        self.cells.release_to(mark.cells);
+        self.funcs.release_to(mark.funcs);
+        self.tables.release_to(mark.tables);
+        self.codes.release_to(mark.codes);
+        self.strings.release_to(mark.strings);
     }
 }
 

@@ -1,7 +1,8 @@
-// One number for each content, also after some strings were let go.
-use crate::Strings;
+// One number for each content, also after some strings were let go, and one for each object.
+use crate::{Cell, Coro, Func, Strings, World};
+use std::alloc::Global;
 use std::test::Fail;
-use table_core::StrId;
+use table_core::{CellId, CoroId, FuncId, ProtoId, StrId, Table, TableId, Value};
 
 #[test]
 fn a_content_has_one_number_until_it_is_let_go(rt: HostRuntime) -> Result<(), Fail> {
@@ -15,5 +16,33 @@ fn a_content_has_one_number_until_it_is_let_go(rt: HostRuntime) -> Result<(), Fa
     strings.release_to(strings.len().min(1));
     assert_eq!(rt; strings.find(b"x"), None);
     assert_eq!(rt; strings.intern(b"x")?, StrId(1));
+    Ok(())
+}
+
+/// A world with a string of its own, a table, and what it printed.
+fn small_world(alloc: Global) -> Result<World, Fail> {
+    let mut world = World::new(alloc)?;
+    world.intern(b"name")?;
+    world.print(b"1\n")?;
+    world.add_table(Table::new(alloc))?;
+    Ok(world)
+}
+
+#[test]
+fn a_world_names_what_is_added(rt: HostRuntime) -> Result<(), Fail> {
+    let alloc = rt.alloc();
+    let mut world = small_world(alloc)?;
+    assert_eq!(rt; world.intern(b"__index")?, StrId(17));
+    assert_eq!(rt; world.intern(b"name")?, StrId(26));
+    assert_eq!(rt; world.add_table(Table::new(alloc))?, TableId(3));
+    assert_eq!(rt; world.add_cell(Cell::Closed(Value::Int(7)))?, CellId(0));
+    let func = Func {
+        code: ProtoId(0),
+        cells: Vec::new(alloc),
+    };
+    assert_eq!(rt; world.add_func(func)?, FuncId(0));
+    let body = Value::Func(FuncId(0));
+    assert_eq!(rt; world.add_coro(Coro::Fresh(body))?, CoroId(0));
+    assert_eq!(rt; world.printed.as_slice(), b"1\n".as_slice());
     Ok(())
 }

@@ -79,7 +79,7 @@ pub enum Coro {
     Failed { error: Value, pending: Vec<Value> },
 }
 
-/// How many objects of each kind there were.
+/// How many objects of each kind there were, and how many prototypes were added.
 #[derive(Debug, Clone, Copy, PartialEq, Eq)]
 pub struct Mark {
     pub strings: usize,

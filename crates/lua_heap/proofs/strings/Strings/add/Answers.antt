@@ -1,4 +1,4 @@
-use Rattle.std.proofs.Common.{rules, ◌≡◌, ap, sym, ◌∙◌, ◌++◌, [], ◌∷◌, false}
+use Rattle.std.proofs.Common.{rules, ◌≡◌, ap, ◌∙◌, ◌++◌, [], ◌∷◌, false}
 use Rattle.std.specs.Prelude.{bytes_eq, OnOk}
 use Rattle.std.specs.List.{list_any}
 use Rattle.lua_heap.proofs.Finding.{contents, inserted, short_inserted}

@@ -1,5 +1,5 @@
 use Rattle.std.proofs.Common.{rules, ◌≡◌, Some}
-use Rattle.std.specs.Prelude.{slice_get, is_some, bytes_eq}
+use Rattle.std.specs.Prelude.{slice_get, bytes_eq}
 use Rattle.std.specs.List.{list_any}
 use Rattle.lua_heap.proofs.Finding.{contents, found_there, any_content}
 use Rattle.lua_heap.proofs.strings.Strings.find.Goals as goal

@@ -1,4 +1,4 @@
-use Rattle.std.proofs.Common.{rules, ◌≡◌, ap, sym, ◌∙◌, subst, take, map}
+use Rattle.std.proofs.Common.{ap, sym, ◌∙◌, subst, take}
 use Rattle.std.proofs.lemmas.List.{take-map}
 use Rattle.lua_heap.specs.Strings.{AreShort}
 use Rattle.lua_heap.proofs.Finding.{contents, short_take}

@@ -1,0 +1,47 @@
+-- A world in which nothing has run is sound.
+use Rattle.std.proofs.Common.{ℕ, zero, suc, [], ◌∷◌, None, refl, subst, arith, lit≤}
+use Rattle.int_core.specs.Heap.{Table}
+use Rattle.machine_sound.specs.Sound.{Sizes, Each, TableOk, Sound, idle}
+use Rattle.list_laws.proofs.Items.{some_same}
+use Rattle.lua_heap.specs.Opening.{opened_world}
+
+abbrev empty : Table
+empty = record { rows = []; metatable = None }
+
+empty_ok : (z : Sizes) → TableOk z empty
+empty_ok z = record { rows = λ i r e. absurd (cc); metatable = tt }
+
+tables_ok : (z : Sizes) → Each (TableOk z) (empty ∷ empty ∷ [])
+tables_ok z zero t e = subst (TableOk z) (some_same empty t e) (empty_ok z)
+tables_ok z (suc zero) t e = subst (TableOk z) (some_same empty t e) (empty_ok z)
+tables_ok z (suc (suc i)) t e = absurd (cc)
+
+pub opened_sound : (primitives fuel : ℕ) → Sound primitives (opened_world fuel)
+opened_sound primitives fuel = record {
+  solid = record {
+    tables = tables_ok _;
+    functions = λ i f e. absurd (cc);
+    cells = λ i c e. absurd (cc);
+    one_each = λ i j co frame register e f. absurd (cc);
+    coroutines = λ i c e. absurd (cc);
+    chain = record {
+      first = λ co e. absurd (cc);
+      last_runs = λ i co e l. absurd (cc);
+      before = λ i co e l. absurd (cc);
+      running_in = λ co e. absurd (cc);
+      normal_in = λ co e. absurd (cc);
+      once = λ i j co e f. absurd (cc);
+      bound = lit≤ tt;
+    };
+    moving = λ i v e. absurd (cc);
+    roots = record {
+      string_metatable = tt;
+      globals = omega arith;
+      prelude_environment = omega arith;
+      prelude_functions = λ i f e. absurd (cc);
+      special_key = lit≤ tt;
+      main = tt;
+    };
+  };
+  rests = idle refl;
+}
