@@ -1,0 +1,4 @@
+mod Fields
+mod Links
+mod Bits
+mod OperatorLemmas

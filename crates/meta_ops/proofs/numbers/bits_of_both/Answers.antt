@@ -1,0 +1,5 @@
+use Rattle.meta_ops.proofs.Bits.{and_is}
+use Rattle.meta_ops.proofs.numbers.bits_of_both.Goals as goal
+
+pub returns : goal.returns
+returns c = and_is c.args.m c.args.n c.ranges.m c.ranges.n

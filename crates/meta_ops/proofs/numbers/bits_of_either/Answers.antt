@@ -1,0 +1,5 @@
+use Rattle.meta_ops.proofs.Bits.{or_is}
+use Rattle.meta_ops.proofs.numbers.bits_of_either.Goals as goal
+
+pub returns : goal.returns
+returns c = or_is c.args.m c.args.n c.ranges.m c.ranges.n

@@ -1,0 +1,5 @@
+use Rattle.meta_ops.proofs.Bits.{xor_is}
+use Rattle.meta_ops.proofs.numbers.bits_of_one.Goals as goal
+
+pub returns : goal.returns
+returns c = xor_is c.args.m c.args.n c.ranges.m c.ranges.n

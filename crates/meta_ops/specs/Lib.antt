@@ -1,0 +1,5 @@
+pub mod Heap
+pub mod Events
+pub mod Outcome
+pub mod Chains
+pub mod Operators

@@ -1,0 +1,31 @@
+//! What operations on values come to, by the handlers of their metatables (Lua 5.4 manual, 2.4; ltm.c and lvm.c of Lua 5.4).
+#![tactic(auto)]
+
+mod callee;
+mod compare;
+mod event;
+mod fault;
+mod handler;
+mod heap;
+mod index;
+mod lengths;
+mod numbers;
+mod outcome;
+mod store;
+#[cfg(test)]
+mod tests;
+
+pub use callee::{Callee, callee_of};
+pub use compare::{equal, less, less_equal};
+pub use event::Event;
+pub use fault::Fault;
+pub use handler::{handler_in, handler_of};
+pub use heap::Heap;
+pub use index::index_of;
+pub use lengths::length;
+pub use numbers::arithmetic;
+pub use outcome::Outcome;
+pub use store::{Stored, store_of};
+
+/// How many links of handlers are followed.
+pub const GREATEST_CHAIN: usize = 2000;
