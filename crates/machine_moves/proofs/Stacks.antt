@@ -1,6 +1,6 @@
 -- What a function that changes the running stack knows of it.
 use Rattle.std.proofs.Common.{◌≡◌, ℕ, zero, suc, ◌+◌, ◌<◌, ◌≤◌, List, [], ◌∷◌, length, Some, refl, ap, subst, ◌∙◌, arith, true}
-use Rattle.std.specs.Prelude.{slice_get, get_or, nat_lt, nat_le}
+use Rattle.std.specs.Prelude.{slice_get, slice_set, get_or, nat_lt, nat_le}
 use Rattle.std.proofs.lemmas.Bool.Decides.{nat_tests}
 use Rattle.machine_sound.proofs.Lists.{get_within, some_is}
 use Rattle.table_core.specs.declared.value.CoroId.{CoroId}
@@ -32,3 +32,7 @@ got_is (y ∷ xs) (suc n) x d e = got_is xs n x d e
 
 pub runs_as : {W : Memory} {co : CoroId} (r : RunsIn W) → r.co ≡ co → RunsAs W co
 runs_as {W} {co} r e = record { stack = r.stack; runs = subst (λ co. Runs W co r.stack) e r.runs }
+
+-- the world with another stack for a coroutine that runs
+abbrev pub with_stack : Memory → CoroId → KeptStack → Memory
+with_stack W co s = record W { coros = record W.coros { objects = slice_set W.coros.objects co.0 (Running s) } }

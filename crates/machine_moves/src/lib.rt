@@ -1,7 +1,11 @@
 //! The machine's moves on a world in memory, each as the definition of the machine has it (lvm.c, ldo.c and lcorolib.c of Lua 5.4).
 #![tactic(auto)]
 
+mod moving;
 mod registers;
 mod running;
+mod tops;
 
+pub use moving::{give_values, put_in_front, take_moving};
 pub use registers::{clear_registers, go_to, read_register, write_register};
+pub use tops::{Over, pop_frame, push_frame, see_top};

@@ -4,7 +4,7 @@ ghost use Rattle.int_core.specs.Value.{Value as Meant, known, nil, shape, is_kno
 ghost use Rattle.lua_heap.specs.Reading.{value as meant};
 ghost use Rattle.machine_core.specs.Text.{Arg, arg, written, read_register as reads, write_register as writes, write_nils};
 ghost use Rattle.machine_core.specs.Moves.{on_own};
-ghost use Rattle.move_laws.specs.Memory.{CanDo, Makes};
+ghost use Rattle.move_laws.specs.Memory.{CanDo, Makes, StandsAt};
 ghost use Rattle.machine_moves.specs.Moves.{CanGo, Goes};
 
 use crate::running::{running, running_stack};
@@ -23,6 +23,7 @@ pub fn read_register(world: &World, register: usize) -> Value
 pub fn write_register(world: &mut World, register: usize, v: Value)
     requires { CanDo world.old (writes register (written nil)) }
     ensures makes { (env : List Meant) (x : Arg) → arg env x ≡ meant world.old.strings v → Makes world.old world.new (on_own (writes register x)) env [] (is_known nil) }
+    ensures at { (pc : ℕ) → StandsAt world.old pc → StandsAt world.new pc }
     ensures rest { world.new ≡ record world.old { coros = world.new.coros } }
 {
     let co = running(world);
@@ -36,6 +37,7 @@ pub fn write_register(world: &mut World, register: usize, v: Value)
 pub fn clear_registers(world: &mut World, from: usize, count: usize)
     requires { CanDo world.old (write_nils from count) }
     ensures makes { (env : List Meant) → Makes world.old world.new (on_own (write_nils from count)) env [] (is_known nil) }
+    ensures at { (pc : ℕ) → StandsAt world.old pc → StandsAt world.new pc }
     ensures rest { world.new ≡ record world.old { coros = world.new.coros } }
 {
     let co = running(world);

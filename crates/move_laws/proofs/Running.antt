@@ -4,10 +4,11 @@ use Rattle.std.specs.Prelude.{◌-◌, ℤ, IsSome, cond, map, slice_get, slice_
 use Rattle.code_core.specs.declared.instruction.Instruction.{Instruction}
 use Rattle.code_core.specs.Check.{at}
 use Rattle.int_core.specs.Value.{Value, Shape, known, nil, nth, bind, last, without_last}
-use Rattle.machine_core.specs.World.{Cell, LuaFrame, Frame, lua, Coroutine, in_progress, World, Stack, stack_of, Place, place_of, put_frames, put_top}
+use Rattle.machine_core.specs.World.{Function, Cell, LuaFrame, lua_frame, Frame, lua, Coroutine, in_progress, World, Stack, stack_of, Place, place_of, put_frames, put_top}
 use Rattle.machine_core.specs.Text.{Own, reads, tells, effect, fits}
 use Rattle.machine_core.specs.Moves.{Made, made, move, move_pc, moved_pc, place_from, on_own, do_own, with_own, cells_after}
-use Rattle.machine_sound.proofs.Lists.{map_get, get_map, some_is, bind_at, last_splits, get_push_new}
+use Rattle.machine_sound.proofs.Lists.{map_get, get_map, some_is, bind_at, last_push, last_splits, get_push_new, get_set_same}
+use Rattle.machine_sound.proofs.Frames.{stack_is as running_stack_is}
 use Rattle.table_core.specs.declared.value.CoroId.{CoroId}
 use Rattle.table_core.specs.declared.value.Value.{Value as Kept}
 use Rattle.lua_stack.specs.Frames.{KeptStack, frames, HasLuaTop, HasRegisters, OnTop, TopBecomes, with_pc}
@@ -76,7 +77,7 @@ shown W co s at r e =
 
 -- moves on the frame on top
 
-set_same : {A : Type 0} (xs : List A) (i : ℕ) (x : A) → slice_get xs i ≡ Some x → slice_set xs i x ≡ xs
+pub set_same : {A : Type 0} (xs : List A) (i : ℕ) (x : A) → slice_get xs i ≡ Some x → slice_set xs i x ≡ xs
 set_same [] i x e = refl
 set_same (y ∷ xs) zero x e = ap (λ z. z ∷ xs) (some_is {o = Some y} e refl)
 set_same (y ∷ xs) (suc i) x e = ap (λ l. y ∷ l) (set_same xs i x e)
@@ -151,10 +152,10 @@ of_top W co s at P r e o = o (value W.strings) (without_last at.stack.frames) at
 
 -- a move to another place of the code
 
-abbrev at_pc : LuaFrame → ℕ → LuaFrame
+abbrev pub at_pc : LuaFrame → ℕ → LuaFrame
 at_pc t pc = record t { own = record t.own { pc = pc } }
 
-abbrev went : World → Place → ℕ → Option (Made (Unit {0}))
+abbrev pub went : World → Place → ℕ → Option (Made (Unit {0}))
 went W p pc = made (put_top W p.stack (lua (at_pc p.top pc))) [] tt
 
 pub pc_moved : (W : World) (p : Place) (z : ℤ) (pc : ℕ) (env : List Value) → place_of W ≡ Some p → place_from p.top.own.pc z ≡ Some pc → IsSome (at p.function.code pc)
@@ -188,3 +189,45 @@ last_there {A = A} xs x e =
     let s = last_splits xs x e in
     let l : length (without_last xs ++ x ∷ []) - 1 ≡ length (without_last xs) = (let k = length-append (without_last xs) (x ∷ []) in omega (arith, k)) in
     ap (λ (ys : List A). slice_get ys (length ys - 1)) s ∙ ap (slice_get (without_last xs ++ x ∷ [])) l ∙ get_push_new (without_last xs) x
+
+-- the place of a world whose frame on top was put there
+
+abbrev place_made : Stack → LuaFrame → Function → Place
+place_made s top f = record { stack = s; number = length s.frames - 1; top = top; function = f }
+
+abbrev numbered : ℕ → Place → Place
+numbered n p = record p { number = n }
+
+abbrev pub with_top : Place → LuaFrame → Place
+with_top at t = record { stack = record { coroutine = at.stack.coroutine; frames = without_last at.stack.frames ++ lua t ∷ [] }; number = at.number; top = t; function = at.function }
+
+put_stack : (W : World) (at : Place) (t : LuaFrame) → place_of W ≡ Some at → stack_of (put_top W at.stack (lua t)) ≡ Some (with_top at t).stack
+unfolding put_top put_frames
+put_stack W at t e =
+    let p = place_is W at e in
+    let k = stack_is W at.stack p.stack in
+    let fs = without_last at.stack.frames ++ lua t ∷ [] in
+    running_stack_is (put_top W at.stack (lua t)) at.stack.coroutine fs k.chain (get_set_same W.coroutines at.stack.coroutine (in_progress at.stack.frames) (in_progress fs) k.there)
+
+functions_put : (W : World) (s : Stack) (f : Frame) → (put_top W s f).functions ≡ W.functions
+unfolding put_top put_frames
+functions_put W s f = refl
+
+pub place_put : (W : World) (at : Place) (t : LuaFrame) → place_of W ≡ Some at → t.function ≡ at.top.function → place_of (put_top W at.stack (lua t)) ≡ Some (with_top at t)
+place_put W at t e same =
+    let p = place_is W at e in
+    let V = put_top W at.stack (lua t) in
+    let fs = without_last at.stack.frames ++ lua t ∷ [] in
+    let lengths : length fs - 1 ≡ at.number = (let l = length-append (without_last at.stack.frames) (lua t ∷ []) in let m = ap length (last_splits at.stack.frames (lua at.top) p.top) in let n = length-append (without_last at.stack.frames) (lua at.top ∷ []) in let k = p.number in omega (arith, l, m, n, k)) in
+    let there : slice_get V.functions t.function ≡ Some at.function = ap (λ l. slice_get l t.function) (functions_put W at.stack (lua t)) ∙ ap (slice_get W.functions) same ∙ p.function in
+    ap (λ o. bind {B = Place} o (λ s. bind {B = Place} (bind (last s.frames) lua_frame) (λ top. bind {B = Place} (slice_get V.functions top.function) (λ f. Some (place_made s top f))))) (put_stack W at t e)
+    ∙ ap (λ o. bind {B = Place} (bind o lua_frame) (λ top. bind {B = Place} (slice_get V.functions top.function) (λ f. Some (place_made (with_top at t).stack top f)))) (last_push (without_last at.stack.frames) (lua t))
+    ∙ ap (λ o. bind {B = Place} o (λ f. Some (place_made (with_top at t).stack t f))) there
+    ∙ ap (λ n. Some (numbered n (with_top at t))) lengths
+
+-- and in memory
+pub place_after : (old new : Memory) (co : CoroId) (s s' : KeptStack) (at : Place) (change : (Kept → Value) → LuaFrame → LuaFrame)
+    → Runs old co s → place_of (plain old 0) ≡ Some at → ChangesStack old new co s' → TopBecomes s s' change → (change (value old.strings) at.top).function ≡ at.top.function
+    → place_of (plain new 0) ≡ Some (with_top at (change (value old.strings) at.top))
+place_after old new co s s' at change r e c t f =
+    ap place_of (sym (top_put old new co s s' at change 0 r e c t)) ∙ place_put (plain old 0) at (change (value old.strings) at.top) e f

@@ -3,7 +3,7 @@ use Rattle.std.specs.Prelude.{◌≡◌, ◌<◌, ℕ, true, List, length, Some,
 use Rattle.int_core.specs.Value.{Value, last}
 use Rattle.machine_core.specs.World.{Stack, stack_of, Place, place_of}
 use Rattle.machine_core.specs.Text.{Own, fits}
-use Rattle.machine_core.specs.Moves.{Move, Told, made, move}
+use Rattle.machine_core.specs.Moves.{Move, Told, made, move, Ending, Row, trapped, ends, run}
 use Rattle.table_core.specs.declared.value.CoroId.{CoroId}
 use Rattle.lua_stack.specs.Frames.{KeptStack}
 use Rattle.lua_heap.specs.declared.world.Coro.TheVariants.{Running}
@@ -39,3 +39,17 @@ pub record CanDo (W : Memory) (m : Own) : Type 0 where
 -- a move leads from one world to another, whatever the budget is
 pub record Makes (old new : Memory) (m : Move) (env values : List Value) (told : Told m) : Type 0 where
   pub is : (fuel : ℕ) → move m env (plain old fuel) ≡ made (plain new fuel) values told
+
+-- a row leads from one world to another and ends so, whatever the budget is
+pub record Leads (row : Row) (env : List Value) (old new : Memory) (ending : Ending) : Type 0 where
+  pub is : (fuel : ℕ) → run row env (plain old fuel) ≡ ends ending (plain new fuel)
+
+-- a row that names what is there
+pub record IsSafe (row : Row) (env : List Value) (W : Memory) : Type 0 where
+  pub never : (fuel : ℕ) → run row env (plain W fuel) ≡ trapped → ⊥
+
+-- the Lua frame on top is at a place of its code
+pub record StandsAt (W : Memory) (pc : ℕ) : Type 0 where
+  pub place : Place
+  pub is : place_of (plain W 0) ≡ Some place
+  pub at : place.top.own.pc ≡ pc

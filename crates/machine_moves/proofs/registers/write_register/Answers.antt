@@ -5,8 +5,8 @@ use Rattle.lua_heap.specs.Reading.{value as meant}
 use Rattle.machine_core.specs.World.{LuaFrame}
 use Rattle.machine_core.specs.Text.{Arg, arg, written, nils, read_register as reads, write_register as writes, write_nils}
 use Rattle.lua_stack.specs.Frames.{with_registers, with_pc}
-use Rattle.move_laws.proofs.Running.{has_stack, registers_there, lua_top, own_made, own_read, pc_made, of_top, nth_is}
-use Rattle.machine_moves.proofs.Stacks.{within, found_runs, less, at_most}
+use Rattle.move_laws.proofs.Running.{with_top, place_after, has_stack, registers_there, lua_top, own_made, own_read, pc_made, of_top, nth_is}
+use Rattle.machine_moves.proofs.Stacks.{within, with_stack, found_runs, less, at_most}
 use Rattle.machine_moves.proofs.registers.write_register.Goals as goal
 
 pub running-co-requires : goal.running-co-requires
@@ -27,3 +27,12 @@ returns-clause-makes c =
     λ env x e. own_made c.args.world.now _ c.running-co.result c.in-Running.stack c.set.new.self p (λ f t. with_registers (write c.args.register (f c.args.v) t.own.registers) t) (writes c.args.register x) env
     r c.requires.is c.requires.fits (record { rest = refl; objects = refl }) c.set.ensures (λ co frame cells. refl)
     (ap (λ (u : Meant). with_registers (write c.args.register u p.top.own.registers) p.top) e)
+
+pub returns-clause-at : goal.returns-clause-at
+returns-clause-at c = λ pc s.
+    let r = found_runs c.get_mut.result.now c.in-Running.stack c.running-co.ensures c.get_mut.ensures.value c.in-Running.is in
+    record {
+      place = with_top s.place (with_registers (write c.args.register (meant c.args.world.now.strings c.args.v) s.place.top.own.registers) s.place.top);
+      is = place_after c.args.world.now (with_stack c.args.world.now c.running-co.result c.set.new.self) c.running-co.result c.in-Running.stack c.set.new.self s.place (λ f t. with_registers (write c.args.register (f c.args.v) t.own.registers) t) r s.is (record { rest = refl; objects = refl }) c.set.ensures refl;
+      at = s.at;
+    }
