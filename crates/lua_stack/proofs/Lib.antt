@@ -1,8 +1,12 @@
 pub mod Parts
+pub mod Marks
 pub mod Ends
 pub mod Stacked
 pub mod Tops
 pub mod Own
 pub mod OpenCells
+pub mod TopMarks
+pub mod LaidOut
 pub mod Pushed
+pub mod Called
 pub mod Reached

@@ -1,6 +1,6 @@
 -- Open cells: each names a register that is its frame's own, and they stand in the order of their frames and registers.
 use Rattle.std.proofs.Common.{◌≡◌, ℕ, zero, suc, ◌-◌, ◌<◌, ◌≤◌, Bool, true, false, List, [], ◌∷◌, ◌++◌, length, map, take, drop, Option, Some, None, refl, ap, sym, ◌∙◌, subst, arith, length-append}
-use Rattle.std.specs.Prelude.{cond, ◌&&◌, ◌||◌, nat_eq, nat_lt, slice_get, slice_index_or, IfSome, IfNone}
+use Rattle.std.specs.Prelude.{cond, not, ◌&&◌, ◌||◌, nat_eq, nat_lt, slice_get, slice_index_or, IfSome, IfNone}
 use Rattle.std.proofs.lemmas.Bool.Decides.{nat_tests}
 use Rattle.std.proofs.lemmas.List.{length-map, take-append-drop}
 use Rattle.list_laws.proofs.Items.{append_nil, some_same}
@@ -490,3 +490,21 @@ pub window_top : (below : List Record) (w : Window) (n : ℕ) → n ≡ length b
 window_top [] w n e = refl
 window_top (q ∷ below) w zero e = absurd (omega (arith, e))
 window_top (q ∷ below) w (suc n) e = window_top below w n (omega (arith, e))
+
+-- other values and marks, and at least as many registers
+pub kept_open : (below : List Record) (k : Kind) (w v : Window) (cs : List OpenCell) → w.kept ≤ v.kept → AreOpen below k w cs → AreOpen below k v cs
+kept_open below k w v cs l h = record { there = within_more below k w below k v cs (more below) h.there; in_order = h.in_order }
+  where
+    more : (below : List Record) (n r : ℕ) → r < reach_at below k w n → r < reach_at below k v n
+    more [] zero r h = reach_whole k w v r l h
+    more [] (suc n) r h = absurd (omega arith)
+    more (q ∷ below) zero r h = h
+    more (q ∷ below) (suc n) r h = more below n r h
+
+pub not_false : (b : Bool) → not b ≡ false → b ≡ true
+not_false true e = refl
+not_false false e = absurd (cc)
+
+pub all_below_more : (frame r s : ℕ) (cs : List OpenCell) → r ≤ s → AllBelow frame r cs → AllBelow frame s cs
+all_below_more frame r s [] l h = tt
+all_below_more frame r s (c ∷ cs) l h = (record { frame_at_most = h.0.frame_at_most; register_less = λ q. (let k = h.0.register_less q in omega arith) }, all_below_more frame r s cs l h.1)

@@ -194,3 +194,47 @@ part_part b c n k xs l =
 
 pub take_pushed : {A : Type 0} (xs ys zs : List A) → take (length xs) ys ≡ xs → length xs ≤ length ys → take (length xs) (ys ++ zs) ≡ xs
 take_pushed xs ys zs e l = take_push (length xs) ys zs l ∙ e
+
+pub drop_set : {A : Type 0} (xs : List A) (b at : ℕ) (v : A) → at < b → drop b (slice_set xs at v) ≡ drop b xs
+drop_set xs zero at v l = absurd (omega arith)
+drop_set [] (suc b) at v l = refl
+drop_set (x ∷ xs) (suc b) zero v l = refl
+drop_set (x ∷ xs) (suc b) (suc at) v l = drop_set xs b at v (omega arith)
+
+pub drop_put_all : (vs xs : List Kept) (b at : ℕ) → at + length vs ≤ b → drop b (put_all at vs xs) ≡ drop b xs
+drop_put_all [] xs b at l = refl
+drop_put_all (v ∷ vs) xs b at l = drop_put_all vs (slice_set xs at v) b (suc at) (omega arith) ∙ drop_set xs b at v (omega arith)
+
+pub get_set : {A : Type 0} (xs : List A) (n : ℕ) (v : A) → n < length xs → slice_get (slice_set xs n v) n ≡ Some v
+get_set [] n v l = absurd (omega arith)
+get_set (x ∷ xs) zero v l = refl
+get_set (x ∷ xs) (suc n) v l = get_set xs n v (omega arith)
+
+-- one more
+pub take_next : {A : Type 0} (n : ℕ) (xs : List A) (v : A) → slice_get xs n ≡ Some v → take (suc n) xs ≡ take n xs ++ v ∷ []
+take_next n [] v g = absurd (cc)
+take_next zero (x ∷ xs) v g = ap (λ x. x ∷ []) (some_same x v g)
+take_next (suc n) (x ∷ xs) v g = ap (λ l. x ∷ l) (take_next n xs v g)
+
+pub part_next : {A : Type 0} (b n m at : ℕ) (xs : List A) (v : A) → m ≡ suc n → at ≡ b + n → slice_get xs at ≡ Some v → part b m xs ≡ part b n xs ++ v ∷ []
+part_next zero n m at xs v e p g = let q : at ≡ n = omega (arith, p) in ap (λ m. take m xs) e ∙ take_next n xs v (ap (slice_get xs) (sym q) ∙ g)
+part_next (suc b) n m at [] v e p g = absurd (cc)
+part_next (suc b) n m zero (x ∷ xs) v e p g = absurd (omega (arith, p))
+part_next (suc b) n m (suc at) (x ∷ xs) v e p g = part_next b n m at xs v e (omega (arith, p)) g
+
+-- values written all at once
+pub put_all_is : (vs xs : List Kept) (at : ℕ) → at + length vs ≤ length xs → put_all at vs xs ≡ take at xs ++ (vs ++ drop (at + length vs) xs)
+put_all_is [] xs at l = let e : at + 0 ≡ at = omega arith in sym (ap (λ n. take at xs ++ drop n xs) e ∙ Rattle.std.proofs.lemmas.List.take-append-drop at xs)
+put_all_is (v ∷ vs) xs at l =
+    let n = length_set xs at v in
+    let e : suc at + length vs ≡ at + suc (length vs) = omega arith in
+    put_all_is vs (slice_set xs at v) (suc at) (omega (arith, n, l))
+    ∙ ap (λ l. l ++ (vs ++ drop (suc at + length vs) (slice_set xs at v))) (take_suc_set xs at v (omega arith))
+    ∙ ap (λ l. (take at xs ++ v ∷ []) ++ (vs ++ l)) (drop_set xs (suc at + length vs) at v (omega arith) ∙ ap (λ n. drop n xs) e)
+    ∙ append_assoc (take at xs) (v ∷ []) (vs ++ drop (at + suc (length vs)) xs)
+
+-- copied values
+pub copied : (xs ys : List Kept) (from to count : ℕ) → from + count ≤ length xs → to + count ≤ length xs → ys ≡ (take to xs ++ take count (drop from xs)) ++ drop (to + count) xs → ys ≡ put_all to (part from count xs) xs
+copied xs ys from to count l m e =
+    let n = length_part from count xs l in
+    e ∙ append_assoc (take to xs) (part from count xs) (drop (to + count) xs) ∙ ap (λ n. take to xs ++ (part from count xs ++ drop (to + n) xs)) (sym n) ∙ sym (put_all_is (part from count xs) xs to (omega (arith, n, m)))

@@ -1,5 +1,5 @@
 -- Registers of any frame, which are reached by the cells that are open at them.
-use Rattle.std.proofs.Common.{◌≡◌, ℕ, zero, suc, ◌+◌, ◌-◌, ◌<◌, ◌≤◌, List, [], ◌∷◌, ◌++◌, length, map, take, drop, Option, Some, None, refl, ap, sym, ◌∙◌, subst, arith, le_refl, length-append}
+use Rattle.std.proofs.Common.{◌≡◌, ℕ, zero, suc, ◌+◌, ◌-◌, ◌<◌, ◌≤◌, List, [], ◌∷◌, ◌++◌, length, map, take, Option, Some, None, refl, ap, sym, ◌∙◌, subst, arith, le_refl, length-append}
 use Rattle.std.specs.Prelude.{slice_get, slice_set, IfSome, IfNone}
 use Rattle.std.proofs.lemmas.List.{length-map}
 use Rattle.int_core.specs.Value.{Value, known, nil, bind, write}
@@ -16,7 +16,7 @@ use Rattle.lua_stack.specs.declared.frame.Kind.TheVariants.{Missing, Lua, Pcall,
 use Rattle.lua_stack.specs.declared.stack.Stack.TheInside.{Inside}
 use Rattle.lua_stack.specs.Frames.{KeptStack, kept_lua, kept_closing, cell_at, frames, frame_of, lua_of, register_in, HasOpen, HasRegisters, AllBelow, NoneFrom, TakesLast, RegisterIs, RegisterBecomes, Adds, opened_at, top_number}
 use Rattle.lua_stack.specs.View.{part, blank, frame_at, frame_in, lua_at, registers_at, tops_of, seen, IsUnder, AllUnder, AllOver, IsWithin, AreStacked, AreOpen, IsTaken, reach_of, reach_at, window_at}
-use Rattle.lua_stack.proofs.Parts.{part_kept, part_set_in, take_set, length_part}
+use Rattle.lua_stack.proofs.Parts.{drop_set, part_kept, part_set_in, take_set, length_part}
 use Rattle.lua_stack.proofs.Stacked.{lua_with}
 use Rattle.lua_stack.proofs.Ends.{map_more, shown, stands, lua_on_top, lua_frames}
 use Rattle.lua_stack.proofs.Own.{get_part, get_map, lua_top, map_set, made, length_whole, room_in}
@@ -82,12 +82,6 @@ register_read a s frame register at w v e i o h x p g = record {
 }
 
 -- what is written there
-
-drop_set : {A : Type 0} (xs : List A) (b at : ℕ) (v : A) → at < b → drop b (slice_set xs at v) ≡ drop b xs
-drop_set xs zero at v l = absurd (omega arith)
-drop_set [] (suc b) at v l = refl
-drop_set (x ∷ xs) (suc b) zero v l = refl
-drop_set (x ∷ xs) (suc b) (suc at) v l = drop_set xs b at v (omega arith)
 
 set_front : {A : Type 0} (xs ys : List A) (r : ℕ) (v : A) → r < length xs → slice_set xs r v ++ ys ≡ slice_set (xs ++ ys) r v
 set_front [] ys r v l = absurd (omega arith)

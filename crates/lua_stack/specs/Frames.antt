@@ -1,6 +1,6 @@
 -- What contracts see of a coroutine's stack: its frames from the bottom, with the values that are kept, and its open cells in the order of
 -- their frames and registers. `frames` reads them as the machine's frames, by what the kept values stand for.
-use Rattle.std.specs.Prelude.{◌≡◌, ◌+◌, ◌-◌, ◌<◌, ◌≤◌, ℕ, suc, cond, ◌&&◌, nat_eq, nat_lt, length, List, [], ◌∷◌, ◌++◌, map, Option, Some, None, slice_get, slice_set}
+use Rattle.std.specs.Prelude.{◌≡◌, ◌+◌, ◌-◌, ◌<◌, ◌≤◌, ℕ, suc, cond, ◌&&◌, nat_eq, nat_lt, length, List, [], ◌∷◌, ◌++◌, map, filter, Option, Some, None, slice_get, slice_set}
 use Rattle.int_core.specs.Value.{Value, known, nil, bind, last, range}
 use Rattle.code_core.specs.Prototype.{Prototype}
 use Rattle.machine_core.specs.Text.{blanked}
@@ -148,11 +148,21 @@ pub record Enters (old new : KeptStack) (function : FuncId) (shape : Shape) (arg
 abbrev pub cut_at : ℕ → ℕ → LuaFrame → LuaFrame
 cut_at register stack t = with_opened 0 (with_registers (blanked (λ i. nat_lt i register) 0 stack t.own.registers) t)
 
--- The Lua frame that was on top waits, cut at the register of the function that it calls; that function's frame is on top, and its arguments
--- are the registers behind
+-- what a frame gives up for a call: its registers from one on, and what is pending among them
+abbrev pub given_up : ℕ → ℕ → LuaFrame → LuaFrame
+given_up register stack t = cut_at register stack (with_pending (filter (λ q. nat_lt q register) t.own.pending) t)
+
+-- The Lua frame that was on top waits, without what it gave up from the register of the function that it calls; that function's frame is on
+-- top, and its arguments are the registers behind
 pub record Calls (old new : KeptStack) (register given : ℕ) (wait : KeptWait) (stack : ℕ) (function : FuncId) (shape : Shape) : Type 0 where
   pub called : (f : Kept → Value) → f Nil ≡ known nil → (p : Prototype) → IsShapeOf p shape → (below : List Frame) (t : LuaFrame) → frames f old ≡ below ++ lua t ∷ []
-      → frames f new ≡ below ++ lua (with_wait (wait_of f wait) (cut_at register stack t)) ∷ new_frame function.0 p (range (suc register) given t.own.registers) ∷ []
+      → frames f new ≡ below ++ lua (with_wait (wait_of f wait) (given_up register stack t)) ∷ new_frame function.0 p (range (suc register) given t.own.registers) ∷ []
+  pub cells : new.open_cells ≡ old.open_cells
+
+-- a function's frame is in place of the Lua frame that was on top, whose registers behind one are its arguments
+pub record Replaces (old new : KeptStack) (register given : ℕ) (function : FuncId) (shape : Shape) : Type 0 where
+  pub replaced : (f : Kept → Value) → f Nil ≡ known nil → (p : Prototype) → IsShapeOf p shape → (below : List Frame) (t : LuaFrame) → frames f old ≡ below ++ lua t ∷ []
+      → frames f new ≡ below ++ new_frame function.0 p (range (suc register) given t.own.registers) ∷ []
   pub cells : new.open_cells ≡ old.open_cells
 
 -- open cells

@@ -1,7 +1,8 @@
 -- How a stack is kept: the registers of all frames stand in one list, each frame has a record that says where its own begin, and the frame on
 -- top is held apart. A frame that waits for a call keeps the registers in front of the called function; the others are nil, and the callee's
 -- registers begin at its arguments. The arguments beyond the parameters stand in front of a frame's registers.
-use Rattle.std.specs.Prelude.{◌≡◌, ℕ, zero, suc, ◌+◌, ◌-◌, ◌<◌, ◌≤◌, Bool, true, false, ◌&&◌, ◌||◌, nat_eq, nat_lt, List, [], ◌∷◌, ◌++◌, length, map, take, drop, slice_set, Option, Some, None}
+use Rattle.std.specs.Prelude.{◌≡◌, ℕ, zero, suc, ◌+◌, ◌-◌, ◌<◌, ◌≤◌, Bool, true, false, cond, ◌&&◌, ◌||◌, nat_eq, nat_lt, List, [], ◌∷◌, ◌++◌, length, map, take, drop, slice_get, slice_set, Option, Some, None}
+use Rattle.machine_core.specs.Text.{last_pending}
 use Rattle.table_core.specs.declared.value.Value.{Value as Kept}
 use Rattle.table_core.specs.declared.value.Value.TheVariants.{Nil}
 use Rattle.table_core.specs.declared.value.FuncId.{FuncId}
@@ -9,6 +10,8 @@ use Rattle.lua_stack.specs.declared.frame.Wait.{Wait}
 use Rattle.lua_stack.specs.declared.frame.Wait.TheVariants.{Running as Begins}
 use Rattle.lua_stack.specs.declared.frame.Window.{Window}
 use Rattle.lua_stack.specs.declared.frame.Running.{Running}
+use Rattle.lua_stack.specs.declared.frame.Layout.{Layout}
+use Rattle.lua_stack.specs.declared.frame.Shape.{Shape}
 use Rattle.lua_stack.specs.declared.frame.Record.{Record}
 use Rattle.lua_stack.specs.declared.frame.Kind.{Kind}
 use Rattle.lua_stack.specs.declared.frame.Kind.TheVariants.{Missing, Lua, Pcall, Xpcall, Handler, Closing}
@@ -23,6 +26,10 @@ part base count xs = take count (drop base xs)
 abbrev pub blank : ℕ → List Kept
 blank zero = []
 blank (suc n) = Nil ∷ blank n
+
+-- so many values, with nil behind those that are there
+abbrev pub padded : ℕ → List Kept → List Kept
+padded count xs = xs ++ blank (count - length xs)
 
 -- values written one after another from a place on
 abbrev pub put_all : ℕ → List Kept → List Kept → List Kept
@@ -242,17 +249,34 @@ place_in (Some r) = place_by r.kind r.running
 abbrev pub whole_record : Record → Record
 whole_record r = record r { window = record r.window { kept = r.window.size } }
 
+-- a function's frame over the arguments that stand at a place: those beyond the parameters stay in front of its registers, where it takes them
+pub record IsLaidOut (place given : ℕ) (shape : Shape) (old new : List Kept) (l : Layout) : Type 0 where
+  pub front : take place new ≡ take place old
+  pub length_stays : length new ≡ length old
+  pub start_at_least : place ≤ l.start
+  pub base_at_least : l.start ≤ l.base
+  pub end : l.base + shape.stack ≤ length new
+  pub registers : part l.base shape.stack new ≡ padded shape.stack (take shape.params (part place given old))
+  pub extras : part l.start (l.base - l.start) new ≡ cond shape.vararg (drop shape.params (part place given old)) []
+
 -- a Lua frame that begins, and one that waits and keeps some of its registers
-abbrev pub begun_at : FuncId → Window → (base stack : ℕ) → Record
-begun_at function next base stack = record {
+abbrev pub begun_at : FuncId → Layout → (stack marks : ℕ) → Record
+begun_at function l stack marks = record {
   kind = Lua;
   running = record { function = function; wait = Begins; pc = 0; opened = 0 };
-  window = record next { base = base; kept = stack; size = stack };
+  window = record { start = l.start; base = l.base; kept = stack; size = stack; marks = marks; marked = 0 };
 }
 
-abbrev pub waiting_at : Record → Wait → (kept size : ℕ) → Record
-waiting_at r wait kept size = record {
+abbrev pub waiting_at : Record → Wait → (kept size marked : ℕ) → Record
+waiting_at r wait kept size marked = record {
   kind = Lua;
   running = record r.running { wait = wait; opened = 0 };
-  window = record r.window { kept = kept; size = size };
+  window = record r.window { kept = kept; size = size; marked = marked };
 }
+
+-- a place among pending registers has the last one that is at least so large
+pub record IsLastFrom (register : ℕ) (marks : List ℕ) (at : ℕ) : Type 0 where
+  pub mark : ℕ
+  pub is : slice_get marks at ≡ Some mark
+  pub at_least : register ≤ mark
+  pub later : last_pending register (drop (suc at) marks) ≡ None

@@ -1,5 +1,5 @@
 // The cells that are open in a stack, and the registers in which their variables stand.
-ghost use Rattle.std.specs.Prelude.{◌≡◌, ◌+◌, ◌<◌, ◌≤◌, None, Some, drop, slice_get, insert, length, take, IfNone, IfSome, OnErr, OnOk};
+ghost use Rattle.std.specs.Prelude.{◌≡◌, ◌+◌, ◌<◌, ◌≤◌, false, None, Some, drop, slice_get, insert, length, take, IfNone, IfSome, OnErr, OnOk};
 ghost use Rattle.lua_stack.specs.Frames.{Adds, AllBelow, HasOpen, HasRegisters, NoneFrom, RegisterBecomes, RegisterIs, TakesLast, cell_at, opened_at, top_number};
 ghost use Rattle.lua_stack.specs.View.{AreInOrder, FirstFrom, IsTaken, is_at, stands_below, window_at};
 
@@ -171,4 +171,17 @@ fn window_at(below: &[Record], top: Window, frame: usize) -> Window
         return below[frame].window;
     }
     top
+}
+
+/// Whether the last cell stands at a register of a frame or behind.
+#[inline]
+pub(crate) fn is_open_from(cells: &[OpenCell], frame: usize, register: usize) -> bool
+    requires { AreInOrder cells.now }
+    ensures { result ≡ false → AllBelow frame register cells.now }
+{
+    let count = cells.len();
+    if count == 0 {
+        return false;
+    }
+    !stands_below(cell_of(cells, count - 1), frame, register)
 }

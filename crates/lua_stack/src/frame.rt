@@ -64,6 +64,13 @@ pub(crate) struct Window {
     pub(crate) marked: usize,
 }
 
+/// Where the values of a frame that begins stand, and its registers among them.
+#[derive(Clone, Copy, Debug)]
+pub(crate) struct Layout {
+    pub(crate) start: usize,
+    pub(crate) base: usize,
+}
+
 /// What a Lua frame runs, and where it goes on. Of another frame nothing here is read.
 #[derive(Clone, Copy, Debug)]
 pub(crate) struct Running {

@@ -1,9 +1,11 @@
 //! The stack of a coroutine (Lua 5.4's ldo.c): its frames, their registers in one list, and its open cells.
 #![tactic(auto)]
 
+mod calls;
 mod cells;
 mod frame;
 mod frames;
+mod pending;
 mod registers;
 mod stack;
 mod values;

@@ -1,8 +1,9 @@
 // Values in a list, written one after another.
-ghost use Rattle.std.specs.Prelude.{◌≡◌, ◌+◌, ◌<◌, ◌≤◌, [], ◌∷◌, Some, length, slice_get};
-ghost use Rattle.lua_stack.specs.View.{blank, put_all};
+ghost use Rattle.std.specs.Prelude.{◌≡◌, ◌+◌, ◌<◌, ◌≤◌, [], ◌∷◌, Some, length, slice_get, take, OnErr, OnOk};
+ghost use Rattle.lua_stack.specs.View.{blank, part, put_all};
 
 use crate::frame::Window;
+use std::alloc::AllocError;
 use table_core::Value;
 
 /// Where a register stands, which is no further than `room`.
@@ -54,4 +55,27 @@ pub(crate) fn clear(values: &mut Vec<Value>, at: usize, count: usize)
     for k in 0..count {
         values[at + k] = Value::Nil;
     }
+}
+
+/// Copies values to another place, which may lie over their own.
+pub(crate) fn copy(values: &mut Vec<Value>, from: usize, to: usize, count: usize)
+    requires from { from + count ≤ length values.old.items }
+    requires to { to + count ≤ length values.old.items }
+    ensures { values.new.items ≡ put_all to (part from count values.old.items) values.old.items }
+{
+    let _size = values.len();
+    values.copy_within(from..from + count, to);
+}
+
+/// Lets the list have at least so many values.
+pub(crate) fn grow(values: &mut Vec<Value>, len: usize) -> Result<(), AllocError>
+    ensures front { take (length values.old.items) values.new.items ≡ values.old.items }
+    ensures longer { length values.old.items ≤ length values.new.items }
+    ensures room { OnOk result (len ≤ length values.new.items) }
+    ensures err { OnErr result (values.new.items ≡ values.old.items) }
+{
+    if values.len() < len {
+        values.resize(len, Value::Nil)?;
+    }
+    Ok(())
 }

@@ -1,0 +1,251 @@
+// Frames of functions that are called. The arguments become their first registers where they stand, and those beyond the parameters stay in
+// front of the registers.
+ghost use Rattle.std.specs.Prelude.{◌≡◌, ◌+◌, ◌-◌, ◌≤◌, false, cond, length, IfOk, OnOk, OnErr};
+ghost use Rattle.lua_stack.specs.Frames.{Calls, Enters, HasRegisters, NoneFrom, Replaces};
+ghost use Rattle.lua_stack.specs.View.{IsLaidOut, begun_at, waiting_at};
+
+use crate::cells::is_open_from;
+use crate::frame::{Kind, Layout, Record, Running, Shape, Wait, Window};
+use crate::frames::{behind, push_top};
+use crate::pending::keep_below;
+use crate::stack::Stack;
+use crate::values::{clear, copy, grow, place_of, put};
+use std::alloc::AllocError;
+use table_core::{FuncId, Value};
+
+impl Stack {
+    /// Puts a function's frame on top, with these arguments.
+    pub fn enter(
+        &mut self,
+        function: FuncId,
+        shape: Shape,
+        arguments: &[Value],
+    ) -> Result<(), AllocError>
+        requires { shape.params ≤ shape.stack }
+        ensures frames { OnOk result (Enters self.old self.new function shape arguments.now) }
+        ensures err { OnErr result (self.new ≡ self.old) }
+    {
+        let next = behind(self.top, Kind::Lua, self.values.len(), self.pending.len()).window;
+        let end = end_of(end_of(next.start, arguments.len())?, shape.stack)?;
+        grow(&mut self.values, end)?;
+        push_top(&mut self.below, self.top)?;
+        put(&mut self.values, next.start, arguments);
+        let layout = lay_out(&mut self.values, next.start, arguments.len(), shape);
+        self.top = begun(function, shape.stack, layout, next.marks);
+        Ok(())
+    }
+
+    /// Calls a function with the values behind a register. The frame on top waits, with the `stack` registers of its code, and keeps those in
+    /// front of the register, and what is pending among them.
+    #[inline]
+    pub fn call(
+        &mut self,
+        register: usize,
+        given: usize,
+        wait: Wait,
+        stack: usize,
+        function: FuncId,
+        shape: Shape,
+    ) -> Result<(), AllocError>
+        requires arguments { HasRegisters self.old (register + 1 + given) }
+        requires size { HasRegisters self.old stack }
+        requires within { register ≤ stack }
+        requires closed { NoneFrom self.old stack }
+        requires params { shape.params ≤ shape.stack }
+        ensures frames { OnOk result (Calls self.old self.new register given wait stack function shape) }
+        ensures err { OnErr result (self.new ≡ self.old) }
+    {
+        if is_open_from(&self.open_cells, self.below.len(), register) {
+            return self.call_apart(register, given, wait, stack, function, shape);
+        }
+        self.call_in_place(register, given, wait, stack, function, shape)
+    }
+
+    /// The callee's first registers are the arguments where they stand.
+    fn call_in_place(
+        &mut self,
+        register: usize,
+        given: usize,
+        wait: Wait,
+        stack: usize,
+        function: FuncId,
+        shape: Shape,
+    ) -> Result<(), AllocError>
+        requires arguments { HasRegisters self.old (register + 1 + given) }
+        requires size { HasRegisters self.old stack }
+        requires within { register ≤ stack }
+        requires free { NoneFrom self.old register }
+        requires params { shape.params ≤ shape.stack }
+        ensures frames { OnOk result (Calls self.old self.new register given wait stack function shape) }
+        ensures err { OnErr result (self.new ≡ self.old) }
+    {
+        let top = self.top;
+        let place = place_of(top.window, register, self.values.len()) + 1;
+        let end = end_of(end_of(place, given)?, shape.stack)?;
+        self.below.reserve(1)?;
+        grow(&mut self.values, end)?;
+        let marked = keep_below(
+            &mut self.pending,
+            top.window.marks,
+            top.window.marked,
+            register,
+        );
+        self.below
+            .push_reserved(waiting(top, wait, register, stack, marked));
+        let layout = lay_out(&mut self.values, place, given, shape);
+        self.top = begun(function, shape.stack, layout, top.window.marks + marked);
+        Ok(())
+    }
+
+    /// A cell is open at a register that the caller gives up: it keeps the register, so the callee's stand behind.
+    fn call_apart(
+        &mut self,
+        register: usize,
+        given: usize,
+        wait: Wait,
+        stack: usize,
+        function: FuncId,
+        shape: Shape,
+    ) -> Result<(), AllocError>
+        requires arguments { HasRegisters self.old (register + 1 + given) }
+        requires size { HasRegisters self.old stack }
+        requires within { register ≤ stack }
+        requires closed { NoneFrom self.old stack }
+        requires params { shape.params ≤ shape.stack }
+        ensures frames { OnOk result (Calls self.old self.new register given wait stack function shape) }
+        ensures err { OnErr result (self.new ≡ self.old) }
+    {
+        let top = self.top;
+        let from = place_of(top.window, register, self.values.len());
+        let place = place_of(top.window, top.window.size, self.values.len());
+        let end = end_of(end_of(place, given)?, shape.stack)?;
+        self.below.reserve(1)?;
+        grow(&mut self.values, end)?;
+        copy(&mut self.values, from + 1, place, given);
+        clear(&mut self.values, from, stack - register);
+        let marked = keep_below(
+            &mut self.pending,
+            top.window.marks,
+            top.window.marked,
+            register,
+        );
+        self.below
+            .push_reserved(waiting(top, wait, stack, stack, marked));
+        let layout = lay_out(&mut self.values, place, given, shape);
+        self.top = begun(function, shape.stack, layout, top.window.marks + marked);
+        Ok(())
+    }
+
+    /// Calls a function with the values behind a register, in place of the frame on top, whose cells are closed.
+    pub fn tail_call(
+        &mut self,
+        register: usize,
+        given: usize,
+        function: FuncId,
+        shape: Shape,
+    ) -> Result<(), AllocError>
+        requires arguments { HasRegisters self.old (register + 1 + given) }
+        requires closed { NoneFrom self.old 0 }
+        requires params { shape.params ≤ shape.stack }
+        ensures frames { OnOk result (Replaces self.old self.new register given function shape) }
+        ensures err { OnErr result (self.new ≡ self.old) }
+    {
+        let window = self.top.window;
+        let from = place_of(window, register, self.values.len()) + 1;
+        let end = end_of(end_of(window.start, given)?, shape.stack)?;
+        grow(&mut self.values, end)?;
+        copy(&mut self.values, from, window.start, given);
+        let layout = lay_out(&mut self.values, window.start, given, shape);
+        self.top = begun(function, shape.stack, layout, window.marks);
+        Ok(())
+    }
+}
+
+/// A place behind another, where it is a number.
+#[inline(always)]
+fn end_of(start: usize, count: usize) -> Result<usize, AllocError>
+    ensures { IfOk result (λ end. end ≡ start + count) }
+{
+    start.checked_add(count).ok_or(AllocError)
+}
+
+/// How many arguments are kept beyond the parameters.
+#[inline(always)]
+fn extra_of(given: usize, shape: Shape) -> usize
+    ensures { result ≡ cond shape.vararg (given - shape.params) 0 }
+{
+    if shape.vararg {
+        return given.saturating_sub(shape.params);
+    }
+    0
+}
+
+/// Makes a function's first registers of the arguments that stand at a place. Where some are kept beyond the parameters, these are copied
+/// behind them.
+fn lay_out(values: &mut Vec<Value>, place: usize, given: usize, shape: Shape) -> Layout
+    requires params { shape.params ≤ shape.stack }
+    requires room { place + given + shape.stack ≤ length values.old.items }
+    ensures { IsLaidOut place given shape values.old.items values.new.items result }
+{
+    let _size = values.len();
+    if extra_of(given, shape) == 0 {
+        let count = given.min(shape.params);
+        clear(values, place + count, shape.stack - count);
+        return Layout {
+            start: place,
+            base: place,
+        };
+    }
+    let base = place + given;
+    copy(values, place, base, shape.params);
+    clear(values, base + shape.params, shape.stack - shape.params);
+    Layout {
+        start: place + shape.params,
+        base,
+    }
+}
+
+/// The frame of a function that begins.
+#[inline(always)]
+fn begun(function: FuncId, stack: usize, layout: Layout, marks: usize) -> Record
+    ensures { result ≡ begun_at function layout stack marks }
+{
+    Record {
+        kind: Kind::Lua,
+        running: Running {
+            function,
+            wait: Wait::Running,
+            pc: 0,
+            opened: 0,
+        },
+        window: Window {
+            start: layout.start,
+            base: layout.base,
+            kept: stack,
+            size: stack,
+            marks,
+            marked: 0,
+        },
+    }
+}
+
+/// A frame that waits, and keeps some of its registers and of what is pending.
+#[inline(always)]
+fn waiting(top: Record, wait: Wait, kept: usize, size: usize, marked: usize) -> Record
+    ensures { result ≡ waiting_at top wait kept size marked }
+{
+    Record {
+        kind: Kind::Lua,
+        running: Running {
+            wait,
+            opened: 0,
+            ..top.running
+        },
+        window: Window {
+            kept,
+            size,
+            marked,
+            ..top.window
+        },
+    }
+}

@@ -1,0 +1,147 @@
+// The pending registers of the Lua frame on top: those of its variables that are still to be closed.
+ghost use Rattle.std.specs.Prelude.{◌≡◌, ◌+◌, ◌<◌, ◌≤◌, [], ◌∷◌, ◌++◌, None, Some, drop, filter, length, nat_lt, slice_get, suc, take, IfNone, IfSome, OnErr, OnOk};
+ghost use Rattle.machine_core.specs.Text.{last_pending, without_pending};
+ghost use Rattle.lua_stack.specs.Frames.{HasLuaTop, HasRegisters, OnTop, TopBecomes, with_pending};
+ghost use Rattle.lua_stack.specs.View.{IsLastFrom, part};
+
+use crate::frame::Window;
+use crate::stack::Stack;
+use std::alloc::AllocError;
+
+impl Stack {
+    /// Marks a register as one whose variable is to be closed.
+    pub fn mark_pending(&mut self, register: usize) -> Result<(), AllocError>
+        requires { HasRegisters self.old (register + 1) }
+        ensures ok { OnOk result (TopBecomes self.old self.new (λ f t. with_pending (t.own.pending ++ register ∷ []) t)) }
+        ensures err { OnErr result (self.new ≡ self.old) }
+    {
+        let end = marks_end(self.top.window, self.pending.len());
+        put_mark(&mut self.pending, end, register)?;
+        self.top.window.marked += 1;
+        Ok(())
+    }
+
+    /// The last pending register from one on.
+    pub fn last_pending(&self, register: usize) -> Option<usize>
+        requires { HasLuaTop self.now }
+        ensures { OnTop self.now (λ f t. result ≡ last_pending register t.own.pending) }
+    {
+        let end = marks_end(self.top.window, self.pending.len());
+        last_in(&self.pending[self.top.window.marks..end], register)
+    }
+
+    /// Takes the last pending register from one on away.
+    pub fn take_pending(&mut self, register: usize)
+        requires { HasLuaTop self.old }
+        ensures { TopBecomes self.old self.new (λ f t. with_pending (without_pending register t.own.pending) t) }
+    {
+        let window = self.top.window;
+        let end = marks_end(window, self.pending.len());
+        let Some(at) = last_from(&self.pending[window.marks..end], register) else {
+            return;
+        };
+        take_mark(&mut self.pending, window.marks + at);
+        self.top.window.marked = window.marked - 1;
+    }
+
+    /// Takes the pending registers from one on away.
+    pub fn drop_pending(&mut self, register: usize)
+        requires { HasLuaTop self.old }
+        ensures { TopBecomes self.old self.new (λ f t. with_pending (filter (λ q. nat_lt q register) t.own.pending) t) }
+    {
+        let window = self.top.window;
+        self.top.window.marked = keep_below(
+            &mut self.pending,
+            window.marks,
+            window.marked,
+            register,
+        );
+    }
+}
+
+/// Where the pending registers of a frame end, which is no further than `room`.
+#[inline(always)]
+fn marks_end(window: Window, room: usize) -> usize
+    requires { window.marks + window.marked ≤ room }
+    ensures { result ≡ window.marks + window.marked }
+{
+    let _room = room;
+    window.marks + window.marked
+}
+
+/// Puts a register at a place, and drops what was behind.
+fn put_mark(pending: &mut Vec<usize>, at: usize, register: usize) -> Result<(), AllocError>
+    requires { at ≤ length pending.old.items }
+    ensures ok { OnOk result (pending.new.items ≡ take at pending.old.items ++ register ∷ []) }
+    ensures err { OnErr result (pending.new.items ≡ pending.old.items) }
+{
+    pending.reserve(1)?;
+    pending.truncate(at);
+    pending.push_reserved(register);
+    Ok(())
+}
+
+/// Takes the register at a place away.
+fn take_mark(pending: &mut Vec<usize>, at: usize)
+    requires { at < length pending.old.items }
+    ensures { pending.new.items ≡ take at pending.old.items ++ drop (suc at) pending.old.items }
+{
+    pending.remove(at);
+}
+
+#[inline(always)]
+fn mark_of(marks: &[usize], at: usize) -> usize
+    requires { at < length marks.now }
+    ensures { slice_get marks.now at ≡ Some result }
+{
+    marks[at]
+}
+
+/// The place of the last register from one on.
+fn last_from(marks: &[usize], register: usize) -> Option<usize>
+    ensures there { IfSome result (λ at. IsLastFrom register marks.now at) }
+    ensures none { IfNone result (last_pending register marks.now ≡ None) }
+{
+    let mut count = marks.len();
+    'back: while count > 0 {
+        if register <= mark_of(marks, count - 1) {
+            return Some(count - 1);
+        }
+        count -= 1;
+    }
+    None
+}
+
+/// The last register from one on.
+fn last_in(marks: &[usize], register: usize) -> Option<usize>
+    ensures { result ≡ last_pending register marks.now }
+{
+    let at = last_from(marks, register)?;
+    Some(mark_of(marks, at))
+}
+
+/// Leaves of so many registers those below one, in their order, and says how many they are.
+pub(crate) fn keep_below(
+    pending: &mut Vec<usize>,
+    from: usize,
+    count: usize,
+    register: usize,
+) -> usize
+    requires { from + count ≤ length pending.old.items }
+    ensures kept { part from result pending.new.items ≡ filter (λ q. nat_lt q register) (part from count pending.old.items) }
+    ensures front { take from pending.new.items ≡ take from pending.old.items }
+    ensures size { length pending.new.items ≡ length pending.old.items }
+    ensures fewer { result ≤ count }
+{
+    let _size = pending.len();
+    let mut kept = 0;
+    for k in 0..count {
+        let mark = mark_of(pending, from + k);
+        if mark >= register {
+            continue;
+        }
+        pending[from + kept] = mark;
+        kept += 1;
+    }
+    kept
+}
