@@ -7,3 +7,4 @@ mod Numbered
 mod Opened
 mod Walk
 mod Added
+mod Listed

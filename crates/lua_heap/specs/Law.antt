@@ -1,5 +1,5 @@
 -- What the reading of kept values keeps, and what a new string leaves as it was.
-use Rattle.std.specs.Prelude.{◌≡◌, ℕ, ◌<◌, List, [], ◌∷◌, ◌++◌, length, map}
+use Rattle.std.specs.Prelude.{Option, None, ◌≡◌, ℕ, ◌<◌, List, [], ◌∷◌, ◌++◌, length, map}
 use Rattle.int_core.specs.Rows.{get, set, border}
 use Rattle.int_core.specs.Value.{same, table_values}
 use Rattle.code_core.specs.Prototype.{Prototype}
@@ -9,6 +9,10 @@ use Rattle.table_core.specs.Value.{value_eq, lua_values}
 use Rattle.table_core.specs.declared.value.StrId.{StrId}
 use Rattle.table_core.specs.declared.value.Value.{Value as Kept}
 use Rattle.table_core.specs.declared.value.Value.TheVariants.{Str}
+use Rattle.lua_stack.specs.declared.frame.OpenCell.{OpenCell}
+use Rattle.lua_heap.specs.declared.world.Cell.{Cell}
+use Rattle.lua_heap.specs.declared.world.Cell.TheVariants.{Closed}
+use Rattle.lua_heap.specs.Cells.{AreListed}
 use Rattle.lua_heap.specs.Strings.{AreApart, AreShort}
 use Rattle.lua_heap.specs.Reading.{value, row}
 use Rattle.lua_heap.specs.Codes.{prototype_at}
@@ -46,3 +50,11 @@ CheckedCodeIsThere = (ps : List Prototype) (n : ℕ) → IsChecked (prototype_at
 -- a world in which nothing has run is sound
 abbrev pub NewWorldsAreSound : Type 0
 NewWorldsAreSound = (primitives fuel : ℕ) → Sound primitives (opened_world fuel)
+
+-- stacks list what is open where a closed cell comes last, or a coroutine without a stack
+pub record StayListed (cells : List Cell) (lists : List (Option (List OpenCell))) : Type 0 where
+  pub cell : (v : Kept) → AreListed (cells ++ Closed v ∷ []) lists
+  pub coroutine : AreListed cells (lists ++ None ∷ [])
+
+abbrev pub CellsStayListed : Type 0
+CellsStayListed = (cells : List Cell) (lists : List (Option (List OpenCell))) → AreListed cells lists → StayListed cells lists

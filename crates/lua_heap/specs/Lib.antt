@@ -4,5 +4,6 @@ pub mod Codes
 pub mod Plain
 pub mod Changes
 pub mod Adding
+pub mod Cells
 pub mod Opening
 pub mod Law

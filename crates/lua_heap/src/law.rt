@@ -1,5 +1,5 @@
 // The laws of the values that are kept.
-ghost use Rattle.lua_heap.specs.Law.{EqualityIsRaw, TablesAreRead, StringsAreThere, NewStringsKeep, CheckedCodeIsThere, NewWorldsAreSound};
+ghost use Rattle.lua_heap.specs.Law.{EqualityIsRaw, TablesAreRead, StringsAreThere, NewStringsKeep, CheckedCodeIsThere, NewWorldsAreSound, CellsStayListed};
 
 /// Kept values are equal exactly where the values that they stand for are.
 pub fn equality_is_raw()
@@ -29,4 +29,9 @@ pub fn checked_code_is_there()
 /// A new world is sound.
 pub fn new_worlds_are_sound()
     ensures { NewWorldsAreSound }
+{}
+
+/// Stacks list what is open where a closed cell comes last, or a coroutine without a stack.
+pub fn cells_stay_listed()
+    ensures { CellsStayListed }
 {}

@@ -2,6 +2,7 @@
 #![tactic(auto)]
 
 mod adding;
+mod cells;
 mod codes;
 mod functions;
 pub mod law;

@@ -2,6 +2,7 @@
 ghost use Rattle.std.specs.Prelude.{◌≡◌, ℕ, true, IfOk, OnOk, map, length, nat_le};
 ghost use Rattle.std.specs.List.{list_all};
 ghost use Rattle.int_core.specs.Value.{greatest_string};
+ghost use Rattle.lua_heap.specs.Cells.{CellsAreListed};
 ghost use Rattle.lua_heap.specs.Codes.{AreCodes};
 ghost use Rattle.lua_heap.specs.Opening.{first_texts, all_interned, opened_world, mark_of, IsMark, Releases};
 ghost use Rattle.lua_heap.specs.Plain.{plain};
@@ -52,6 +53,7 @@ impl World {
         ensures plain { IfOk result (λ world. (fuel : ℕ) → plain world fuel ≡ opened_world fuel) }
         ensures strings { IfOk result (λ world. world.strings ≡ first_texts) }
         ensures codes { IfOk result (λ world. AreCodes world.strings world.codes) }
+        ensures listed { IfOk result (λ world. CellsAreListed world) }
     {
         let mut strings = Strings::new(alloc);
         intern_all(&mut strings, &FIRST_TEXTS)?;
