@@ -1,8 +1,8 @@
 -- What a function that changes the running stack knows of it.
-use Rattle.std.proofs.Common.{◌≡◌, ℕ, zero, suc, ◌+◌, ◌<◌, ◌≤◌, List, [], ◌∷◌, length, Some, refl, ap, subst, ◌∙◌, arith, true}
+use Rattle.std.proofs.Common.{◌≡◌, ℕ, zero, suc, ◌+◌, ◌<◌, ◌≤◌, List, [], ◌∷◌, length, Some, refl, ap, sym, subst, ◌∙◌, arith, true}
 use Rattle.std.specs.Prelude.{slice_get, slice_set, get_or, nat_lt, nat_le}
 use Rattle.std.proofs.lemmas.Bool.Decides.{nat_tests}
-use Rattle.machine_sound.proofs.Lists.{get_within, some_is}
+use Rattle.machine_sound.proofs.Lists.{get_there, get_within, some_is}
 use Rattle.table_core.specs.declared.value.CoroId.{CoroId}
 use Rattle.lua_stack.specs.Frames.{KeptStack}
 use Rattle.lua_heap.specs.declared.world.Coro.{Coro}
@@ -36,3 +36,6 @@ runs_as {W} {co} r e = record { stack = r.stack; runs = subst (λ co. Runs W co 
 -- the world with another stack for a coroutine that runs
 abbrev pub with_stack : Memory → CoroId → KeptStack → Memory
 with_stack W co s = record W { coros = record W.coros { objects = slice_set W.coros.objects co.0 (Running s) } }
+
+pub got_there : {A : Type 0} (xs : List A) (n : ℕ) (x : A) → n < length xs → x ≡ get_or xs n x → slice_get xs n ≡ Some x
+got_there xs n x l e = let t = get_there xs n l in t.1 ∙ ap (λ y. Some y) (sym (e ∙ got_is xs n t.0 x t.1))
