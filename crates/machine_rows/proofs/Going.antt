@@ -1,0 +1,34 @@
+-- Where a frame goes on.
+use Rattle.std.proofs.Common.{◌≡◌, ℕ, ◌+◌, List, [], ◌∷◌, ◌++◌, length, Some, refl, ap, sym, subst, ◌∙◌, Bool, true, false}
+use Rattle.std.specs.Prelude.{ℤ, pos, cond, drop, map}
+use Rattle.int_core.specs.Value.{Value, known, nil, nth}
+use Rattle.machine_core.specs.Text.{Arg, arg, written, Own, write_register, Text, go_by}
+use Rattle.machine_core.specs.InstructionRows.{next, skip, then}
+use Rattle.machine_core.specs.FrameRows.{expand}
+use Rattle.machine_core.specs.Moves.{on_own, move_pc, place_from, go, Row, act, stop, trapped, run}
+use Rattle.lua_heap.specs.declared.world.World.{World as Memory}
+use Rattle.lua_heap.specs.Plain.{plain}
+use Rattle.move_laws.specs.Memory.{CanDo, Makes, Leads, IsSafe, StandsAt, HasStack}
+use Rattle.move_laws.proofs.Rows.{first, ended, can_go}
+use Rattle.machine_moves.specs.Moves.{CanGo, Goes}
+
+pub ahead : (b : Bool) → cond b skip next ≡ go_by (pos (cond b 2 1))
+ahead true = refl
+ahead false = refl
+
+from_place : {W : Memory} {pc to : ℕ} (k : ℕ) (s : StandsAt W pc) → to ≡ pc + k → place_from s.place.top.own.pc (pos k) ≡ Some to
+from_place k s e = ap (λ n. place_from n (pos k)) s.at ∙ ap (λ n. Some n) (sym e)
+
+pub goes_on : {W V : Memory} {pc to : ℕ} (k : ℕ) (s : StandsAt W pc) → to ≡ pc + k → Goes W V to → (env : List Value) → Leads (expand (go_by (pos k))) env W V go
+goes_on k s e g env = first (λ _ _. stop go) (g.makes s.place s.is (pos k) (from_place k s e) env) ended
+
+pub may_go : {W : Memory} {pc to : ℕ} {env : List Value} (k : ℕ) (s : StandsAt W pc) → to ≡ pc + k → IsSafe (expand (go_by (pos k))) env W → CanGo W to
+may_go {W} {pc} {to} {env} k s e h = record { place = s.place; is = s.is; there = can_go (pos k) (λ _ _. stop go) to s.place h s.is (from_place k s e) }
+
+-- a row that comes to another one is as safe
+pub safe_as : {W : Memory} {r q : Row} {env more : List Value} → IsSafe r env W → ((fuel : ℕ) → run r env (plain W fuel) ≡ run q more (plain W fuel)) → IsSafe q more W
+safe_as s h = record { never = λ fuel e. s.never fuel (h fuel ∙ e) }
+
+-- a register that may be written gets any value
+pub any_value : {W : Memory} {r : ℕ} {x y : Arg} → CanDo W (write_register r x) → CanDo W (write_register r y)
+any_value d = record { place = d.place; is = d.is; fits = d.fits }

@@ -1,0 +1,12 @@
+//! The machine's rows on a world in memory: one function for each form, which makes the row's moves one after another (lvm.c and ldo.c of Lua 5.4).
+#![tactic(auto)]
+
+mod ending;
+mod loads;
+mod operands;
+mod protected;
+
+pub use ending::Ending;
+pub use loads::{clear, load};
+pub use operands::read_operand;
+pub use protected::{answer_error, answer_results};
