@@ -66,7 +66,7 @@ module _ (a : Inside) (i : stands a) (place marks : ℕ) (p : place ≡ a.top.wi
 
 module _ (a : Inside) (i : stands a) (place marks : ℕ) (p : place ≡ a.top.window.base + a.top.window.size) (m : marks ≡ a.top.window.marks + a.top.window.marked) (grown : List Kept)
     (front : take (length a.values.items) grown ≡ a.values.items) (longer : length a.values.items ≤ length grown) where
-  grown_same : take place grown ≡ take place a.values.items
+  pub grown_same : take place grown ≡ take place a.values.items
   grown_same = grown_front a.values.items grown place front (let e = i.within.end in omega (arith, p, e))
 
   pub grown_stands : IsStack grown a.pending.items a.below.items a.top

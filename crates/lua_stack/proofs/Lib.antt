@@ -10,3 +10,7 @@ pub mod LaidOut
 pub mod Pushed
 pub mod Called
 pub mod Reached
+pub mod Wiped
+pub mod ClosingTop
+pub mod Listed
+pub mod PendingValues

@@ -508,3 +508,13 @@ not_false false e = absurd (cc)
 pub all_below_more : (frame r s : ℕ) (cs : List OpenCell) → r ≤ s → AllBelow frame r cs → AllBelow frame s cs
 all_below_more frame r s [] l h = tt
 all_below_more frame r s (c ∷ cs) l h = (record { frame_at_most = h.0.frame_at_most; register_less = λ q. (let k = h.0.register_less q in omega arith) }, all_below_more frame r s cs l h.1)
+
+-- a frame that is no Lua frame has no open cell, so another of the like may take its place
+pub no_reach_open : (below : List Record) (k : Kind) (w : Window) (j : Kind) (v : Window) (cs : List OpenCell) → reach_of k w ≡ 0 → AreOpen below k w cs → AreOpen below j v cs
+no_reach_open below k w j v cs z h = record { there = within_more below k w below j v cs (more below) h.there; in_order = h.in_order }
+  where
+    more : (below : List Record) (n r : ℕ) → r < reach_at below k w n → r < reach_at below j v n
+    more [] zero r h = absurd (omega (arith, z, h))
+    more [] (suc n) r h = absurd (omega arith)
+    more (q ∷ below) zero r h = h
+    more (q ∷ below) (suc n) r h = more below n r h

@@ -187,7 +187,7 @@ top_ended a s m n v i h e =
 
 -- a cut: the registers in front stay, the others are nil
 
-blanked_same : (p q : ℕ → Bool) (i n : ℕ) (vs : List Value) → ((j : ℕ) → p j ≡ q j) → blanked p i n vs ≡ blanked q i n vs
+pub blanked_same : (p q : ℕ → Bool) (i n : ℕ) (vs : List Value) → ((j : ℕ) → p j ≡ q j) → blanked p i n vs ≡ blanked q i n vs
 blanked_same p q i zero vs h = refl
 blanked_same p q i (suc n) vs h = ap (λ b. cond b (nth vs i) (known nil) ∷ blanked p (suc i) n vs) (h i) ∙ ap (λ l. cond (q i) (nth vs i) (known nil) ∷ l) (blanked_same p q (suc i) n vs h)
 

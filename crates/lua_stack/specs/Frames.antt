@@ -1,10 +1,10 @@
 -- What contracts see of a coroutine's stack: its frames from the bottom, with the values that are kept, and its open cells in the order of
 -- their frames and registers. `frames` reads them as the machine's frames, by what the kept values stand for.
-use Rattle.std.specs.Prelude.{◌≡◌, ◌+◌, ◌-◌, ◌<◌, ◌≤◌, ℕ, suc, cond, ◌&&◌, nat_eq, nat_lt, length, List, [], ◌∷◌, ◌++◌, map, filter, Option, Some, None, slice_get, slice_set}
+use Rattle.std.specs.Prelude.{◌≡◌, ◌+◌, ◌-◌, ◌<◌, ◌≤◌, ℕ, suc, cond, ◌&&◌, nat_eq, nat_lt, length, List, [], ◌∷◌, ◌++◌, map, filter, flat_map, Option, Some, None, slice_get, slice_set}
 use Rattle.int_core.specs.Value.{Value, known, nil, bind, last, range}
 use Rattle.code_core.specs.Prototype.{Prototype}
 use Rattle.machine_core.specs.Text.{blanked}
-use Rattle.machine_core.specs.Moves.{new_frame}
+use Rattle.machine_core.specs.Moves.{new_frame, pending_values}
 use Rattle.machine_core.specs.World.{Wait, running, for_call, for_iterator, for_value, for_truth, dropped, for_concat, for_close, returning, leaving, LuaFrame, Frame, lua, pcall, xpcall, handler, closing, lua_frame, write_in_frame}
 use Rattle.table_core.specs.declared.value.Value.{Value as Kept}
 use Rattle.table_core.specs.declared.value.Value.TheVariants.{Nil}
@@ -229,3 +229,29 @@ pub record RegisterIs (s : KeptStack) (frame register : ℕ) (v : Kept) : Type 0
 pub record RegisterBecomes (old new : KeptStack) (frame register : ℕ) (v : Kept) : Type 0 where
   pub writes : (f : Kept → Value) (g : Frame) → slice_get (frames f old) frame ≡ Some g → frames f new ≡ slice_set (frames f old) frame (write_in_frame register (f v) g)
   pub cells : new.open_cells ≡ old.open_cells
+
+-- frames of `coroutine.close`
+
+-- one is on top
+pub record HasClosingTop (s : KeptStack) : Type 0 where
+  pub below : List KeptFrame
+  pub error : Option Kept
+  pub left : List Kept
+  pub is : s.frames ≡ below ++ kept_closing error left ∷ []
+
+-- what holds of it
+abbrev pub OnClosing : KeptStack → (List KeptFrame → Option Kept → List Kept → Type 0) → Type 0
+OnClosing s P = (below : List KeptFrame) (error : Option Kept) (left : List Kept) → s.frames ≡ below ++ kept_closing error left ∷ [] → P below error left
+
+-- the first frame that is no Lua frame
+abbrev pub kept_catcher : List KeptFrame → Option KeptFrame
+kept_catcher [] = None
+kept_catcher (kept_lua t ∷ fs) = kept_catcher fs
+kept_catcher (kept_pcall ∷ fs) = Some kept_pcall
+kept_catcher (kept_xpcall h ∷ fs) = Some (kept_xpcall h)
+kept_catcher (kept_handler ∷ fs) = Some kept_handler
+kept_catcher (kept_closing error left ∷ fs) = Some (kept_closing error left)
+
+-- the values of pending registers, frame by frame from the bottom
+pub record ArePending (s : KeptStack) (values : List Kept) : Type 0 where
+  pub read : (f : Kept → Value) → f Nil ≡ known nil → map f values ≡ flat_map pending_values (frames f s)

@@ -280,3 +280,49 @@ pub record IsLastFrom (register : ℕ) (marks : List ℕ) (at : ℕ) : Type 0 wh
   pub is : slice_get marks at ≡ Some mark
   pub at_least : register ≤ mark
   pub later : last_pending register (drop (suc at) marks) ≡ None
+
+-- a frame with so many values
+abbrev pub with_values : Record → ℕ → Record
+with_values r count = record r { window = record r.window { kept = count; size = count } }
+
+-- values that are set to nil, but those whose places stay
+abbrev pub wiped_but : (ℕ → Bool) → ℕ → List Kept → List Kept
+wiped_but stays i [] = []
+wiped_but stays i (v ∷ vs) = cond (stays i) v Nil ∷ wiped_but stays (suc i) vs
+
+abbrev pub error_in : Kind → Option Kept
+error_in (Closing error) = error
+error_in Missing = None
+error_in Lua = None
+error_in Pcall = None
+error_in (Xpcall h) = None
+error_in Handler = None
+
+abbrev pub is_lua : Kind → Bool
+is_lua Lua = true
+is_lua Missing = false
+is_lua Pcall = false
+is_lua (Xpcall h) = false
+is_lua Handler = false
+is_lua (Closing error) = false
+
+-- the first frame that is no Lua frame
+abbrev pub catcher_of : List Record → Top
+catcher_of [] = TopMissing
+catcher_of (r ∷ rs) = cond (is_lua r.kind) (catcher_of rs) (top_in r.kind)
+
+-- a register of a frame, and nil where there is none
+abbrev pub kept_at : List Kept → ℕ → Kept
+kept_at registers n = elim (slice_get registers n) [ None ↦ Nil | Some v ↦ v ]
+
+-- the values of a frame's pending registers
+abbrev pub marked_by : List Kept → List ℕ → Kind → Window → List Kept
+marked_by values pending Lua w = map (kept_at (registers_at values w)) (part w.marks w.marked pending)
+marked_by values pending Missing w = []
+marked_by values pending Pcall w = []
+marked_by values pending (Xpcall h) w = []
+marked_by values pending Handler w = []
+marked_by values pending (Closing error) w = []
+
+abbrev pub marked_values : List Kept → List ℕ → Record → List Kept
+marked_values values pending r = marked_by values pending r.kind r.window

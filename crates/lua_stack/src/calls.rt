@@ -1,6 +1,6 @@
 // Frames of functions that are called. The arguments become their first registers where they stand, and those beyond the parameters stay in
 // front of the registers.
-ghost use Rattle.std.specs.Prelude.{◌≡◌, ◌+◌, ◌-◌, ◌≤◌, false, cond, length, IfOk, OnOk, OnErr};
+ghost use Rattle.std.specs.Prelude.{◌≡◌, ◌+◌, ◌-◌, ◌≤◌, false, cond, length, OnOk, OnErr};
 ghost use Rattle.lua_stack.specs.Frames.{Calls, Enters, HasRegisters, NoneFrom, Replaces};
 ghost use Rattle.lua_stack.specs.View.{IsLaidOut, begun_at, waiting_at};
 
@@ -9,7 +9,7 @@ use crate::frame::{Kind, Layout, Record, Running, Shape, Wait, Window};
 use crate::frames::{behind, push_top};
 use crate::pending::keep_below;
 use crate::stack::Stack;
-use crate::values::{clear, copy, grow, place_of, put};
+use crate::values::{clear, copy, end_of, grow, place_of, put};
 use std::alloc::AllocError;
 use table_core::{FuncId, Value};
 
@@ -159,14 +159,6 @@ impl Stack {
         self.top = begun(function, shape.stack, layout, window.marks);
         Ok(())
     }
-}
-
-/// A place behind another, where it is a number.
-#[inline(always)]
-fn end_of(start: usize, count: usize) -> Result<usize, AllocError>
-    ensures { IfOk result (λ end. end ≡ start + count) }
-{
-    start.checked_add(count).ok_or(AllocError)
 }
 
 /// How many arguments are kept beyond the parameters.

@@ -50,7 +50,7 @@ pub enum Top {
 }
 
 /// Which part of the stack's values a frame has.
-#[derive(Clone, Copy, Debug)]
+#[derive(Clone, Copy)]
 pub(crate) struct Window {
     /// Where its values begin: the arguments beyond the parameters come first.
     pub(crate) start: usize,
@@ -65,14 +65,14 @@ pub(crate) struct Window {
 }
 
 /// Where the values of a frame that begins stand, and its registers among them.
-#[derive(Clone, Copy, Debug)]
+#[derive(Clone, Copy)]
 pub(crate) struct Layout {
     pub(crate) start: usize,
     pub(crate) base: usize,
 }
 
 /// What a Lua frame runs, and where it goes on. Of another frame nothing here is read.
-#[derive(Clone, Copy, Debug)]
+#[derive(Clone, Copy)]
 pub(crate) struct Running {
     pub(crate) function: FuncId,
     pub(crate) wait: Wait,
@@ -81,7 +81,7 @@ pub(crate) struct Running {
     pub(crate) opened: usize,
 }
 
-#[derive(Clone, Copy, Debug)]
+#[derive(Clone, Copy)]
 pub(crate) enum Kind {
     /// There is no frame.
     Missing,
@@ -93,7 +93,7 @@ pub(crate) enum Kind {
     Closing(Option<Value>),
 }
 
-#[derive(Clone, Copy, Debug)]
+#[derive(Clone, Copy)]
 pub(crate) struct Record {
     pub(crate) kind: Kind,
     pub(crate) running: Running,

@@ -3,11 +3,15 @@
 
 mod calls;
 mod cells;
+mod closing;
 mod frame;
 mod frames;
+mod leaving;
 mod pending;
 mod registers;
 mod stack;
+#[cfg(test)]
+mod tests;
 mod values;
 
 pub use frame::{OpenCell, Shape, Top, Wait};

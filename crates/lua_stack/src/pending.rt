@@ -1,12 +1,15 @@
 // The pending registers of the Lua frame on top: those of its variables that are still to be closed.
-ghost use Rattle.std.specs.Prelude.{◌≡◌, ◌+◌, ◌<◌, ◌≤◌, [], ◌∷◌, ◌++◌, None, Some, drop, filter, length, nat_lt, slice_get, suc, take, IfNone, IfSome, OnErr, OnOk};
+ghost use Rattle.std.specs.Prelude.{◌≡◌, ◌+◌, ◌<◌, ◌≤◌, [], ◌∷◌, ◌++◌, None, Some, drop, filter, length, nat_lt, slice_get, suc, take, flat_map, IfNone, IfOk, IfSome, OnErr, OnOk};
 ghost use Rattle.machine_core.specs.Text.{last_pending, without_pending};
-ghost use Rattle.lua_stack.specs.Frames.{HasLuaTop, HasRegisters, OnTop, TopBecomes, with_pending};
-ghost use Rattle.lua_stack.specs.View.{IsLastFrom, part};
+ghost use Rattle.lua_stack.specs.Frames.{ArePending, HasLuaTop, HasRegisters, OnTop, TopBecomes, with_pending};
+ghost use Rattle.lua_stack.specs.View.{AreStacked, IsLastFrom, kept_at, marked_values, part, registers_at};
 
-use crate::frame::Window;
+use crate::closing::{frame_in, is_lua};
+use crate::frame::{Record, Window};
 use crate::stack::Stack;
-use std::alloc::AllocError;
+use crate::values::{place_of, value_at};
+use std::alloc::{AllocError, Global};
+use table_core::Value;
 
 impl Stack {
     /// Marks a register as one whose variable is to be closed.
@@ -57,11 +60,21 @@ impl Stack {
             register,
         );
     }
+
+    /// The values of the pending registers of all frames, from the bottom, each frame's in the order in which they were marked.
+    pub fn pending_values(&self, alloc: Global) -> Result<Vec<Value>, AllocError>
+        ensures { IfOk result (λ found. ArePending self.now found.items) }
+    {
+        let mut found = Vec::new(alloc);
+        add_all_pending(&mut found, &self.below, &self.values, &self.pending)?;
+        add_pending(&mut found, self.top, &self.values, &self.pending)?;
+        Ok(found)
+    }
 }
 
 /// Where the pending registers of a frame end, which is no further than `room`.
 #[inline(always)]
-fn marks_end(window: Window, room: usize) -> usize
+pub(crate) fn marks_end(window: Window, room: usize) -> usize
     requires { window.marks + window.marked ≤ room }
     ensures { result ≡ window.marks + window.marked }
 {
@@ -144,4 +157,54 @@ pub(crate) fn keep_below(
         kept += 1;
     }
     kept
+}
+
+/// The value of a frame's register.
+fn register_of(values: &[Value], window: Window, register: usize) -> Value
+    requires { window.base + window.kept ≤ length values.now }
+    ensures { result ≡ kept_at (registers_at values.now window) register }
+{
+    if register >= window.kept {
+        return Value::Nil;
+    }
+    let at = place_of(window, register, values.len());
+    value_at(values, at)
+}
+
+/// Adds the values of a frame's pending registers, if it is a Lua frame.
+fn add_pending(
+    found: &mut Vec<Value>,
+    frame: Record,
+    values: &[Value],
+    pending: &[usize],
+) -> Result<(), AllocError>
+    requires marks { frame.window.marks + frame.window.marked ≤ length pending.now }
+    requires kept { frame.window.base + frame.window.kept ≤ length values.now }
+    ensures { OnOk result (found.new.items ≡ found.old.items ++ marked_values values.now pending.now frame) }
+{
+    if !is_lua(frame.kind) {
+        return Ok(());
+    }
+    let _size = pending.len();
+    for k in 0..frame.window.marked {
+        let mark = mark_of(pending, frame.window.marks + k);
+        found.push(register_of(values, frame.window, mark))?;
+    }
+    Ok(())
+}
+
+/// Adds those of some frames.
+fn add_all_pending(
+    found: &mut Vec<Value>,
+    frames: &[Record],
+    values: &[Value],
+    pending: &[usize],
+) -> Result<(), AllocError>
+    requires { AreStacked (length values.now) (length pending.now) frames.now }
+    ensures { OnOk result (found.new.items ≡ found.old.items ++ flat_map (marked_values values.now pending.now) frames.now) }
+{
+    for k in 0..frames.len() {
+        add_pending(found, frame_in(frames, k), values, pending)?;
+    }
+    Ok(())
 }

@@ -1,11 +1,12 @@
 // The registers of the Lua frame on top.
-ghost use Rattle.std.specs.Prelude.{◌≡◌, ◌+◌, ◌≤◌, Some, length, map, slice_get, take};
+ghost use Rattle.std.specs.Prelude.{◌≡◌, ◌+◌, ◌≤◌, Some, length, map, slice_get, take, OnErr, OnOk};
 ghost use Rattle.int_core.specs.Value.{write, write_all};
 ghost use Rattle.machine_core.specs.Text.{nils};
 ghost use Rattle.lua_stack.specs.Frames.{HasLuaTop, HasRegisters, NoneFrom, OnTop, TopBecomes, cut_at, with_registers, with_opened};
 
 use crate::stack::Stack;
-use crate::values::{clear, place_of, put, put_one, value_at};
+use crate::values::{clear, end_of, grow, place_of, put, put_one, value_at};
+use std::alloc::AllocError;
 use table_core::Value;
 
 impl Stack {
@@ -36,6 +37,23 @@ impl Stack {
     {
         let to = place_of(self.top.window, at, self.values.len());
         put(&mut self.values, to, values);
+    }
+
+    /// Writes values from a register on as a list that is open: the frame gets as many registers as it takes.
+    pub fn write_list(&mut self, at: usize, values: &[Value]) -> Result<(), AllocError>
+        requires { HasRegisters self.old (at + 1) }
+        ensures ok { OnOk result (TopBecomes self.old self.new (λ f t. with_opened (length values.now) (with_registers (write_all at (map f values.now) t.own.registers) t))) }
+        ensures err { OnErr result (self.new ≡ self.old) }
+    {
+        let to = place_of(self.top.window, at, self.values.len());
+        let end = end_of(to, values.len())?;
+        grow(&mut self.values, end)?;
+        put(&mut self.values, to, values);
+        let size = self.top.window.size.max(at + values.len());
+        self.top.window.kept = size;
+        self.top.window.size = size;
+        self.top.running.opened = values.len();
+        Ok(())
     }
 
     /// Sets registers in a row to nil.
@@ -70,6 +88,16 @@ impl Stack {
         self.top.window.kept = stack;
         self.top.window.size = stack;
         self.top.running.opened = 0;
+    }
+
+    /// The arguments beyond the parameters.
+    pub fn varargs(&self) -> &[Value]
+        requires { HasLuaTop self.now }
+        ensures { OnTop self.now (λ f t. map f result.now ≡ t.own.varargs) }
+    {
+        let window = self.top.window;
+        let base = place_of(window, 0, self.values.len());
+        &self.values[window.start..base]
     }
 
     /// The registers.

@@ -138,7 +138,7 @@ impl Stack {
 }
 
 /// What a frame is.
-fn top_of(kind: Kind) -> Top
+pub(crate) fn top_of(kind: Kind) -> Top
     ensures { result ≡ top_in kind }
 {
     match kind {

@@ -1,5 +1,5 @@
 // Values in a list, written one after another.
-ghost use Rattle.std.specs.Prelude.{◌≡◌, ◌+◌, ◌<◌, ◌≤◌, [], ◌∷◌, Some, length, slice_get, take, OnErr, OnOk};
+ghost use Rattle.std.specs.Prelude.{◌≡◌, ◌+◌, ◌<◌, ◌≤◌, [], ◌∷◌, Some, length, slice_get, take, IfOk, OnErr, OnOk};
 ghost use Rattle.lua_stack.specs.View.{blank, part, put_all};
 
 use crate::frame::Window;
@@ -78,4 +78,12 @@ pub(crate) fn grow(values: &mut Vec<Value>, len: usize) -> Result<(), AllocError
         values.resize(len, Value::Nil)?;
     }
     Ok(())
+}
+
+/// A place behind another, where it is a number.
+#[inline(always)]
+pub(crate) fn end_of(start: usize, count: usize) -> Result<usize, AllocError>
+    ensures { IfOk result (λ end. end ≡ start + count) }
+{
+    start.checked_add(count).ok_or(AllocError)
 }

@@ -1,0 +1,17 @@
+use Rattle.std.proofs.Common.{length, arith}
+use Rattle.lua_stack.proofs.PendingValues.{next_frame, stacked_at}
+use Rattle.lua_stack.proofs.pending.add_all_pending.Goals as goal
+
+pub add_pending-requires-clause-marks : goal.add_pending-requires-clause-marks
+add_pending-requires-clause-marks c = (stacked_at (length c.args.values.now) (length c.args.pending.now) c.args.frames.now c.loop-k.k c.frame_in.result c.requires c.frame_in.ensures).marks_end
+
+pub add_pending-requires-clause-kept : goal.add_pending-requires-clause-kept
+add_pending-requires-clause-kept c =
+    let w = stacked_at (length c.args.values.now) (length c.args.pending.now) c.args.frames.now c.loop-k.k c.frame_in.result c.requires c.frame_in.ensures in
+    let e = w.end in
+    let k = w.kept in
+    omega (arith, e, k)
+
+pub loop-k-preserved : goal.loop-k-preserved
+loop-k-preserved c =
+    next_frame c.args.values.now c.args.pending.now c.args.frames.now c.loop-k.k c.frame_in.result c.args.found.now.items c.loop-k.found.items c.add_pending.new.found.items c.frame_in.ensures c.loop-k.invariant c.in_ok-add_pending.ensures
