@@ -8,3 +8,4 @@ mod Opened
 mod Walk
 mod Added
 mod Listed
+mod Placed

@@ -5,5 +5,7 @@ pub mod Plain
 pub mod Changes
 pub mod Adding
 pub mod Cells
+pub mod Places
+pub mod Errors
 pub mod Opening
 pub mod Law

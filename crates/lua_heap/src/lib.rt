@@ -4,10 +4,12 @@
 mod adding;
 mod cells;
 mod codes;
+mod errors;
 mod functions;
 pub mod law;
 mod objects;
 mod opening;
+mod places;
 mod strings;
 #[cfg(test)]
 mod tests;

@@ -46,3 +46,13 @@ fn a_world_names_what_is_added(rt: HostRuntime) -> Result<(), Fail> {
     assert_eq!(rt; world.printed.as_slice(), b"1\n".as_slice());
     Ok(())
 }
+
+#[test]
+fn a_text_gets_no_place_where_nothing_runs(rt: HostRuntime) -> Result<(), Fail> {
+    let mut world = World::new(rt.alloc())?;
+    let raised = world.raise_text(b"__index")?;
+    assert_eq!(rt; raised, Value::Str(StrId(17)));
+    let seven = world.place_text(Value::Int(7), 0)?;
+    assert_eq!(rt; seven, Value::Int(7));
+    Ok(())
+}
