@@ -2,3 +2,6 @@ mod Fields
 mod Links
 mod Bits
 mod OperatorLemmas
+mod Storing
+mod Staying
+mod Joining

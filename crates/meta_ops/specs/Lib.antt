@@ -3,3 +3,7 @@ pub mod Events
 pub mod Outcome
 pub mod Chains
 pub mod Operators
+pub mod Store
+pub mod Concat
+pub mod Operation
+pub mod Law

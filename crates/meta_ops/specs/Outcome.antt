@@ -1,5 +1,5 @@
 -- What outcomes say, in the words of the definitions.
-use Rattle.std.specs.Prelude.{ℕ, List, [], ◌∷◌, codes}
+use Rattle.std.specs.Prelude.{ℕ, Bool, true, false, List, [], ◌∷◌, codes}
 use Rattle.int_core.specs.Heap.{Heap}
 use Rattle.int_core.specs.Operations.{Settled, found, ask, fault, of_type, cannot_compare}
 use Rattle.int_core.specs.Value.{Value}
@@ -7,7 +7,7 @@ use Rattle.lua_heap.specs.Reading.{value}
 use Rattle.meta_ops.specs.declared.fault.Fault.{Fault as Cause}
 use Rattle.meta_ops.specs.declared.fault.Fault.TheVariants.{Index, IndexChain, NewIndexChain, NilKey, Call, CallChain, Arithmetic, Bitwise, DivisionByZero, ModuloByZero, Concatenate, TooLarge, Length, Compare}
 use Rattle.meta_ops.specs.declared.outcome.Outcome.{Outcome}
-use Rattle.meta_ops.specs.declared.outcome.Outcome.TheVariants.{Found, Ask, Fault}
+use Rattle.meta_ops.specs.declared.outcome.Outcome.TheVariants.{Found, Done, Ask, Fault}
 
 abbrev pub fault_text : List (List ℕ) → Cause → List ℕ
 fault_text texts (Index v) = of_type (codes "index") (value texts v)
@@ -28,5 +28,11 @@ fault_text texts (Compare left right) = cannot_compare (value texts left) (value
 -- with the operands behind the first one
 abbrev pub settled : List (List ℕ) → Heap → List Value → Outcome → Settled
 settled texts H more (Found v) = found H (value texts v ∷ [])
+settled texts H more Done = found H []
 settled texts H more (Ask handler first) = ask (value texts handler) (value texts first ∷ more)
 settled texts H more (Fault cause) = fault (fault_text texts cause)
+
+-- whether a value was stored
+abbrev pub is_done : Outcome → Bool
+is_done Done = true
+is_done _ = false

@@ -5,7 +5,7 @@ ghost use Rattle.int_core.specs.Value.{greatest_string};
 ghost use Rattle.meta_ops.specs.Events.{event_of};
 
 /// An operation that a metatable may have a handler for, by the name of its field.
-#[derive(Debug, Clone, Copy)]
+#[derive(Debug, Clone, Copy, PartialEq, Eq)]
 pub enum Event {
     Add,
     Sub,

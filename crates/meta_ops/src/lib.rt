@@ -3,13 +3,16 @@
 
 mod callee;
 mod compare;
+mod concatenation;
 mod event;
 mod fault;
 mod handler;
 mod heap;
 mod index;
+pub mod law;
 mod lengths;
 mod numbers;
+mod operation;
 mod outcome;
 mod store;
 #[cfg(test)]
@@ -17,6 +20,7 @@ mod tests;
 
 pub use callee::{Callee, callee_of};
 pub use compare::{equal, less, less_equal};
+pub use concatenation::concat;
 pub use event::Event;
 pub use fault::Fault;
 pub use handler::{handler_in, handler_of};
@@ -24,8 +28,9 @@ pub use heap::Heap;
 pub use index::index_of;
 pub use lengths::length;
 pub use numbers::arithmetic;
+pub use operation::{Operation, operate};
 pub use outcome::Outcome;
-pub use store::{Stored, store_of};
+pub use store::{Stored, store_field, store_of};
 
 /// How many links of handlers are followed.
 pub const GREATEST_CHAIN: usize = 2000;

@@ -17,6 +17,8 @@ use table_core::Value;
 #[derive(Debug, Clone, Copy, PartialEq, Eq)]
 pub enum Outcome {
     Found(Value),
+    /// A value was stored.
+    Done,
     /// The handler is called with the operands, where `first` takes the place of the first one: the object to which a chain of
     /// handlers led. The handler of a unary operator gets the operand twice.
     Ask { handler: Value, first: Value },

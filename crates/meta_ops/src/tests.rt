@@ -1,6 +1,7 @@
 // Chains of handlers as a script sees them (Lua 5.4 manual, 2.4), up to the last link that is followed.
 use crate::{
-    Callee, Event, Fault, Heap, Outcome, Stored, callee_of, handler_of, index_of, store_of,
+    Callee, Event, Fault, Heap, Operation, Outcome, Stored, callee_of, handler_of, index_of,
+    operate, store_of,
 };
 use lua_heap::Strings;
 use object_pool::Pool;
@@ -212,5 +213,58 @@ fn the_left_handler_comes_first(rt: HostRuntime) -> Result<(), Fail> {
         Some(Value::Prim(3))
     );
     assert_eq!(rt; handler_of(heap, Event::Mul, left, right), None);
+    Ok(())
+}
+
+#[test]
+fn a_store_and_a_concatenation_take_memory(rt: HostRuntime) -> Result<(), Fail> {
+    let alloc = rt.alloc();
+    let mut memory = Memory::of(alloc, 1)?;
+    let (object, key) = (Value::Table(TableId(0)), Value::Bool(true));
+    let store = Operation::Store {
+        object,
+        key,
+        value: Value::Int(7),
+    };
+    let tables = &mut memory.tables;
+    let strings = &mut memory.strings;
+    let stored = operate(alloc, tables, strings, None, store)?;
+    assert_eq!(rt; stored, Outcome::Done);
+    let index = Operation::Index { object, key };
+    let found = operate(alloc, tables, strings, None, index)?;
+    assert_eq!(rt; found, Outcome::Found(Value::Int(7)));
+    let concat = Operation::Concat {
+        left: Value::Int(-7),
+        right: Value::Int(8),
+    };
+    let joined = operate(alloc, tables, strings, None, concat)?;
+    assert_eq!(rt; joined, Outcome::Found(Value::Str(StrId(0))));
+    assert_eq!(rt; strings.find(b"-78"), Some(StrId(0)));
+    Ok(())
+}
+
+#[test]
+fn faults_have_their_texts(rt: HostRuntime) -> Result<(), Fail> {
+    let alloc = rt.alloc();
+    let arithmetic = Fault::Arithmetic(Value::Table(TableId(0))).text(alloc)?;
+    assert_eq!(rt;
+        arithmetic.as_slice(),
+        b"attempt to perform arithmetic on a table value".as_slice()
+    );
+    let order = Fault::Compare(Value::Int(1), Value::Nil).text(alloc)?;
+    assert_eq!(rt;
+        order.as_slice(),
+        b"attempt to compare number with nil".as_slice()
+    );
+    let order = Fault::Compare(Value::Prim(0), Value::Func(FuncId(0))).text(alloc)?;
+    assert_eq!(rt;
+        order.as_slice(),
+        b"attempt to compare two function values".as_slice()
+    );
+    let remainder = Fault::ModuloByZero.text(alloc)?;
+    assert_eq!(rt;
+        remainder.as_slice(),
+        b"attempt to perform 'n%%0'".as_slice()
+    );
     Ok(())
 }
