@@ -1,3 +1,4 @@
 pub mod Stacks
 pub mod OnTop
 pub mod OfCode
+pub mod Settling

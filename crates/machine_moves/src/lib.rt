@@ -3,6 +3,7 @@
 
 mod code;
 mod moving;
+mod operations;
 mod registers;
 mod running;
 mod tops;
@@ -10,6 +11,7 @@ mod upvalues;
 
 pub use code::{code_on_top, read_constant};
 pub use moving::{give_values, put_in_front, take_moving};
+pub use operations::settle;
 pub use registers::{clear_registers, go_to, read_register, write_register};
 pub use tops::{Over, pop_frame, push_frame, see_top};
 pub use upvalues::read_upvalue;

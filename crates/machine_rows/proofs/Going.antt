@@ -1,9 +1,9 @@
 -- Where a frame goes on.
 use Rattle.std.proofs.Common.{◌≡◌, ℕ, ◌+◌, List, [], ◌∷◌, ◌++◌, length, Some, refl, ap, sym, subst, ◌∙◌, Bool, true, false}
 use Rattle.std.specs.Prelude.{ℤ, pos, cond, drop, map}
-use Rattle.int_core.specs.Value.{Value, known, nil, nth}
+use Rattle.int_core.specs.Value.{Value, same_truth}
 use Rattle.machine_core.specs.Text.{Arg, arg, written, Own, write_register, Text, go_by}
-use Rattle.machine_core.specs.InstructionRows.{next, skip, then}
+use Rattle.machine_core.specs.InstructionRows.{next, skip, then, tested}
 use Rattle.machine_core.specs.FrameRows.{expand}
 use Rattle.machine_core.specs.Moves.{on_own, move_pc, place_from, go, Row, act, stop, trapped, run}
 use Rattle.lua_heap.specs.declared.world.World.{World as Memory}
@@ -32,3 +32,14 @@ safe_as s h = record { never = λ fuel e. s.never fuel (h fuel ∙ e) }
 -- a register that may be written gets any value
 pub any_value : {W : Memory} {r : ℕ} {x y : Arg} → CanDo W (write_register r x) → CanDo W (write_register r y)
 any_value d = record { place = d.place; is = d.is; fits = d.fits }
+
+-- how far a test goes on
+
+abbrev pub skipped : Bool → Bool → ℕ
+skipped b wanted = cond (same_truth b wanted) 1 2
+
+pub tests : (b wanted : Bool) → tested b wanted ≡ go_by (pos (skipped b wanted))
+tests true true = refl
+tests true false = refl
+tests false true = refl
+tests false false = refl

@@ -38,7 +38,7 @@ pub fn clear(world: &mut World, pc: usize, from: usize, count: usize)
 }
 
 /// The place behind an instruction, or behind the next one.
-fn behind(pc: usize, skips: bool) -> usize
+pub(crate) fn behind(pc: usize, skips: bool) -> usize
     requires { pc + 2 < 2 ^ 64 }
     ensures { result ≡ pc + cond skips 2 1 }
 {
