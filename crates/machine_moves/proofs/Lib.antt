@@ -2,3 +2,4 @@ pub mod Stacks
 pub mod OnTop
 pub mod OfCode
 pub mod Settling
+pub mod NewObjects

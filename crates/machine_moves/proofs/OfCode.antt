@@ -1,5 +1,5 @@
 -- The function of the Lua frame on top, and its constants.
-use Rattle.std.proofs.Common.{◌≡◌, ℕ, ◌<◌, List, [], ◌∷◌, length, Option, Some, None, refl, ap, sym, subst, ◌∙◌, arith, true, Bool}
+use Rattle.std.proofs.Common.{◌≡◌, ℕ, ◌<◌, List, [], ◌∷◌, length, Option, Some, None, refl, ap, sym, subst, ◌∙◌, arith, true}
 use Rattle.std.specs.Prelude.{map, nat_lt, slice_get}
 use Rattle.std.proofs.lemmas.List.{length-map}
 use Rattle.std.proofs.lemmas.Bool.Decides.{nat_tests}
@@ -8,7 +8,7 @@ use Rattle.code_core.specs.Prototype.{Prototype}
 use Rattle.int_core.specs.Value.{Value, known, nil, bind, Shape, is_known, shape}
 use Rattle.machine_core.specs.World.{Function, Cell, World, Place, place_of, read_cell}
 use Rattle.machine_core.specs.Text.{constant, read_constant, read_upvalue}
-use Rattle.machine_core.specs.Moves.{Made, made, on_own, outside, do_outside}
+use Rattle.machine_core.specs.Moves.{made, on_own, outside, do_outside}
 use Rattle.machine_sound.proofs.Lists.{get_map, get_there, get_within, map_get, some_is}
 use Rattle.table_core.specs.declared.value.CellId.{CellId}
 use Rattle.table_core.specs.declared.value.Value.{Value as Kept}

@@ -1,12 +1,12 @@
 -- The frame on top of the running stack, and frames that are pushed and popped there.
-use Rattle.std.proofs.Common.{◌≡◌, ℕ, zero, suc, ◌+◌, ◌-◌, ◌<◌, take, List, [], ◌∷◌, ◌++◌, length, Option, Some, None, refl, ap, sym, subst, ◌∙◌, arith, Bool, true, false, Result, Ok, Err, IfOk, OnErr}
+use Rattle.std.proofs.Common.{◌≡◌, ℕ, zero, suc, ◌+◌, ◌-◌, ◌<◌, take, List, [], ◌∷◌, ◌++◌, length, Option, Some, None, refl, ap, sym, ◌∙◌, arith, Bool, true, false, Result, Ok, Err, IfOk, OnErr}
 use Rattle.std.specs.Prelude.{cond, map, nat_le, slice_get, slice_set}
 use Rattle.std.specs.Option.{option_map}
 use Rattle.std.proofs.lemmas.List.{length-map}
 use Rattle.int_core.specs.Limits.{greatest_depth}
 use Rattle.int_core.specs.Value.{Value, bind, last, without_last}
 use Rattle.machine_core.specs.World.{LuaFrame, Frame, lua, in_progress, World, Stack, stack_of, put_frames, pop, push}
-use Rattle.machine_core.specs.Moves.{TopShape, top_shape, top_now, runs_main, see_top, pop_frame, push_frame, Over, frame_over, has_room, push_all, Made, made, move}
+use Rattle.machine_core.specs.Moves.{top_shape, top_now, runs_main, see_top, pop_frame, push_frame, Over, frame_over, push_all, Made, made, move}
 use Rattle.machine_sound.proofs.Lists.{bind_at, get_map, get_set_same, last_push, some_is}
 use Rattle.machine_sound.proofs.Frames.{stack_is}
 use Rattle.table_core.specs.declared.value.CoroId.{CoroId}
@@ -19,7 +19,6 @@ use Rattle.lua_heap.specs.Reading.{value}
 use Rattle.lua_heap.specs.Plain.{plain, coroutine}
 use Rattle.move_laws.specs.Memory.{Runs, ChangesStack, HasStack, Makes}
 use Rattle.move_laws.proofs.Running.{changed_stack_is_put, set_same}
-use Rattle.machine_moves.specs.Moves.{RunsAs}
 use Rattle.machine_moves.specs.Tops.{shape_of, is_other}
 
 -- lists

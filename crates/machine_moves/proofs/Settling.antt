@@ -1,10 +1,9 @@
 -- An operation that is settled in memory.
-use Rattle.std.proofs.Common.{◌≡◌, ℕ, List, [], ◌∷◌, Some, refl, ap, sym, subst, ◌∙◌, Bool, true, false, Result, Ok, Err, OnOk, OnErr}
+use Rattle.std.proofs.Common.{◌≡◌, ℕ, List, refl, ap, sym, subst, ◌∙◌, false, Result, Ok, Err, OnOk, OnErr}
 use Rattle.int_core.specs.Value.{Value}
-use Rattle.int_core.specs.Heap.{Heap}
 use Rattle.int_core.specs.Operations.{does}
-use Rattle.machine_core.specs.World.{World, Place, place_of}
-use Rattle.machine_core.specs.Text.{Arg, args_of}
+use Rattle.machine_core.specs.World.{Place, place_of}
+use Rattle.machine_core.specs.Text.{args_of}
 use Rattle.machine_core.specs.Moves.{settled as settled_in, made}
 use Rattle.machine_sound.proofs.Lists.{bind_at}
 use Rattle.object_pool.specs.Pool.{Pool}

@@ -1,5 +1,5 @@
 -- What is on top of the running stack.
-use Rattle.std.specs.Prelude.{◌≡◌, ℕ, Bool, true, false}
+use Rattle.std.specs.Prelude.{◌≡◌, Bool, true, false}
 use Rattle.int_core.specs.Value.{Value}
 use Rattle.machine_core.specs.World.{Frame}
 use Rattle.machine_core.specs.Moves.{TopShape, lua_top, pcall_top, xpcall_top, handler_top, closing_top, no_top}

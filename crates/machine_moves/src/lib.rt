@@ -3,6 +3,7 @@
 
 mod code;
 mod moving;
+mod objects;
 mod operations;
 mod registers;
 mod running;
@@ -11,6 +12,7 @@ mod upvalues;
 
 pub use code::{code_on_top, read_constant};
 pub use moving::{give_values, put_in_front, take_moving};
+pub use objects::make_table;
 pub use operations::settle;
 pub use registers::{clear_registers, go_to, read_register, write_register};
 pub use tops::{Over, pop_frame, push_frame, see_top};

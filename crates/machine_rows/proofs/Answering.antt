@@ -1,10 +1,10 @@
 -- A frame that is left with an answer.
 use Rattle.std.proofs.Common.{◌≡◌, ℕ, zero, suc, List, [], ◌∷◌, ◌++◌, length, Some, refl, ap, sym, ◌∙◌, append-nil, true, false}
-use Rattle.std.specs.Prelude.{drop, map, slice_get}
+use Rattle.std.specs.Prelude.{drop, map}
 use Rattle.int_core.specs.Value.{Value, known, nil, boolean, nth}
-use Rattle.machine_core.specs.Text.{Arg, read, written, args_of}
+use Rattle.machine_core.specs.Text.{read, written, args_of}
 use Rattle.machine_core.specs.FrameRows.{then, hand_over, handed_to, caught}
-use Rattle.machine_core.specs.Moves.{Ending, Row, give, give_with, pop_frame, pcall_top}
+use Rattle.machine_core.specs.Moves.{Ending, give, give_with, pop_frame, pcall_top}
 use Rattle.table_core.specs.declared.value.Value.{Value as Kept}
 use Rattle.table_core.specs.declared.value.Value.TheVariants.{Nil, Bool as Boolean}
 use Rattle.lua_heap.specs.declared.world.World.{World as Memory}

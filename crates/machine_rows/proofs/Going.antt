@@ -1,14 +1,16 @@
 -- Where a frame goes on.
-use Rattle.std.proofs.Common.{◌≡◌, ℕ, ◌+◌, List, [], ◌∷◌, ◌++◌, length, Some, refl, ap, sym, subst, ◌∙◌, Bool, true, false}
-use Rattle.std.specs.Prelude.{ℤ, pos, cond, drop, map}
+use Rattle.std.proofs.Common.{◌≡◌, ℕ, ◌+◌, List, Option, Some, None, refl, ap, sym, ◌∙◌, Bool, true, false}
+use Rattle.std.specs.Prelude.{pos, cond}
 use Rattle.int_core.specs.Value.{Value, same_truth}
-use Rattle.machine_core.specs.Text.{Arg, arg, written, Own, write_register, Text, go_by}
-use Rattle.machine_core.specs.InstructionRows.{next, skip, then, tested}
+use Rattle.machine_core.specs.Text.{Arg, write_register, Text, go_by, trap}
+use Rattle.machine_core.specs.InstructionRows.{next, skip, tested, with_extra}
+use Rattle.code_core.specs.Prototype.{Prototype}
+use Rattle.code_core.specs.Check.{extra_at}
 use Rattle.machine_core.specs.FrameRows.{expand}
-use Rattle.machine_core.specs.Moves.{on_own, move_pc, place_from, go, Row, act, stop, trapped, run}
+use Rattle.machine_core.specs.Moves.{place_from, go, Row, stop, run}
 use Rattle.lua_heap.specs.declared.world.World.{World as Memory}
 use Rattle.lua_heap.specs.Plain.{plain}
-use Rattle.move_laws.specs.Memory.{CanDo, Makes, Leads, IsSafe, StandsAt, HasStack}
+use Rattle.move_laws.specs.Memory.{CanDo, Leads, IsSafe, StandsAt}
 use Rattle.move_laws.proofs.Rows.{first, ended, can_go}
 use Rattle.machine_moves.specs.Moves.{CanGo, Goes}
 
@@ -43,3 +45,11 @@ tests true true = refl
 tests true false = refl
 tests false true = refl
 tests false false = refl
+
+-- the word behind is there where a safe row asks for it
+pub extra_there : {W : Memory} {env : List Value} (p : Prototype) (pc : ℕ) (k : ℕ → Text) → IsSafe (expand (with_extra p pc k)) env W → (ax : ℕ) × (with_extra p pc k ≡ k ax)
+extra_there {W} {env} p pc k s = by (extra_at p pc) refl
+  where
+    by : (o : Option ℕ) → extra_at p pc ≡ o → (ax : ℕ) × (with_extra p pc k ≡ k ax)
+    by (Some ax) e = (ax, ap (λ o. elim o as (λ _. Text) [ None ↦ trap | Some ax ↦ k ax ]) e)
+    by None e = absurd (s.never 0 (ap (λ o. run (expand (elim o as (λ _. Text) [ None ↦ trap | Some ax ↦ k ax ])) env (plain W 0)) e))

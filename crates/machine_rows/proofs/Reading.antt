@@ -1,11 +1,11 @@
 -- Operands that are read.
-use Rattle.std.proofs.Common.{◌≡◌, ℕ, List, [], ◌∷◌, ◌++◌, length, Option, Some, None, refl, ap, sym, subst, ◌∙◌, append-nil}
+use Rattle.std.proofs.Common.{◌≡◌, ℕ, List, [], ◌∷◌, ◌++◌, length, Option, Some, None, refl, ap, sym, ◌∙◌, append-nil}
 use Rattle.std.specs.Prelude.{Bool, true, is_some, slice_get}
-use Rattle.int_core.specs.Value.{Value, known, integer, boolean, Shape, shape, nth, bind}
-use Rattle.machine_core.specs.World.{Cell, World, Place, place_of, read_cell}
-use Rattle.machine_core.specs.Text.{Arg, read, written, Own, read_register, read_constant, read_upvalue, Text}
+use Rattle.int_core.specs.Value.{Value, integer, boolean, shape, nth, bind}
+use Rattle.machine_core.specs.World.{Cell, place_of, read_cell}
+use Rattle.machine_core.specs.Text.{read, written, read_register, read_constant, read_upvalue}
 use Rattle.machine_core.specs.FrameRows.{expand}
-use Rattle.machine_core.specs.Moves.{Move, Told, Made, made, on_own, outside, own_cell, do_outside, move, Row, Outcome, trapped, run}
+use Rattle.machine_core.specs.Moves.{Made, made, on_own, outside, own_cell, do_outside, move, Outcome, trapped, run}
 use Rattle.machine_sound.proofs.Lists.{bind_at, bind_some, get_push_new, some_is}
 use Rattle.table_core.specs.declared.value.Value.{Value as Kept}
 use Rattle.table_core.specs.declared.value.Value.TheVariants.{Bool as Boolean, Int}
@@ -13,9 +13,8 @@ use Rattle.lua_heap.specs.declared.world.World.{World as Memory}
 use Rattle.lua_heap.specs.Changes.{value_in}
 use Rattle.lua_heap.specs.Plain.{plain}
 use Rattle.lua_heap.specs.Reading.{value}
-use Rattle.instruction_forms.specs.declared.operand.Operand.{Operand}
 use Rattle.instruction_forms.specs.declared.operand.Operand.TheVariants.{Register, Constant, Upvalue, Integer, Truth}
-use Rattle.move_laws.specs.Memory.{CanDo, Makes, IsSafe}
+use Rattle.move_laws.specs.Memory.{CanDo, Makes}
 use Rattle.move_laws.proofs.Running.{nth_is}
 use Rattle.move_laws.proofs.Rows.{act_is, can_do}
 use Rattle.machine_moves.specs.Code.{HasUpvalue}

@@ -1,8 +1,6 @@
 -- What rows on a world in memory suppose, and how they end.
 use Rattle.std.specs.Prelude.{◌≡◌, ℕ, List, [], ◌∷◌, ◌++◌, length, map, drop}
 use Rattle.int_core.specs.Value.{Value}
-use Rattle.code_core.specs.Check.{IsChecked}
-use Rattle.machine_core.specs.World.{Place, place_of}
 use Rattle.machine_core.specs.Text.{Arg, arg, args_of, Text}
 use Rattle.machine_core.specs.FrameRows.{expand, hand_over}
 use Rattle.machine_core.specs.Moves.{Ending, go, returned, asks, calls_primitive, raised, unwinding, spent, main_yielded, main_returned, main_failed, run, take_moving, pop_frame, give, give_with}

@@ -4,11 +4,13 @@
 mod ending;
 mod following;
 mod loads;
+mod objects;
 mod operands;
 mod protected;
 
 pub use ending::Ending;
 pub use following::{go_on, keep_value, test_value};
 pub use loads::{clear, load};
+pub use objects::new_table;
 pub use operands::read_operand;
 pub use protected::{answer_error, answer_results};

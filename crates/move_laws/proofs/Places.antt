@@ -1,9 +1,9 @@
 -- What stands where a coroutine runs, and where a Lua frame is on top of it.
-use Rattle.std.proofs.Common.{◌≡◌, ℕ, ◌-◌, List, [], ◌∷◌, ◌++◌, length, Option, Some, None, refl, ap, sym, ◌∙◌}
+use Rattle.std.proofs.Common.{◌≡◌, ℕ, ◌-◌, List, length, Some, refl, ap, sym, ◌∙◌}
 use Rattle.std.specs.Prelude.{slice_get}
-use Rattle.int_core.specs.Value.{bind, last, without_last}
+use Rattle.int_core.specs.Value.{bind, last}
 use Rattle.machine_core.specs.World.{Function, LuaFrame, Frame, lua, pcall, xpcall, handler, closing, Coroutine, fresh, suspended, in_progress, normal, dead, failed, World, Stack, stack_of, Place, place_of, lua_frame, running_frames}
-use Rattle.machine_sound.proofs.Lists.{bind_some, some_is, last_splits}
+use Rattle.machine_sound.proofs.Lists.{bind_some, some_is}
 
 pub record StackIs (W : World) (s : Stack) : Type 0 where
   pub chain : last W.chain ≡ Some s.coroutine

@@ -1,17 +1,17 @@
 -- Rows move by move, over worlds in memory.
-use Rattle.std.proofs.Common.{◌≡◌, ℕ, List, [], ◌∷◌, ◌++◌, length, Option, Some, None, refl, ap, sym, ◌∙◌, Bool, true, false}
-use Rattle.std.specs.Prelude.{ℤ, IsSome, cond, drop}
+use Rattle.std.proofs.Common.{◌≡◌, ℕ, List, [], ◌∷◌, ◌++◌, length, Option, Some, None, refl, ap, ◌∙◌, Bool, true, false}
+use Rattle.std.specs.Prelude.{ℤ, IsSome, cond}
 use Rattle.code_core.specs.declared.instruction.Instruction.{Instruction}
 use Rattle.code_core.specs.Check.{at}
 use Rattle.int_core.specs.Value.{Value, Shape, bind}
-use Rattle.machine_core.specs.World.{World, Stack, stack_of, Place, place_of}
+use Rattle.machine_core.specs.World.{World, Place, place_of}
 use Rattle.machine_core.specs.Text.{Own, reads, tells, fits}
-use Rattle.machine_core.specs.Moves.{Move, Told, Made, made, move, on_own, do_own, move_pc, moved_pc, place_from, with_own, Ending, Row, act, stop, only, Outcome, trapped, ends, run}
+use Rattle.machine_core.specs.Moves.{Move, Told, made, move, on_own, do_own, move_pc, moved_pc, place_from, with_own, Ending, Row, act, stop, Outcome, trapped, run}
 use Rattle.machine_sound.proofs.Lists.{bind_at}
 use Rattle.lua_heap.specs.declared.world.World.{World as Memory}
 use Rattle.lua_heap.specs.Plain.{plain}
 use Rattle.move_laws.proofs.Running.{went}
-use Rattle.move_laws.specs.Memory.{HasStack, HasFrame, CanDo, Makes, Leads, IsSafe}
+use Rattle.move_laws.specs.Memory.{CanDo, Makes, Leads, IsSafe}
 
 pub act_is : (m : Move) (k : ℕ → Told m → Row) (env : List Value) (W V : World) (vs : List Value) (t : Told m) → move m env W ≡ made V vs t → run (act m k) env W ≡ run (k (length env) t) (env ++ vs) V
 act_is m k env W V vs t e = ap (λ o. elim o as (λ _. Outcome) [ None ↦ trapped | Some d ↦ run (k (length env) d.told) (env ++ d.values) d.world ]) e

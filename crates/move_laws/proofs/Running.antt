@@ -1,9 +1,9 @@
 -- The running stack in memory, and moves on the frame on top of it.
-use Rattle.std.proofs.Common.{◌≡◌, ℕ, zero, suc, ◌+◌, ◌<◌, ◌≤◌, List, [], ◌∷◌, ◌++◌, length, Option, Some, None, refl, ap, sym, subst, ◌∙◌, arith, length-append, Bool, true, false}
+use Rattle.std.proofs.Common.{◌≡◌, ℕ, zero, suc, ◌≤◌, List, [], ◌∷◌, ◌++◌, length, Option, Some, None, refl, ap, sym, ◌∙◌, arith, length-append, true}
 use Rattle.std.specs.Prelude.{◌-◌, ℤ, IsSome, cond, map, slice_get, slice_set}
 use Rattle.code_core.specs.declared.instruction.Instruction.{Instruction}
 use Rattle.code_core.specs.Check.{at}
-use Rattle.int_core.specs.Value.{Value, Shape, known, nil, nth, bind, last, without_last}
+use Rattle.int_core.specs.Value.{Value, known, nil, nth, bind, last, without_last}
 use Rattle.machine_core.specs.World.{Function, Cell, LuaFrame, lua_frame, Frame, lua, Coroutine, in_progress, World, Stack, stack_of, Place, place_of, put_frames, put_top}
 use Rattle.machine_core.specs.Text.{Own, reads, tells, effect, fits}
 use Rattle.machine_core.specs.Moves.{Made, made, move, move_pc, moved_pc, place_from, on_own, do_own, with_own, cells_after}
@@ -17,9 +17,9 @@ use Rattle.lua_heap.specs.declared.world.Coro.TheVariants.{Fresh, Suspended, Run
 use Rattle.lua_heap.specs.declared.world.World.{World as Memory}
 use Rattle.lua_heap.specs.Reading.{value}
 use Rattle.lua_heap.specs.Plain.{plain, coroutine}
-use Rattle.move_laws.specs.Memory.{Runs, ChangesStack, HasStack, HasFrame, CanDo, Makes}
-use Rattle.move_laws.specs.Law.{RunsIn, StackRuns, ChangedStackIsPut}
-use Rattle.move_laws.proofs.Places.{StackIs, stack_is, PlaceIs, place_is}
+use Rattle.move_laws.specs.Memory.{Runs, ChangesStack, HasStack, Makes}
+use Rattle.move_laws.specs.Law.{StackRuns, ChangedStackIsPut}
+use Rattle.move_laws.proofs.Places.{stack_is, place_is}
 
 map_set : {A B : Type 0} (f : A → B) (xs : List A) (i : ℕ) (x : A) → map f (slice_set xs i x) ≡ slice_set (map f xs) i (f x)
 map_set f [] i x = refl

@@ -1,5 +1,5 @@
 -- The running stack of a world in memory, what is changed of it, and moves of the machine between worlds in memory.
-use Rattle.std.specs.Prelude.{◌≡◌, ◌<◌, ℕ, true, List, length, Some, slice_get, slice_set}
+use Rattle.std.specs.Prelude.{◌≡◌, ℕ, true, List, Some, slice_get, slice_set}
 use Rattle.int_core.specs.Value.{Value, last}
 use Rattle.machine_core.specs.World.{Stack, stack_of, Place, place_of}
 use Rattle.machine_core.specs.Text.{Own, fits}

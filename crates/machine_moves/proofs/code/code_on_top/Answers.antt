@@ -1,6 +1,6 @@
-use Rattle.std.proofs.Common.{◌≡◌, ℕ, ◌<◌, length, Some, refl, ap, sym, subst, ◌∙◌}
+use Rattle.std.proofs.Common.{◌≡◌, sym, subst}
 use Rattle.code_core.specs.Check.{IsChecked}
-use Rattle.lua_heap.specs.Codes.{functions, prototype_at, IsCode}
+use Rattle.lua_heap.specs.Codes.{functions, IsCode}
 use Rattle.move_laws.proofs.Running.{has_stack, lua_top, of_top}
 use Rattle.machine_moves.proofs.OfCode.{function_kept, function_there, code_is}
 use Rattle.machine_moves.proofs.code.code_on_top.Goals as goal

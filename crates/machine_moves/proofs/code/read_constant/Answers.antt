@@ -1,5 +1,5 @@
-use Rattle.std.proofs.Common.{◌≡◌, ℕ, ◌<◌, length, Some, true, rules, refl, ap, sym, subst, ◌∙◌}
-use Rattle.std.specs.Prelude.{nat_lt, slice_get}
+use Rattle.std.proofs.Common.{◌≡◌, ◌<◌, length, true, rules, subst}
+use Rattle.std.specs.Prelude.{nat_lt}
 use Rattle.machine_core.specs.World.{Place}
 use Rattle.machine_sound.proofs.Lists.{some_is}
 use Rattle.machine_moves.proofs.OfCode.{constant_there, constant_made}

@@ -1,4 +1,4 @@
-use Rattle.std.proofs.Common.{◌≡◌, ap, sym, ◌∙◌}
+use Rattle.std.proofs.Common.{◌≡◌, ap}
 use Rattle.machine_moves.proofs.OnTop.{if_ok}
 use Rattle.machine_moves.proofs.Settling.{strings_same, settles}
 use Rattle.machine_moves.proofs.operations.settle.Goals as goal

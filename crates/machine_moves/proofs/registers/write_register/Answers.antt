@@ -1,12 +1,10 @@
-use Rattle.std.proofs.Common.{◌≡◌, ℕ, List, [], ◌∷◌, length, Some, refl, ap, sym, ◌∙◌}
-use Rattle.std.specs.Prelude.{map, slice_get}
-use Rattle.int_core.specs.Value.{Value as Meant, known, nil, shape, write}
+use Rattle.std.proofs.Common.{refl, ap}
+use Rattle.int_core.specs.Value.{Value as Meant, write}
 use Rattle.lua_heap.specs.Reading.{value as meant}
-use Rattle.machine_core.specs.World.{LuaFrame}
-use Rattle.machine_core.specs.Text.{Arg, arg, written, nils, read_register as reads, write_register as writes, write_nils}
-use Rattle.lua_stack.specs.Frames.{with_registers, with_pc}
-use Rattle.move_laws.proofs.Running.{with_top, place_after, has_stack, registers_there, lua_top, own_made, own_read, pc_made, of_top, nth_is}
-use Rattle.machine_moves.proofs.Stacks.{within, with_stack, found_runs, less, at_most}
+use Rattle.machine_core.specs.Text.{write_register as writes}
+use Rattle.lua_stack.specs.Frames.{with_registers}
+use Rattle.move_laws.proofs.Running.{with_top, place_after, has_stack, registers_there, own_made}
+use Rattle.machine_moves.proofs.Stacks.{within, with_stack, found_runs, less}
 use Rattle.machine_moves.proofs.registers.write_register.Goals as goal
 
 pub running-co-requires : goal.running-co-requires

@@ -1,7 +1,5 @@
-use Rattle.std.proofs.Common.{rules, ◌≡◌, ℕ, ◌-◌, List, length, Some, ap, sym, ◌∙◌}
-use Rattle.std.specs.Prelude.{slice_get, get_or}
-use Rattle.table_core.specs.declared.value.CoroId.{CoroId}
-use Rattle.move_laws.specs.Memory.{Runs}
+use Rattle.std.proofs.Common.{rules, ◌≡◌, ◌-◌, length, Some, ap, sym, ◌∙◌}
+use Rattle.std.specs.Prelude.{slice_get}
 use Rattle.move_laws.proofs.Running.{stack_runs, last_there}
 use Rattle.machine_moves.proofs.Stacks.{got_is, runs_as}
 use Rattle.machine_moves.proofs.running.running.Goals as goal

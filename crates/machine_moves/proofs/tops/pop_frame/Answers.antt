@@ -1,9 +1,6 @@
-use Rattle.std.proofs.Common.{◌≡◌, ℕ, List, [], ◌∷◌, length, Some, refl, ap, sym, ◌∙◌}
-use Rattle.std.specs.Prelude.{map, slice_get}
-use Rattle.lua_heap.specs.Reading.{value as meant}
-use Rattle.machine_moves.specs.Tops.{kept_over}
+use Rattle.std.proofs.Common.{refl, ap, ◌∙◌}
 use Rattle.machine_moves.proofs.Stacks.{within, found_runs}
-use Rattle.machine_moves.proofs.OnTop.{has_running, same_stack, top_seen, no_lua, frames_there, popped_is, runs_after, pushed_is, kept_whole, if_ok, on_err}
+use Rattle.machine_moves.proofs.OnTop.{has_running, same_stack, no_lua, popped_is, runs_after}
 use Rattle.machine_moves.proofs.tops.pop_frame.Goals as goal
 
 pub running-co-requires : goal.running-co-requires

@@ -1,9 +1,7 @@
-use Rattle.std.proofs.Common.{◌≡◌, ℕ, List, [], ◌∷◌, length, Some, refl, ap, sym, ◌∙◌}
-use Rattle.std.specs.Prelude.{map, slice_get}
-use Rattle.lua_heap.specs.Reading.{value as meant}
+use Rattle.std.proofs.Common.{refl}
 use Rattle.machine_moves.specs.Tops.{kept_over}
-use Rattle.machine_moves.proofs.Stacks.{within, found_runs}
-use Rattle.machine_moves.proofs.OnTop.{has_running, same_stack, top_seen, no_lua, frames_there, popped_is, pushed_is, kept_whole, if_ok, on_err}
+use Rattle.machine_moves.proofs.Stacks.{found_runs}
+use Rattle.machine_moves.proofs.OnTop.{pushed_is, kept_whole, if_ok, on_err}
 use Rattle.machine_moves.proofs.tops.push_frame.Goals as goal
 
 pub returns-clause-makes : goal.returns-clause-makes

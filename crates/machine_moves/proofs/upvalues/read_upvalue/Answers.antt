@@ -1,8 +1,7 @@
-use Rattle.std.proofs.Common.{◌≡◌, ℕ, ◌<◌, length, Some, rules, refl, ap, sym, subst, ◌∙◌}
-use Rattle.std.specs.Prelude.{slice_get, IsSome}
+use Rattle.std.proofs.Common.{◌≡◌, ◌<◌, length, rules, ap, sym, subst, ◌∙◌}
+use Rattle.std.specs.Prelude.{IsSome}
 use Rattle.machine_sound.proofs.Lists.{get_within, some_is}
 use Rattle.lua_heap.specs.Changes.{value_in}
-use Rattle.lua_heap.specs.Reading.{value as meant}
 use Rattle.lua_heap.specs.Plain.{plain}
 use Rattle.move_laws.proofs.Running.{has_stack, lua_top, of_top}
 use Rattle.machine_moves.proofs.Stacks.{got_there}

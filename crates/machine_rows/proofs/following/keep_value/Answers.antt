@@ -1,4 +1,4 @@
-use Rattle.std.proofs.Common.{◌≡◌, ℕ, [], ◌∷◌, refl, ap, sym, ◌∙◌}
+use Rattle.std.proofs.Common.{[], ◌∷◌, refl}
 use Rattle.lua_heap.specs.Reading.{value as meant}
 use Rattle.machine_core.specs.Text.{read, write_register}
 use Rattle.machine_core.specs.InstructionRows.{next}

@@ -1,8 +1,6 @@
-use Rattle.std.proofs.Common.{rules, ◌≡◌, ℕ, ◌+◌, [], ◌∷◌, refl, ap, sym, subst, ◌∙◌}
-use Rattle.std.specs.Prelude.{cond, not}
-use Rattle.int_core.specs.Value.{holds, shape, same_truth}
+use Rattle.std.proofs.Common.{rules, ◌≡◌, ◌+◌, [], ◌∷◌, sym, subst}
+use Rattle.int_core.specs.Value.{holds, shape}
 use Rattle.lua_heap.specs.Reading.{value as meant}
-use Rattle.machine_core.specs.InstructionRows.{tested}
 use Rattle.machine_core.specs.FrameRows.{expand}
 use Rattle.machine_core.specs.Moves.{go}
 use Rattle.move_laws.specs.Memory.{IsSafe, Leads}

@@ -1,4 +1,4 @@
-use Rattle.std.proofs.Common.{◌≡◌, ℕ, [], Some, refl, ap, sym, ◌∙◌, false}
+use Rattle.std.proofs.Common.{[]}
 use Rattle.machine_core.specs.Text.{write_nils}
 use Rattle.machine_core.specs.InstructionRows.{next}
 use Rattle.machine_core.specs.FrameRows.{expand}

@@ -1,7 +1,5 @@
-use Rattle.std.proofs.Common.{◌≡◌, ℕ, List, [], ◌++◌, Some, refl, ap, sym, subst, ◌∙◌}
+use Rattle.std.proofs.Common.{[], ◌++◌, sym, subst, ◌∙◌}
 use Rattle.std.specs.Prelude.{cond}
-use Rattle.code_core.specs.Prototype.{Prototype}
-use Rattle.int_core.specs.Value.{Value}
 use Rattle.machine_core.specs.Text.{Arg, write_register, Text}
 use Rattle.machine_core.specs.InstructionRows.{next, skip, then}
 use Rattle.machine_core.specs.FrameRows.{expand}

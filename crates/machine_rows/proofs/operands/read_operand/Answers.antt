@@ -1,4 +1,4 @@
-use Rattle.std.proofs.Common.{rules, ◌≡◌, ap, sym, subst, ◌∙◌}
+use Rattle.std.proofs.Common.{rules, ◌≡◌, sym, subst}
 use Rattle.table_core.specs.declared.value.Value.TheVariants.{Bool as Boolean, Int}
 use Rattle.machine_rows.specs.Rows.{IsRead, Reads}
 use Rattle.machine_rows.proofs.Reading.{can_register, can_constant, can_upvalue, reads_register, reads_constant, reads_upvalue, reads_integer, reads_truth}
