@@ -1,0 +1,5 @@
+pub mod Stacks
+pub mod OnTop
+pub mod OfCode
+pub mod Settling
+pub mod NewObjects

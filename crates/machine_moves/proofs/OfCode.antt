@@ -1,0 +1,110 @@
+-- The function of the Lua frame on top, and its constants.
+use Rattle.std.proofs.Common.{◌≡◌, ℕ, ◌<◌, List, [], ◌∷◌, length, Option, Some, None, refl, ap, sym, subst, ◌∙◌, arith, true}
+use Rattle.std.specs.Prelude.{map, nat_lt, slice_get}
+use Rattle.std.proofs.lemmas.List.{length-map}
+use Rattle.std.proofs.lemmas.Bool.Decides.{nat_tests}
+use Rattle.code_core.specs.declared.proto.Const.{Const}
+use Rattle.code_core.specs.Prototype.{Prototype}
+use Rattle.int_core.specs.Value.{Value, known, nil, bind, Shape, is_known, shape}
+use Rattle.machine_core.specs.World.{Function, Cell, World, Place, place_of, read_cell}
+use Rattle.machine_core.specs.Text.{constant, read_constant, read_upvalue}
+use Rattle.machine_core.specs.Moves.{made, on_own, outside, do_outside}
+use Rattle.machine_sound.proofs.Lists.{get_map, get_there, get_within, map_get, some_is}
+use Rattle.table_core.specs.declared.value.CellId.{CellId}
+use Rattle.table_core.specs.declared.value.Value.{Value as Kept}
+use Rattle.lua_heap.specs.declared.world.Func.{Func}
+use Rattle.lua_heap.specs.declared.world.World.{World as Memory}
+use Rattle.lua_heap.specs.declared.codes.Code.{Code}
+use Rattle.lua_heap.specs.Codes.{functions, prototype_at, IsCode}
+use Rattle.lua_heap.specs.Changes.{value_in}
+use Rattle.lua_heap.specs.Reading.{value}
+use Rattle.lua_heap.specs.Plain.{plain, function}
+use Rattle.move_laws.specs.Memory.{CanDo, Makes}
+use Rattle.move_laws.proofs.Places.{place_is}
+use Rattle.move_laws.proofs.Running.{own_read}
+use Rattle.machine_moves.specs.Code.{IsCodeOnTop}
+
+-- the function on top in memory
+pub record Kept_function (W : Memory) (at : Place) (n : ℕ) : Type 0 where
+  pub func : Func
+  pub there : slice_get W.funcs.objects n ≡ Some func
+  pub is : function (functions W.codes) func ≡ at.function
+
+pub function_kept : (W : Memory) (at : Place) (n : ℕ) → place_of (plain W 0) ≡ Some at → n ≡ at.top.function → Kept_function W at n
+function_kept W at n e same =
+    let p = place_is (plain W 0) at e in
+    let f = map_get (function (functions W.codes)) W.funcs.objects n at.function (ap (slice_get (plain W 0).functions) same ∙ p.function) in
+    record { func = f.0; there = f.1; is = f.2 }
+
+pub function_there : (W : Memory) (at : Place) (n : ℕ) → Kept_function W at n → n < length W.funcs.objects
+function_there W at n k = get_within W.funcs.objects n k.func k.there
+
+pub code_is : (W : Memory) (at : Place) (n : ℕ) (f : Func) → Kept_function W at n → slice_get W.funcs.objects n ≡ Some f → prototype_at (functions W.codes) f.code.0 ≡ at.function.code
+code_is W at n f k e =
+    ap (λ (f : Func). prototype_at (functions W.codes) f.code.0) (some_is e k.there) ∙ ap (λ (g : Function). g.code) k.is
+
+-- constants
+
+module _ (texts : List (List ℕ)) (n : ℕ) (p : Prototype) (code : Code) (c : IsCode texts n p code) where
+  pub constant_there : (i : ℕ) → nat_lt i (length p.own.constants) ≡ true → i < length code.constants.items
+  constant_there i l =
+      let m = ap length c.constants in
+      let a = length-map code.constants.items (value texts) in
+      let b = length-map p.own.constants (λ c. known (constant c)) in
+      let size : length code.constants.items ≡ length p.own.constants = sym a ∙ m ∙ b in
+      let k : i < length p.own.constants = search (arith, nat_tests) in
+      omega (arith, size, k)
+
+  pub constant_is : (i : ℕ) (v : Kept) (k : Const) → slice_get code.constants.items i ≡ Some v → slice_get p.own.constants i ≡ Some k → known (constant k) ≡ value texts v
+  constant_is i v k e f =
+      some_is (get_map (λ c. known (constant c)) p.own.constants i k f) (ap (λ l. slice_get l i) (sym c.constants) ∙ get_map (value texts) code.constants.items i v e)
+
+abbrev constant_read : Option Const → List Value
+constant_read o = elim o [ None ↦ [] | Some c ↦ known (constant c) ∷ [] ]
+
+abbrev constant_told : Option Const → Shape
+constant_told o = elim o [ None ↦ is_known nil | Some c ↦ is_known (constant c) ]
+
+pub constant_made : (W : Memory) (n : ℕ) (code : Code) (v : Kept) (env : List Value) (d : CanDo W (read_constant n)) (k : IsCodeOnTop W code) → slice_get code.constants.items n ≡ Some v
+    → Makes W W (on_own (read_constant n)) env (value W.strings v ∷ []) (shape (value W.strings v))
+constant_made W n code v env d k e =
+    let at = d.place in
+    let same : k.place ≡ at = some_is k.is d.is in
+    let says : IsCode W.strings k.number at.function.code code = subst (λ (p : Place). IsCode W.strings k.number p.function.code code) same k.says in
+    let l : n < length at.function.code.own.constants = below n (length at.function.code.own.constants) d.fits in
+    let c = get_there at.function.code.own.constants n l in
+    let is = constant_is W.strings k.number at.function.code code says n v c.0 e c.1 in
+    record {
+      is = λ fuel.
+          own_read (plain W fuel) at (read_constant n) env d.is d.fits refl refl
+          ∙ ap (λ o. made (plain W fuel) (constant_read o) (constant_told o)) c.1
+          ∙ ap (λ v. made (plain W fuel) (v ∷ []) (shape v)) is;
+    }
+  where
+    below : (i m : ℕ) → nat_lt i m ≡ true → i < m
+    below i m e = search (arith, nat_tests)
+
+-- upvalues
+
+cells_are : (W : Memory) (at : Place) (n : ℕ) (f : Func) → Kept_function W at n → slice_get W.funcs.objects n ≡ Some f → map (λ c. c.0) f.cells.items ≡ at.function.cells
+cells_are W at n f k e = ap (λ (f : Func). map (λ c. c.0) f.cells.items) (some_is e k.there) ∙ ap (λ (g : Function). g.cells) k.is
+
+pub cell_there : (W : Memory) (at : Place) (n u : ℕ) (f : Func) (c : ℕ) → Kept_function W at n → slice_get W.funcs.objects n ≡ Some f → slice_get at.function.cells u ≡ Some c
+    → (id : CellId) × (slice_get f.cells.items u ≡ Some id) × (id.0 ≡ c)
+cell_there W at n u f c k e h = map_get (λ c. c.0) f.cells.items u c (ap (λ l. slice_get l u) (cells_are W at n f k e) ∙ h)
+
+cell_read : (W : World) (at : Place) (u c : ℕ) (v : Value) → slice_get at.function.cells u ≡ Some c → value_in W c ≡ Some v → (env : List Value) → do_outside (read_upvalue u) env W at ≡ made W (v ∷ []) true
+cell_read W at u c v h e env =
+    ap (λ o. bind {A = ℕ × Cell} (bind {B = ℕ × Cell} o (λ c. bind {B = ℕ × Cell} (slice_get W.cells c) (λ cell. Some (c, cell)))) (λ c. bind (read_cell W c.1) (λ v. made W (v ∷ []) true))) h
+    ∙ by (slice_get W.cells c) e
+  where
+    by : (o : Option Cell) → bind o (read_cell W) ≡ Some v
+        → bind {A = ℕ × Cell} (bind {B = ℕ × Cell} o (λ cell. Some (c, cell))) (λ c. bind (read_cell W c.1) (λ v. made W (v ∷ []) true)) ≡ made W (v ∷ []) true
+    by None q = absurd (cc)
+    by (Some cell) q = ap (λ o. bind o (λ v. made W (v ∷ []) true)) q
+
+pub upvalue_made : (W : Memory) (at : Place) (u c : ℕ) (v : Kept) (env : List Value) → place_of (plain W 0) ≡ Some at → slice_get at.function.cells u ≡ Some c
+    → ((fuel : ℕ) → value_in (plain W fuel) c ≡ Some (value W.strings v)) → Makes W W (outside (read_upvalue u)) env (value W.strings v ∷ []) true
+upvalue_made W at u c v env e h g = record {
+  is = λ fuel. ap (λ o. bind o (do_outside (read_upvalue u) env (plain W fuel))) e ∙ cell_read (plain W fuel) at u c (value W.strings v) h (g fuel) env;
+}

@@ -1,0 +1,29 @@
+-- What is told of the running stack, and moves of the frame on top to another place of its code.
+use Rattle.std.specs.Prelude.{◌≡◌, ℕ, ℤ, List, [], Some, IsSome}
+use Rattle.code_core.specs.Check.{at}
+use Rattle.int_core.specs.Value.{Value}
+use Rattle.machine_core.specs.World.{Place, place_of}
+use Rattle.machine_core.specs.Moves.{move_pc, place_from}
+use Rattle.table_core.specs.declared.value.CoroId.{CoroId}
+use Rattle.lua_stack.specs.Frames.{KeptStack}
+use Rattle.lua_heap.specs.declared.world.World.{World as Memory}
+use Rattle.lua_heap.specs.Plain.{plain}
+use Rattle.move_laws.specs.Memory.{Runs, Makes}
+
+pub record RunsAs (W : Memory) (co : CoroId) : Type 0 where
+  pub stack : KeptStack
+  pub runs : Runs W co stack
+
+pub record RunsOn (W : Memory) (stack : KeptStack) : Type 0 where
+  pub co : CoroId
+  pub runs : Runs W co stack
+
+-- a place of the code of the Lua frame on top
+pub record CanGo (W : Memory) (pc : ℕ) : Type 0 where
+  pub place : Place
+  pub is : place_of (plain W 0) ≡ Some place
+  pub there : IsSome (at place.function.code pc)
+
+-- the frame on top goes on there, however far that is
+pub record Goes (old new : Memory) (pc : ℕ) : Type 0 where
+  pub makes : (place : Place) → place_of (plain old 0) ≡ Some place → (z : ℤ) → place_from place.top.own.pc z ≡ Some pc → (env : List Value) → Makes old new (move_pc z) env [] tt

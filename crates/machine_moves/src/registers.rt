@@ -1,0 +1,61 @@
+// The registers of the Lua frame on top, and its place in the code.
+ghost use Rattle.std.specs.Prelude.{◌≡◌, ℕ, [], ◌∷◌, List, Some, slice_get};
+ghost use Rattle.int_core.specs.Value.{Value as Meant, known, nil, shape, is_known};
+ghost use Rattle.lua_heap.specs.Reading.{value as meant};
+ghost use Rattle.machine_core.specs.Text.{Arg, arg, written, read_register as reads, write_register as writes, write_nils};
+ghost use Rattle.machine_core.specs.Moves.{on_own};
+ghost use Rattle.move_laws.specs.Memory.{CanDo, Makes, StandsAt};
+ghost use Rattle.machine_moves.specs.Moves.{CanGo, Goes};
+
+use crate::running::{running, running_stack};
+use lua_heap::{Coro, World};
+use table_core::Value;
+
+/// The value of a register.
+pub fn read_register(world: &World, register: usize) -> Value
+    requires { CanDo world.now (reads register) }
+    ensures { (env : List Meant) → Makes world.now world.now (on_own (reads register)) env (meant world.now.strings result ∷ []) (shape (meant world.now.strings result)) }
+{
+    running_stack(world).get(register)
+}
+
+/// Writes a register.
+pub fn write_register(world: &mut World, register: usize, v: Value)
+    requires { CanDo world.old (writes register (written nil)) }
+    ensures makes { (env : List Meant) (x : Arg) → arg env x ≡ meant world.old.strings v → Makes world.old world.new (on_own (writes register x)) env [] (is_known nil) }
+    ensures at { (pc : ℕ) → StandsAt world.old pc → StandsAt world.new pc }
+    ensures rest { world.new ≡ record world.old { coros = world.new.coros } }
+{
+    let co = running(world);
+    match world.coros.get_mut(co.0) {
+        Coro::Running(stack) => stack.set(register, v),
+        _ => unreachable!(),
+    }
+}
+
+/// Sets registers in a row to nil.
+pub fn clear_registers(world: &mut World, from: usize, count: usize)
+    requires { CanDo world.old (write_nils from count) }
+    ensures makes { (env : List Meant) → Makes world.old world.new (on_own (write_nils from count)) env [] (is_known nil) }
+    ensures at { (pc : ℕ) → StandsAt world.old pc → StandsAt world.new pc }
+    ensures rest { world.new ≡ record world.old { coros = world.new.coros } }
+{
+    let co = running(world);
+    match world.coros.get_mut(co.0) {
+        Coro::Running(stack) => stack.write_nils(from, count),
+        _ => unreachable!(),
+    }
+}
+
+/// Lets the frame go on at another place of its code.
+pub fn go_to(world: &mut World, pc: usize)
+    requires { CanGo world.old pc }
+    ensures makes { Goes world.old world.new pc }
+    ensures rest { world.new ≡ record world.old { coros = world.new.coros } }
+{
+    let co = running(world);
+    match world.coros.get_mut(co.0) {
+        Coro::Running(stack) => stack.set_pc(pc),
+        _ => unreachable!(),
+    }
+}

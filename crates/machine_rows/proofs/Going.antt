@@ -1,0 +1,55 @@
+-- Where a frame goes on.
+use Rattle.std.proofs.Common.{◌≡◌, ℕ, ◌+◌, List, Option, Some, None, refl, ap, sym, ◌∙◌, Bool, true, false}
+use Rattle.std.specs.Prelude.{pos, cond}
+use Rattle.int_core.specs.Value.{Value, same_truth}
+use Rattle.machine_core.specs.Text.{Arg, write_register, Text, go_by, trap}
+use Rattle.machine_core.specs.InstructionRows.{next, skip, tested, with_extra}
+use Rattle.code_core.specs.Prototype.{Prototype}
+use Rattle.code_core.specs.Check.{extra_at}
+use Rattle.machine_core.specs.FrameRows.{expand}
+use Rattle.machine_core.specs.Moves.{place_from, go, Row, stop, run}
+use Rattle.lua_heap.specs.declared.world.World.{World as Memory}
+use Rattle.lua_heap.specs.Plain.{plain}
+use Rattle.move_laws.specs.Memory.{CanDo, Leads, IsSafe, StandsAt}
+use Rattle.move_laws.proofs.Rows.{first, ended, can_go}
+use Rattle.machine_moves.specs.Moves.{CanGo, Goes}
+
+pub ahead : (b : Bool) → cond b skip next ≡ go_by (pos (cond b 2 1))
+ahead true = refl
+ahead false = refl
+
+from_place : {W : Memory} {pc to : ℕ} (k : ℕ) (s : StandsAt W pc) → to ≡ pc + k → place_from s.place.top.own.pc (pos k) ≡ Some to
+from_place k s e = ap (λ n. place_from n (pos k)) s.at ∙ ap (λ n. Some n) (sym e)
+
+pub goes_on : {W V : Memory} {pc to : ℕ} (k : ℕ) (s : StandsAt W pc) → to ≡ pc + k → Goes W V to → (env : List Value) → Leads (expand (go_by (pos k))) env W V go
+goes_on k s e g env = first (λ _ _. stop go) (g.makes s.place s.is (pos k) (from_place k s e) env) ended
+
+pub may_go : {W : Memory} {pc to : ℕ} {env : List Value} (k : ℕ) (s : StandsAt W pc) → to ≡ pc + k → IsSafe (expand (go_by (pos k))) env W → CanGo W to
+may_go {W} {pc} {to} {env} k s e h = record { place = s.place; is = s.is; there = can_go (pos k) (λ _ _. stop go) to s.place h s.is (from_place k s e) }
+
+-- a row that comes to another one is as safe
+pub safe_as : {W : Memory} {r q : Row} {env more : List Value} → IsSafe r env W → ((fuel : ℕ) → run r env (plain W fuel) ≡ run q more (plain W fuel)) → IsSafe q more W
+safe_as s h = record { never = λ fuel e. s.never fuel (h fuel ∙ e) }
+
+-- a register that may be written gets any value
+pub any_value : {W : Memory} {r : ℕ} {x y : Arg} → CanDo W (write_register r x) → CanDo W (write_register r y)
+any_value d = record { place = d.place; is = d.is; fits = d.fits }
+
+-- how far a test goes on
+
+abbrev pub skipped : Bool → Bool → ℕ
+skipped b wanted = cond (same_truth b wanted) 1 2
+
+pub tests : (b wanted : Bool) → tested b wanted ≡ go_by (pos (skipped b wanted))
+tests true true = refl
+tests true false = refl
+tests false true = refl
+tests false false = refl
+
+-- the word behind is there where a safe row asks for it
+pub extra_there : {W : Memory} {env : List Value} (p : Prototype) (pc : ℕ) (k : ℕ → Text) → IsSafe (expand (with_extra p pc k)) env W → (ax : ℕ) × (with_extra p pc k ≡ k ax)
+extra_there {W} {env} p pc k s = by (extra_at p pc) refl
+  where
+    by : (o : Option ℕ) → extra_at p pc ≡ o → (ax : ℕ) × (with_extra p pc k ≡ k ax)
+    by (Some ax) e = (ax, ap (λ o. elim o as (λ _. Text) [ None ↦ trap | Some ax ↦ k ax ]) e)
+    by None e = absurd (s.never 0 (ap (λ o. run (expand (elim o as (λ _. Text) [ None ↦ trap | Some ax ↦ k ax ])) env (plain W 0)) e))

@@ -1,0 +1,93 @@
+-- Operands that are read.
+use Rattle.std.proofs.Common.{◌≡◌, ℕ, List, [], ◌∷◌, ◌++◌, length, Option, Some, None, refl, ap, sym, ◌∙◌, append-nil}
+use Rattle.std.specs.Prelude.{Bool, true, is_some, slice_get}
+use Rattle.int_core.specs.Value.{Value, integer, boolean, shape, nth, bind}
+use Rattle.machine_core.specs.World.{Cell, place_of, read_cell}
+use Rattle.machine_core.specs.Text.{read, written, read_register, read_constant, read_upvalue}
+use Rattle.machine_core.specs.FrameRows.{expand}
+use Rattle.machine_core.specs.Moves.{Made, made, on_own, outside, own_cell, do_outside, move, Outcome, trapped, run}
+use Rattle.machine_sound.proofs.Lists.{bind_at, bind_some, get_push_new, some_is}
+use Rattle.table_core.specs.declared.value.Value.{Value as Kept}
+use Rattle.table_core.specs.declared.value.Value.TheVariants.{Bool as Boolean, Int}
+use Rattle.lua_heap.specs.declared.world.World.{World as Memory}
+use Rattle.lua_heap.specs.Changes.{value_in}
+use Rattle.lua_heap.specs.Plain.{plain}
+use Rattle.lua_heap.specs.Reading.{value}
+use Rattle.instruction_forms.specs.declared.operand.Operand.TheVariants.{Register, Constant, Upvalue, Integer, Truth}
+use Rattle.move_laws.specs.Memory.{CanDo, Makes}
+use Rattle.move_laws.proofs.Running.{nth_is}
+use Rattle.move_laws.proofs.Rows.{act_is, can_do}
+use Rattle.machine_moves.specs.Code.{HasUpvalue}
+use Rattle.machine_rows.specs.Rows.{IsRead, Reads}
+
+-- what there is where a safe row reads an operand
+
+pub can_register : {W : Memory} {r : ℕ} → IsRead W (Register r) → CanDo W (read_register r)
+can_register {W} {r} i = can_do (read_register r) (λ n _. expand (i.more (read n))) i.safe
+
+pub can_constant : {W : Memory} {n : ℕ} → IsRead W (Constant n) → CanDo W (read_constant n)
+can_constant {W} {n} i = can_do (read_constant n) (λ n _. expand (i.more (read n))) i.safe
+
+upvalue_at : (W : Memory) (u : ℕ) (env : List Value) (d : Made Bool) → move (outside (read_upvalue u)) env (plain W 0) ≡ Some d → HasUpvalue W u
+upvalue_at W u env d m =
+    let V = plain W 0 in
+    let a = bind_some (do_outside (read_upvalue u) env V) (place_of V) d m in
+    let b = bind_some {A = ℕ × Cell} (λ c. bind (read_cell V c.1) (λ v. made V (v ∷ []) true)) (own_cell V a.0 u) d a.2 in
+    let c = bind_some {B = ℕ × Cell} (λ c. bind {B = ℕ × Cell} (slice_get V.cells c) (λ cell. Some (c, cell))) (slice_get a.0.function.cells u) b.0 b.1 in
+    let e = bind_some {B = ℕ × Cell} (λ cell. Some (c.0, cell)) (slice_get V.cells c.0) b.0 c.2 in
+    let v = bind_some (λ v. made V (v ∷ []) true) (read_cell V b.0.1) d b.2 in
+    let both : (c.0, e.0) ≡ b.0 = some_is {o = Some (c.0, e.0)} refl e.2 in
+    let is : value_in V c.0 ≡ Some v.0 = bind_at (read_cell V) (slice_get V.cells c.0) e.0 e.1 ∙ ap (λ (x : ℕ × Cell). read_cell V x.1) both ∙ v.1 in
+    record { place = a.0; is = a.1; cell = c.0; there = c.1; value = ap is_some is }
+
+pub can_upvalue : {W : Memory} {u : ℕ} → IsRead W (Upvalue u) → HasUpvalue W u
+can_upvalue {W} {u} i = by (move (outside (read_upvalue u)) i.env (plain W 0)) refl
+  where
+    by : (o : Option (Made Bool)) → move (outside (read_upvalue u)) i.env (plain W 0) ≡ o → HasUpvalue W u
+    by (Some d) e = upvalue_at W u i.env d e
+    by None e = absurd (i.safe.never 0 (ap (λ o. elim o as (λ _. Outcome) [ None ↦ trapped | Some d ↦ run (expand (i.more (read (length i.env)))) (i.env ++ d.values) d.world ]) e))
+
+-- what a row goes on with
+
+behind_all : (env : List Value) (v : Value) → nth (env ++ v ∷ []) (length env) ≡ v
+behind_all env v = nth_is (env ++ v ∷ []) (length env) v (get_push_new env v)
+
+pub reads_register : (W : Memory) (r : ℕ) (v : Kept) → ((env : List Value) → Makes W W (on_own (read_register r)) env (value W.strings v ∷ []) (shape (value W.strings v))) → Reads W (Register r) v
+reads_register W r v h = record {
+  values = value W.strings v ∷ [];
+  named = read;
+  goes = λ more env fuel. act_is (on_own (read_register r)) (λ n _. expand (more (read n))) env (plain W fuel) (plain W fuel) (value W.strings v ∷ []) (shape (value W.strings v)) ((h env).is fuel);
+  is = λ env. behind_all env (value W.strings v);
+}
+
+pub reads_constant : (W : Memory) (n : ℕ) (v : Kept) → ((env : List Value) → Makes W W (on_own (read_constant n)) env (value W.strings v ∷ []) (shape (value W.strings v))) → Reads W (Constant n) v
+reads_constant W n v h = record {
+  values = value W.strings v ∷ [];
+  named = read;
+  goes = λ more env fuel. act_is (on_own (read_constant n)) (λ n _. expand (more (read n))) env (plain W fuel) (plain W fuel) (value W.strings v ∷ []) (shape (value W.strings v)) ((h env).is fuel);
+  is = λ env. behind_all env (value W.strings v);
+}
+
+pub reads_upvalue : (W : Memory) (u : ℕ) (v : Kept) → ((env : List Value) → Makes W W (outside (read_upvalue u)) env (value W.strings v ∷ []) true) → Reads W (Upvalue u) v
+reads_upvalue W u v h = record {
+  values = value W.strings v ∷ [];
+  named = read;
+  goes = λ more env fuel. act_is (outside (read_upvalue u)) (λ n _. expand (more (read n))) env (plain W fuel) (plain W fuel) (value W.strings v ∷ []) true ((h env).is fuel);
+  is = λ env. behind_all env (value W.strings v);
+}
+
+pub reads_integer : (W : Memory) (n : Rattle.std.specs.Prelude.ℤ) → Reads W (Integer n) (Int n)
+reads_integer W n = record {
+  values = [];
+  named = λ _. written (integer n);
+  goes = λ more env fuel. ap (λ env. run (expand (more (written (integer n)))) env (plain W fuel)) (sym (append-nil env));
+  is = λ env. refl;
+}
+
+pub reads_truth : (W : Memory) (b : Bool) → Reads W (Truth b) (Boolean b)
+reads_truth W b = record {
+  values = [];
+  named = λ _. written (boolean b);
+  goes = λ more env fuel. ap (λ env. run (expand (more (written (boolean b)))) env (plain W fuel)) (sym (append-nil env));
+  is = λ env. refl;
+}

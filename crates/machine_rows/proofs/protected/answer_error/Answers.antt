@@ -1,0 +1,10 @@
+use Rattle.std.proofs.Common.{rules, ◌≡◌, ◌∷◌, [], false}
+use Rattle.table_core.specs.declared.value.Value.TheVariants.{Bool as Boolean}
+use Rattle.machine_rows.specs.Rows.{ending_of, first_of}
+use Rattle.machine_rows.proofs.Answering.{answers_error}
+use Rattle.machine_rows.proofs.protected.answer_error.Goals as goal
+
+pub returns-clause-leads : goal.returns-clause-leads
+returns-clause-leads c = λ env.
+    let is : c.in_ok-answer.answer.items ≡ Boolean false ∷ first_of c.args.world.now.moving.items ∷ [] = search rules in
+    answers_error c.args.world.now c.answer_with.new.world c.in_ok-answer.answer.items (ending_of c.answer_with.result) env c.answer_with.ensures is

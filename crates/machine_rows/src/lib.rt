@@ -1,0 +1,16 @@
+//! The machine's rows on a world in memory: one function for each form, which makes the row's moves one after another (lvm.c and ldo.c of Lua 5.4).
+#![tactic(auto)]
+
+mod ending;
+mod following;
+mod loads;
+mod objects;
+mod operands;
+mod protected;
+
+pub use ending::Ending;
+pub use following::{go_on, keep_value, test_value};
+pub use loads::{clear, load};
+pub use objects::new_table;
+pub use operands::read_operand;
+pub use protected::{answer_error, answer_results};
