@@ -3,7 +3,7 @@ use Rattle.std.proofs.Common.{◌≡◌, ℕ, List, [], ◌∷◌, map, Result, 
 use Rattle.std.specs.Prelude.{cond, codes}
 use Rattle.std.specs.List.{list_all}
 use Rattle.int_core.specs.Heap.{Heap}
-use Rattle.int_core.specs.Value.{Plain, Value, known, Shape, shape, nth, object, a_table}
+use Rattle.int_core.specs.Value.{Plain, Value, known, shape, nth, object, a_table}
 use Rattle.library_arguments.specs.Answers.{IsAnswer, AnswersAreDone, RefusalsAreDone, results_of}
 use Rattle.library_arguments.specs.Refusals.{refusal_text}
 use Rattle.library_arguments.specs.declared.refusal.Fault.{Fault}

@@ -45,60 +45,99 @@ pub enum Function {
 }
 
 impl Function {
-    /// The function of a number, where it is one of this crate's.
+    /// The function of a number, where it is one of these.
     pub fn of(number: u16) -> Option<Function>
         ensures { IfSome result (λ function. bind (primitive_at number) row_of ≡ Some (function_row function)) }
     {
         match number {
-            0 => Some(Function::Assert),
-            1 => Some(Function::CollectGarbage),
-            3 => Some(Function::GetMetatable),
-            4 => Some(Function::Next),
-            6 => Some(Function::RawEqual),
-            7 => Some(Function::RawGet),
-            8 => Some(Function::RawLength),
-            9 => Some(Function::RawSet),
-            10 => Some(Function::Select),
-            11 => Some(Function::SetMetatable),
-            12 => Some(Function::OverTexts(texts::Function::ToNumber)),
-            13 => Some(Function::TypeOf),
-            22 => Some(Function::OverTexts(texts::Function::Byte)),
-            23 => Some(Function::OverTexts(texts::Function::Char)),
-            24 => Some(Function::OverTexts(texts::Function::Find)),
-            25 => Some(Function::OverTexts(texts::Function::Len)),
-            26 => Some(Function::OverTexts(texts::Function::Lower)),
-            27 => Some(Function::OverTexts(texts::Function::Match)),
-            28 => Some(Function::OverTexts(texts::Function::Rep)),
-            29 => Some(Function::OverTexts(texts::Function::Reverse)),
-            30 => Some(Function::OverTexts(texts::Function::Sub)),
-            31 => Some(Function::OverTexts(texts::Function::Upper)),
-            32 => Some(Function::Pack),
-            34 => Some(Function::Math(math::Function::Abs)),
-            35 => Some(Function::Math(math::Function::Fmod)),
-            36 => Some(Function::Math(math::Function::Max)),
-            37 => Some(Function::Math(math::Function::Min)),
-            38 => Some(Function::Math(math::Function::ToInteger)),
-            39 => Some(Function::Math(math::Function::TypeOf)),
-            40 => Some(Function::Math(math::Function::Ult)),
-            41 => Some(Function::OverTexts(texts::Function::Utf8Char)),
-            42 => Some(Function::OverTexts(texts::Function::Utf8Codepoint)),
-            43 => Some(Function::OverTexts(texts::Function::Utf8Codes)),
-            44 => Some(Function::OverTexts(texts::Function::Utf8Len)),
-            45 => Some(Function::OverTexts(texts::Function::Utf8Offset)),
-            47 => Some(Function::Expand),
-            48 => Some(Function::OverTexts(texts::Function::From)),
-            49 => Some(Function::Join),
-            50 => Some(Function::OverTexts(texts::Function::Kinds)),
-            51 => Some(Function::OverTexts(texts::Function::Layout)),
-            52 => Some(Function::MetaField),
-            54 => Some(Function::Seek),
-            55 => Some(Function::Spread),
-            56 => Some(Function::Text),
-            57 => Some(Function::OverTexts(texts::Function::ToInteger)),
-            58 => Some(Function::OverTexts(texts::Function::Walk)),
-            59 => Some(Function::OverTexts(texts::Function::WalkLax)),
-            _ => None,
+            0..=14 => of_base(number),
+            22..=31 => of_string(number),
+            32..=45 => of_tables_and_numbers(number),
+            _ => of_prelude(number),
         }
+    }
+}
+
+/// The functions of the base library.
+fn of_base(number: u16) -> Option<Function>
+    ensures { IfSome result (λ function. bind (primitive_at number) row_of ≡ Some (function_row function)) }
+{
+    match number {
+        0 => Some(Function::Assert),
+        1 => Some(Function::CollectGarbage),
+        3 => Some(Function::GetMetatable),
+        4 => Some(Function::Next),
+        6 => Some(Function::RawEqual),
+        7 => Some(Function::RawGet),
+        8 => Some(Function::RawLength),
+        9 => Some(Function::RawSet),
+        10 => Some(Function::Select),
+        11 => Some(Function::SetMetatable),
+        12 => Some(Function::OverTexts(texts::Function::ToNumber)),
+        13 => Some(Function::TypeOf),
+        _ => None,
+    }
+}
+
+/// The functions of `string`.
+fn of_string(number: u16) -> Option<Function>
+    ensures { IfSome result (λ function. bind (primitive_at number) row_of ≡ Some (function_row function)) }
+{
+    match number {
+        22 => Some(Function::OverTexts(texts::Function::Byte)),
+        23 => Some(Function::OverTexts(texts::Function::Char)),
+        24 => Some(Function::OverTexts(texts::Function::Find)),
+        25 => Some(Function::OverTexts(texts::Function::Len)),
+        26 => Some(Function::OverTexts(texts::Function::Lower)),
+        27 => Some(Function::OverTexts(texts::Function::Match)),
+        28 => Some(Function::OverTexts(texts::Function::Rep)),
+        29 => Some(Function::OverTexts(texts::Function::Reverse)),
+        30 => Some(Function::OverTexts(texts::Function::Sub)),
+        31 => Some(Function::OverTexts(texts::Function::Upper)),
+        _ => None,
+    }
+}
+
+/// The functions of `table`, `math` and `utf8`.
+fn of_tables_and_numbers(number: u16) -> Option<Function>
+    ensures { IfSome result (λ function. bind (primitive_at number) row_of ≡ Some (function_row function)) }
+{
+    match number {
+        32 => Some(Function::Pack),
+        34 => Some(Function::Math(math::Function::Abs)),
+        35 => Some(Function::Math(math::Function::Fmod)),
+        36 => Some(Function::Math(math::Function::Max)),
+        37 => Some(Function::Math(math::Function::Min)),
+        38 => Some(Function::Math(math::Function::ToInteger)),
+        39 => Some(Function::Math(math::Function::TypeOf)),
+        40 => Some(Function::Math(math::Function::Ult)),
+        41 => Some(Function::OverTexts(texts::Function::Utf8Char)),
+        42 => Some(Function::OverTexts(texts::Function::Utf8Codepoint)),
+        43 => Some(Function::OverTexts(texts::Function::Utf8Codes)),
+        44 => Some(Function::OverTexts(texts::Function::Utf8Len)),
+        45 => Some(Function::OverTexts(texts::Function::Utf8Offset)),
+        _ => None,
+    }
+}
+
+/// The functions that serve the prelude.
+fn of_prelude(number: u16) -> Option<Function>
+    ensures { IfSome result (λ function. bind (primitive_at number) row_of ≡ Some (function_row function)) }
+{
+    match number {
+        47 => Some(Function::Expand),
+        48 => Some(Function::OverTexts(texts::Function::From)),
+        49 => Some(Function::Join),
+        50 => Some(Function::OverTexts(texts::Function::Kinds)),
+        51 => Some(Function::OverTexts(texts::Function::Layout)),
+        52 => Some(Function::MetaField),
+        54 => Some(Function::Seek),
+        55 => Some(Function::Spread),
+        56 => Some(Function::Text),
+        57 => Some(Function::OverTexts(texts::Function::ToInteger)),
+        58 => Some(Function::OverTexts(texts::Function::Walk)),
+        59 => Some(Function::OverTexts(texts::Function::WalkLax)),
+        _ => None,
     }
 }
 

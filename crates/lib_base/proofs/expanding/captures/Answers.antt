@@ -1,4 +1,4 @@
-use Rattle.std.proofs.Common.{rules, ◌≡◌, ◌+◌, [], ◌∷◌, ◌++◌, ap, sym, ◌∙◌, map}
+use Rattle.std.proofs.Common.{rules, ◌≡◌, [], ◌∷◌, ◌++◌, ap, sym, ◌∙◌, map}
 use Rattle.std.specs.Prelude.{pos}
 use Rattle.int_core.specs.Value.{a_table, object, shape}
 use Rattle.library_arguments.specs.Shapes.{shape_of, shapes_of}
