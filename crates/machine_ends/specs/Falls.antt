@@ -24,10 +24,6 @@ pub data After : Type 0 where
 
 -- moves on the own activation
 
-abbrev pub is_mark : Own → Bool
-is_mark (mark_pending r) = true
-is_mark _ = false
-
 abbrev pub no_mark : Own → Bool
 no_mark (mark_pending r) = false
 no_mark _ = true

@@ -1,5 +1,5 @@
 -- Sessions of small scripts. What each prints and how it ends is what the manual says of it, in the words of report lines.
-use Rattle.std.proofs.Common.{ℕ, ◌≡◌, List, [], ◌∷◌, Option, Some, None, refl, true, false}
+use Rattle.std.proofs.Common.{ℕ, ◌≡◌, List, [], ◌∷◌, map, Option, Some, None, refl, true, false}
 use Rattle.std.specs.Prelude.{option_map, codes}
 use Rattle.std.specs.Fmt.{digits}
 use Rattle.code_core.specs.declared.opcode.Opcode.TheVariants.{Move, LoadI, LoadK, GetTabUp, GetField, OpSelf, Call, Return0, Return1}
@@ -9,7 +9,11 @@ use Rattle.code_core.specs.declared.proto.Const.TheVariants.{Str}
 use Rattle.code_core.specs.Opcode.{opcodes, number_of}
 use Rattle.code_core.specs.Instruction.{abc, abx}
 use Rattle.code_core.specs.Prototype.{Prototype, none}
-use Rattle.library_rows.specs.Library.{Entry, entry, of_globals}
+use Prim.Native.String.{String}
+use Rattle.int_core.specs.Value.{nil, boolean, integer, string, primitive, Value, known, object, table_values}
+use Rattle.int_core.specs.Rows.{get}
+use Rattle.int_core.specs.Heap.{Table}
+use Rattle.library_rows.specs.Library.{Primitive, base_type, string_len, Entry, entry, of_globals, of_coroutine, of_utf8, primitive_at}
 use Rattle.machine_core.specs.World.{put_top, put_frames, push, pop}
 use Rattle.machine_core.specs.Moves.{traps, with_own, back_to_resumer, popped, bury, suspend_running, wait_for_another, go_into, put_coroutine, add_printed}
 use Rattle.machine_core.specs.MachineStep.{woken}
@@ -95,3 +99,37 @@ has_methods = refl
 has_failed_so : session fails [] 100 ≡ Some (codes "error\tno\n", has_failed)
 unfolding opcodes number_of put_top put_frames push pop with_own back_to_resumer popped bury suspend_running wait_for_another go_into put_coroutine add_printed woken primitive_values constant_values library_table environment opening begun handed_line wakes digits
 has_failed_so = refl
+
+-- the tables
+
+abbrev names : Table → List Value
+names t = map (λ (row : Value × Value). row.0) t.rows
+
+abbrev words : List String → List Value
+words [] = []
+words (s ∷ ss) = known (string (codes s)) ∷ words ss
+
+globals_are : names (library_table of_globals prelude) ≡ words ("_G" ∷ "_VERSION" ∷ "assert" ∷ "collectgarbage" ∷ "coroutine" ∷ "error" ∷ "getmetatable" ∷ "math" ∷ "next" ∷ "pcall" ∷ "print" ∷ "rawequal" ∷ "rawget" ∷ "rawlen" ∷ "rawset" ∷ "select" ∷ "setmetatable" ∷ "string" ∷ "table" ∷ "tonumber" ∷ "type" ∷ "utf8" ∷ "xpcall" ∷ [])
+unfolding library_table primitive_values constant_values
+globals_are = refl
+
+coroutines_are : names (library_table of_coroutine prelude) ≡ words ("close" ∷ "create" ∷ "isyieldable" ∷ "resume" ∷ "running" ∷ "status" ∷ "yield" ∷ [])
+unfolding library_table primitive_values constant_values
+coroutines_are = refl
+
+utf8_has : names (library_table of_utf8 prelude) ≡ words ("char" ∷ "charpattern" ∷ "codepoint" ∷ "codes" ∷ "len" ∷ "offset" ∷ [])
+unfolding library_table primitive_values constant_values
+utf8_has = refl
+
+-- for the prelude's text `type` is that of values, and `len` that of strings
+
+abbrev in_environment : String → Option Primitive
+in_environment name = elim (get table_values (environment prelude).rows (known (string (codes name)))) [ known p ↦ elim p [ primitive n ↦ primitive_at n | nil ↦ None | boolean b ↦ None | integer n ↦ None | string s ↦ None ] | object kind n ↦ None ]
+
+type_is_of_values : in_environment "type" ≡ Some base_type
+unfolding environment primitive_values
+type_is_of_values = refl
+
+len_is_of_strings : in_environment "len" ≡ Some string_len
+unfolding environment primitive_values
+len_is_of_strings = refl

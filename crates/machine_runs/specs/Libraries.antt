@@ -35,9 +35,6 @@ utf8_table = 6
 abbrev pub strings_metatable : ℕ
 strings_metatable = 7
 
-abbrev pub table_count : ℕ
-table_count = 8
-
 -- what stands in the tables
 
 abbrev pub library_tables : List (Entry Value)
