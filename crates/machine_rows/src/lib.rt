@@ -7,6 +7,7 @@ mod loads;
 mod objects;
 mod operands;
 mod protected;
+mod truths;
 
 pub use ending::Ending;
 pub use following::{go_on, keep_value, test_value};
@@ -14,3 +15,4 @@ pub use loads::{clear, load};
 pub use objects::new_table;
 pub use operands::read_operand;
 pub use protected::{answer_error, answer_results};
+pub use truths::{negate, test};
