@@ -1,8 +1,9 @@
 -- A script's code by the machine, and as activations that talk to the world: what it prints and how it ends.
-use Rattle.std.specs.Prelude.{◌≡◌, ◌≤◌, ℕ, List, [], ◌∷◌, length, Option, map}
+use Rattle.std.specs.Prelude.{◌≡◌, ◌≤◌, ℕ, Bool, List, [], ◌∷◌, length, Option, map}
 use Rattle.int_core.specs.Value.{greatest_string}
 use Rattle.code_core.specs.Prototype.{Prototype}
 use Rattle.code_core.specs.Check.{IsChecked}
+use Rattle.library_rows.specs.Library.{Entry, all_entries}
 use Rattle.machine_core.specs.World.{closed, World}
 use Rattle.machine_core.specs.Moves.{Row}
 use Rattle.machine_core.specs.Talk.{State}
@@ -13,7 +14,7 @@ use Rattle.lua_meaning.specs.Meaning.{Script, Meaning, Outcome, IsMeaning}
 use Rattle.code_means.specs.Runs.{codes_run}
 use Rattle.machine_sound.specs.Sound.{Each, Sound}
 use Rattle.machine_sound.specs.Laws.{PrimitivesSafe}
-use Rattle.machine_runs.specs.Opening.{begun}
+use Rattle.machine_runs.specs.Opening.{opening, begun}
 use Rattle.machine_runs.specs.Runs.{Close, has_returned, has_failed, has_spent, is_suspended, Run, CodeRun}
 use Rattle.machine_means.specs.Joined.{TalkWorld, FunctionsPair, Named}
 use Rattle.means_steps.specs.Steps.{MainWaits, SameLibrary}
@@ -68,3 +69,15 @@ abbrev pub ScriptsMean : Type 0
 ScriptsMean =
     (primitives : ℕ) (rows : ℕ → Row) (library : ℕ → Option Primitive) (W : World) (T : TalkWorld) (script : Script Prototype) (input : List (List ℕ)) (budget : ℕ) → ScriptWorlds primitives rows library W T script input
     → (m : Meaning Prototype State) → IsMeaning codes_run library T script input budget m → (r : Run) × CodeRun rows (begun W script.main) input budget r × RunsAlike r m
+
+-- code that keeps its source's name and lines, or neither
+abbrev pub HasName : Entry Prototype → Type 0
+HasName e = (has_lines : Bool) × (source : List ℕ) × Named has_lines source e.entry
+
+-- the world of the libraries has another one beside it
+abbrev pub OpensAlike : Type 0
+OpensAlike = (prelude : List (Entry Prototype)) → Each HasName prelude → (T : TalkWorld) × OpenAlike (opening prelude) T
+
+-- and there is a script that begins in both
+abbrev pub SomeScriptRuns : Type 0
+SomeScriptRuns = (rows : ℕ → Row) × (library : ℕ → Option Primitive) × (T : TalkWorld) × (script : Script Prototype) × ScriptWorlds (length all_entries) rows library (opening []) T script []
