@@ -19,23 +19,23 @@ use Rattle.lua_heap.specs.declared.world.Coro.TheVariants.{Running}
 use Rattle.lua_heap.specs.declared.world.World.{World as Memory}
 use Rattle.lua_heap.specs.Reading.{value}
 use Rattle.lua_heap.specs.Plain.{cell, coroutine, plain}
-use Rattle.lua_heap.specs.Cells.{open_cells_in, AreListed, CellsAreListed}
+use Rattle.lua_heap.specs.Cells.{open_cells_in, AreListed, CellsAreListed, IsOnce}
 use Rattle.lua_heap.specs.Captures.{OpensOnTop, cell_on_top, with_open_cell}
 use Rattle.lua_heap.proofs.Resumed.{IsRunning, is_running, set_cases, set_own}
 
 -- a stack's own list, where a cell is put in
 
-abbrev is_at : (frame register : ℕ) → OpenCell → Bool
+abbrev pub is_at : (frame register : ℕ) → OpenCell → Bool
 is_at frame register c = nat_eq c.frame frame && nat_eq c.register register
 
-self_at : (c : OpenCell) → is_at c.frame c.register c ≡ true
+pub self_at : (c : OpenCell) → is_at c.frame c.register c ≡ true
 self_at c = ap (λ b. b && nat_eq c.register c.register) (eq_refl c.frame) ∙ eq_refl c.register
 
 both_true : (a b : Bool) → (a && b) ≡ true → (a ≡ true) × (b ≡ true)
 both_true true b h = (refl, h)
 both_true false b h = absurd (cc)
 
-at_is : (frame register : ℕ) (c : OpenCell) → is_at frame register c ≡ true → (c.frame ≡ frame) × (c.register ≡ register)
+pub at_is : (frame register : ℕ) (c : OpenCell) → is_at frame register c ≡ true → (c.frame ≡ frame) × (c.register ≡ register)
 at_is frame register c h =
     let b = both_true (nat_eq c.frame frame) (nat_eq c.register register) h in
     (eq_true c.frame frame b.0, eq_true c.register register b.1)
@@ -48,7 +48,7 @@ below_not frame register c b h =
     let l = b.register_less (omega (arith, f)) in
     omega (arith, l, g)
 
-by_test : {A : Type 0} (b : Bool) → (b ≡ true → A) → (b ≡ false → A) → A
+pub by_test : {A : Type 0} (b : Bool) → (b ≡ true → A) → (b ≡ false → A) → A
 by_test true f g = f refl
 by_test false f g = g refl
 
@@ -91,12 +91,33 @@ module _ (old new : List OpenCell) (c : OpenCell) (a : Adds old new c) where
       inl (s.0, s.1, some_same _ _ (sym added_found ∙ here)))
       (λ t. inr (sym (others_same frame register t) ∙ e))
 
+skips : (frame register : ℕ) (c : OpenCell) → is_at frame register c ≡ false → (cs ds : List OpenCell) → cell_at frame register (cs ++ c ∷ ds) ≡ cell_at frame register (cs ++ ds)
+skips frame register c t [] ds = ap (λ s. cond s (Some c.cell) (cell_at frame register ds)) t
+skips frame register c t (d ∷ cs) ds = ap (λ o. cond (is_at frame register d) (Some d.cell) o) (skips frame register c t cs ds)
+
+at_other : (c d : OpenCell) → is_at d.frame d.register c ≡ true → is_at c.frame c.register d ≡ true
+at_other c d t =
+    let s = at_is d.frame d.register c t in
+    ap (λ f. nat_eq d.frame f && nat_eq d.register c.register) s.0 ∙ ap (λ r. nat_eq d.frame d.frame && nat_eq d.register r) s.1 ∙ self_at d
+
+once_in : (before after : List OpenCell) (c : OpenCell) → IsOnce (before ++ after) → cell_at c.frame c.register (before ++ after) ≡ None → IsOnce (before ++ c ∷ after)
+once_in [] after c h free = (free, h)
+once_in (d ∷ ds) after c h free =
+    let not_at : is_at c.frame c.register d ≡ true → ⊥ = λ t.
+    let bad : Some d.cell ≡ None = sym (ap (λ s. cond s (Some d.cell) (cell_at c.frame c.register (ds ++ after))) t) ∙ free in
+    cc in
+    let later : cell_at c.frame c.register (ds ++ after) ≡ None =
+    by_test (is_at c.frame c.register d) (λ t. absurd (not_at t)) (λ t. sym (ap (λ s. cond s (Some d.cell) (cell_at c.frame c.register (ds ++ after))) t) ∙ free) in (
+      by_test (is_at d.frame d.register c) (λ t. absurd (not_at (at_other c d t))) (λ t. skips d.frame d.register c t ds after ∙ h.0),
+      once_in ds after c h.1 later,
+    )
+
 -- the cells of a world and the lists of its stacks
 
-open_same : (co k : CoroId) (f r g q : ℕ) → Open co f r ≡ Open k g q → (co ≡ k) × (f ≡ g) × (r ≡ q)
+pub open_same : (co k : CoroId) (f r g q : ℕ) → Open co f r ≡ Open k g q → (co ≡ k) × (f ≡ g) × (r ≡ q)
 open_same co k f r g q e = (cc, cc, cc)
 
-list_stays : (lists : List (Option (List OpenCell))) (n : ℕ) (new : List OpenCell) (k : ℕ) (own : List OpenCell) → slice_get lists k ≡ Some (Some own)
+pub list_stays : (lists : List (Option (List OpenCell))) (n : ℕ) (new : List OpenCell) (k : ℕ) (own : List OpenCell) → slice_get lists k ≡ Some (Some own)
     → (some : List OpenCell) × (slice_get (slice_set lists n (Some new)) k ≡ Some (Some some))
 list_stays [] n new k own e = absurd (cc)
 list_stays (o ∷ os) zero new zero own e = (new, refl)
@@ -151,6 +172,10 @@ module _ (cells : List KeptCell) (lists : List (Option (List OpenCell))) (co : C
         ⊎_elim (λ h. let o = a.held id k frame register h in list_stays lists co.0 new k.0 o.0 o.1)
         (λ h. let o = open_same co k c.frame c.register frame register h.1 in (new, ap (λ (k : CoroId). slice_get (slice_set lists co.0 (Some new)) k.0) (sym o.0) ∙ now_there))
         (get_either cells last_cell id.0 (Open k frame register) is);
+    once = λ n own e.
+        let was = subst IsOnce added.was (a.once co.0 old there) in
+        let now : IsOnce new = subst IsOnce (sym added.is) (once_in added.before added.after c was (ap (cell_at c.frame c.register) (sym added.was) ∙ free)) in
+        ⊎_elim (λ h. subst IsOnce (some_same _ _ h.1) now) (λ h. a.once n own h) (set_cases lists co.0 n (Some new) (Some own) e);
   }
 
 -- the search through all cells finds what a stack lists
@@ -208,7 +233,7 @@ module _ (texts : List (List ℕ)) (co : CoroId) (frame register : ℕ) where
 
 -- the function on top, in the words of the machine
 
-running_same : (a b : KeptStack) → Running a ≡ Running b → a ≡ b
+pub running_same : (a b : KeptStack) → Running a ≡ Running b → a ≡ b
 running_same a b e = cc
 
 abbrev depth_of : Stack → ℕ

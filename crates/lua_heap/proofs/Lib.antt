@@ -11,3 +11,4 @@ mod Listed
 mod Placed
 mod Resumed
 mod Captured
+mod Closed

@@ -120,6 +120,7 @@ closed_listed cells lists n v w e a = record {
   listed = λ id co frame register own there is. a.listed id co frame register own there (closed_as_before cells n v w e id.0 co frame register is);
   opened = λ id co frame register own there is. open_as_before cells n v w e id.0 co frame register (a.opened id co frame register own there is);
   held = λ id co frame register is. a.held id co frame register (closed_as_before cells n v w e id.0 co frame register is);
+  once = a.once;
 }
 
 -- where a coroutine is written whose list is as before, all lists are
@@ -138,6 +139,7 @@ cell_last cells lists v a = record {
   listed = λ id co frame register own there is. a.listed id co frame register own there (without_last_cell cells v id.0 co frame register is);
   opened = λ id co frame register own there is. get_old cells (Closed v ∷ []) id.0 (Open co frame register) (a.opened id co frame register own there is);
   held = λ id co frame register is. a.held id co frame register (without_last_cell cells v id.0 co frame register is);
+  once = a.once;
 }
 
 without_last_list : (lists : List (Option (List OpenCell))) (co : ℕ) (own : List OpenCell) → slice_get (lists ++ None ∷ []) co ≡ Some (Some own) → slice_get lists co ≡ Some (Some own)
@@ -148,6 +150,7 @@ coroutine_last cells lists a = record {
   listed = λ id co frame register own there is. a.listed id co frame register own (without_last_list lists co.0 own there) is;
   opened = λ id co frame register own there is. a.opened id co frame register own (without_last_list lists co.0 own there) is;
   held = λ id co frame register is. let h = a.held id co frame register is in (h.0, get_old lists (None ∷ []) co.0 (Some h.0) h.1);
+  once = λ n own e. a.once n own (without_last_list lists n own e);
 }
 
 -- the world after a write

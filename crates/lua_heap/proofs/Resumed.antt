@@ -17,7 +17,7 @@ use Rattle.lua_heap.specs.declared.world.Coro.TheVariants.{Fresh, Suspended, Run
 use Rattle.lua_heap.specs.declared.world.World.{World as Memory}
 use Rattle.lua_heap.specs.Reading.{value}
 use Rattle.lua_heap.specs.Plain.{coroutine, plain}
-use Rattle.lua_heap.specs.Cells.{AreListed, list_or_empty, open_cells_in}
+use Rattle.lua_heap.specs.Cells.{IsOnce, AreListed, list_or_empty, open_cells_in}
 use Rattle.lua_heap.proofs.Placed.{last_mapped}
 
 -- lists
@@ -68,6 +68,7 @@ woken_listed cells lists n None a e = record {
       let h = a.held id co frame register is in
       let other : n ≢ co.0 = λ same. let k : Some None ≡ Some (Some h.0) = sym e ∙ ap (slice_get lists) same ∙ h.1 in cc in
       (h.0, get_set_other lists n co.0 (Some []) other ∙ h.1);
+  once = λ k own there. ⊎_elim (λ h. subst IsOnce (some_same _ _ h.1) tt) (λ h. a.once k own h) (set_cases lists n k (Some []) (Some own) there);
 }
 
 pub coroutine_woken : (cells : List KeptCell) (coros : List Coro) (n : ℕ) (c d : Coro) → slice_get coros n ≡ Some c → open_cells_in d ≡ Some (list_or_empty (open_cells_in c)) → AreListed cells (map open_cells_in coros)

@@ -1,5 +1,5 @@
 -- The cells that are open in stacks: by their own places, and by the lists that stacks keep of them.
-use Rattle.std.specs.Prelude.{◌≡◌, ℕ, List, [], Option, Some, None, map, slice_get}
+use Rattle.std.specs.Prelude.{◌≡◌, ℕ, List, [], ◌∷◌, Option, Some, None, map, slice_get}
 use Rattle.table_core.specs.declared.value.CellId.{CellId}
 use Rattle.table_core.specs.declared.value.CoroId.{CoroId}
 use Rattle.lua_stack.specs.declared.frame.OpenCell.{OpenCell}
@@ -23,13 +23,19 @@ abbrev pub list_or_empty : Option (List OpenCell) → List OpenCell
 list_or_empty None = []
 list_or_empty (Some own) = own
 
--- a stack lists a cell at a register exactly where the cell is open there, and an open cell is open in a stack
+-- no register is listed twice
+abbrev pub IsOnce : List OpenCell → Type 0
+IsOnce [] = Unit {0}
+IsOnce (c ∷ cs) = (cell_at c.frame c.register cs ≡ None) × IsOnce cs
+
+-- a stack lists a cell at a register exactly where the cell is open there, no register twice, and an open cell is open in a stack
 pub record AreListed (cells : List Cell) (lists : List (Option (List OpenCell))) : Type 0 where
   pub listed : (id : CellId) (co : CoroId) (frame register : ℕ) (own : List OpenCell) → slice_get lists co.0 ≡ Some (Some own)
       → slice_get cells id.0 ≡ Some (Open co frame register) → cell_at frame register own ≡ Some id
   pub opened : (id : CellId) (co : CoroId) (frame register : ℕ) (own : List OpenCell) → slice_get lists co.0 ≡ Some (Some own)
       → cell_at frame register own ≡ Some id → slice_get cells id.0 ≡ Some (Open co frame register)
   pub held : (id : CellId) (co : CoroId) (frame register : ℕ) → slice_get cells id.0 ≡ Some (Open co frame register) → (own : List OpenCell) × (slice_get lists co.0 ≡ Some (Some own))
+  pub once : (n : ℕ) (own : List OpenCell) → slice_get lists n ≡ Some (Some own) → IsOnce own
 
 abbrev pub CellsAreListed : Memory → Type 0
 CellsAreListed W = AreListed W.cells.objects (map open_cells_in W.coros.objects)

@@ -6,6 +6,7 @@ pub mod Changes
 pub mod Adding
 pub mod Cells
 pub mod Captures
+pub mod Closing
 pub mod Places
 pub mod Errors
 pub mod Opening

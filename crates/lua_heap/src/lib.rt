@@ -4,6 +4,7 @@
 mod adding;
 mod captures;
 mod cells;
+mod closing;
 mod codes;
 mod coroutines;
 mod errors;
