@@ -1,6 +1,6 @@
 -- A pattern in which each byte stands for itself: it is found where it stands as a text.
 use Rattle.std.proofs.Common.{◌≡◌, ℕ, zero, suc, ◌+◌, ◌-◌, ◌≤◌, ◌<◌, Bool, true, false, cond, List, [], ◌∷◌, ◌++◌, length, drop, take, get_or, Option, Some, None, Result, Ok, Err, refl, sym, ap, ◌∙◌, append-nil, arith}
-use Rattle.std.specs.Prelude.{◌==◌, ◌&&◌, ◌||◌, count_by, map, nat_eq, nat_lt, slice_get, codes}
+use Rattle.std.specs.Prelude.{◌==◌, ◌&&◌, ◌||◌, not, count_by, map, nat_eq, nat_lt, slice_get, codes}
 use Rattle.std.specs.List.{flat_map, list_any, starts_with}
 use Rattle.std.specs.Option.{option_map_or, option_to_list}
 use Rattle.std.specs.Cmp.Lexicographic.{pointwise}
@@ -21,7 +21,7 @@ use Rattle.lua_pattern.specs.Ends.{ends}
 use Rattle.lua_pattern.specs.Reading.{Read, class_at, item_at, items_from, items_of, joined, more_of, read_of, scope_of}
 use Rattle.lua_pattern.specs.Scope.{Scope, empty_scope, is_closed}
 use Rattle.lua_pattern.specs.Ways.{Found}
-use Rattle.library_rows.specs.Searches.{Hit, counts, first_hit, is_anchored, pattern_items, search, text_from}
+use Rattle.library_rows.specs.Searches.{Hit, barred_end, counts, first_hit, hit_from, is_anchored, next_hit, pattern_items, search, text_from}
 use Rattle.text_match.specs.Ordinary.{is_special, plain_hit}
 use Rattle.text_match.proofs.Readings.{items_known}
 
@@ -209,3 +209,43 @@ pub searched_plainly : (s p : List ℕ) (at : ℕ) → list_any is_special p ≡
 searched_plainly s p at e within =
     ap (by_anchor s p at) (not_anchored p e) ∙ ap (by_items s at) (pattern_alone p e)
     ∙ ap {A = Option Hit} (λ hit. Ok hit) (first_hit_alone s p at (length s - at) (omega arith))
+
+-- Where no match may end at a place that is not behind the place where the search begins.
+
+ends_later : (s p : List ℕ) (at barred : ℕ) → barred ≤ at → 0 < length p → counts (Some barred) at (first_found s (map alone p) at) ≡ counts None at (first_found s (map alone p) at)
+ends_later s p at barred before some =
+    let apart : (barred == at + length p) ≡ false = grind (arith, nat_tests) in
+    ap (λ all. counts (Some barred) at (slice_get all 0)) (ends_alone s p at []) ∙ by (matches p (drop at s)) apart ∙ ap (λ all. counts None at (slice_get all 0)) (sym (ends_alone s p at []))
+  where
+    by : (t : Bool) → (barred == at + length p) ≡ false → counts (Some barred) at (slice_get (if_found t (at + length p) []) 0) ≡ counts None at (slice_get (if_found t (at + length p) []) 0)
+    by true apart = ap (λ u. elim u as (λ _. Option Hit) [ true ↦ None | false ↦ Some (record { start = at; end = at + length p; captures = [] }) ]) apart
+    by false apart = refl
+
+abbrev or_later_by : Option ℕ → List ℕ → List ℕ → ℕ → ℕ → Option Hit → Option Hit
+or_later_by barred s p at left o = elim o as (λ _. Option Hit) [ Some hit ↦ Some hit | None ↦ first_hit barred s (map alone p) (at + 1) left ]
+
+no_bar : (s p : List ℕ) (barred at left : ℕ) → barred ≤ at → 0 < length p → first_hit (Some barred) s (map alone p) at left ≡ first_hit None s (map alone p) at left
+no_bar s p barred at zero before some = ends_later s p at barred before some
+no_bar s p barred at (suc left) before some =
+    ap (or_later_by (Some barred) s p at left) (ends_later s p at barred before some)
+    ∙ ap (λ later. elim (counts None at (first_found s (map alone p) at)) as (λ _. Option Hit) [ Some hit ↦ Some hit | None ↦ later ]) (no_bar s p barred (at + 1) left (omega arith) some)
+
+by_last : (s p : List ℕ) (at last left : ℕ) → last ≤ at + 1 → 0 < length p → first_hit (barred_end last) s (map alone p) at left ≡ first_hit None s (map alone p) at left
+by_last s p at zero left before some = refl
+by_last s p at (suc barred) left before some = no_bar s p barred at left (omega arith) some
+
+abbrev by_raw : List ℕ → List ℕ → ℕ → ℕ → Bool → Answer
+by_raw s p at last t = elim t as (λ _. Answer) [
+  | true ↦ hit_from s at last 0 (pattern_items (drop 1 p))
+  | false ↦ hit_from s at last (length s - at) (pattern_items p)
+]
+
+abbrev by_end : List ℕ → List ℕ → ℕ → ℕ → Bool → Answer
+by_end s p at last t = elim t as (λ _. Answer) [ true ↦ Ok None | false ↦ Ok (first_hit (barred_end last) s (map alone p) at (length s - at)) ]
+
+pub next_plainly : (s p : List ℕ) (at last : ℕ) (raw : Bool) → list_any is_special p ≡ false → 0 < length p → at ≤ length s → last ≤ at + 1
+    → next_hit s p at last raw ≡ Ok (plain_hit p (text_from p at (drop at s)))
+next_plainly s p at last raw e some within before =
+    let inside : nat_lt (length s) at ≡ false = grind (arith, nat_tests) in
+    ap (λ t. by_raw s p at last (t && not raw)) (not_anchored p e) ∙ ap (hit_from s at last (length s - at)) (pattern_alone p e) ∙ ap (by_end s p at last) inside
+    ∙ ap {A = Option Hit} (λ hit. Ok hit) (by_last s p at last (length s - at) before some ∙ first_hit_alone s p at (length s - at) (omega arith))

@@ -1,5 +1,5 @@
 // Searches from a place on.
-ghost use Rattle.std.specs.Prelude.{◌≡◌, ◌≤◌, ◌<◌, ◌-◌, ◌+◌, drop, length, IsTrue, Ok, IfOk, IfErr, IfSome};
+ghost use Rattle.std.specs.Prelude.{◌≡◌, ◌≤◌, ◌<◌, ◌-◌, ◌+◌, drop, length, false, IsTrue, Ok, IfOk, IfErr, IfSome};
 ghost use Rattle.library_rows.specs.Searches.{barred_end, hit_from, is_anchored, next_hit, pattern_items, search};
 ghost use Rattle.std.specs.List.{list_any};
 ghost use Rattle.text_match.specs.Ordinary.{is_special, plain_hit};
@@ -45,6 +45,14 @@ pub fn search(
     }
     let place = find_plain(subject, pattern, at);
     Ok(plain_hit(alloc, pattern, subject.len(), place))
+}
+
+/// Whether a pattern has bytes, each of which stands for itself.
+fn is_plain(pattern: &[u8]) -> bool
+    ensures some { IsTrue result → 0 < length pattern.now }
+    ensures ordinary { IsTrue result → list_any is_special pattern.now ≡ false }
+{
+    !pattern.is_empty() && !has_special(pattern)
 }
 
 /// Whether a byte of a pattern stands for something else.
@@ -99,12 +107,32 @@ fn search_items(
 }
 
 /// The next match from a place on whose next place, from 1, is not `last`. With a `^` before the pattern it is tried at the
-/// place alone, unless it is `raw`.
+/// place alone, unless it is `raw`. A pattern in which each byte stands for itself is searched as a plain text, where it cannot end too early.
 ///
 /// # Errors
 ///
 /// The first rule that the pattern breaks, or else that it is too complex; or memory runs out.
 pub fn next_hit(
+    alloc: Global,
+    subject: &[u8],
+    pattern: &[u8],
+    at: usize,
+    last: usize,
+    raw: bool,
+) -> Result<Option<Hit>, PatternFault>
+    ensures found { IsFound result (next_hit subject.now pattern.now at last raw) }
+    ensures inside { IfOk result (λ hit. IfSome hit (IsWithin (length subject.now))) }
+{
+    if at <= subject.len() && last <= at + 1 && is_plain(pattern) {
+        let place = find_plain(subject, pattern, at);
+        return Ok(plain_hit(alloc, pattern, subject.len(), place));
+    }
+    let hit = next_by_items(alloc, subject, pattern, at, last, raw)?;
+    Ok(hit)
+}
+
+/// The next match of a pattern by its items.
+fn next_by_items(
     alloc: Global,
     subject: &[u8],
     pattern: &[u8],
