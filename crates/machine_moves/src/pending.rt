@@ -1,0 +1,37 @@
+// The pending registers of the Lua frame on top: those of its variables that are still to be closed.
+ghost use Rattle.std.specs.Prelude.{◌≡◌, ℕ, [], List};
+ghost use Rattle.int_core.specs.Value.{Value as Meant, known, nil, is_known};
+ghost use Rattle.machine_core.specs.Text.{drop_pending as drops, take_pending as takes};
+ghost use Rattle.machine_core.specs.Moves.{on_own};
+ghost use Rattle.move_laws.specs.Memory.{CanDo, Makes, StandsAt};
+
+use crate::running::running;
+use lua_heap::{Coro, World};
+
+/// The last pending register from one on is no longer pending.
+pub fn take_pending(world: &mut World, register: usize)
+    requires { CanDo world.old (takes register) }
+    ensures makes { (env : List Meant) → Makes world.old world.new (on_own (takes register)) env [] (is_known nil) }
+    ensures at { (pc : ℕ) → StandsAt world.old pc → StandsAt world.new pc }
+    ensures rest { world.new ≡ record world.old { coros = world.new.coros } }
+{
+    let co = running(world);
+    match world.coros.get_mut(co.0) {
+        Coro::Running(stack) => stack.take_pending(register),
+        _ => unreachable!(),
+    }
+}
+
+/// No register from one on is pending.
+pub fn drop_pending(world: &mut World, register: usize)
+    requires { CanDo world.old (drops register) }
+    ensures makes { (env : List Meant) → Makes world.old world.new (on_own (drops register)) env [] (is_known nil) }
+    ensures at { (pc : ℕ) → StandsAt world.old pc → StandsAt world.new pc }
+    ensures rest { world.new ≡ record world.old { coros = world.new.coros } }
+{
+    let co = running(world);
+    match world.coros.get_mut(co.0) {
+        Coro::Running(stack) => stack.drop_pending(register),
+        _ => unreachable!(),
+    }
+}
