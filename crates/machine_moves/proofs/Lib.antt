@@ -3,3 +3,4 @@ pub mod OnTop
 pub mod OfCode
 pub mod Settling
 pub mod NewObjects
+pub mod Closing

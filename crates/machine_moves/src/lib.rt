@@ -1,6 +1,8 @@
 //! The machine's moves on a world in memory, each as the definition of the machine has it (lvm.c, ldo.c and lcorolib.c of Lua 5.4).
 #![tactic(auto)]
 
+mod budget;
+mod cells;
 mod code;
 mod moving;
 mod objects;
@@ -11,11 +13,13 @@ mod running;
 mod tops;
 mod upvalues;
 
+pub use budget::pay;
+pub use cells::close_cells;
 pub use code::{code_on_top, read_constant};
 pub use moving::{give_values, put_in_front, take_moving};
 pub use objects::make_table;
 pub use operations::settle;
-pub use pending::{drop_pending, take_pending};
+pub use pending::{drop_pending, mark_pending, take_pending};
 pub use registers::{clear_registers, go_to, read_register, write_register};
 pub use tops::{Over, pop_frame, push_frame, see_top};
 pub use upvalues::read_upvalue;

@@ -1,12 +1,28 @@
 // The pending registers of the Lua frame on top: those of its variables that are still to be closed.
-ghost use Rattle.std.specs.Prelude.{◌≡◌, ℕ, [], List};
+ghost use Rattle.std.specs.Prelude.{◌≡◌, ℕ, [], List, OnErr, OnOk};
 ghost use Rattle.int_core.specs.Value.{Value as Meant, known, nil, is_known};
-ghost use Rattle.machine_core.specs.Text.{drop_pending as drops, take_pending as takes};
+ghost use Rattle.machine_core.specs.Text.{drop_pending as drops, mark_pending as marks, take_pending as takes};
 ghost use Rattle.machine_core.specs.Moves.{on_own};
 ghost use Rattle.move_laws.specs.Memory.{CanDo, Makes, StandsAt};
 
 use crate::running::running;
 use lua_heap::{Coro, World};
+use std::alloc::AllocError;
+
+/// Marks a register as pending. A refusal changes nothing.
+pub fn mark_pending(world: &mut World, register: usize) -> Result<(), AllocError>
+    requires { CanDo world.old (marks register) }
+    ensures makes { OnOk result ((env : List Meant) → Makes world.old world.new (on_own (marks register)) env [] (is_known nil)) }
+    ensures at { OnOk result ((pc : ℕ) → StandsAt world.old pc → StandsAt world.new pc) }
+    ensures rest { world.new ≡ record world.old { coros = world.new.coros } }
+    ensures err { OnErr result (world.new ≡ world.old) }
+{
+    let co = running(world);
+    match world.coros.get_mut(co.0) {
+        Coro::Running(stack) => stack.mark_pending(register),
+        _ => unreachable!(),
+    }
+}
 
 /// The last pending register from one on is no longer pending.
 pub fn take_pending(world: &mut World, register: usize)
