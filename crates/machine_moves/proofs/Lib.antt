@@ -4,3 +4,4 @@ pub mod OfCode
 pub mod Settling
 pub mod NewObjects
 pub mod Closing
+pub mod Opening

@@ -1,6 +1,7 @@
 -- What is told of the running stack, and moves of the frame on top to another place of its code.
-use Rattle.std.specs.Prelude.{◌≡◌, ℕ, ℤ, Bool, List, [], Some, IsSome}
+use Rattle.std.specs.Prelude.{◌≡◌, ℕ, ℤ, ◌≤◌, Bool, true, nat_lt, List, [], Some, IsSome, length}
 use Rattle.code_core.specs.Check.{at}
+use Rattle.int_core.specs.Limits.{greatest_depth}
 use Rattle.int_core.specs.Value.{Value}
 use Rattle.machine_core.specs.World.{Place, place_of}
 use Rattle.machine_core.specs.Text.{pay}
@@ -36,3 +37,18 @@ Pays old new paid = (W : Memory) (env : List Value) → HasFrame W → move (out
 -- the function on top has no open cell at a register or above
 abbrev pub NoneIsOpenFrom : Memory → ℕ → Type 0
 NoneIsOpenFrom W register = (co : CoroId) (stack : KeptStack) → Runs W co stack → NoneFrom stack register
+
+-- the function on top has a register, and the frames are no more than there may be
+pub record CanOpen (W : Memory) (register : ℕ) : Type 0 where
+  pub place : Place
+  pub is : place_of (plain W 0) ≡ Some place
+  pub there : nat_lt register (length place.top.own.registers) ≡ true
+  pub depth : length place.stack.frames ≤ greatest_depth
+
+-- the function on top has at least the registers of its code, of which there are so many, and no open cell beyond
+pub record CanCut (W : Memory) (stack : ℕ) : Type 0 where
+  pub place : Place
+  pub is : place_of (plain W 0) ≡ Some place
+  pub size : stack ≡ place.function.code.own.stack
+  pub room : stack ≤ length place.top.own.registers
+  pub closed : NoneIsOpenFrom W stack

@@ -4,6 +4,8 @@
 mod budget;
 mod cells;
 mod code;
+mod leaving;
+mod lists;
 mod moving;
 mod objects;
 mod operations;
@@ -14,8 +16,10 @@ mod tops;
 mod upvalues;
 
 pub use budget::pay;
-pub use cells::close_cells;
+pub use cells::{close_cells, open_register};
 pub use code::{code_on_top, read_constant};
+pub use leaving::{cut_from, keep_pending};
+pub use lists::{end_list, read_varargs, write_list};
 pub use moving::{give_values, put_in_front, take_moving};
 pub use objects::make_table;
 pub use operations::settle;
