@@ -1,7 +1,7 @@
 -- Cells of the function on top that are closed in memory.
 use Rattle.std.proofs.Common.{◌≡◌, ℕ, List, [], ◌∷◌, ◌++◌, length, Some, ap, sym, ◌∙◌, arith, length-append}
 use Rattle.std.specs.Prelude.{slice_get}
-use Rattle.int_core.specs.Value.{Value, known, nil, is_known, without_last}
+use Rattle.int_core.specs.Value.{Value, nil, is_known, without_last}
 use Rattle.machine_core.specs.World.{Cell, lua, in_progress, World, Place, place_of, close_from}
 use Rattle.machine_core.specs.Text.{close_cells}
 use Rattle.machine_core.specs.Moves.{made, on_own, do_own, with_own}

@@ -1,9 +1,8 @@
 -- Cells of the function on top that are opened in memory.
-use Rattle.std.proofs.Common.{◌≡◌, ℕ, ◌≤◌, List, [], ◌∷◌, ◌++◌, length, Some, None, ap, sym, ◌∙◌, arith, true}
+use Rattle.std.proofs.Common.{◌≡◌, ℕ, List, [], length, Some, None, ap, sym, ◌∙◌, arith}
 use Rattle.std.specs.Prelude.{cond, nat_lt}
 use Rattle.std.proofs.lemmas.List.{length-map}
-use Rattle.int_core.specs.Limits.{greatest_depth}
-use Rattle.int_core.specs.Value.{Value, without_last}
+use Rattle.int_core.specs.Value.{Value}
 use Rattle.machine_core.specs.World.{lua, World, Stack, stack_of, Place, place_of, find_open}
 use Rattle.machine_core.specs.Moves.{made, open_register, opened_cells}
 use Rattle.machine_sound.proofs.Lists.{bind_at, last_splits}

@@ -1,10 +1,10 @@
 -- What is told of the running stack, and moves of the frame on top to another place of its code.
-use Rattle.std.specs.Prelude.{◌≡◌, ℕ, ℤ, ◌≤◌, Bool, true, nat_lt, List, [], Some, IsSome, length}
+use Rattle.std.specs.Prelude.{◌≡◌, ℕ, ℤ, ◌≤◌, Bool, true, nat_lt, List, [], Some, IsSome, length, max}
 use Rattle.code_core.specs.Check.{at}
 use Rattle.int_core.specs.Limits.{greatest_depth}
 use Rattle.int_core.specs.Value.{Value}
 use Rattle.machine_core.specs.World.{Place, place_of}
-use Rattle.machine_core.specs.Text.{pay}
+use Rattle.machine_core.specs.Text.{behind, pay}
 use Rattle.machine_core.specs.Moves.{move, made, outside, move_pc, place_from}
 use Rattle.table_core.specs.declared.value.CoroId.{CoroId}
 use Rattle.lua_stack.specs.Frames.{KeptStack, NoneFrom}
@@ -52,3 +52,11 @@ pub record CanCut (W : Memory) (stack : ℕ) : Type 0 where
   pub size : stack ≡ place.function.code.own.stack
   pub room : stack ≤ length place.top.own.registers
   pub closed : NoneIsOpenFrom W stack
+
+-- and the registers of results, and no open cell beyond both
+pub record CanKeep (W : Memory) (from count stack : ℕ) : Type 0 where
+  pub place : Place
+  pub is : place_of (plain W 0) ≡ Some place
+  pub size : stack ≡ place.function.code.own.stack
+  pub room : max stack (behind from count) ≤ length place.top.own.registers
+  pub closed : NoneIsOpenFrom W (max stack (behind from count))

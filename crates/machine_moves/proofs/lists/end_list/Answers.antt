@@ -1,8 +1,7 @@
-use Rattle.std.proofs.Common.{◌≡◌, ℕ, List, [], length, refl, ap, sym}
-use Rattle.std.specs.Prelude.{take, nat_lt}
-use Rattle.machine_core.specs.World.{LuaFrame}
+use Rattle.std.proofs.Common.{refl, ap, sym}
+use Rattle.std.specs.Prelude.{take}
 use Rattle.machine_core.specs.Text.{end_list}
-use Rattle.lua_stack.specs.Frames.{with_opened, with_registers, cut_at}
+use Rattle.lua_stack.specs.Frames.{with_opened, with_registers}
 use Rattle.move_laws.proofs.Running.{with_top, place_after, has_stack, registers_there, own_made}
 use Rattle.machine_moves.proofs.Stacks.{within, with_stack, found_runs}
 use Rattle.machine_moves.proofs.lists.end_list.Goals as goal

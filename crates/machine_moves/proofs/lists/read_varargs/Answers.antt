@@ -1,6 +1,6 @@
 use Rattle.std.proofs.Common.{◌≡◌, ◌∙◌, refl, ap, sym}
 use Rattle.std.specs.Prelude.{map}
-use Rattle.int_core.specs.Value.{known, nil, is_known}
+use Rattle.int_core.specs.Value.{nil, is_known}
 use Rattle.lua_heap.specs.Plain.{plain}
 use Rattle.machine_core.specs.Text.{read_varargs}
 use Rattle.machine_core.specs.Moves.{made}

@@ -1,5 +1,5 @@
-use Rattle.std.proofs.Common.{◌≡◌, ℕ, List, [], length, refl, ap, sym, ◌∙◌}
-use Rattle.std.specs.Prelude.{map, drop}
+use Rattle.std.proofs.Common.{ℕ, List, length, refl, ap, ◌∙◌}
+use Rattle.std.specs.Prelude.{map}
 use Rattle.std.proofs.lemmas.List.{length-map}
 use Rattle.int_core.specs.Value.{Value as Meant, write_all}
 use Rattle.lua_heap.specs.Reading.{value as meant}

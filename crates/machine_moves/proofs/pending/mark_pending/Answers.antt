@@ -1,5 +1,4 @@
-use Rattle.std.proofs.Common.{◌≡◌, ℕ, List, [], ◌∷◌, ◌++◌, length, refl}
-use Rattle.machine_core.specs.World.{LuaFrame}
+use Rattle.std.proofs.Common.{[], ◌∷◌, ◌++◌, refl}
 use Rattle.machine_core.specs.Text.{mark_pending}
 use Rattle.lua_stack.specs.Frames.{with_pending}
 use Rattle.move_laws.proofs.Running.{with_top, place_after, has_stack, registers_there, own_made}
