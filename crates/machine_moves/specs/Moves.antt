@@ -1,12 +1,13 @@
 -- What is told of the running stack, and moves of the frame on top to another place of its code.
-use Rattle.std.specs.Prelude.{◌≡◌, ℕ, ℤ, ◌≤◌, Bool, true, nat_lt, List, [], Some, IsSome, length, max}
+use Rattle.std.specs.Prelude.{◌≡◌, ℕ, ℤ, ◌≤◌, ◌<◌, ◌∷◌, Option, None, Bool, true, nat_lt, List, [], Some, IsSome, length, max}
 use Rattle.code_core.specs.Check.{at}
 use Rattle.int_core.specs.Limits.{greatest_depth}
 use Rattle.int_core.specs.Value.{Value}
 use Rattle.machine_core.specs.World.{Place, place_of}
-use Rattle.machine_core.specs.Text.{behind, pay}
+use Rattle.machine_core.specs.Text.{behind, last_pending, pay}
 use Rattle.machine_core.specs.Moves.{move, made, outside, move_pc, place_from}
 use Rattle.table_core.specs.declared.value.CoroId.{CoroId}
+use Rattle.table_core.specs.declared.value.Value.{Value as Kept}
 use Rattle.lua_stack.specs.Frames.{KeptStack, NoneFrom}
 use Rattle.lua_heap.specs.declared.world.World.{World as Memory}
 use Rattle.lua_heap.specs.Plain.{plain}
@@ -60,3 +61,13 @@ pub record CanKeep (W : Memory) (from count stack : ℕ) : Type 0 where
   pub size : stack ≡ place.function.code.own.stack
   pub room : max stack (behind from count) ≤ length place.top.own.registers
   pub closed : NoneIsOpenFrom W (max stack (behind from count))
+
+-- the last pending register from one on, if there is one, is one of the function on top
+pub record CanSee (W : Memory) (register : ℕ) : Type 0 where
+  pub place : Place
+  pub is : place_of (plain W 0) ≡ Some place
+  pub there : (r : ℕ) → last_pending register place.top.own.pending ≡ Some r → r < length place.top.own.registers
+
+abbrev pub value_seen : (Kept → Value) → Option Kept → List Value
+value_seen value None = []
+value_seen value (Some v) = value v ∷ []

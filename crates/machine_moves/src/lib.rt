@@ -23,7 +23,7 @@ pub use lists::{end_list, read_varargs, write_list};
 pub use moving::{give_values, put_in_front, take_moving};
 pub use objects::make_table;
 pub use operations::settle;
-pub use pending::{drop_pending, mark_pending, take_pending};
+pub use pending::{drop_pending, mark_pending, see_pending, take_pending};
 pub use registers::{clear_registers, go_to, read_register, write_register};
 pub use tops::{Over, pop_frame, push_frame, see_top};
 pub use upvalues::{read_upvalue, write_upvalue};
