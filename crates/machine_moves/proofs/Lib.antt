@@ -3,3 +3,5 @@ pub mod OnTop
 pub mod OfCode
 pub mod Settling
 pub mod NewObjects
+pub mod Closing
+pub mod Opening

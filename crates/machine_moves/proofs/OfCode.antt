@@ -1,28 +1,28 @@
 -- The function of the Lua frame on top, and its constants.
 use Rattle.std.proofs.Common.{◌≡◌, ℕ, ◌<◌, List, [], ◌∷◌, length, Option, Some, None, refl, ap, sym, subst, ◌∙◌, arith, true}
-use Rattle.std.specs.Prelude.{map, nat_lt, slice_get}
+use Rattle.std.specs.Prelude.{map, nat_lt, slice_get, IsSome}
 use Rattle.std.proofs.lemmas.List.{length-map}
 use Rattle.std.proofs.lemmas.Bool.Decides.{nat_tests}
 use Rattle.code_core.specs.declared.proto.Const.{Const}
 use Rattle.code_core.specs.Prototype.{Prototype}
 use Rattle.int_core.specs.Value.{Value, known, nil, bind, Shape, is_known, shape}
-use Rattle.machine_core.specs.World.{Function, Cell, World, Place, place_of, read_cell}
-use Rattle.machine_core.specs.Text.{constant, read_constant, read_upvalue}
+use Rattle.machine_core.specs.World.{Function, Cell, closed, open_at, World, Place, place_of, read_cell, write_cell}
+use Rattle.machine_core.specs.Text.{Arg, arg, constant, read_constant, read_upvalue, write_upvalue}
 use Rattle.machine_core.specs.Moves.{made, on_own, outside, do_outside}
-use Rattle.machine_sound.proofs.Lists.{get_map, get_there, get_within, map_get, some_is}
+use Rattle.machine_sound.proofs.Lists.{bind_at, get_map, get_there, get_within, map_get, some_is}
 use Rattle.table_core.specs.declared.value.CellId.{CellId}
 use Rattle.table_core.specs.declared.value.Value.{Value as Kept}
 use Rattle.lua_heap.specs.declared.world.Func.{Func}
 use Rattle.lua_heap.specs.declared.world.World.{World as Memory}
 use Rattle.lua_heap.specs.declared.codes.Code.{Code}
 use Rattle.lua_heap.specs.Codes.{functions, prototype_at, IsCode}
-use Rattle.lua_heap.specs.Changes.{value_in}
+use Rattle.lua_heap.specs.Changes.{value_in, with_value_in}
 use Rattle.lua_heap.specs.Reading.{value}
 use Rattle.lua_heap.specs.Plain.{plain, function}
 use Rattle.move_laws.specs.Memory.{CanDo, Makes}
 use Rattle.move_laws.proofs.Places.{place_is}
 use Rattle.move_laws.proofs.Running.{own_read}
-use Rattle.machine_moves.specs.Code.{IsCodeOnTop}
+use Rattle.machine_moves.specs.Code.{HasUpvalue, IsCodeOnTop, IsUpvalue}
 
 -- the function on top in memory
 pub record Kept_function (W : Memory) (at : Place) (n : ℕ) : Type 0 where
@@ -107,4 +107,35 @@ pub upvalue_made : (W : Memory) (at : Place) (u c : ℕ) (v : Kept) (env : List 
     → ((fuel : ℕ) → value_in (plain W fuel) c ≡ Some (value W.strings v)) → Makes W W (outside (read_upvalue u)) env (value W.strings v ∷ []) true
 upvalue_made W at u c v env e h g = record {
   is = λ fuel. ap (λ o. bind o (do_outside (read_upvalue u) env (plain W fuel))) e ∙ cell_read (plain W fuel) at u c (value W.strings v) h (g fuel) env;
+}
+
+pub same_cell : (W : Memory) (u : ℕ) (id : CellId) → (h : HasUpvalue W u) → IsUpvalue W u id → h.cell ≡ id.0
+same_cell W u id h i = some_is h.there (ap (λ (p : Place). slice_get p.function.cells u) (some_is h.is i.is) ∙ i.there)
+
+written : (W V : World) (c : ℕ) (v : Value) (o : Option Cell) → IsSome (bind o (read_cell W)) → Some V ≡ bind o (λ cell. Some (write_cell W c cell v))
+    → bind {A = ℕ × Cell} (bind {B = ℕ × Cell} o (λ cell. Some (c, cell))) (λ c. bind (read_cell W c.1) (λ _. made (write_cell W c.0 c.1 v) [] true)) ≡ made V [] true
+written W V c v None s e = absurd (cc)
+written W V c v (Some cell) s e = by (read_cell W cell) s ∙ ap (λ W. made W [] true) (sym (some_is {o = Some V} refl e))
+  where
+    by : (o : Option Value) → IsSome o → bind o (λ _. made (write_cell W c cell v) [] true) ≡ made (write_cell W c cell v) [] true
+    by None s = absurd (cc)
+    by (Some x) s = refl
+
+-- the budget changes nothing of what a cell has
+readable : (old : Memory) (fuel : ℕ) (o : Option Cell) → IsSome (bind o (read_cell (plain old 0))) → IsSome (bind o (read_cell (plain old fuel)))
+readable old fuel None s = absurd (cc)
+readable old fuel (Some (closed v)) s = refl
+readable old fuel (Some (open_at co frame register)) s = s
+
+pub upvalue_written : (old new : Memory) (u : ℕ) (id : CellId) (v : Kept) (env : List Value) (x : Arg) → (h : HasUpvalue old u) → IsUpvalue old u id → arg env x ≡ value old.strings v
+    → ((fuel : ℕ) → Some (plain new fuel) ≡ with_value_in (plain old fuel) id.0 (value old.strings v)) → Makes old new (outside (write_upvalue u x)) env [] true
+upvalue_written old new u id v env x h i e w = record {
+  is = λ fuel.
+      let V = plain old fuel in
+      let c = h.cell in
+      let same = same_cell old u id h i in
+      let is : Some (plain new fuel) ≡ with_value_in V c (arg env x) = w fuel ∙ ap (λ n. with_value_in V n (value old.strings v)) (sym same) ∙ ap (with_value_in V c) (sym e) in
+      bind_at (do_outside (write_upvalue u x) env V) (place_of V) h.place h.is
+      ∙ ap (λ o. bind {A = ℕ × Cell} (bind {B = ℕ × Cell} o (λ c. bind {B = ℕ × Cell} (slice_get V.cells c) (λ cell. Some (c, cell)))) (λ c. bind (read_cell V c.1) (λ _. made (write_cell V c.0 c.1 (arg env x)) [] true))) h.there
+      ∙ written V (plain new fuel) c (arg env x) (slice_get V.cells c) (readable old fuel (slice_get V.cells c) h.value) is;
 }

@@ -1,5 +1,5 @@
 -- The frame on top of the running stack, and frames that are pushed and popped there.
-use Rattle.std.proofs.Common.{◌≡◌, ℕ, zero, suc, ◌+◌, ◌-◌, ◌<◌, take, List, [], ◌∷◌, ◌++◌, length, Option, Some, None, refl, ap, sym, ◌∙◌, arith, Bool, true, false, Result, Ok, Err, IfOk, OnErr}
+use Rattle.std.proofs.Common.{◌≡◌, ℕ, zero, suc, ◌+◌, ◌-◌, ◌<◌, take, List, [], ◌∷◌, ◌++◌, length, Option, Some, None, refl, ap, sym, ◌∙◌, arith, Bool, true, false, Result, Ok, Err, IfOk, OnOk, OnErr}
 use Rattle.std.specs.Prelude.{cond, map, nat_le, slice_get, slice_set}
 use Rattle.std.specs.Option.{option_map}
 use Rattle.std.proofs.lemmas.List.{length-map}
@@ -179,6 +179,10 @@ if_ok (Err e) p q f = tt
 pub on_err : {B E : Type 0} {P Q : Type 0} (o : Result B E) → OnErr o P → (P → Q) → OnErr o Q
 on_err (Ok b) p f = tt
 on_err (Err e) p f = f p
+
+pub on_ok : {B E : Type 0} {P Q : Type 0} (o : Result B E) → OnOk o P → (P → Q) → OnOk o Q
+on_ok (Ok b) p f = f p
+on_ok (Err e) p f = tt
 
 -- the stack that was put there runs
 pub runs_after : (old new : Memory) (co : CoroId) (s s' : KeptStack) → Runs old co s → ChangesStack old new co s' → Runs new co s'

@@ -2,6 +2,7 @@
 use Rattle.std.specs.Prelude.{◌≡◌, ℕ, Some, IsSome, slice_get}
 use Rattle.code_core.specs.Check.{IsChecked}
 use Rattle.machine_core.specs.World.{Place, place_of}
+use Rattle.table_core.specs.declared.value.CellId.{CellId}
 use Rattle.lua_heap.specs.declared.codes.Code.{Code}
 use Rattle.lua_heap.specs.declared.world.World.{World as Memory}
 use Rattle.lua_heap.specs.Codes.{IsCode}
@@ -27,3 +28,9 @@ pub record HasUpvalue (W : Memory) (upvalue : ℕ) : Type 0 where
   pub cell : ℕ
   pub there : slice_get place.function.cells upvalue ≡ Some cell
   pub value : IsSome (value_in (plain W 0) cell)
+
+-- and that is its cell
+pub record IsUpvalue (W : Memory) (upvalue : ℕ) (cell : CellId) : Type 0 where
+  pub place : Place
+  pub is : place_of (plain W 0) ≡ Some place
+  pub there : slice_get place.function.cells upvalue ≡ Some cell.0

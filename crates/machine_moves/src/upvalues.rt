@@ -3,14 +3,14 @@ ghost use Rattle.std.specs.Prelude.{◌≡◌, [], ◌∷◌, List, true};
 ghost use Rattle.int_core.specs.Value.{Value as Meant};
 ghost use Rattle.lua_heap.specs.Cells.{CellsAreListed};
 ghost use Rattle.lua_heap.specs.Reading.{value as meant};
-ghost use Rattle.machine_core.specs.Text.{read_upvalue as reads};
+ghost use Rattle.machine_core.specs.Text.{Arg, arg, read_upvalue as reads, write_upvalue as writes};
 ghost use Rattle.machine_core.specs.Moves.{outside};
 ghost use Rattle.move_laws.specs.Memory.{Makes};
-ghost use Rattle.machine_moves.specs.Code.{HasUpvalue};
+ghost use Rattle.machine_moves.specs.Code.{HasUpvalue, IsUpvalue};
 
 use crate::running::running_stack;
 use lua_heap::World;
-use table_core::Value;
+use table_core::{CellId, Value};
 
 /// The value of an upvalue.
 pub fn read_upvalue(world: &World, upvalue: usize) -> Value
@@ -18,6 +18,26 @@ pub fn read_upvalue(world: &World, upvalue: usize) -> Value
     requires there { HasUpvalue world.now upvalue }
     ensures { (env : List Meant) → Makes world.now world.now (outside (reads upvalue)) env (meant world.now.strings result ∷ []) true }
 {
+    world.cell_value(cell_of(world, upvalue))
+}
+
+/// Gives an upvalue a value.
+pub fn write_upvalue(world: &mut World, upvalue: usize, given: Value)
+    requires listed { CellsAreListed world.old }
+    requires there { HasUpvalue world.old upvalue }
+    ensures makes { (env : List Meant) (x : Arg) → arg env x ≡ meant world.old.strings given → Makes world.old world.new (outside (writes upvalue x)) env [] true }
+    ensures listed { CellsAreListed world.new }
+    ensures rest { world.new ≡ record world.old { cells = world.new.cells; coros = world.new.coros } }
+{
+    let cell = cell_of(world, upvalue);
+    world.set_cell(cell, given);
+}
+
+/// The cell of an upvalue.
+fn cell_of(world: &World, upvalue: usize) -> CellId
+    requires { HasUpvalue world.now upvalue }
+    ensures { IsUpvalue world.now upvalue result }
+{
     let function = running_stack(world).function();
-    world.cell_value(world.funcs.get(function.0).cells[upvalue])
+    world.funcs.get(function.0).cells[upvalue]
 }

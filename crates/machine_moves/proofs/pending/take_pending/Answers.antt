@@ -1,7 +1,5 @@
-use Rattle.std.proofs.Common.{◌≡◌, ℕ, List, [], length, refl}
-use Rattle.std.specs.Prelude.{filter, nat_lt}
-use Rattle.machine_core.specs.World.{LuaFrame}
-use Rattle.machine_core.specs.Text.{without_pending, take_pending, drop_pending}
+use Rattle.std.proofs.Common.{refl}
+use Rattle.machine_core.specs.Text.{without_pending, take_pending}
 use Rattle.lua_stack.specs.Frames.{with_pending}
 use Rattle.move_laws.proofs.Running.{with_top, place_after, has_stack, lua_top, own_made}
 use Rattle.machine_moves.proofs.Stacks.{within, with_stack, found_runs}

@@ -1,0 +1,53 @@
+// What the Lua frame on top keeps in its registers while it waits or is left.
+ghost use Rattle.std.specs.Prelude.{◌≡◌, ◌≤◌, ℕ, [], List};
+ghost use Rattle.int_core.specs.Value.{Value as Meant, known, nil, is_known};
+ghost use Rattle.machine_core.specs.Text.{cut_from as cuts, keep_pending as keeps, keep_results as keeps_too};
+ghost use Rattle.machine_core.specs.Moves.{on_own};
+ghost use Rattle.move_laws.specs.Memory.{Makes, StandsAt};
+ghost use Rattle.machine_moves.specs.Moves.{CanCut, CanKeep};
+
+use crate::running::running;
+use lua_heap::{Coro, World};
+
+/// Sets the registers from one on to nil, and leaves as many as the code has.
+pub fn cut_from(world: &mut World, register: usize, stack_size: usize)
+    requires within { register ≤ stack_size }
+    requires frame { CanCut world.old stack_size }
+    ensures makes { (env : List Meant) → Makes world.old world.new (on_own (cuts register)) env [] (is_known nil) }
+    ensures at { (pc : ℕ) → StandsAt world.old pc → StandsAt world.new pc }
+    ensures rest { world.new ≡ record world.old { coros = world.new.coros } }
+{
+    let co = running(world);
+    match world.coros.get_mut(co.0) {
+        Coro::Running(stack) => stack.cut_from(register, stack_size),
+        _ => unreachable!(),
+    }
+}
+
+/// Sets the registers to nil that are not pending, and leaves as many as the code has.
+pub fn keep_pending(world: &mut World, stack_size: usize)
+    requires { CanCut world.old stack_size }
+    ensures makes { (env : List Meant) → Makes world.old world.new (on_own keeps) env [] (is_known nil) }
+    ensures at { (pc : ℕ) → StandsAt world.old pc → StandsAt world.new pc }
+    ensures rest { world.new ≡ record world.old { coros = world.new.coros } }
+{
+    let co = running(world);
+    match world.coros.get_mut(co.0) {
+        Coro::Running(stack) => stack.keep_pending(stack_size),
+        _ => unreachable!(),
+    }
+}
+
+/// Sets the registers to nil that are neither pending nor results, and leaves as many as the code and the results have.
+pub fn keep_results(world: &mut World, from: usize, count: usize, stack_size: usize)
+    requires { CanKeep world.old from count stack_size }
+    ensures makes { (env : List Meant) → Makes world.old world.new (on_own (keeps_too from count)) env [] (is_known nil) }
+    ensures at { (pc : ℕ) → StandsAt world.old pc → StandsAt world.new pc }
+    ensures rest { world.new ≡ record world.old { coros = world.new.coros } }
+{
+    let co = running(world);
+    match world.coros.get_mut(co.0) {
+        Coro::Running(stack) => stack.keep_results(from, count, stack_size),
+        _ => unreachable!(),
+    }
+}
