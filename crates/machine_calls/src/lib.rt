@@ -1,0 +1,7 @@
+//! The machine's moves that call functions, on a world in memory, each as the definition of the machine has it (ldo.c of Lua 5.4).
+#![tactic(auto)]
+
+mod entering;
+mod running;
+
+pub use entering::enter_function;
