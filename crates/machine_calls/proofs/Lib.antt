@@ -1,0 +1,4 @@
+pub mod Entered
+pub mod Linked
+pub mod Callees
+pub mod Left

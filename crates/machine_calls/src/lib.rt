@@ -1,0 +1,11 @@
+//! The machine's moves that call and leave functions, on a world in memory, each as the definition of the machine has it (ldo.c of Lua 5.4).
+#![tactic(auto)]
+
+mod calling;
+mod entering;
+mod leaving;
+mod running;
+
+pub use calling::{Called, call_value, enter_callee};
+pub use entering::enter_function;
+pub use leaving::leave_frame;
