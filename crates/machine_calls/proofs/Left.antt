@@ -1,5 +1,6 @@
 -- Functions that are left in memory.
-use Rattle.std.proofs.Common.{◌≡◌, ℕ, ◌-◌, ◌<◌, List, [], ◌∷◌, ◌++◌, length, Option, Some, None, refl, ap, sym, ◌∙◌, arith, length-append}
+use Rattle.std.proofs.Common.{◌≡◌, ℕ, zero, suc, ◌-◌, ◌<◌, List, [], ◌∷◌, ◌++◌, length, Option, Some, None, refl, ap, sym, ◌∙◌, arith, length-append}
+use Rattle.std.specs.Prelude.{map, slice_get, slice_set}
 use Rattle.std.proofs.lemmas.List.{length-map}
 use Rattle.int_core.specs.Value.{Value, bind, without_last}
 use Rattle.machine_core.specs.World.{Frame, lua, in_progress, World, stack_of, Place, place_of, close_from, pop}
@@ -8,14 +9,16 @@ use Rattle.machine_core.specs.Moves.{Made, made, TopShape, leave_frame, pop_fram
 use Rattle.machine_sound.proofs.Lists.{get_map, last_splits}
 use Rattle.table_core.specs.declared.value.CoroId.{CoroId}
 use Rattle.lua_stack.specs.Frames.{KeptStack, frame_of}
+use Rattle.lua_heap.specs.declared.world.Coro.{Coro}
 use Rattle.lua_heap.specs.declared.world.Coro.TheVariants.{Running}
+use Rattle.lua_heap.specs.Cells.{open_cells_in}
 use Rattle.lua_heap.specs.declared.world.World.{World as Memory}
 use Rattle.lua_heap.specs.Closing.{ClosesAll}
 use Rattle.lua_heap.specs.Reading.{value}
 use Rattle.lua_heap.specs.Plain.{plain, coroutine}
 use Rattle.move_laws.specs.Memory.{Runs, Makes}
 use Rattle.move_laws.proofs.Places.{place_is}
-use Rattle.move_laws.proofs.Running.{shown}
+use Rattle.move_laws.proofs.Running.{shown, set_same}
 
 abbrev with_closed : World → Place → World
 with_closed W at = record W { cells = close_from at.stack.coroutine at.number 0 at.top.own.registers W.cells }
@@ -76,3 +79,16 @@ left_is old shut gone new at env what values told e k g m q t = record {
       ∙ ap top_told end
       ∙ t.is fuel;
 }
+
+-- a stack that lists the same cells is put in place of another
+
+map_set : {A B : Type 0} (f : A → B) (xs : List A) (i : ℕ) (x : A) → map f (slice_set xs i x) ≡ slice_set (map f xs) i (f x)
+map_set f [] i x = refl
+map_set f (y ∷ xs) zero x = refl
+map_set f (y ∷ xs) (suc i) x = ap (λ l. f y ∷ l) (map_set f xs i x)
+
+pub lists_same : (cs : List Coro) (n : ℕ) (s s' : KeptStack) → slice_get cs n ≡ Some (Running s) → s'.open_cells ≡ s.open_cells → map open_cells_in (slice_set cs n (Running s')) ≡ map open_cells_in cs
+lists_same cs n s s' t e =
+    map_set open_cells_in cs n (Running s')
+    ∙ ap (λ own. slice_set (map open_cells_in cs) n (Some own)) e
+    ∙ set_same (map open_cells_in cs) n (Some s.open_cells) (get_map open_cells_in cs n (Running s) t)

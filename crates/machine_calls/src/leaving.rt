@@ -1,7 +1,7 @@
 // Functions that are left (luaD_poscall of ldo.c).
 ghost use Rattle.std.specs.Prelude.{◌≡◌, [], List, map};
 ghost use Rattle.int_core.specs.Value.{Value as Meant};
-ghost use Rattle.lua_heap.specs.Cells.{CellsAreListed};
+ghost use Rattle.lua_heap.specs.Cells.{CellsAreListed, open_cells_in};
 ghost use Rattle.lua_heap.specs.Plain.{plain};
 ghost use Rattle.lua_heap.specs.Reading.{value as meant};
 ghost use Rattle.machine_core.specs.Text.{Given, given_values};
@@ -22,6 +22,7 @@ pub fn leave_frame(world: &mut World, given: Vec<Value>) -> Top
     requires listed { CellsAreListed world.old }
     ensures makes { (env : List Meant) (what : Given) → given_values env what ≡ map (meant world.old.strings) given.items → Makes world.old world.new (leaves what) env [] (shape_of (runs_main (plain world.new 0)) result) }
     ensures top { TopIs world.new result }
+    ensures listed { CellsAreListed world.new }
     ensures rest { world.new ≡ record world.old { cells = world.new.cells; coros = world.new.coros; moving = world.new.moving } }
 {
     let co = running(world);
@@ -36,6 +37,7 @@ fn pop_closed(world: &mut World)
     requires { HasClosed world.old }
     ensures makes { Makes world.old world.new pops [] [] tt }
     ensures running { HasStack world.new }
+    ensures listed { map open_cells_in world.new.coros.objects ≡ map open_cells_in world.old.coros.objects }
     ensures rest { world.new ≡ record world.old { coros = world.new.coros } }
 {
     let co = running(world);

@@ -1,9 +1,10 @@
-use Rattle.std.proofs.Common.{◌≡◌, [], ap, sym, ◌∙◌}
+use Rattle.std.proofs.Common.{◌≡◌, [], ap, sym, subst, ◌∙◌}
 use Rattle.std.specs.Prelude.{map, slice_get}
 use Rattle.int_core.specs.Value.{last}
 use Rattle.machine_sound.proofs.Lists.{some_is}
 use Rattle.table_core.specs.declared.value.CoroId.{CoroId}
 use Rattle.lua_heap.specs.declared.world.World.{World as Memory}
+use Rattle.lua_heap.specs.Cells.{AreListed, open_cells_in}
 use Rattle.lua_heap.specs.Plain.{plain}
 use Rattle.lua_heap.specs.Reading.{value as meant}
 use Rattle.move_laws.proofs.Running.{has_stack}
@@ -39,3 +40,9 @@ returns-clause-makes c = λ env what q.
     (λ fuel. closed_is W B c.running-co.result r.stack p fuel r.runs c.requires.frame.is (c.close_cells.ensures.closed fuel))
     c.pop_closed.ensures.makes
     (λ fuel. ap (λ texts. record (plain C fuel) { moving = map (meant texts) c.args.given.items }) texts) q (c.see_top.ensures.makes [])
+
+pub returns-clause-listed : goal.returns-clause-listed
+returns-clause-listed c =
+    let B = c.close_cells.new.self in
+    subst (λ cells. AreListed cells (map open_cells_in c.pop_closed.new.world.coros.objects)) (sym (ap (λ (W : Memory). W.cells.objects) c.pop_closed.ensures.rest))
+    (subst (λ lists. AreListed B.cells.objects lists) (sym c.pop_closed.ensures.listed) c.close_cells.ensures.listed)

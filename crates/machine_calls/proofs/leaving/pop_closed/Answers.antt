@@ -2,7 +2,7 @@ use Rattle.std.proofs.Common.{[], refl}
 use Rattle.move_laws.proofs.Running.{has_stack}
 use Rattle.machine_moves.proofs.Stacks.{within, found_runs}
 use Rattle.machine_moves.proofs.OnTop.{has_running, popped_is, runs_after}
-use Rattle.machine_calls.proofs.Left.{frame_there}
+use Rattle.machine_calls.proofs.Left.{frame_there, lists_same}
 use Rattle.machine_calls.proofs.leaving.pop_closed.Goals as goal
 
 pub running-co-requires : goal.running-co-requires
@@ -30,3 +30,8 @@ pub returns-clause-running : goal.returns-clause-running
 returns-clause-running c =
     let r = found_runs c.get_mut.result.now c.in-Running.stack c.running-co.ensures c.get_mut.ensures.value c.in-Running.is in
     has_running _ c.running-co.result c.pop.new.self (runs_after c.args.world.now _ c.running-co.result c.in-Running.stack c.pop.new.self r (record { rest = refl; objects = refl }))
+
+pub returns-clause-listed : goal.returns-clause-listed
+returns-clause-listed c =
+    let r = found_runs c.get_mut.result.now c.in-Running.stack c.running-co.ensures c.get_mut.ensures.value c.in-Running.is in
+    lists_same c.args.world.now.coros.objects c.running-co.result.0 c.in-Running.stack c.pop.new.self r.there c.pop.ensures.cells
