@@ -79,16 +79,3 @@ left_is old shut gone new at env what values told e k g m q t = record {
       ∙ ap top_told end
       ∙ t.is fuel;
 }
-
--- a stack that lists the same cells is put in place of another
-
-map_set : {A B : Type 0} (f : A → B) (xs : List A) (i : ℕ) (x : A) → map f (slice_set xs i x) ≡ slice_set (map f xs) i (f x)
-map_set f [] i x = refl
-map_set f (y ∷ xs) zero x = refl
-map_set f (y ∷ xs) (suc i) x = ap (λ l. f y ∷ l) (map_set f xs i x)
-
-pub lists_same : (cs : List Coro) (n : ℕ) (s s' : KeptStack) → slice_get cs n ≡ Some (Running s) → s'.open_cells ≡ s.open_cells → map open_cells_in (slice_set cs n (Running s')) ≡ map open_cells_in cs
-lists_same cs n s s' t e =
-    map_set open_cells_in cs n (Running s')
-    ∙ ap (λ own. slice_set (map open_cells_in cs) n (Some own)) e
-    ∙ set_same (map open_cells_in cs) n (Some s.open_cells) (get_map open_cells_in cs n (Running s) t)

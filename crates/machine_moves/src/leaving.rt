@@ -1,6 +1,7 @@
 // What the Lua frame on top keeps in its registers while it waits or is left.
 ghost use Rattle.std.specs.Prelude.{◌≡◌, ◌≤◌, ℕ, [], List};
 ghost use Rattle.int_core.specs.Value.{Value as Meant, known, nil, is_known};
+ghost use Rattle.lua_heap.specs.Cells.{CellsAreListed};
 ghost use Rattle.machine_core.specs.Text.{cut_from as cuts, keep_pending as keeps, keep_results as keeps_too};
 ghost use Rattle.machine_core.specs.Moves.{on_own};
 ghost use Rattle.move_laws.specs.Memory.{Makes, StandsAt};
@@ -15,6 +16,7 @@ pub fn cut_from(world: &mut World, register: usize, stack_size: usize)
     requires frame { CanCut world.old stack_size }
     ensures makes { (env : List Meant) → Makes world.old world.new (on_own (cuts register)) env [] (is_known nil) }
     ensures at { (pc : ℕ) → StandsAt world.old pc → StandsAt world.new pc }
+    ensures listed { CellsAreListed world.old → CellsAreListed world.new }
     ensures rest { world.new ≡ record world.old { coros = world.new.coros } }
 {
     let co = running(world);
@@ -29,6 +31,7 @@ pub fn keep_pending(world: &mut World, stack_size: usize)
     requires { CanCut world.old stack_size }
     ensures makes { (env : List Meant) → Makes world.old world.new (on_own keeps) env [] (is_known nil) }
     ensures at { (pc : ℕ) → StandsAt world.old pc → StandsAt world.new pc }
+    ensures listed { CellsAreListed world.old → CellsAreListed world.new }
     ensures rest { world.new ≡ record world.old { coros = world.new.coros } }
 {
     let co = running(world);
@@ -43,6 +46,7 @@ pub fn keep_results(world: &mut World, from: usize, count: usize, stack_size: us
     requires { CanKeep world.old from count stack_size }
     ensures makes { (env : List Meant) → Makes world.old world.new (on_own (keeps_too from count)) env [] (is_known nil) }
     ensures at { (pc : ℕ) → StandsAt world.old pc → StandsAt world.new pc }
+    ensures listed { CellsAreListed world.old → CellsAreListed world.new }
     ensures rest { world.new ≡ record world.old { coros = world.new.coros } }
 {
     let co = running(world);

@@ -1,6 +1,7 @@
 // Open lists: values in registers, as many as there are, up to where the next instruction takes them.
 ghost use Rattle.std.specs.Prelude.{◌≡◌, ℕ, [], List, drop, map, OnErr, OnOk};
 ghost use Rattle.int_core.specs.Value.{Value as Meant, known, nil, is_known};
+ghost use Rattle.lua_heap.specs.Cells.{CellsAreListed};
 ghost use Rattle.lua_heap.specs.Reading.{value as meant};
 ghost use Rattle.machine_core.specs.Text.{end_list as ends, read_varargs as reads, write_list as writes};
 ghost use Rattle.machine_core.specs.Moves.{on_own};
@@ -25,6 +26,7 @@ pub fn write_list(world: &mut World, at: usize, values: &[Value]) -> Result<(), 
     requires { CanDo world.old (writes at 0) }
     ensures makes { OnOk result ((env : List Meant) (slot : ℕ) → drop slot env ≡ map (meant world.old.strings) values.now → Makes world.old world.new (on_own (writes at slot)) env [] (is_known nil)) }
     ensures at { OnOk result ((pc : ℕ) → StandsAt world.old pc → StandsAt world.new pc) }
+    ensures listed { OnOk result (CellsAreListed world.old → CellsAreListed world.new) }
     ensures rest { world.new ≡ record world.old { coros = world.new.coros } }
     ensures err { OnErr result (world.new ≡ world.old) }
 {
@@ -40,6 +42,7 @@ pub fn end_list(world: &mut World, stack_size: usize)
     requires { CanCut world.old stack_size }
     ensures makes { (env : List Meant) → Makes world.old world.new (on_own ends) env [] (is_known nil) }
     ensures at { (pc : ℕ) → StandsAt world.old pc → StandsAt world.new pc }
+    ensures listed { CellsAreListed world.old → CellsAreListed world.new }
     ensures rest { world.new ≡ record world.old { coros = world.new.coros } }
 {
     let co = running(world);

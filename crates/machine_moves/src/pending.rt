@@ -1,6 +1,7 @@
 // The pending registers of the Lua frame on top: those of its variables that are still to be closed.
 ghost use Rattle.std.specs.Prelude.{◌≡◌, ℕ, [], List, OnErr, OnOk};
 ghost use Rattle.int_core.specs.Value.{Value as Meant, boolean, known, nil, is_known};
+ghost use Rattle.lua_heap.specs.Cells.{CellsAreListed};
 ghost use Rattle.lua_heap.specs.Reading.{value as meant};
 ghost use Rattle.machine_core.specs.Text.{drop_pending as drops, is_there, mark_pending as marks, see_pending as sees, take_pending as takes};
 ghost use Rattle.machine_core.specs.Moves.{on_own};
@@ -29,6 +30,7 @@ pub fn mark_pending(world: &mut World, register: usize) -> Result<(), AllocError
     requires { CanDo world.old (marks register) }
     ensures makes { OnOk result ((env : List Meant) → Makes world.old world.new (on_own (marks register)) env [] (is_known nil)) }
     ensures at { OnOk result ((pc : ℕ) → StandsAt world.old pc → StandsAt world.new pc) }
+    ensures listed { OnOk result (CellsAreListed world.old → CellsAreListed world.new) }
     ensures rest { world.new ≡ record world.old { coros = world.new.coros } }
     ensures err { OnErr result (world.new ≡ world.old) }
 {
@@ -44,6 +46,7 @@ pub fn take_pending(world: &mut World, register: usize)
     requires { CanDo world.old (takes register) }
     ensures makes { (env : List Meant) → Makes world.old world.new (on_own (takes register)) env [] (is_known nil) }
     ensures at { (pc : ℕ) → StandsAt world.old pc → StandsAt world.new pc }
+    ensures listed { CellsAreListed world.old → CellsAreListed world.new }
     ensures rest { world.new ≡ record world.old { coros = world.new.coros } }
 {
     let co = running(world);
@@ -58,6 +61,7 @@ pub fn drop_pending(world: &mut World, register: usize)
     requires { CanDo world.old (drops register) }
     ensures makes { (env : List Meant) → Makes world.old world.new (on_own (drops register)) env [] (is_known nil) }
     ensures at { (pc : ℕ) → StandsAt world.old pc → StandsAt world.new pc }
+    ensures listed { CellsAreListed world.old → CellsAreListed world.new }
     ensures rest { world.new ≡ record world.old { coros = world.new.coros } }
 {
     let co = running(world);

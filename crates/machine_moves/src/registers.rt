@@ -1,6 +1,7 @@
 // The registers of the Lua frame on top, and its place in the code.
 ghost use Rattle.std.specs.Prelude.{◌≡◌, ℕ, [], ◌∷◌, List, Some, slice_get};
 ghost use Rattle.int_core.specs.Value.{Value as Meant, known, nil, shape, is_known};
+ghost use Rattle.lua_heap.specs.Cells.{CellsAreListed};
 ghost use Rattle.lua_heap.specs.Reading.{value as meant};
 ghost use Rattle.machine_core.specs.Text.{Arg, arg, written, read_register as reads, write_register as writes, write_nils};
 ghost use Rattle.machine_core.specs.Moves.{on_own};
@@ -24,6 +25,7 @@ pub fn write_register(world: &mut World, register: usize, v: Value)
     requires { CanDo world.old (writes register (written nil)) }
     ensures makes { (env : List Meant) (x : Arg) → arg env x ≡ meant world.old.strings v → Makes world.old world.new (on_own (writes register x)) env [] (is_known nil) }
     ensures at { (pc : ℕ) → StandsAt world.old pc → StandsAt world.new pc }
+    ensures listed { CellsAreListed world.old → CellsAreListed world.new }
     ensures rest { world.new ≡ record world.old { coros = world.new.coros } }
 {
     let co = running(world);
@@ -38,6 +40,7 @@ pub fn clear_registers(world: &mut World, from: usize, count: usize)
     requires { CanDo world.old (write_nils from count) }
     ensures makes { (env : List Meant) → Makes world.old world.new (on_own (write_nils from count)) env [] (is_known nil) }
     ensures at { (pc : ℕ) → StandsAt world.old pc → StandsAt world.new pc }
+    ensures listed { CellsAreListed world.old → CellsAreListed world.new }
     ensures rest { world.new ≡ record world.old { coros = world.new.coros } }
 {
     let co = running(world);
@@ -51,6 +54,7 @@ pub fn clear_registers(world: &mut World, from: usize, count: usize)
 pub fn go_to(world: &mut World, pc: usize)
     requires { CanGo world.old pc }
     ensures makes { Goes world.old world.new pc }
+    ensures listed { CellsAreListed world.old → CellsAreListed world.new }
     ensures rest { world.new ≡ record world.old { coros = world.new.coros } }
 {
     let co = running(world);

@@ -2,12 +2,16 @@
 ghost use Rattle.std.specs.Prelude.{◌≡◌, ◌+◌, List, [], ◌∷◌, ◌++◌, cond, length, nat_le, IfOk, OnErr};
 ghost use Rattle.int_core.specs.Limits.{greatest_depth};
 ghost use Rattle.int_core.specs.Value.{Value as Meant};
+ghost use Rattle.lua_heap.specs.Cells.{CellsAreListed};
 ghost use Rattle.lua_heap.specs.Plain.{plain};
 ghost use Rattle.lua_heap.specs.Reading.{value as meant};
 ghost use Rattle.machine_core.specs.Moves.{Over as OverWhat, frame_over, pop_frame as pops, push_frame as pushes, runs_main, see_top as sees};
-ghost use Rattle.move_laws.specs.Memory.{HasStack, Makes};
+ghost use Rattle.machine_core.specs.FrameRows.{hand_over as hands_over};
+ghost use Rattle.move_laws.specs.Memory.{HasStack, Leads, Makes};
+ghost use Rattle.machine_moves.specs.Ending.{ending_of};
 ghost use Rattle.machine_moves.specs.Tops.{HasOther, TopIs, frame_pushed, kept_over, shape_of};
 
+use crate::ending::Ending;
 use crate::running::{running, running_stack};
 use lua_heap::{Coro, World};
 use lua_stack::{Stack, Top};
@@ -36,11 +40,27 @@ pub fn see_top(world: &World) -> Top
     running_stack(world).top()
 }
 
+/// What moves is for the frame on top.
+pub fn hand_over(world: &World) -> Ending
+    requires { HasStack world.now }
+    ensures { (env : List Meant) → Leads hands_over env world.now world.now (ending_of result) }
+{
+    match see_top(world) {
+        Top::Lua => Ending::Go,
+        Top::Missing => Ending::Returned,
+        Top::Pcall => Ending::Returned,
+        Top::Xpcall(_) => Ending::Returned,
+        Top::Handler => Ending::Returned,
+        Top::Closing => Ending::Returned,
+    }
+}
+
 /// Takes a frame away that is no Lua function's.
 pub fn pop_frame(world: &mut World)
     requires { HasOther world.old }
     ensures makes { (env : List Meant) → Makes world.old world.new pops env [] tt }
     ensures running { HasStack world.new }
+    ensures listed { CellsAreListed world.old → CellsAreListed world.new }
     ensures rest { world.new ≡ record world.old { coros = world.new.coros } }
 {
     let co = running(world);
@@ -56,6 +76,7 @@ pub fn push_frame(world: &mut World, over: Over) -> Result<bool, AllocError>
     requires { HasStack world.old }
     ensures makes { IfOk result (λ room. (env : List Meant) (what : OverWhat) → frame_over what env ≡ frame_pushed (meant world.old.strings) over → Makes world.old world.new (pushes what) env [] room) }
     ensures err { OnErr result (world.new ≡ world.old) }
+    ensures listed { CellsAreListed world.old → CellsAreListed world.new }
     ensures rest { world.new ≡ record world.old { coros = world.new.coros } }
 {
     let co = running(world);

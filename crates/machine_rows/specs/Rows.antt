@@ -3,7 +3,7 @@ use Rattle.std.specs.Prelude.{◌≡◌, ℕ, List, [], ◌∷◌, ◌++◌, len
 use Rattle.int_core.specs.Value.{Value}
 use Rattle.machine_core.specs.Text.{Arg, arg, args_of, Text}
 use Rattle.machine_core.specs.FrameRows.{expand, hand_over}
-use Rattle.machine_core.specs.Moves.{Ending, go, returned, asks, calls_primitive, raised, unwinding, spent, main_yielded, main_returned, main_failed, run, take_moving, pop_frame, give, give_with}
+use Rattle.machine_core.specs.Moves.{Ending, run, take_moving, pop_frame, give, give_with}
 use Rattle.table_core.specs.declared.value.Value.{Value as Kept}
 use Rattle.table_core.specs.declared.value.Value.TheVariants.{Nil}
 use Rattle.lua_heap.specs.declared.world.World.{World as Memory}
@@ -15,20 +15,6 @@ use Rattle.instruction_forms.specs.declared.operand.Operand.{Operand}
 use Rattle.instruction_forms.specs.Forms.{with_operand}
 use Rattle.move_laws.specs.Memory.{IsSafe, Leads, Makes}
 use Rattle.machine_moves.specs.Code.{HasCode}
-use Rattle.machine_rows.specs.declared.ending.Ending.{Ending as Kept_ending}
-use Rattle.machine_rows.specs.declared.ending.Ending.TheVariants.{Go, Returned, Asks, CallsPrimitive, Raised, Unwinding, Spent, MainYielded, MainReturned, MainFailed}
-
-abbrev pub ending_of : Kept_ending → Ending
-ending_of Go = go
-ending_of Returned = returned
-ending_of Asks = asks
-ending_of (CallsPrimitive n) = calls_primitive n
-ending_of Raised = raised
-ending_of Unwinding = unwinding
-ending_of Spent = spent
-ending_of MainYielded = main_yielded
-ending_of MainReturned = main_returned
-ending_of MainFailed = main_failed
 
 -- the world in memory is one that its own calls have made, and a function with checked code is on top
 pub record HasFunction (W : Memory) : Type 0 where

@@ -1,7 +1,6 @@
 //! The machine's rows on a world in memory: one function for each form, which makes the row's moves one after another (lvm.c and ldo.c of Lua 5.4).
 #![tactic(auto)]
 
-mod ending;
 mod following;
 mod loads;
 mod objects;
@@ -9,7 +8,6 @@ mod operands;
 mod protected;
 mod truths;
 
-pub use ending::Ending;
 pub use following::{go_on, keep_value, test_value};
 pub use loads::{clear, load};
 pub use objects::new_table;

@@ -4,10 +4,14 @@ use Rattle.int_core.specs.Value.{Value, last}
 use Rattle.machine_core.specs.World.{Stack, stack_of, Place, place_of}
 use Rattle.machine_core.specs.Text.{Own, fits}
 use Rattle.machine_core.specs.Moves.{Move, Told, made, move, Ending, Row, trapped, ends, run}
+use Rattle.machine_core.specs.MachineStep.{from_world}
+use Rattle.machine_sound.specs.Sound.{Sound}
 use Rattle.table_core.specs.declared.value.CoroId.{CoroId}
 use Rattle.lua_stack.specs.Frames.{KeptStack}
 use Rattle.lua_heap.specs.declared.world.Coro.TheVariants.{Running}
 use Rattle.lua_heap.specs.declared.world.World.{World as Memory}
+use Rattle.lua_heap.specs.Cells.{CellsAreListed}
+use Rattle.lua_heap.specs.Codes.{AreCodes}
 use Rattle.lua_heap.specs.Plain.{plain}
 
 -- the coroutine that runs, and its stack
@@ -53,3 +57,22 @@ pub record StandsAt (W : Memory) (pc : ℕ) : Type 0 where
   pub place : Place
   pub is : place_of (plain W 0) ≡ Some place
   pub at : place.top.own.pc ≡ pc
+
+-- what is kept of code, and what stacks list as open, are as the calls of a world in memory make them
+pub record InOrder (W : Memory) : Type 0 where
+  pub codes : AreCodes W.strings W.codes
+  pub listed : CellsAreListed W
+
+-- and all that it stands for is valid
+pub record IsSound (W : Memory) : Type 0 where
+  pub primitives : ℕ
+  pub sound : Sound primitives (plain W 0)
+  pub order : InOrder W
+
+-- the step of a row leads from one world and budget to others, and ends so; one that could not be paid changes nothing
+pub record Steps (row : Row) (env : List Value) (old : Memory) (fuel : ℕ) (new : Memory) (left : ℕ) (ending : Ending) : Type 0 where
+  pub is : from_world (plain old fuel) (run row env (plain old fuel)) ≡ ends ending (plain new left)
+
+-- two worlds in memory stand for the same
+pub record ReadsSame (old new : Memory) : Type 0 where
+  pub is : (fuel : ℕ) → plain new fuel ≡ plain old fuel

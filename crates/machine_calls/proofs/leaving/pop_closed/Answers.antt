@@ -1,8 +1,9 @@
 use Rattle.std.proofs.Common.{[], refl}
 use Rattle.move_laws.proofs.Running.{has_stack}
+use Rattle.move_laws.proofs.Order.{lists_same}
 use Rattle.machine_moves.proofs.Stacks.{within, found_runs}
 use Rattle.machine_moves.proofs.OnTop.{has_running, popped_is, runs_after}
-use Rattle.machine_calls.proofs.Left.{frame_there, lists_same}
+use Rattle.machine_calls.proofs.Left.{frame_there}
 use Rattle.machine_calls.proofs.leaving.pop_closed.Goals as goal
 
 pub running-co-requires : goal.running-co-requires

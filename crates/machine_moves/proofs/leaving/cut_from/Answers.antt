@@ -2,6 +2,7 @@ use Rattle.std.proofs.Common.{refl, ap, sym}
 use Rattle.machine_core.specs.Text.{cut_from}
 use Rattle.lua_stack.specs.Frames.{cut_at}
 use Rattle.move_laws.proofs.Running.{with_top, place_after, has_stack, registers_there, own_made}
+use Rattle.move_laws.proofs.Order.{listed_after}
 use Rattle.machine_moves.proofs.Stacks.{within, with_stack, found_runs}
 use Rattle.machine_moves.proofs.leaving.cut_from.Goals as goal
 
@@ -31,3 +32,8 @@ returns-clause-at c = λ pc s.
       is = place_after c.args.world.now (with_stack c.args.world.now c.running-co.result c.cut_from.new.self) c.running-co.result c.in-Running.stack c.cut_from.new.self s.place (λ f t. cut_at c.args.register c.args.stack_size t) r s.is (record { rest = refl; objects = refl }) c.cut_from.ensures refl;
       at = s.at;
     }
+
+pub returns-clause-listed : goal.returns-clause-listed
+returns-clause-listed c =
+    let r = found_runs c.get_mut.result.now c.in-Running.stack c.running-co.ensures c.get_mut.ensures.value c.in-Running.is in
+    listed_after c.args.world.now (with_stack c.args.world.now c.running-co.result c.cut_from.new.self) c.running-co.result c.in-Running.stack c.cut_from.new.self r (record { rest = refl; objects = refl })  c.cut_from.ensures.cells

@@ -3,6 +3,7 @@ use Rattle.std.specs.Prelude.{take}
 use Rattle.machine_core.specs.Text.{end_list}
 use Rattle.lua_stack.specs.Frames.{with_opened, with_registers}
 use Rattle.move_laws.proofs.Running.{with_top, place_after, has_stack, registers_there, own_made}
+use Rattle.move_laws.proofs.Order.{listed_after}
 use Rattle.machine_moves.proofs.Stacks.{within, with_stack, found_runs}
 use Rattle.machine_moves.proofs.lists.end_list.Goals as goal
 
@@ -32,3 +33,8 @@ returns-clause-at c = λ pc s.
       is = place_after c.args.world.now (with_stack c.args.world.now c.running-co.result c.end_list.new.self) c.running-co.result c.in-Running.stack c.end_list.new.self s.place (λ f t. with_opened 0 (with_registers (take c.args.stack_size t.own.registers) t)) r s.is (record { rest = refl; objects = refl }) c.end_list.ensures refl;
       at = s.at;
     }
+
+pub returns-clause-listed : goal.returns-clause-listed
+returns-clause-listed c =
+    let r = found_runs c.get_mut.result.now c.in-Running.stack c.running-co.ensures c.get_mut.ensures.value c.in-Running.is in
+    listed_after c.args.world.now (with_stack c.args.world.now c.running-co.result c.end_list.new.self) c.running-co.result c.in-Running.stack c.end_list.new.self r (record { rest = refl; objects = refl })  c.end_list.ensures.cells

@@ -8,6 +8,7 @@ use Rattle.machine_core.specs.Text.{write_list}
 use Rattle.lua_stack.specs.Frames.{with_opened, with_registers}
 use Rattle.move_laws.proofs.Running.{with_top, place_after, has_stack, registers_there, own_made}
 use Rattle.machine_moves.proofs.OnTop.{kept_whole, on_ok, on_err}
+use Rattle.move_laws.proofs.Order.{listed_after}
 use Rattle.machine_moves.proofs.Stacks.{less, within, with_stack, found_runs}
 use Rattle.machine_moves.proofs.lists.write_list.Goals as goal
 
@@ -47,3 +48,8 @@ pub returns-clause-err : goal.returns-clause-err
 returns-clause-err c =
     let r = found_runs c.get_mut.result.now c.in-Running.stack c.running-co.ensures c.get_mut.ensures.value c.in-Running.is in
     on_err c.write_list.result c.write_list.ensures.err (λ e. kept_whole c.args.world.now c.running-co.result c.in-Running.stack c.write_list.new.self r e)
+
+pub returns-clause-listed : goal.returns-clause-listed
+returns-clause-listed c =
+    let r = found_runs c.get_mut.result.now c.in-Running.stack c.running-co.ensures c.get_mut.ensures.value c.in-Running.is in
+    on_ok c.write_list.result c.write_list.ensures.ok (λ becomes. listed_after c.args.world.now (with_stack c.args.world.now c.running-co.result c.write_list.new.self) c.running-co.result c.in-Running.stack c.write_list.new.self r (record { rest = refl; objects = refl })  becomes.cells)

@@ -3,6 +3,7 @@ use Rattle.int_core.specs.Value.{Value as Meant, known, nil, shape, write}
 use Rattle.machine_core.specs.Text.{nils, write_nils}
 use Rattle.lua_stack.specs.Frames.{with_registers}
 use Rattle.move_laws.proofs.Running.{with_top, place_after, has_stack, registers_there, own_made}
+use Rattle.move_laws.proofs.Order.{listed_after}
 use Rattle.machine_moves.proofs.Stacks.{within, with_stack, found_runs, at_most}
 use Rattle.machine_moves.proofs.registers.clear_registers.Goals as goal
 
@@ -32,3 +33,8 @@ returns-clause-at c = λ pc s.
       is = place_after c.args.world.now (with_stack c.args.world.now c.running-co.result c.write_nils.new.self) c.running-co.result c.in-Running.stack c.write_nils.new.self s.place (λ f t. with_registers (Rattle.int_core.specs.Value.write_all c.args.from (nils c.args.count) t.own.registers) t) r s.is (record { rest = refl; objects = refl }) c.write_nils.ensures refl;
       at = s.at;
     }
+
+pub returns-clause-listed : goal.returns-clause-listed
+returns-clause-listed c =
+    let r = found_runs c.get_mut.result.now c.in-Running.stack c.running-co.ensures c.get_mut.ensures.value c.in-Running.is in
+    listed_after c.args.world.now (with_stack c.args.world.now c.running-co.result c.write_nils.new.self) c.running-co.result c.in-Running.stack c.write_nils.new.self r (record { rest = refl; objects = refl })  c.write_nils.ensures.cells

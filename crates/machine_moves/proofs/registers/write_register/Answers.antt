@@ -4,6 +4,7 @@ use Rattle.lua_heap.specs.Reading.{value as meant}
 use Rattle.machine_core.specs.Text.{write_register as writes}
 use Rattle.lua_stack.specs.Frames.{with_registers}
 use Rattle.move_laws.proofs.Running.{with_top, place_after, has_stack, registers_there, own_made}
+use Rattle.move_laws.proofs.Order.{listed_after}
 use Rattle.machine_moves.proofs.Stacks.{within, with_stack, found_runs, less}
 use Rattle.machine_moves.proofs.registers.write_register.Goals as goal
 
@@ -34,3 +35,8 @@ returns-clause-at c = λ pc s.
       is = place_after c.args.world.now (with_stack c.args.world.now c.running-co.result c.set.new.self) c.running-co.result c.in-Running.stack c.set.new.self s.place (λ f t. with_registers (write c.args.register (f c.args.v) t.own.registers) t) r s.is (record { rest = refl; objects = refl }) c.set.ensures refl;
       at = s.at;
     }
+
+pub returns-clause-listed : goal.returns-clause-listed
+returns-clause-listed c =
+    let r = found_runs c.get_mut.result.now c.in-Running.stack c.running-co.ensures c.get_mut.ensures.value c.in-Running.is in
+    listed_after c.args.world.now (with_stack c.args.world.now c.running-co.result c.set.new.self) c.running-co.result c.in-Running.stack c.set.new.self r (record { rest = refl; objects = refl })  c.set.ensures.cells

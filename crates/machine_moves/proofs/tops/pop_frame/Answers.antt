@@ -1,5 +1,6 @@
 use Rattle.std.proofs.Common.{refl, ap, ◌∙◌}
-use Rattle.machine_moves.proofs.Stacks.{within, found_runs}
+use Rattle.move_laws.proofs.Order.{listed_after}
+use Rattle.machine_moves.proofs.Stacks.{within, found_runs, with_stack}
 use Rattle.machine_moves.proofs.OnTop.{has_running, same_stack, no_lua, popped_is, runs_after}
 use Rattle.machine_moves.proofs.tops.pop_frame.Goals as goal
 
@@ -25,3 +26,8 @@ pub returns-clause-running : goal.returns-clause-running
 returns-clause-running c =
     let r = found_runs c.get_mut.result.now c.in-Running.stack c.running-co.ensures c.get_mut.ensures.value c.in-Running.is in
     has_running _ c.running-co.result c.pop.new.self (runs_after c.args.world.now _ c.running-co.result c.in-Running.stack c.pop.new.self r (record { rest = refl; objects = refl }))
+
+pub returns-clause-listed : goal.returns-clause-listed
+returns-clause-listed c =
+    let r = found_runs c.get_mut.result.now c.in-Running.stack c.running-co.ensures c.get_mut.ensures.value c.in-Running.is in
+    listed_after c.args.world.now (with_stack c.args.world.now c.running-co.result c.pop.new.self) c.running-co.result c.in-Running.stack c.pop.new.self r (record { rest = refl; objects = refl })  c.pop.ensures.cells

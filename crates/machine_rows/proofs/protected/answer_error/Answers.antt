@@ -1,6 +1,7 @@
 use Rattle.std.proofs.Common.{rules, ◌≡◌, ◌∷◌, [], false}
 use Rattle.table_core.specs.declared.value.Value.TheVariants.{Bool as Boolean}
-use Rattle.machine_rows.specs.Rows.{ending_of, first_of}
+use Rattle.machine_moves.specs.Ending.{ending_of}
+use Rattle.machine_rows.specs.Rows.{first_of}
 use Rattle.machine_rows.proofs.Answering.{answers_error}
 use Rattle.machine_rows.proofs.protected.answer_error.Goals as goal
 

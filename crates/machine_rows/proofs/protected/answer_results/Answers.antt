@@ -1,6 +1,6 @@
 use Rattle.std.proofs.Common.{rules, ◌≡◌, ◌∷◌, true}
 use Rattle.table_core.specs.declared.value.Value.TheVariants.{Bool as Boolean}
-use Rattle.machine_rows.specs.Rows.{ending_of}
+use Rattle.machine_moves.specs.Ending.{ending_of}
 use Rattle.machine_rows.proofs.Answering.{answers_results}
 use Rattle.machine_rows.proofs.protected.answer_results.Goals as goal
 
