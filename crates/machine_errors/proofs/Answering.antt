@@ -11,7 +11,7 @@ use Rattle.lua_heap.specs.declared.world.World.{World as Memory}
 use Rattle.lua_heap.specs.Reading.{value}
 use Rattle.move_laws.specs.Memory.{HasStack, Leads}
 use Rattle.move_laws.proofs.Rows.{first}
-use Rattle.machine_rows.specs.Rows.{AnswersWith, first_of}
+use Rattle.machine_errors.specs.Protected.{AnswersWith, first_of}
 
 -- what was read last stands behind all else
 behind : (env vs : List Value) → drop (length env) (env ++ vs ++ []) ≡ vs
