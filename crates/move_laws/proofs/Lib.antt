@@ -2,3 +2,5 @@ pub mod Places
 pub mod Running
 pub mod Rows
 pub mod Order
+pub mod Sounds
+pub mod Standing
