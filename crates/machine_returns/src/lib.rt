@@ -3,6 +3,7 @@
 #![tactic(auto)]
 
 mod closables;
+mod closing;
 mod failing;
 mod leaving;
 mod results;
@@ -11,6 +12,7 @@ mod running;
 mod waking;
 
 pub use closables::{find_close, is_closable};
+pub use closing::go_on_closing;
 pub use failing::{fail_with, unwind_function};
 pub use results::{take_results, write_registers};
 pub use returning::go_on_returning;
