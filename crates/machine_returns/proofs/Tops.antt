@@ -1,27 +1,32 @@
 -- What a solid world in memory tells of the Lua frame on top.
-use Rattle.std.proofs.Common.{◌≡◌, ℕ, zero, ◌<◌, ◌≤◌, List, [], ◌∷◌, length, Option, Some, None, refl, sym, subst, arith, Bool, true, false}
+use Rattle.std.proofs.Common.{◌≡◌, ℕ, zero, ◌-◌, ◌<◌, ◌≤◌, List, [], ◌∷◌, length, Option, Some, None, refl, ap, subst, arith, Bool, true, false}
 use Rattle.std.specs.Prelude.{cond, nat_le}
 use Rattle.code_core.specs.Check.{IsChecked}
-use Rattle.machine_core.specs.World.{Function, World, Place, place_of}
+use Rattle.machine_core.specs.World.{Function, lua, in_progress, World, Place, place_of}
 use Rattle.machine_core.specs.Text.{behind, last_pending, read_registers}
-use Rattle.machine_sound.specs.Sound.{Each, sizes, FunctionOk, Solid}
+use Rattle.machine_sound.specs.Sound.{Each, sizes, FunctionOk, LuaOk, FramesOk, Solid, Valid}
 use Rattle.machine_sound.proofs.Lists.{each_none, each_tail, some_is}
-use Rattle.machine_sound.specs.Sound.{Valid}
 use Rattle.machine_sound.proofs.Waits.{moving_solid}
 use Rattle.lua_heap.specs.declared.world.World.{World as Memory}
 use Rattle.lua_heap.specs.Plain.{plain}
-use Rattle.move_laws.specs.Memory.{CanDo, HasFrame, Makes}
-use Rattle.move_laws.proofs.Places.{place_is}
+use Rattle.move_laws.specs.Memory.{CanDo, IsSound, Makes}
+use Rattle.move_laws.proofs.Places.{place_is, stack_is}
+use Rattle.move_laws.proofs.Running.{last_there}
 use Rattle.machine_moves.specs.Moves.{CanSee}
 use Rattle.machine_moves.proofs.Stacks.{at_most}
 use Rattle.machine_core.specs.Moves.{take_moving}
-use Rattle.machine_calls.proofs.SoundTops.{lua_ok}
 use Rattle.machine_calls.specs.declared.preparing.Prepared.TheVariants.{LeftSo, ReturnedSo, Closed}
 use Rattle.machine_calls.specs.Preparing.{CanPrepare}
 use Rattle.machine_returns.specs.Waking.{IsSolid}
 use Rattle.machine_returns.proofs.Woken.{taken_world, taken_listed}
 use Rattle.move_laws.proofs.Order.{order_after}
-use Rattle.std.proofs.Common.{ap}
+
+lua_ok : (n : ℕ) (W : World) (at : Place) → Solid n W → place_of W ≡ Some at → LuaOk (sizes n W) at.top
+lua_ok n W at s e =
+    let p = place_is W at e in
+    let k = stack_is W at.stack p.stack in
+    let f : FramesOk (sizes n W) at.stack.frames = s.coroutines at.stack.coroutine (in_progress at.stack.frames) k.there in
+    f.each (length at.stack.frames - 1) (lua at.top) (last_there at.stack.frames (lua at.top) p.top)
 
 -- the code is checked, its registers are there, and the pending ones are among them
 pub record TopFits (at : Place) : Type 0 where
@@ -41,6 +46,9 @@ top_fits W at s e =
       room = subst (λ (f : Function). f.code.own.stack ≤ length at.top.own.registers) same k.stack;
       pending = subst (λ (f : Function). Each (λ r. r < f.code.own.stack) at.top.own.pending) same k.pending;
     }
+
+pub solid_of : {W : Memory} → IsSound W → IsSolid W
+solid_of s = record { primitives = s.primitives; solid = s.sound.solid; order = s.order }
 
 -- the last pending register is one of the pending ones
 

@@ -2,3 +2,5 @@ pub mod Waking
 pub mod Results
 pub mod Failing
 pub mod Closing
+pub mod Names
+pub mod Marking
