@@ -1,6 +1,8 @@
 -- What rows on a world in memory suppose, and how they end.
-use Rattle.std.specs.Prelude.{◌≡◌, ℕ, List, [], ◌∷◌, ◌++◌, length, map, drop}
+use Rattle.std.specs.Prelude.{◌≡◌, ℕ, List, [], ◌∷◌, ◌++◌, Some, IsSome, length, map, drop}
+use Rattle.code_core.specs.Check.{extra_at}
 use Rattle.int_core.specs.Value.{Value}
+use Rattle.machine_core.specs.World.{Place, place_of}
 use Rattle.machine_core.specs.Text.{Arg, arg, args_of, Text}
 use Rattle.machine_core.specs.FrameRows.{expand, hand_over}
 use Rattle.machine_core.specs.Moves.{Ending, run, take_moving, pop_frame, give, give_with}
@@ -21,6 +23,18 @@ pub record HasFunction (W : Memory) : Type 0 where
   pub codes : AreCodes W.strings W.codes
   pub listed : CellsAreListed W
   pub frame : HasCode W
+
+-- a word behind the instruction carries a number for it
+pub record HasExtra (W : Memory) (pc : ℕ) : Type 0 where
+  pub place : Place
+  pub is : place_of (plain W 0) ≡ Some place
+  pub there : IsSome (extra_at place.function.code pc)
+
+-- and that is the number
+pub record IsExtra (W : Memory) (pc n : ℕ) : Type 0 where
+  pub place : Place
+  pub is : place_of (plain W 0) ≡ Some place
+  pub extra : extra_at place.function.code pc ≡ Some n
 
 -- a value is read where a row goes on with it
 pub record IsRead (W : Memory) (from : Operand) : Type 0 where

@@ -4,3 +4,4 @@ pub mod Rows
 pub mod Order
 pub mod Sounds
 pub mod Standing
+pub mod Kept
