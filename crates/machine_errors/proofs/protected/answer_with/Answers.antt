@@ -2,16 +2,17 @@ use Rattle.std.proofs.Common.{◌≡◌, ap, sym, subst, ◌∙◌}
 use Rattle.std.specs.Prelude.{map}
 use Rattle.machine_core.specs.Moves.{take_moving}
 use Rattle.lua_heap.specs.declared.world.World.{World as Memory}
+use Rattle.lua_heap.specs.Cells.{CellsAreListed}
 use Rattle.lua_heap.specs.Reading.{value}
 use Rattle.move_laws.specs.Memory.{Makes}
-use Rattle.machine_rows.proofs.Answering.{still_runs}
-use Rattle.machine_rows.proofs.protected.answer_with.Goals as goal
+use Rattle.machine_errors.proofs.Answering.{still_runs}
+use Rattle.machine_errors.proofs.protected.answer_with.Goals as goal
 
 pub hand_over-requires : goal.hand_over-requires
 hand_over-requires c = still_runs c.pop_frame.new.world c.give_values.ensures.rest c.pop_frame.ensures.running
 
-pub returns : goal.returns
-returns c =
+pub returns-clause-answers : goal.returns-clause-answers
+returns-clause-answers c =
     let old = c.args.world.now in
     let taken = c.take_moving.new.world in
     let left = c.pop_frame.new.world in
@@ -25,3 +26,7 @@ returns c =
       gives_more = λ env xs slot e. c.give_values.ensures.more env xs slot (e ∙ ap (λ texts. map (value texts) c.args.answer.items) (sym same));
       hands = c.hand_over.ensures;
     }
+
+pub returns-clause-listed : goal.returns-clause-listed
+returns-clause-listed c = λ l.
+    subst CellsAreListed (sym c.give_values.ensures.rest) (c.pop_frame.ensures.listed (subst CellsAreListed (sym c.take_moving.ensures.rest) l))

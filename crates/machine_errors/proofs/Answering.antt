@@ -11,14 +11,14 @@ use Rattle.lua_heap.specs.declared.world.World.{World as Memory}
 use Rattle.lua_heap.specs.Reading.{value}
 use Rattle.move_laws.specs.Memory.{HasStack, Leads}
 use Rattle.move_laws.proofs.Rows.{first}
-use Rattle.machine_rows.specs.Rows.{AnswersWith, first_of}
+use Rattle.machine_errors.specs.Protected.{AnswersWith, first_of}
 
 -- what was read last stands behind all else
 behind : (env vs : List Value) → drop (length env) (env ++ vs ++ []) ≡ vs
 behind [] vs = append-nil vs
 behind (v ∷ env) vs = behind env vs
 
-first_read : (f : Kept → Value) (env : List Value) (vs : List Kept) → f Nil ≡ known nil → nth (env ++ map f vs ++ []) (length env) ≡ f (first_of vs)
+pub first_read : (f : Kept → Value) (env : List Value) (vs : List Kept) → f Nil ≡ known nil → nth (env ++ map f vs ++ []) (length env) ≡ f (first_of vs)
 first_read f [] [] e = sym e
 first_read f [] (v ∷ vs) e = refl
 first_read f (x ∷ env) vs e = first_read f env vs e
