@@ -1,4 +1,4 @@
-use Rattle.std.proofs.Common.{◌≡◌, [], ◌∷◌, ap, sym, ◌∙◌}
+use Rattle.std.proofs.Common.{[], ◌∷◌, ap, sym}
 use Rattle.std.specs.Prelude.{not}
 use Rattle.int_core.specs.Value.{known, boolean, holds, shape}
 use Rattle.lua_heap.specs.Reading.{value as meant}
