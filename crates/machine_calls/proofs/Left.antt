@@ -1,6 +1,5 @@
 -- Functions that are left in memory.
-use Rattle.std.proofs.Common.{◌≡◌, ℕ, zero, suc, ◌-◌, ◌<◌, List, [], ◌∷◌, ◌++◌, length, Option, Some, None, refl, ap, sym, ◌∙◌, arith, length-append}
-use Rattle.std.specs.Prelude.{map, slice_get, slice_set}
+use Rattle.std.proofs.Common.{◌≡◌, ℕ, ◌-◌, ◌<◌, List, [], ◌∷◌, ◌++◌, length, Option, Some, None, refl, ap, sym, ◌∙◌, arith, length-append}
 use Rattle.std.proofs.lemmas.List.{length-map}
 use Rattle.int_core.specs.Value.{Value, bind, without_last}
 use Rattle.machine_core.specs.World.{Frame, lua, in_progress, World, stack_of, Place, place_of, close_from, pop}
@@ -9,16 +8,14 @@ use Rattle.machine_core.specs.Moves.{Made, made, TopShape, leave_frame, pop_fram
 use Rattle.machine_sound.proofs.Lists.{get_map, last_splits}
 use Rattle.table_core.specs.declared.value.CoroId.{CoroId}
 use Rattle.lua_stack.specs.Frames.{KeptStack, frame_of}
-use Rattle.lua_heap.specs.declared.world.Coro.{Coro}
 use Rattle.lua_heap.specs.declared.world.Coro.TheVariants.{Running}
-use Rattle.lua_heap.specs.Cells.{open_cells_in}
 use Rattle.lua_heap.specs.declared.world.World.{World as Memory}
 use Rattle.lua_heap.specs.Closing.{ClosesAll}
 use Rattle.lua_heap.specs.Reading.{value}
 use Rattle.lua_heap.specs.Plain.{plain, coroutine}
 use Rattle.move_laws.specs.Memory.{Runs, Makes}
 use Rattle.move_laws.proofs.Places.{place_is}
-use Rattle.move_laws.proofs.Running.{shown, set_same}
+use Rattle.move_laws.proofs.Running.{shown}
 
 abbrev with_closed : World → Place → World
 with_closed W at = record W { cells = close_from at.stack.coroutine at.number 0 at.top.own.registers W.cells }

@@ -1,3 +1,5 @@
 pub mod Entering
 pub mod Calling
 pub mod Leaving
+pub mod Preparing
+pub mod Waiting

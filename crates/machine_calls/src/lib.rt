@@ -4,8 +4,12 @@
 mod calling;
 mod entering;
 mod leaving;
+mod preparing;
 mod running;
+mod waiting;
 
 pub use calling::{Called, call_value, enter_callee};
 pub use entering::enter_function;
 pub use leaving::leave_frame;
+pub use preparing::{Prepared, make_ready};
+pub use waiting::ask_over;

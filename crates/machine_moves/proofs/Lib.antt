@@ -5,3 +5,4 @@ pub mod Settling
 pub mod NewObjects
 pub mod Closing
 pub mod Opening
+pub mod Ranges

@@ -9,7 +9,7 @@ use Rattle.int_core.specs.Value.{Value, known, nil, bind, Shape, is_known, shape
 use Rattle.machine_core.specs.World.{Function, Cell, closed, open_at, World, Place, place_of, read_cell, write_cell}
 use Rattle.machine_core.specs.Text.{Arg, arg, constant, read_constant, read_upvalue, write_upvalue}
 use Rattle.machine_core.specs.Moves.{made, on_own, outside, do_outside}
-use Rattle.machine_sound.proofs.Lists.{bind_at, get_map, get_there, get_within, map_get, some_is}
+use Rattle.machine_sound.proofs.Lists.{bind_at, bind_some, get_map, get_there, get_within, map_get, some_is}
 use Rattle.table_core.specs.declared.value.CellId.{CellId}
 use Rattle.table_core.specs.declared.value.Value.{Value as Kept}
 use Rattle.lua_heap.specs.declared.world.Func.{Func}
@@ -19,9 +19,10 @@ use Rattle.lua_heap.specs.Codes.{functions, prototype_at, IsCode}
 use Rattle.lua_heap.specs.Changes.{value_in, with_value_in}
 use Rattle.lua_heap.specs.Reading.{value}
 use Rattle.lua_heap.specs.Plain.{plain, function}
-use Rattle.move_laws.specs.Memory.{CanDo, Makes}
+use Rattle.move_laws.specs.Memory.{CanDo, Makes, StandsAt}
 use Rattle.move_laws.proofs.Places.{place_is}
 use Rattle.move_laws.proofs.Running.{own_read}
+use Rattle.move_laws.proofs.Standing.{pc_of, pc_written, stands_as}
 use Rattle.machine_moves.specs.Code.{HasUpvalue, IsCodeOnTop, IsUpvalue}
 
 -- the function on top in memory
@@ -139,3 +140,10 @@ upvalue_written old new u id v env x h i e w = record {
       ∙ ap (λ o. bind {A = ℕ × Cell} (bind {B = ℕ × Cell} o (λ c. bind {B = ℕ × Cell} (slice_get V.cells c) (λ cell. Some (c, cell)))) (λ c. bind (read_cell V c.1) (λ _. made (write_cell V c.0 c.1 (arg env x)) [] true))) h.there
       ∙ written V (plain new fuel) c (arg env x) (slice_get V.cells c) (readable old fuel (slice_get V.cells c) h.value) is;
 }
+
+-- the frame on top stays where it stands
+pub upvalue_stands : (old new : Memory) (n : ℕ) (v : Kept) (pc : ℕ) → Some (plain new 0) ≡ with_value_in (plain old 0) n (value old.strings v) → StandsAt old pc → StandsAt new pc
+upvalue_stands old new n v pc w s =
+    let V = plain old 0 in
+    let b = bind_some (λ (c : Cell). Some (write_cell V n c (value old.strings v))) (slice_get V.cells n) (plain new 0) (sym w) in
+    stands_as old new pc (ap pc_of (sym (some_is {o = Some (write_cell V n b.0 (value old.strings v))} refl b.2)) ∙ pc_written V n b.0 (value old.strings v)) s

@@ -1,6 +1,7 @@
 -- What is told of the running stack, and moves of the frame on top to another place of its code.
 use Rattle.std.specs.Prelude.{◌≡◌, ℕ, ℤ, ◌≤◌, ◌<◌, ◌∷◌, Option, None, Bool, true, nat_lt, List, [], Some, IsSome, length, max}
-use Rattle.code_core.specs.Check.{at}
+use Rattle.code_core.specs.declared.instruction.Instruction.{Instruction}
+use Rattle.code_core.specs.Check.{at, in_front}
 use Rattle.int_core.specs.Limits.{greatest_depth}
 use Rattle.int_core.specs.Value.{Value}
 use Rattle.machine_core.specs.World.{Place, place_of}
@@ -61,6 +62,12 @@ pub record CanKeep (W : Memory) (from count stack : ℕ) : Type 0 where
   pub size : stack ≡ place.function.code.own.stack
   pub room : max stack (behind from count) ≤ length place.top.own.registers
   pub closed : NoneIsOpenFrom W (max stack (behind from count))
+
+-- the word stands in front of the place at which the frame on top is
+pub record IsInFront (W : Memory) (word : Instruction) : Type 0 where
+  pub place : Place
+  pub is : place_of (plain W 0) ≡ Some place
+  pub there : in_front place.function.code place.top.own.pc ≡ Some word
 
 -- the last pending register from one on, if there is one, is one of the function on top
 pub record CanSee (W : Memory) (register : ℕ) : Type 0 where

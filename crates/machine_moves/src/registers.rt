@@ -1,9 +1,9 @@
 // The registers of the Lua frame on top, and its place in the code.
-ghost use Rattle.std.specs.Prelude.{◌≡◌, ℕ, [], ◌∷◌, List, Some, slice_get};
+ghost use Rattle.std.specs.Prelude.{◌≡◌, ◌+◌, ◌≤◌, ℕ, [], ◌∷◌, List, Some, drop, length, map, slice_get, take};
 ghost use Rattle.int_core.specs.Value.{Value as Meant, known, nil, shape, is_known};
 ghost use Rattle.lua_heap.specs.Cells.{CellsAreListed};
 ghost use Rattle.lua_heap.specs.Reading.{value as meant};
-ghost use Rattle.machine_core.specs.Text.{Arg, arg, written, read_register as reads, write_register as writes, write_nils};
+ghost use Rattle.machine_core.specs.Text.{Arg, arg, written, read_register as reads, read_registers as reads_all, write_register as writes, write_nils};
 ghost use Rattle.machine_core.specs.Moves.{on_own};
 ghost use Rattle.move_laws.specs.Memory.{CanDo, Makes, StandsAt};
 ghost use Rattle.machine_moves.specs.Moves.{CanGo, Goes};
@@ -18,6 +18,26 @@ pub fn read_register(world: &World, register: usize) -> Value
     ensures { (env : List Meant) → Makes world.now world.now (on_own (reads register)) env (meant world.now.strings result ∷ []) (shape (meant world.now.strings result)) }
 {
     running_stack(world).get(register)
+}
+
+/// The values of registers in a row. Of none the first one may be missing.
+pub fn read_registers(world: &World, from: usize, count: usize) -> &[Value]
+    requires { CanDo world.now (reads_all from count) }
+    ensures { (env : List Meant) → Makes world.now world.now (on_own (reads_all from count)) env (map (meant world.now.strings) result.now) (is_known nil) }
+{
+    let registers = running_stack(world).registers();
+    if count == 0 {
+        return &registers[0..0];
+    }
+    span(registers, from, count)
+}
+
+/// Values in a row.
+pub(crate) fn span(values: &[Value], from: usize, count: usize) -> &[Value]
+    requires { from + count ≤ length values.now }
+    ensures { result.now ≡ take count (drop from values.now) }
+{
+    &values[from..from + count]
 }
 
 /// Writes a register.

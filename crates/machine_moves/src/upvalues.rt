@@ -1,11 +1,11 @@
 // The upvalues of the function on top.
-ghost use Rattle.std.specs.Prelude.{◌≡◌, [], ◌∷◌, List, true};
+ghost use Rattle.std.specs.Prelude.{◌≡◌, ℕ, [], ◌∷◌, List, true};
 ghost use Rattle.int_core.specs.Value.{Value as Meant};
 ghost use Rattle.lua_heap.specs.Cells.{CellsAreListed};
 ghost use Rattle.lua_heap.specs.Reading.{value as meant};
 ghost use Rattle.machine_core.specs.Text.{Arg, arg, read_upvalue as reads, write_upvalue as writes};
 ghost use Rattle.machine_core.specs.Moves.{outside};
-ghost use Rattle.move_laws.specs.Memory.{Makes};
+ghost use Rattle.move_laws.specs.Memory.{Makes, StandsAt};
 ghost use Rattle.machine_moves.specs.Code.{HasUpvalue, IsUpvalue};
 
 use crate::running::running_stack;
@@ -26,6 +26,7 @@ pub fn write_upvalue(world: &mut World, upvalue: usize, given: Value)
     requires listed { CellsAreListed world.old }
     requires there { HasUpvalue world.old upvalue }
     ensures makes { (env : List Meant) (x : Arg) → arg env x ≡ meant world.old.strings given → Makes world.old world.new (outside (writes upvalue x)) env [] true }
+    ensures at { (pc : ℕ) → StandsAt world.old pc → StandsAt world.new pc }
     ensures listed { CellsAreListed world.new }
     ensures rest { world.new ≡ record world.old { cells = world.new.cells; coros = world.new.coros } }
 {

@@ -37,4 +37,4 @@ returns-clause-at c = λ pc s.
 pub returns-clause-listed : goal.returns-clause-listed
 returns-clause-listed c =
     let r = found_runs c.get_mut.result.now c.in-Running.stack c.running-co.ensures c.get_mut.ensures.value c.in-Running.is in
-    listed_after c.args.world.now (with_stack c.args.world.now c.running-co.result c.keep_results.new.self) c.running-co.result c.in-Running.stack c.keep_results.new.self r (record { rest = refl; objects = refl })  c.keep_results.ensures.cells
+    listed_after c.args.world.now (with_stack c.args.world.now c.running-co.result c.keep_results.new.self) c.running-co.result c.in-Running.stack c.keep_results.new.self r (record { rest = refl; objects = refl }) c.keep_results.ensures.cells

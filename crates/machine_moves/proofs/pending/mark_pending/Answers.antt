@@ -42,4 +42,4 @@ returns-clause-err c =
 pub returns-clause-listed : goal.returns-clause-listed
 returns-clause-listed c =
     let r = found_runs c.get_mut.result.now c.in-Running.stack c.running-co.ensures c.get_mut.ensures.value c.in-Running.is in
-    on_ok c.mark_pending.result c.mark_pending.ensures.ok (λ becomes. listed_after c.args.world.now (with_stack c.args.world.now c.running-co.result c.mark_pending.new.self) c.running-co.result c.in-Running.stack c.mark_pending.new.self r (record { rest = refl; objects = refl })  becomes.cells)
+    on_ok c.mark_pending.result c.mark_pending.ensures.ok (λ becomes. listed_after c.args.world.now (with_stack c.args.world.now c.running-co.result c.mark_pending.new.self) c.running-co.result c.in-Running.stack c.mark_pending.new.self r (record { rest = refl; objects = refl }) becomes.cells)

@@ -19,4 +19,4 @@ returns-clause-err c =
 pub returns-clause-listed : goal.returns-clause-listed
 returns-clause-listed c =
     let r = found_runs c.get_mut.result.now c.in-Running.stack c.running-co.ensures c.get_mut.ensures.value c.in-Running.is in
-    listed_after c.args.world.now (with_stack c.args.world.now c.running-co.result c.push_over.new.stack) c.running-co.result c.in-Running.stack c.push_over.new.stack r (record { rest = refl; objects = refl })  c.push_over.ensures.cells
+    listed_after c.args.world.now (with_stack c.args.world.now c.running-co.result c.push_over.new.stack) c.running-co.result c.in-Running.stack c.push_over.new.stack r (record { rest = refl; objects = refl }) c.push_over.ensures.cells

@@ -1,0 +1,6 @@
+pub mod Texts
+pub mod Leaving
+pub mod Answering
+pub mod Asked
+pub mod Handled
+pub mod Calls

@@ -1,0 +1,4 @@
+pub mod Raising
+pub mod Protected
+pub mod Asking
+pub mod Handlers

@@ -1,0 +1,15 @@
+//! Errors in the machine in memory: how they are raised, who catches them, and with what frames are left (luaG_errormsg, luaD_throw and luaD_pcall of
+//! ldebug.c and ldo.c of Lua 5.4).
+#![tactic(auto)]
+
+mod asking;
+mod handlers;
+mod protected;
+mod protecting;
+mod raising;
+mod running;
+
+pub use handlers::{answer_handler, call_handler, fail_handler, give_up};
+pub use protected::{answer_error, answer_results};
+pub use protecting::{pcall, xpcall};
+pub use raising::{begin_leaving_with, blame, blamed_text, raise};

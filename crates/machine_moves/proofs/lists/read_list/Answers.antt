@@ -1,0 +1,69 @@
+use Rattle.std.proofs.Common.{◌≡◌, ◌+◌, ◌≤◌, [], ap, sym, ◌∙◌, arith, rules}
+use Rattle.std.specs.Prelude.{map}
+use Rattle.code_core.specs.Instruction.{a_of}
+use Rattle.lua_heap.specs.Reading.{value as meant}
+use Rattle.move_laws.proofs.Running.{has_stack, lua_top, of_top}
+use Rattle.machine_moves.proofs.Ranges.{ends_as, list_ends, list_read, range_of, range_none, within_kept}
+use Rattle.machine_moves.proofs.lists.read_list.Goals as goal
+
+pub word_in_front-front-requires-clause-there : goal.word_in_front-front-requires-clause-there
+word_in_front-front-requires-clause-there c = let d = c.requires.there in record { place = d.place; is = d.is; fits = d.fits }
+
+pub running_stack-stack-requires : goal.running_stack-stack-requires
+running_stack-stack-requires c = has_stack c.args.world.now c.requires.there.place c.requires.there.is
+
+pub registers-registers-requires : goal.registers-registers-requires
+registers-registers-requires c = lua_top c.args.world.now c.running_stack-stack.ensures.co c.running_stack-stack.result.now c.requires.there.place c.running_stack-stack.ensures.runs c.requires.there.is
+
+pub opened-requires : goal.opened-requires
+opened-requires c = lua_top c.args.world.now c.running_stack-stack.ensures.co c.running_stack-stack.result.now c.requires.there.place c.running_stack-stack.ensures.runs c.requires.there.is
+
+pub overflow_add-end : goal.overflow_add-end
+overflow_add-end c =
+    let W = c.args.world.now in
+    let d = c.requires.there in
+    let n = of_top W c.running_stack-stack.ensures.co c.running_stack-stack.result.now d.place (λ f t. c.opened.result ≡ t.own.opened) c.running_stack-stack.ensures.runs d.is c.opened.ensures in
+    let a : c.from.result ≡ a_of c.word_in_front-front.result = search rules in
+    let ends = ends_as d.place c.word_in_front-front.result c.from.result c.opened.result (list_ends W c.args.from c.word_in_front-front.result c.requires.sound d c.word_in_front-front.ensures) a n in
+    let kept = of_top W c.running_stack-stack.ensures.co c.running_stack-stack.result.now d.place (λ f t. map f c.registers-registers.result.now ≡ t.own.registers) c.running_stack-stack.ensures.runs d.is c.registers-registers.ensures in
+    let f = meant W.strings in
+    let l = within_kept d.place f c.registers-registers.result.now kept ends in
+    search (arith, rules)
+
+pub returns-then-end-from : goal.returns-then-end-from
+returns-then-end-from c = λ env.
+    let W = c.args.world.now in
+    let d = c.requires.there in
+    let n = of_top W c.running_stack-stack.ensures.co c.running_stack-stack.result.now d.place (λ f t. c.opened.result ≡ t.own.opened) c.running_stack-stack.ensures.runs d.is c.opened.ensures in
+    let a : c.from.result ≡ a_of c.word_in_front-front.result = search rules in
+    let ends = ends_as d.place c.word_in_front-front.result c.from.result c.opened.result (list_ends W c.args.from c.word_in_front-front.result c.requires.sound d c.word_in_front-front.ensures) a n in
+    let kept = of_top W c.running_stack-stack.ensures.co c.running_stack-stack.result.now d.place (λ f t. map f c.registers-registers.result.now ≡ t.own.registers) c.running_stack-stack.ensures.runs d.is c.registers-registers.ensures in
+    let f = meant W.strings in
+    let l : c.from.result + c.opened.result ≤ c.args.from = search (arith, rules) in
+    list_read W c.args.from (c.from.result + c.opened.result) [] env d ends (range_none (c.from.result + c.opened.result) c.args.from d.place.top.own.registers l)
+
+pub span-requires : goal.span-requires
+span-requires c =
+    let W = c.args.world.now in
+    let d = c.requires.there in
+    let n = of_top W c.running_stack-stack.ensures.co c.running_stack-stack.result.now d.place (λ f t. c.opened.result ≡ t.own.opened) c.running_stack-stack.ensures.runs d.is c.opened.ensures in
+    let a : c.from.result ≡ a_of c.word_in_front-front.result = search rules in
+    let ends = ends_as d.place c.word_in_front-front.result c.from.result c.opened.result (list_ends W c.args.from c.word_in_front-front.result c.requires.sound d c.word_in_front-front.ensures) a n in
+    let kept = of_top W c.running_stack-stack.ensures.co c.running_stack-stack.result.now d.place (λ f t. map f c.registers-registers.result.now ≡ t.own.registers) c.running_stack-stack.ensures.runs d.is c.registers-registers.ensures in
+    let f = meant W.strings in
+    let l = within_kept d.place f c.registers-registers.result.now kept ends in
+    let m : c.args.from ≤ c.from.result + c.opened.result = search (arith, rules) in
+    omega (arith, l, m)
+
+pub returns : goal.returns
+returns c = λ env.
+    let W = c.args.world.now in
+    let d = c.requires.there in
+    let n = of_top W c.running_stack-stack.ensures.co c.running_stack-stack.result.now d.place (λ f t. c.opened.result ≡ t.own.opened) c.running_stack-stack.ensures.runs d.is c.opened.ensures in
+    let a : c.from.result ≡ a_of c.word_in_front-front.result = search rules in
+    let ends = ends_as d.place c.word_in_front-front.result c.from.result c.opened.result (list_ends W c.args.from c.word_in_front-front.result c.requires.sound d c.word_in_front-front.ensures) a n in
+    let kept = of_top W c.running_stack-stack.ensures.co c.running_stack-stack.result.now d.place (λ f t. map f c.registers-registers.result.now ≡ t.own.registers) c.running_stack-stack.ensures.runs d.is c.registers-registers.ensures in
+    let f = meant W.strings in
+    let m : c.args.from ≤ c.from.result + c.opened.result = search (arith, rules) in
+    list_read W c.args.from (c.from.result + c.opened.result) c.span.result.now env d ends
+    (range_of f c.registers-registers.result.now d.place c.args.from (c.from.result + c.opened.result) kept ends m ∙ ap (map f) (sym c.span.ensures))
