@@ -1,0 +1,3 @@
+pub mod Buried
+pub mod Ended
+pub mod Handed

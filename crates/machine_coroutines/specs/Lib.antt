@@ -1,0 +1,2 @@
+pub mod Burying
+pub mod Ends

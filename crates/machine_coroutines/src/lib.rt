@@ -1,0 +1,11 @@
+//! The machine's moves between coroutines and the rows that make them, on a world in memory, each as the definition of the machine has it
+//! (lcorolib.c and ldo.c of Lua 5.4; Lua 5.4 manual, 2.6 and 6.2).
+#![tactic(auto)]
+
+mod burying;
+mod endings;
+mod ends;
+mod running;
+
+pub use endings::{fail_main, fail_running, return_from_main, return_running};
+pub use ends::{end_coroutine, fail_coroutine, pending_values};
