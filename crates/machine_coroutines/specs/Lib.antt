@@ -1,2 +1,3 @@
 pub mod Burying
 pub mod Ends
+pub mod Closings

@@ -3,9 +3,13 @@
 #![tactic(auto)]
 
 mod burying;
+mod closing;
 mod endings;
 mod ends;
+mod finishing;
 mod running;
 
+pub use closing::{Closing, find_close, set_error, take_closing};
 pub use endings::{fail_main, fail_running, return_from_main, return_running};
+pub use finishing::{close_next, close_on, close_on_error};
 pub use ends::{end_coroutine, fail_coroutine, pending_values};
