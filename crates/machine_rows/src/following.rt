@@ -46,7 +46,7 @@ pub fn test_value(world: &mut World, pc: usize, v: Value, wanted: bool)
 }
 
 /// Whether a value counts as true (Lua 5.4 manual, 3.3.4).
-pub(crate) fn is_truthy(v: Value) -> bool
+pub fn is_truthy(v: Value) -> bool
     ensures { (texts : List (List ℕ)) → result ≡ holds (shape (meant texts v)) }
 {
     match v {

@@ -8,7 +8,7 @@ mod operands;
 mod protected;
 mod truths;
 
-pub use following::{go_on, keep_value, test_value};
+pub use following::{go_on, is_truthy, keep_value, test_value};
 pub use loads::{clear, load};
 pub use objects::new_table;
 pub use operands::read_operand;
