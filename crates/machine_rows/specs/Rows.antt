@@ -6,6 +6,7 @@ use Rattle.machine_core.specs.World.{Place, place_of}
 use Rattle.machine_core.specs.Text.{Arg, arg, Text}
 use Rattle.machine_core.specs.FrameRows.{expand}
 use Rattle.machine_core.specs.Moves.{run}
+use Rattle.machine_sound.specs.Sound.{sizes, Valid, Sound}
 use Rattle.table_core.specs.declared.value.Value.{Value as Kept}
 use Rattle.lua_heap.specs.declared.world.World.{World as Memory}
 use Rattle.lua_heap.specs.Cells.{CellsAreListed}
@@ -41,10 +42,12 @@ pub record IsRead (W : Memory) (from : Operand) : Type 0 where
   pub env : List Value
   pub safe : IsSafe (expand (with_operand from more)) env W
 
--- what a row goes on with: the values that were read, and how the operand is named among them
+-- what a row goes on with: the values that were read, and how the operand is named among them. In a sound world it is valid
 pub record Reads (W : Memory) (from : Operand) (v : Kept) : Type 0 where
   pub values : List Value
   pub named : ℕ → Arg
   pub goes : (more : Arg → Text) (env : List Value) (fuel : ℕ)
       → run (expand (with_operand from more)) env (plain W fuel) ≡ run (expand (more (named (length env)))) (env ++ values) (plain W fuel)
   pub is : (env : List Value) → arg (env ++ values) (named (length env)) ≡ value W.strings v
+  pub stays : (env more : List Value) → arg (env ++ values ++ more) (named (length env)) ≡ value W.strings v
+  pub valid : (primitives : ℕ) → Sound primitives (plain W 0) → Valid (sizes primitives (plain W 0)) (value W.strings v)

@@ -5,3 +5,4 @@ pub mod Order
 pub mod Sounds
 pub mod Standing
 pub mod Kept
+pub mod Valid
