@@ -1,3 +1,5 @@
 pub mod Woken
 pub mod Padded
 pub mod Taken
+pub mod Tops
+pub mod Closed

@@ -1,2 +1,4 @@
 pub mod Waking
 pub mod Results
+pub mod Failing
+pub mod Closing

@@ -2,9 +2,18 @@
 //! (lvm.c, ldo.c and lfunc.c of Lua 5.4).
 #![tactic(auto)]
 
+mod closables;
+mod closing;
+mod failing;
+mod leaving;
 mod results;
+mod returning;
 mod running;
 mod waking;
 
+pub use closables::{find_close, is_closable};
+pub use closing::go_on_closing;
+pub use failing::{fail_with, unwind_function};
 pub use results::{take_results, write_registers};
+pub use returning::go_on_returning;
 pub use waking::{doze, wake};
