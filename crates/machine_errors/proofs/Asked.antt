@@ -1,12 +1,11 @@
 -- A frame is pushed, once what moves has been taken.
-use Rattle.std.proofs.Common.{◌≡◌, ◌++◌, ◌+◌, ℕ, List, [], ◌∷◌, length, Option, Some, None, refl, ap, sym, subst, ◌∙◌, Bool, true, false, append-nil}
-use Rattle.std.specs.Prelude.{cond, drop, map, nat_le}
-use Rattle.int_core.specs.Limits.{greatest_depth}
+use Rattle.std.proofs.Common.{◌≡◌, ◌++◌, ℕ, List, [], ◌∷◌, Option, Some, None, refl, ap, sym, ◌∙◌, Bool, true, false, append-nil}
+use Rattle.std.specs.Prelude.{cond, drop, map}
 use Rattle.int_core.specs.Value.{Value}
 use Rattle.machine_core.specs.World.{Frame, World, Stack, stack_of, put_frames, push}
 use Rattle.machine_core.specs.Text.{Arg, read, args_of}
 use Rattle.machine_core.specs.FrameRows.{then}
-use Rattle.machine_core.specs.Moves.{Made, made, move, Over, over_pcall, over_xpcall, over_handler, frame_over, push_frame, give_with, push_all, has_room, asks, Row, stop, ends, run}
+use Rattle.machine_core.specs.Moves.{Made, made, move, Over, over_pcall, over_xpcall, over_handler, frame_over, push_frame, give_with, has_room, asks, Row, stop, ends, run}
 use Rattle.table_core.specs.declared.value.Value.{Value as Kept}
 use Rattle.lua_heap.specs.declared.world.World.{World as Memory}
 use Rattle.lua_heap.specs.Plain.{plain}
@@ -14,7 +13,7 @@ use Rattle.lua_heap.specs.Reading.{value}
 use Rattle.machine_moves.specs.declared.tops.Over.{Over as KeptOver}
 use Rattle.machine_moves.specs.declared.tops.Over.TheVariants.{Pcall, Xpcall, Handler}
 use Rattle.machine_moves.specs.Tops.{frame_pushed}
-use Rattle.move_laws.specs.Memory.{Makes, ReadsSame}
+use Rattle.move_laws.specs.Memory.{Makes}
 use Rattle.move_laws.proofs.Rows.{act_is}
 use Rattle.machine_errors.specs.Asking.{taken, AsksOver}
 use Rattle.machine_errors.proofs.Leaving.{world_made, with_moving}

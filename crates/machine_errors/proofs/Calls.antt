@@ -1,20 +1,19 @@
 -- Values that are called over a frame that catches errors.
-use Rattle.std.proofs.Common.{◌≡◌, ◌++◌, ℕ, zero, suc, List, [], ◌∷◌, length, Option, Some, None, refl, ap, ap₂, sym, ◌∙◌, Bool, true, false}
-use Rattle.std.specs.Prelude.{cond, drop, map, reverse, filter_map, slice_get}
+use Rattle.std.proofs.Common.{◌≡◌, ◌++◌, ℕ, suc, List, [], ◌∷◌, length, Option, Some, None, refl, ap, ap₂, sym, ◌∙◌, true, false}
+use Rattle.std.specs.Prelude.{drop, map, reverse, filter_map, slice_get}
 use Rattle.std.specs.List.{cons_option}
 use Rattle.int_core.specs.Limits.{limited, stack_overflow}
 use Rattle.int_core.specs.Value.{Value, known, nil, nth, bind}
 use Rattle.machine_core.specs.World.{Frame, lua, pcall, xpcall, handler, closing, World, Stack, stack_of}
-use Rattle.machine_core.specs.Text.{Arg, arg, read, args_of}
+use Rattle.machine_core.specs.Text.{read}
 use Rattle.machine_core.specs.FrameRows.{then, blames, over_frame}
-use Rattle.machine_core.specs.Moves.{frame_place, where_text, blamed, Over, frame_over, over_pcall, over_xpcall, Row, act, stop, Ending, asks, raised, run, ends, take_moving, push_frame, give_with}
+use Rattle.machine_core.specs.Moves.{frame_place, where_text, blamed, Over, frame_over, over_pcall, over_xpcall, Row, stop, Ending, asks, raised, run, ends, give_with}
 use Rattle.machine_core.specs.MachineStep.{pcall_row, xpcall_row}
 use Rattle.table_core.specs.declared.value.Value.{Value as Kept}
 use Rattle.table_core.specs.declared.value.Value.TheVariants.{Nil}
 use Rattle.lua_heap.specs.declared.world.World.{World as Memory}
 use Rattle.lua_heap.specs.Plain.{plain}
 use Rattle.lua_heap.specs.Reading.{value}
-use Rattle.machine_moves.specs.declared.tops.Over.{Over as KeptOver}
 use Rattle.machine_moves.specs.declared.tops.Over.TheVariants.{Pcall, Xpcall}
 use Rattle.machine_moves.specs.Tops.{frame_pushed}
 use Rattle.move_laws.specs.Memory.{Leads}

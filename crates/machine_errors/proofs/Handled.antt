@@ -1,21 +1,20 @@
 -- Message handlers that are called, and that fail.
-use Rattle.std.proofs.Common.{◌≡◌, ◌++◌, ℕ, List, [], ◌∷◌, length, refl, ap, ap₂, sym, ◌∙◌, Bool, true, false}
+use Rattle.std.proofs.Common.{◌≡◌, ◌++◌, ℕ, List, [], ◌∷◌, length, refl, ap, ap₂, sym, ◌∙◌, true, false}
 use Rattle.std.specs.Prelude.{cond, drop, map}
 use Rattle.int_core.specs.Value.{Value, nth}
 use Rattle.machine_core.specs.Text.{read, args_of}
-use Rattle.machine_core.specs.FrameRows.{then, error_in_handler, gives_up, raised_to, unwound, handed_to}
-use Rattle.machine_core.specs.Moves.{Row, act, stop, Ending, asks, unwinding, raised, run, ends, over_handler, push_frame, take_moving, pop_frame, give, give_with, handler_top, xpcall_top}
+use Rattle.machine_core.specs.FrameRows.{then, error_in_handler, gives_up, raised_to, handed_to}
+use Rattle.machine_core.specs.Moves.{Row, act, stop, Ending, asks, unwinding, run, over_handler, push_frame, take_moving, pop_frame, give, give_with, handler_top, xpcall_top}
 use Rattle.table_core.specs.declared.value.Value.{Value as Kept}
 use Rattle.lua_heap.specs.declared.world.World.{World as Memory}
 use Rattle.lua_heap.specs.Plain.{plain}
 use Rattle.lua_heap.specs.Reading.{value}
 use Rattle.machine_moves.specs.declared.tops.Over.TheVariants.{Handler}
-use Rattle.move_laws.specs.Memory.{Leads, Makes, ReadsSame}
+use Rattle.move_laws.specs.Memory.{Leads, Makes}
 use Rattle.move_laws.proofs.Rows.{act_is, first, ended}
 use Rattle.machine_errors.specs.Protected.{first_of}
 use Rattle.machine_errors.specs.Asking.{taken, AsksOver}
 use Rattle.machine_errors.specs.Handlers.{IsFailure}
-use Rattle.machine_errors.proofs.Texts.{leads_from}
 use Rattle.machine_errors.proofs.Answering.{first_read}
 
 nth_at : (env : List Value) (v : Value) (vs : List Value) → nth ((env ++ v ∷ []) ++ vs) (length env) ≡ v

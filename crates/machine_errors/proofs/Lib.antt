@@ -4,3 +4,4 @@ pub mod Answering
 pub mod Asked
 pub mod Handled
 pub mod Calls
+pub mod Thrown

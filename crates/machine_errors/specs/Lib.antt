@@ -2,3 +2,4 @@ pub mod Raising
 pub mod Protected
 pub mod Asking
 pub mod Handlers
+pub mod Throwing
