@@ -47,7 +47,7 @@ abbrev pub is_spent : Ending → Type 0
 is_spent spent = Unit {0}
 is_spent _ = ⊥
 
-ended_from : (W V : World) (e : Ending) → (is_spent e → ⊥) → from_world W (ends e V) ≡ ends e V
+pub ended_from : (W V : World) (e : Ending) → (is_spent e → ⊥) → from_world W (ends e V) ≡ ends e V
 ended_from W V go n = refl
 ended_from W V returned n = refl
 ended_from W V asks n = refl
