@@ -1,2 +1,3 @@
 pub mod Forms
 pub mod Choice
+pub mod Waiting

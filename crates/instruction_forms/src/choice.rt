@@ -6,6 +6,7 @@ ghost use Rattle.code_core.specs.Prototype.{Prototype};
 ghost use Rattle.machine_core.specs.InstructionRows.{row_of};
 ghost use Rattle.instruction_forms.specs.Choice.{IsNone, operators};
 ghost use Rattle.instruction_forms.specs.Forms.{text_of};
+ghost use Rattle.instruction_forms.specs.Waiting.{form_at};
 ghost use Rattle.instruction_forms.specs.declared.operand.Operand.TheVariants.{Register, Constant, Upvalue, Integer, Truth};
 ghost use Rattle.instruction_forms.specs.declared.operand.Operands.TheVariants.{One, Twice, Two, Three};
 ghost use Rattle.instruction_forms.specs.declared.operand.Operation.TheVariants.{Index, Store, Arithmetic as ByOperator};
@@ -37,6 +38,7 @@ const OPERATORS: [Operator; 12] = [
 pub fn form_of(op: Opcode, i: Instruction) -> Option<Form>
     ensures form { IfSome result (λ form. (p : Prototype) (pc : ℕ) → text_of p pc form ≡ row_of p pc op i) }
     ensures none { IfNone result (IsNone op i) }
+    ensures is { result ≡ form_at op i }
 {
     match op {
         Opcode::Move => Some(load(register_b(i), i, false)),

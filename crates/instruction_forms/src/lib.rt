@@ -4,6 +4,7 @@
 
 mod choice;
 mod form;
+pub mod law;
 mod operand;
 
 pub use choice::form_of;

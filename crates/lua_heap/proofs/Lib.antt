@@ -2,7 +2,7 @@ mod Finding
 mod Reading
 pub mod Equal
 mod Tables
-mod Growing
+pub mod Growing
 mod Numbered
 mod Opened
 mod Walk

@@ -18,7 +18,7 @@ behind : (env vs : List Value) → drop (length env) (env ++ vs ++ []) ≡ vs
 behind [] vs = append-nil vs
 behind (v ∷ env) vs = behind env vs
 
-first_read : (f : Kept → Value) (env : List Value) (vs : List Kept) → f Nil ≡ known nil → nth (env ++ map f vs ++ []) (length env) ≡ f (first_of vs)
+pub first_read : (f : Kept → Value) (env : List Value) (vs : List Kept) → f Nil ≡ known nil → nth (env ++ map f vs ++ []) (length env) ≡ f (first_of vs)
 first_read f [] [] e = sym e
 first_read f [] (v ∷ vs) e = refl
 first_read f (x ∷ env) vs e = first_read f env vs e

@@ -60,7 +60,7 @@ left_own : (W : World) (at : Place) (b : Value) → with_own W at (leaving b) (c
 unfolding with_own
 left_own W at b = refl
 
-abbrev with_moving : World → List Value → World
+abbrev pub with_moving : World → List Value → World
 with_moving W vs = record W { moving = vs }
 
 pub begins : (old shut kept new : Memory) (at : Place) (stack : ℕ) (e : Kept) (text : List ℕ) (env : List Value) → place_of (plain old 0) ≡ Some at

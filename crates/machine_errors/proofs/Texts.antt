@@ -31,3 +31,6 @@ leads_from {row} {env} r l = record { is = λ fuel. ap (run row env) (sym (r.is 
 -- a world of which only stacks and what moves has changed
 pub order_kept : {old new : Memory} → InOrder old → new ≡ record old { coros = new.coros; moving = new.moving } → CellsAreListed new → InOrder new
 order_kept o e l = order_after o (ap (λ (W : Memory). W.strings) e) (ap (λ (W : Memory). W.codes) e) l
+
+pub same_sound : {old new : Memory} → IsSound old → ReadsSame old new → InOrder new → IsSound new
+same_sound s r o = record { primitives = s.primitives; sound = subst (Sound s.primitives) (sym (r.is 0)) s.sound; order = o }

@@ -1,2 +1,5 @@
 pub mod Raising
 pub mod Protected
+pub mod Asking
+pub mod Handlers
+pub mod Throwing

@@ -2,9 +2,16 @@
 //! ldebug.c and ldo.c of Lua 5.4).
 #![tactic(auto)]
 
+mod asking;
+mod handlers;
 mod protected;
+mod protecting;
 mod raising;
 mod running;
+mod throwing;
 
+pub use handlers::{answer_handler, call_handler, fail_handler, give_up};
 pub use protected::{answer_error, answer_results};
+pub use protecting::{pcall, xpcall};
 pub use raising::{begin_leaving_with, blame, blamed_text, raise};
+pub use throwing::error;

@@ -1,12 +1,12 @@
 -- Registers in a row, and those of an open list.
-use Rattle.std.proofs.Common.{◌≡◌, ◌≢◌, ℕ, zero, suc, ◌+◌, ◌-◌, ◌≤◌, List, [], ◌∷◌, length, drop, take, Option, Some, None, refl, ap, sym, subst, ◌∙◌, arith, true}
+use Rattle.std.proofs.Common.{◌≡◌, ◌≢◌, ℕ, zero, suc, ◌+◌, ◌-◌, ◌≤◌, List, [], length, drop, take, Option, Some, None, refl, ap, sym, subst, ◌∙◌, arith, true}
 use Rattle.std.specs.Prelude.{map, nat_le, pos, slice_get}
 use Rattle.std.proofs.lemmas.List.{length-map}
 use Rattle.code_core.specs.declared.instruction.Instruction.{Instruction}
 use Rattle.code_core.specs.Instruction.{a_of}
 use Rattle.code_core.specs.Check.{Mark, fixed, open_from, in_front, mark}
-use Rattle.int_core.specs.Value.{Value, integer, known, nil, is_known, range}
-use Rattle.machine_core.specs.World.{Place, place_of}
+use Rattle.int_core.specs.Value.{Value, integer, nil, is_known, range}
+use Rattle.machine_core.specs.World.{Place}
 use Rattle.machine_core.specs.Text.{behind, is_there, list_end, list_values, read_list, read_registers}
 use Rattle.machine_core.specs.Moves.{made, on_own}
 use Rattle.machine_sound.proofs.Lists.{some_is}

@@ -1,7 +1,8 @@
 -- Where a frame goes on.
-use Rattle.std.proofs.Common.{◌≡◌, ℕ, ◌+◌, List, Option, Some, None, refl, ap, sym, ◌∙◌, Bool, true, false}
-use Rattle.std.specs.Prelude.{pos, cond}
+use Rattle.std.proofs.Common.{◌≡◌, ◌≢◌, ℕ, ◌+◌, List, Option, Some, None, refl, ap, sym, ◌∙◌, Bool, true, false}
+use Rattle.std.specs.Prelude.{IsSome, pos, cond}
 use Rattle.int_core.specs.Value.{Value, same_truth}
+use Rattle.machine_core.specs.World.{Place, place_of}
 use Rattle.machine_core.specs.Text.{Arg, write_register, Text, go_by, trap}
 use Rattle.machine_core.specs.InstructionRows.{next, skip, tested, with_extra}
 use Rattle.code_core.specs.Prototype.{Prototype}
@@ -10,9 +11,11 @@ use Rattle.machine_core.specs.FrameRows.{expand}
 use Rattle.machine_core.specs.Moves.{place_from, go, Row, stop, run}
 use Rattle.lua_heap.specs.declared.world.World.{World as Memory}
 use Rattle.lua_heap.specs.Plain.{plain}
-use Rattle.move_laws.specs.Memory.{CanDo, Leads, IsSafe, StandsAt}
+use Rattle.move_laws.specs.Memory.{CanDo, Leads, IsSafe, IsSound, StandsAt}
 use Rattle.move_laws.proofs.Rows.{first, ended, can_go}
+use Rattle.move_laws.proofs.Sounds.{sound_top}
 use Rattle.machine_moves.specs.Moves.{CanGo, Goes}
+use Rattle.machine_rows.specs.Rows.{HasFunction}
 
 pub ahead : (b : Bool) → cond b skip next ≡ go_by (pos (cond b 2 1))
 ahead true = refl
@@ -53,3 +56,30 @@ extra_there {W} {env} p pc k s = by (extra_at p pc) refl
     by : (o : Option ℕ) → extra_at p pc ≡ o → (ax : ℕ) × (with_extra p pc k ≡ k ax)
     by (Some ax) e = (ax, ap (λ o. elim o as (λ _. Text) [ None ↦ trap | Some ax ↦ k ax ]) e)
     by None e = absurd (s.never 0 (ap (λ o. run (expand (elim o as (λ _. Text) [ None ↦ trap | Some ax ↦ k ax ])) env (plain W 0)) e))
+
+pub has_extra : {W : Memory} {env : List Value} (p : Prototype) (pc : ℕ) (k : ℕ → Text) → IsSafe (expand (with_extra p pc k)) env W → IsSome (extra_at p pc)
+has_extra {W} {env} p pc k s = by (extra_at p pc) refl
+  where
+    by : (o : Option ℕ) → extra_at p pc ≡ o → IsSome o
+    by (Some ax) e = refl
+    by None e = absurd (s.never 0 (ap (λ o. run (expand (elim o as (λ _. Text) [ None ↦ trap | Some ax ↦ k ax ])) env (plain W 0)) e))
+
+pub extra_is : (p : Prototype) (pc ax : ℕ) (k : ℕ → Text) → extra_at p pc ≡ Some ax → with_extra p pc k ≡ k ax
+extra_is p pc ax k e = ap (λ o. elim o as (λ _. Text) [ None ↦ trap | Some ax ↦ k ax ]) e
+
+-- the function on top of a sound world
+pub function_of : {W : Memory} (p : Place) → IsSound W → place_of (plain W 0) ≡ Some p → HasFunction W
+function_of p s e = record { codes = s.order.codes; listed = s.order.listed; frame = record { place = p; is = e; checked = (sound_top p s e).checked } }
+
+-- a truth that is the wanted one, and one that is not
+pub truth_is : (b wanted : Bool) (x y : Text) → b ≡ wanted → cond (same_truth b wanted) x y ≡ x
+truth_is true true x y e = refl
+truth_is true false x y e = absurd (cc)
+truth_is false true x y e = absurd (cc)
+truth_is false false x y e = refl
+
+pub truth_is_not : (b wanted : Bool) (x y : Text) → b ≢ wanted → cond (same_truth b wanted) x y ≡ y
+truth_is_not true true x y n = absurd (n refl)
+truth_is_not true false x y n = refl
+truth_is_not false true x y n = refl
+truth_is_not false false x y n = absurd (n refl)

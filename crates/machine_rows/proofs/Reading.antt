@@ -6,7 +6,7 @@ use Rattle.machine_core.specs.World.{Cell, place_of, read_cell}
 use Rattle.machine_core.specs.Text.{read, written, read_register, read_constant, read_upvalue}
 use Rattle.machine_core.specs.FrameRows.{expand}
 use Rattle.machine_core.specs.Moves.{Made, made, on_own, outside, own_cell, do_outside, move, Outcome, trapped, run}
-use Rattle.machine_sound.proofs.Lists.{bind_at, bind_some, get_push_new, some_is}
+use Rattle.machine_sound.proofs.Lists.{bind_at, bind_some, get_push_new, get_push_old, some_is}
 use Rattle.table_core.specs.declared.value.Value.{Value as Kept}
 use Rattle.table_core.specs.declared.value.Value.TheVariants.{Bool as Boolean, Int}
 use Rattle.lua_heap.specs.declared.world.World.{World as Memory}
@@ -18,6 +18,7 @@ use Rattle.move_laws.specs.Memory.{CanDo, Makes}
 use Rattle.move_laws.proofs.Running.{nth_is}
 use Rattle.move_laws.proofs.Rows.{act_is, can_do}
 use Rattle.machine_moves.specs.Code.{HasUpvalue}
+use Rattle.move_laws.proofs.Valid.{register_valid, constant_valid, upvalue_valid}
 use Rattle.machine_rows.specs.Rows.{IsRead, Reads}
 
 -- what there is where a safe row reads an operand
@@ -52,12 +53,17 @@ can_upvalue {W} {u} i = by (move (outside (read_upvalue u)) i.env (plain W 0)) r
 behind_all : (env : List Value) (v : Value) → nth (env ++ v ∷ []) (length env) ≡ v
 behind_all env v = nth_is (env ++ v ∷ []) (length env) v (get_push_new env v)
 
+among_all : (env more : List Value) (v : Value) → nth (env ++ v ∷ [] ++ more) (length env) ≡ v
+among_all env more v = nth_is (env ++ v ∷ [] ++ more) (length env) v (get_push_old (env ++ v ∷ []) more (length env) v (get_push_new env v))
+
 pub reads_register : (W : Memory) (r : ℕ) (v : Kept) → ((env : List Value) → Makes W W (on_own (read_register r)) env (value W.strings v ∷ []) (shape (value W.strings v))) → Reads W (Register r) v
 reads_register W r v h = record {
   values = value W.strings v ∷ [];
   named = read;
   goes = λ more env fuel. act_is (on_own (read_register r)) (λ n _. expand (more (read n))) env (plain W fuel) (plain W fuel) (value W.strings v ∷ []) (shape (value W.strings v)) ((h env).is fuel);
   is = λ env. behind_all env (value W.strings v);
+  stays = λ env more. among_all env more (value W.strings v);
+  valid = λ n s. register_valid n (plain W 0) (plain W 0) r [] (value W.strings v) (shape (value W.strings v)) s ((h []).is 0);
 }
 
 pub reads_constant : (W : Memory) (n : ℕ) (v : Kept) → ((env : List Value) → Makes W W (on_own (read_constant n)) env (value W.strings v ∷ []) (shape (value W.strings v))) → Reads W (Constant n) v
@@ -66,6 +72,8 @@ reads_constant W n v h = record {
   named = read;
   goes = λ more env fuel. act_is (on_own (read_constant n)) (λ n _. expand (more (read n))) env (plain W fuel) (plain W fuel) (value W.strings v ∷ []) (shape (value W.strings v)) ((h env).is fuel);
   is = λ env. behind_all env (value W.strings v);
+  stays = λ env more. among_all env more (value W.strings v);
+  valid = λ k s. constant_valid k (plain W 0) (plain W 0) n [] (value W.strings v) (shape (value W.strings v)) s ((h []).is 0);
 }
 
 pub reads_upvalue : (W : Memory) (u : ℕ) (v : Kept) → ((env : List Value) → Makes W W (outside (read_upvalue u)) env (value W.strings v ∷ []) true) → Reads W (Upvalue u) v
@@ -74,6 +82,8 @@ reads_upvalue W u v h = record {
   named = read;
   goes = λ more env fuel. act_is (outside (read_upvalue u)) (λ n _. expand (more (read n))) env (plain W fuel) (plain W fuel) (value W.strings v ∷ []) true ((h env).is fuel);
   is = λ env. behind_all env (value W.strings v);
+  stays = λ env more. among_all env more (value W.strings v);
+  valid = λ n s. upvalue_valid n (plain W 0) (plain W 0) u [] (value W.strings v) true s ((h []).is 0);
 }
 
 pub reads_integer : (W : Memory) (n : Rattle.std.specs.Prelude.ℤ) → Reads W (Integer n) (Int n)
@@ -82,6 +92,8 @@ reads_integer W n = record {
   named = λ _. written (integer n);
   goes = λ more env fuel. ap (λ env. run (expand (more (written (integer n)))) env (plain W fuel)) (sym (append-nil env));
   is = λ env. refl;
+  stays = λ env more. refl;
+  valid = λ n s. tt;
 }
 
 pub reads_truth : (W : Memory) (b : Bool) → Reads W (Truth b) (Boolean b)
@@ -90,4 +102,6 @@ reads_truth W b = record {
   named = λ _. written (boolean b);
   goes = λ more env fuel. ap (λ env. run (expand (more (written (boolean b)))) env (plain W fuel)) (sym (append-nil env));
   is = λ env. refl;
+  stays = λ env more. refl;
+  valid = λ n s. tt;
 }

@@ -6,7 +6,7 @@ ghost use Rattle.machine_core.specs.FrameRows.{expand};
 ghost use Rattle.machine_core.specs.Moves.{go};
 ghost use Rattle.machine_core.specs.InstructionRows.{tested, to_register, next};
 ghost use Rattle.machine_core.specs.Text.{read};
-ghost use Rattle.move_laws.specs.Memory.{IsSafe, Leads, StandsAt};
+ghost use Rattle.move_laws.specs.Memory.{InOrder, IsSafe, Leads, StandsAt};
 
 use crate::loads::behind;
 use lua_heap::World;
@@ -17,8 +17,10 @@ use table_core::Value;
 pub fn keep_value(world: &mut World, pc: usize, to: usize, v: Value)
     requires at { StandsAt world.old pc }
     requires room { pc + 2 < 2 ^ 64 }
+    requires order { InOrder world.old }
     requires safe { IsSafe (expand (to_register to (read 0))) (meant world.old.strings v ∷ []) world.old }
-    ensures { Leads (expand (to_register to (read 0))) (meant world.old.strings v ∷ []) world.old world.new go }
+    ensures leads { Leads (expand (to_register to (read 0))) (meant world.old.strings v ∷ []) world.old world.new go }
+    ensures order { InOrder world.new }
 {
     write_register(world, to, v);
     go_to(world, behind(pc, false));
@@ -28,8 +30,10 @@ pub fn keep_value(world: &mut World, pc: usize, to: usize, v: Value)
 pub fn go_on(world: &mut World, pc: usize)
     requires at { StandsAt world.old pc }
     requires room { pc + 2 < 2 ^ 64 }
+    requires order { InOrder world.old }
     requires safe { IsSafe (expand next) [] world.old }
-    ensures { Leads (expand next) [] world.old world.new go }
+    ensures leads { Leads (expand next) [] world.old world.new go }
+    ensures order { InOrder world.new }
 {
     go_to(world, behind(pc, false));
 }
@@ -38,15 +42,17 @@ pub fn go_on(world: &mut World, pc: usize)
 pub fn test_value(world: &mut World, pc: usize, v: Value, wanted: bool)
     requires at { StandsAt world.old pc }
     requires room { pc + 2 < 2 ^ 64 }
+    requires order { InOrder world.old }
     requires safe { IsSafe (expand (tested (holds (shape (meant world.old.strings v))) wanted)) (meant world.old.strings v ∷ []) world.old }
-    ensures { Leads (expand (tested (holds (shape (meant world.old.strings v))) wanted)) (meant world.old.strings v ∷ []) world.old world.new go }
+    ensures leads { Leads (expand (tested (holds (shape (meant world.old.strings v))) wanted)) (meant world.old.strings v ∷ []) world.old world.new go }
+    ensures order { InOrder world.new }
 {
     let skips = is_truthy(v) != wanted;
     go_to(world, behind(pc, skips));
 }
 
 /// Whether a value counts as true (Lua 5.4 manual, 3.3.4).
-pub(crate) fn is_truthy(v: Value) -> bool
+pub fn is_truthy(v: Value) -> bool
     ensures { (texts : List (List ℕ)) → result ≡ holds (shape (meant texts v)) }
 {
     match v {

@@ -5,12 +5,10 @@ mod following;
 mod loads;
 mod objects;
 mod operands;
-mod protected;
 mod truths;
 
-pub use following::{go_on, keep_value, test_value};
-pub use loads::{clear, load};
+pub use following::{go_on, is_truthy, keep_value, test_value};
+pub use loads::{clear, extra_argument, load, load_far, store_upvalue};
 pub use objects::new_table;
 pub use operands::read_operand;
-pub use protected::{answer_error, answer_results};
-pub use truths::{negate, test};
+pub use truths::{negate, test, test_set};

@@ -6,7 +6,7 @@ ghost use Rattle.lua_heap.specs.Plain.{plain};
 ghost use Rattle.machine_core.specs.World.{Place, place_of};
 ghost use Rattle.machine_core.specs.FrameRows.{expand};
 ghost use Rattle.machine_core.specs.Moves.{go};
-ghost use Rattle.move_laws.specs.Memory.{IsSafe, Leads, StandsAt};
+ghost use Rattle.move_laws.specs.Memory.{InOrder, IsSafe, Leads, StandsAt};
 
 use crate::loads::behind;
 use lua_heap::World;
@@ -18,8 +18,10 @@ use table_core::Value;
 pub fn new_table(world: &mut World, pc: usize, to: usize) -> Result<(), AllocError>
     requires at { StandsAt world.old pc }
     requires room { pc + 2 < 2 ^ 64 }
+    requires order { InOrder world.old }
     requires safe { (place : Place) → place_of (plain world.old 0) ≡ Some place → IsSafe (expand (text_of place.function.code pc (NewTable to))) [] world.old }
     ensures leads { OnOk result ((place : Place) → place_of (plain world.old 0) ≡ Some place → Leads (expand (text_of place.function.code pc (NewTable to))) [] world.old world.new go) }
+    ensures order { InOrder world.new }
     ensures err { OnErr result (world.new ≡ world.old) }
 {
     let table = make_table(world)?;

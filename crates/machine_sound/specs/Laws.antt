@@ -1,5 +1,5 @@
 -- What is proved of sound worlds.
-use Rattle.std.specs.Prelude.{ℕ, ◌<◌, ◌≡◌, List, [], length, Some, None}
+use Rattle.std.specs.Prelude.{ℕ, ◌<◌, ◌≡◌, [], length, Some, None}
 use Rattle.library_rows.specs.Look.{Look}
 use Rattle.library_rows.specs.Library.{Primitive, all_entries, row_of}
 use Rattle.int_core.specs.Ask.{values}
@@ -9,9 +9,7 @@ use Rattle.machine_core.specs.FrameRows.{expand, goes_on_by}
 use Rattle.machine_core.specs.Moves.{Ending, go, Row, Outcome, trapped, ends, run}
 use Rattle.machine_core.specs.MachineStep.{woken, look_row, step, steps}
 use Rattle.machine_core.specs.PrimitiveRows.{row_numbered}
-use Rattle.machine_sound.specs.Sound.{Each, Solid, StackWaits, Sound}
-use Rattle.int_core.specs.Value.{Plain, primitive, Shape}
-use Rattle.library_rows.specs.Plainly.{Outcome as Rows, results, plainly}
+use Rattle.machine_sound.specs.Sound.{Solid, StackWaits, Sound}
 use Rattle.machine_sound.specs.Safe.{waiting, LookOk, Safe, EndIs, Good}
 
 -- a sound world, and what else is known of it after a row that ended so
@@ -38,14 +36,6 @@ SafeIsGood = (primitives : ℕ) (r : Row) → PrimitiveSafe r → PrimitiveGood 
 -- the rows of all primitives are so
 abbrev pub PrimitivesSafe : ℕ → (ℕ → Row) → Type 0
 PrimitivesSafe primitives rows = (n : ℕ) → n < primitives → PrimitiveGood primitives (rows n)
-
--- a row on plain values, which gives no primitive but those that are there. No string that it gives is too long
-abbrev pub IsThere : ℕ → Plain → Type 0
-IsThere primitives (primitive n) = n < primitives
-IsThere primitives _ = Unit {0}
-
-abbrev pub PlainRowsGood : Type 0
-PlainRowsGood = (primitives : ℕ) (f : List Shape → Rows) → ((ss : List Shape) (ps : List Plain) → f ss ≡ results ps → Each (IsThere primitives) ps) → PrimitiveGood primitives (look_row (plainly f))
 
 -- a row that looks at values and tables alone is safe where what it writes out is right
 abbrev pub LookRowsSafe : Type 0

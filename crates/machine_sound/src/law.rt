@@ -1,9 +1,7 @@
 // The laws, each with what it speaks of in `specs/`.
 ghost use Rattle.machine_core.specs.MachineStep.{close_row, create_row, error_row, pcall_row, print_row, resume_row, running_row, status_row, xpcall_row, yield_row, yieldable_row};
-ghost use Rattle.machine_sound.specs.Laws.{GoesFromSound, LibrarySafe, LookRowsSafe, PlainRowsGood, PrimitiveSafe, RunningTextsGood, RunsGood, SafeIsGood, SomeWorldSound, StepsGood, WaitingTextsGood};
+ghost use Rattle.machine_sound.specs.Laws.{GoesFromSound, LibrarySafe, LookRowsSafe, PrimitiveSafe, RunningTextsGood, RunsGood, SafeIsGood, SomeWorldSound, StepsGood, WaitingTextsGood};
 ghost use Rattle.machine_sound.specs.Safe.{MovesGood, RowsGood};
-
-use library_rows::plain_rows_are_functions;
 
 /// A move that is ready in a sound world does not trap, and neither does a row that is safe; both leave a sound world.
 pub fn rows_do_not_trap()
@@ -47,11 +45,8 @@ pub fn primitives_do_not_trap()
 pub fn library_rows_do_not_trap()
     ensures rows { LookRowsSafe }
     ensures good { SafeIsGood }
-    ensures plain { PlainRowsGood }
     ensures all { LibrarySafe }
-{
-    plain_rows_are_functions();
-}
+{}
 
 /// There is a sound world in which a function runs, so the laws above speak of something.
 pub fn some_world_is_sound()

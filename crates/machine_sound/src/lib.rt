@@ -4,6 +4,6 @@
 mod law;
 
 pub use law::{
-    primitives_do_not_trap, rows_do_not_trap, some_world_is_sound, steps_do_not_trap,
-    texts_do_not_trap,
+    library_rows_do_not_trap, primitives_do_not_trap, rows_do_not_trap, some_world_is_sound,
+    steps_do_not_trap, texts_do_not_trap,
 };

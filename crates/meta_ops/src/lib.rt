@@ -27,7 +27,7 @@ pub use handler::{handler_in, handler_of};
 pub use heap::Heap;
 pub use index::index_of;
 pub use lengths::length;
-pub use numbers::arithmetic;
+pub use numbers::{arithmetic, by_zero, computed};
 pub use operation::{Operation, operate};
 pub use outcome::Outcome;
 pub use store::{Stored, store_field, store_of};

@@ -62,8 +62,8 @@ fn on_integers(event: Event, m: i64, n: i64) -> Outcome
     }
 }
 
-/// The fault of a division by zero.
-fn by_zero(event: Event) -> Fault
+/// The fault of an operator on integers that has no result: a division by zero.
+pub fn by_zero(event: Event) -> Fault
     ensures { (texts : List (List ℕ)) → fault_text texts result ≡ by_zero (event_of event) }
 {
     match event {
@@ -72,8 +72,8 @@ fn by_zero(event: Event) -> Fault
     }
 }
 
-/// The result, or `None` for a division by zero.
-fn computed(event: Event, m: i64, n: i64) -> Option<i64>
+/// The result of an operator on integers (Lua 5.4 manual, 3.4.1 and 3.4.2), or `None` for a division by zero.
+pub fn computed(event: Event, m: i64, n: i64) -> Option<i64>
     ensures { result ≡ computed (event_of event) m n }
 {
     match event {

@@ -4,3 +4,5 @@ pub mod Rows
 pub mod Order
 pub mod Sounds
 pub mod Standing
+pub mod Kept
+pub mod Valid

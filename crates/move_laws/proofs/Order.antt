@@ -2,13 +2,12 @@
 use Rattle.std.proofs.Common.{◌≡◌, ℕ, zero, suc, List, [], ◌∷◌, Some, refl, ap, sym, subst, ◌∙◌}
 use Rattle.std.specs.Prelude.{map, slice_get, slice_set}
 use Rattle.int_core.specs.Value.{Value}
-use Rattle.machine_core.specs.Moves.{Ending, go, returned, asks, calls_primitive, raised, unwinding, spent, main_yielded, main_returned, main_failed, Row, Outcome, ends}
-use Rattle.machine_core.specs.World.{World, LuaFrame}
+use Rattle.machine_core.specs.Moves.{Ending, go, returned, asks, calls_primitive, raised, unwinding, spent, main_yielded, main_returned, main_failed, Row, ends}
+use Rattle.machine_core.specs.World.{World}
 use Rattle.machine_core.specs.MachineStep.{from_world}
 use Rattle.machine_sound.proofs.Lists.{get_map}
 use Rattle.table_core.specs.declared.value.CoroId.{CoroId}
-use Rattle.table_core.specs.declared.value.Value.{Value as Kept}
-use Rattle.lua_stack.specs.Frames.{KeptStack, TopBecomes}
+use Rattle.lua_stack.specs.Frames.{KeptStack}
 use Rattle.lua_heap.specs.declared.world.Coro.{Coro}
 use Rattle.lua_heap.specs.declared.world.Coro.TheVariants.{Running}
 use Rattle.lua_heap.specs.declared.world.World.{World as Memory}
@@ -48,7 +47,7 @@ abbrev pub is_spent : Ending → Type 0
 is_spent spent = Unit {0}
 is_spent _ = ⊥
 
-ended_from : (W V : World) (e : Ending) → (is_spent e → ⊥) → from_world W (ends e V) ≡ ends e V
+pub ended_from : (W V : World) (e : Ending) → (is_spent e → ⊥) → from_world W (ends e V) ≡ ends e V
 ended_from W V go n = refl
 ended_from W V returned n = refl
 ended_from W V asks n = refl

@@ -1,5 +1,5 @@
 -- What a sound world in memory tells of the Lua frame on top.
-use Rattle.std.proofs.Common.{◌≡◌, ℕ, zero, suc, ◌+◌, ◌≤◌, ◌<◌, List, [], ◌∷◌, length, Option, Some, None, refl, ap, sym, subst, ◌∙◌, arith, Bool, true, false}
+use Rattle.std.proofs.Common.{◌≡◌, ℕ, zero, suc, ◌+◌, ◌≤◌, ◌<◌, [], ◌∷◌, length, Option, Some, None, refl, ap, sym, subst, ◌∙◌, arith, Bool, true, false}
 use Rattle.std.specs.Prelude.{◌-◌, IsTrue, ◌==◌, if◌then◌else◌, max, nat_lt}
 use Rattle.std.specs.List.{list_all}
 use Rattle.code_core.specs.declared.opcode.Opcode.{Opcode}
@@ -8,10 +8,10 @@ use Rattle.code_core.specs.declared.instruction.Instruction.{Instruction}
 use Rattle.code_core.specs.Instruction.{a_of, c_of}
 use Rattle.code_core.specs.Fields.{last_of, opens, registers}
 use Rattle.code_core.specs.Prototype.{Prototype}
-use Rattle.code_core.specs.Check.{CodeIsChecked, IsChecked, at, Mark, fixed, open_from, opened, left_by, mark}
+use Rattle.code_core.specs.Check.{CodeIsChecked, IsChecked, at, fixed, open_from, opened, left_by, mark}
 use Rattle.int_core.specs.Limits.{greatest_depth}
 use Rattle.machine_core.specs.World.{Function, World, Place, place_of}
-use Rattle.machine_sound.specs.Sound.{Top, TopIs, MarkFits, Fits, FitsIfRuns, RunsOrWaits, LuaWaits, sizes, Solid}
+use Rattle.machine_sound.specs.Sound.{Top, TopIs, MarkFits, FitsIfRuns, RunsOrWaits, sizes, Solid}
 use Rattle.machine_sound.proofs.Lists.{some_is}
 use Rattle.machine_sound.proofs.Frames.{the_place, place_is, frames_ok, function_ok, top_ok}
 use Rattle.machine_sound.proofs.LuaSteps.{settles}

@@ -3,7 +3,7 @@ use Rattle.std.proofs.Common.{◌≡◌, ℕ, zero, suc, List, [], ◌∷◌, Op
 use Rattle.std.specs.Prelude.{◌-◌, length, map, slice_get, slice_set}
 use Rattle.std.specs.Option.{option_map}
 use Rattle.int_core.specs.Value.{Value, bind, last}
-use Rattle.machine_core.specs.World.{Function, Cell, closed, open_at, LuaFrame, lua_frame, Frame, lua, pcall, xpcall, handler, closing, Coroutine, fresh, suspended, in_progress, normal, dead, failed, frames_of, running_frames, with_frames, World, Stack, Place, place_of, write_in_frame, write_in_coroutine, write_cell}
+use Rattle.machine_core.specs.World.{Function, Cell, closed, open_at, LuaFrame, lua_frame, Frame, lua, pcall, xpcall, handler, closing, Coroutine, fresh, suspended, in_progress, normal, dead, failed, running_frames, with_frames, World, Stack, Place, place_of, write_in_frame, write_in_coroutine, write_cell}
 use Rattle.machine_sound.proofs.Lists.{bind_at, bind_some, map_set, some_is}
 use Rattle.lua_heap.specs.declared.world.World.{World as Memory}
 use Rattle.lua_heap.specs.Plain.{plain}

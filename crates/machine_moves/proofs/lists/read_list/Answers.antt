@@ -1,4 +1,4 @@
-use Rattle.std.proofs.Common.{◌≡◌, ◌≢◌, ◌+◌, ◌-◌, ◌≤◌, ℕ, List, [], length, refl, ap, sym, subst, ◌∙◌, arith, rules}
+use Rattle.std.proofs.Common.{◌≡◌, ◌+◌, ◌≤◌, [], ap, sym, ◌∙◌, arith, rules}
 use Rattle.std.specs.Prelude.{map}
 use Rattle.code_core.specs.Instruction.{a_of}
 use Rattle.lua_heap.specs.Reading.{value as meant}

@@ -1,6 +1,4 @@
-use Rattle.std.proofs.Common.{◌≡◌, ◌≤◌, ◌<◌, ◌-◌, ℕ, suc, length, Some, ap, sym, subst, ◌∙◌, arith, rules}
-use Rattle.std.specs.Prelude.{slice_get}
-use Rattle.code_core.specs.Check.{in_front}
+use Rattle.std.proofs.Common.{◌≡◌, ◌<◌, ◌-◌, length, Some, ap, sym, ◌∙◌, arith, rules}
 use Rattle.machine_sound.proofs.Lists.{get_within, some_is}
 use Rattle.move_laws.proofs.Running.{has_stack, lua_top, of_top}
 use Rattle.move_laws.proofs.Sounds.{sound_top}

@@ -1,9 +1,7 @@
-use Rattle.std.proofs.Common.{◌≡◌, ◌+◌, ◌≤◌, ℕ, List, [], length, refl, ap, sym, subst, ◌∙◌}
+use Rattle.std.proofs.Common.{◌≡◌, [], ap, sym, ◌∙◌}
 use Rattle.std.specs.Prelude.{map}
 use Rattle.int_core.specs.Value.{range}
 use Rattle.lua_heap.specs.Reading.{value as meant}
-use Rattle.machine_core.specs.World.{LuaFrame}
-use Rattle.machine_core.specs.Text.{behind}
 use Rattle.move_laws.proofs.Running.{has_stack, lua_top, of_top}
 use Rattle.machine_moves.proofs.Ranges.{range_kept, registers_read, some_fit}
 use Rattle.machine_moves.proofs.registers.read_registers.Goals as goal

@@ -2,6 +2,7 @@ use Rattle.std.proofs.Common.{[]}
 use Rattle.machine_core.specs.Text.{write_nils}
 use Rattle.machine_core.specs.InstructionRows.{next}
 use Rattle.machine_core.specs.FrameRows.{expand}
+use Rattle.move_laws.proofs.Kept.{order_kept}
 use Rattle.move_laws.proofs.Rows.{first, can_do, safe_after}
 use Rattle.machine_rows.proofs.Going.{goes_on, may_go}
 use Rattle.machine_rows.proofs.loads.clear.Goals as goal
@@ -13,6 +14,9 @@ pub go_to-requires : goal.go_to-requires
 go_to-requires c =
     may_go 1 (c.clear_registers.ensures.at c.args.pc c.requires.at) c.behind.ensures (safe_after (λ _ _. expand next) (c.requires.safe c.requires.at.place.function.code) (c.clear_registers.ensures.makes []))
 
-pub returns : goal.returns
-returns c = λ p.
+pub returns-clause-leads : goal.returns-clause-leads
+returns-clause-leads c = λ p.
     first (λ _ _. expand next) (c.clear_registers.ensures.makes []) (goes_on 1 (c.clear_registers.ensures.at c.args.pc c.requires.at) c.behind.ensures c.go_to.ensures.makes [])
+
+pub returns-clause-order : goal.returns-clause-order
+returns-clause-order c = order_kept (order_kept c.requires.order c.clear_registers.ensures.rest c.clear_registers.ensures.listed) c.go_to.ensures.rest c.go_to.ensures.listed

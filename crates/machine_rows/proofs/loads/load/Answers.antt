@@ -5,9 +5,13 @@ use Rattle.machine_core.specs.InstructionRows.{next, skip, then}
 use Rattle.machine_core.specs.FrameRows.{expand}
 use Rattle.machine_core.specs.Moves.{go}
 use Rattle.move_laws.specs.Memory.{IsSafe, Leads}
+use Rattle.move_laws.proofs.Kept.{order_kept}
 use Rattle.move_laws.proofs.Rows.{first, can_do, safe_after}
-use Rattle.machine_rows.proofs.Going.{ahead, goes_on, may_go, safe_as, any_value}
+use Rattle.machine_rows.proofs.Going.{ahead, function_of, goes_on, may_go, safe_as, any_value}
 use Rattle.machine_rows.proofs.loads.load.Goals as goal
+
+pub read_operand-v-requires-clause-function : goal.read_operand-v-requires-clause-function
+read_operand-v-requires-clause-function c = function_of c.requires.at.place c.requires.sound c.requires.at.is
 
 pub read_operand-v-requires-clause-there : goal.read_operand-v-requires-clause-there
 read_operand-v-requires-clause-there c =
@@ -28,8 +32,8 @@ go_to-requires c =
     let t = safe_after (λ _ _. expand (cond c.args.skips skip next)) s (c.write_register.ensures.makes r.values (r.named 0) (r.is [])) in
     may_go (cond c.args.skips 2 1) (c.write_register.ensures.at c.args.pc c.requires.at) c.behind.ensures (subst (λ t. IsSafe (expand t) (r.values ++ []) c.write_register.new.world) (ahead c.args.skips) t)
 
-pub returns : goal.returns
-returns c = λ p.
+pub returns-clause-leads : goal.returns-clause-leads
+returns-clause-leads c = λ p.
     let r = c.read_operand-v.ensures in
     let more : Arg → Text = λ v. then (write_register c.args.to v) (cond c.args.skips skip next) in
     let l : Leads (expand (cond c.args.skips skip next)) (r.values ++ []) c.write_register.new.world c.go_to.new.world go =
@@ -37,3 +41,6 @@ returns c = λ p.
     (goes_on (cond c.args.skips 2 1) (c.write_register.ensures.at c.args.pc c.requires.at) c.behind.ensures c.go_to.ensures.makes (r.values ++ [])) in
     let k = first (λ _ _. expand (cond c.args.skips skip next)) (c.write_register.ensures.makes r.values (r.named 0) (r.is [])) l in
     record { is = λ fuel. r.goes more [] fuel ∙ k.is fuel }
+
+pub returns-clause-order : goal.returns-clause-order
+returns-clause-order c = order_kept (order_kept c.requires.sound.order c.write_register.ensures.rest c.write_register.ensures.listed) c.go_to.ensures.rest c.go_to.ensures.listed

@@ -5,6 +5,7 @@ use Rattle.machine_core.specs.InstructionRows.{then, skip}
 use Rattle.machine_core.specs.FrameRows.{expand}
 use Rattle.machine_core.specs.Moves.{go}
 use Rattle.move_laws.specs.Memory.{IsSafe, Leads}
+use Rattle.move_laws.proofs.Kept.{order_kept, order_with_tables}
 use Rattle.move_laws.proofs.Rows.{first, can_do, safe_after}
 use Rattle.machine_rows.proofs.Going.{extra_there, goes_on, may_go, any_value}
 use Rattle.machine_rows.proofs.objects.new_table.Goals as goal
@@ -39,3 +40,6 @@ returns-clause-leads c = λ p is.
     (first (λ n _. expand (then (write_register c.args.to (read n)) skip)) (c.in_ok-table.ensures.makes [])
     (first (λ _ _. expand skip) (c.write_register.ensures.makes (object a_table c.in_ok-table.table.0 ∷ []) (read 0) refl)
     (goes_on 2 (c.write_register.ensures.at c.args.pc (c.make_table.ensures.at c.args.pc c.requires.at)) c.behind.ensures c.go_to.ensures.makes _)))
+
+pub returns-clause-order : goal.returns-clause-order
+returns-clause-order c = order_kept (order_kept (order_with_tables c.requires.order c.make_table.ensures.rest) c.write_register.ensures.rest c.write_register.ensures.listed) c.go_to.ensures.rest c.go_to.ensures.listed

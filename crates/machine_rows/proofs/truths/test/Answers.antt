@@ -12,5 +12,5 @@ read_register-v-requires c = can_do (read_register c.args.register) (λ _ s. exp
 pub test_value-requires-clause-safe : goal.test_value-requires-clause-safe
 test_value-requires-clause-safe c = safe_after (λ _ s. expand (tested (holds s) c.args.wanted)) (c.requires.safe c.requires.at.place.function.code) (c.read_register-v.ensures [])
 
-pub returns : goal.returns
-returns c = λ p. first (λ _ s. expand (tested (holds s) c.args.wanted)) (c.read_register-v.ensures []) c.test_value.ensures
+pub returns-clause-leads : goal.returns-clause-leads
+returns-clause-leads c = λ p. first (λ _ s. expand (tested (holds s) c.args.wanted)) (c.read_register-v.ensures []) c.test_value.ensures.leads

@@ -1,4 +1,4 @@
-use Rattle.machine_sound.proofs.LibrarySafe.{look_rows_safe, plain_rows_good, library_safe}
+use Rattle.machine_sound.proofs.LibrarySafe.{look_rows_safe, library_safe}
 use Rattle.machine_sound.proofs.Steps.{safe_is_good}
 use Rattle.machine_sound.proofs.law.library_rows_do_not_trap.Goals as goal
 
@@ -7,9 +7,6 @@ returns-clause-rows c = look_rows_safe
 
 pub returns-clause-good : goal.returns-clause-good
 returns-clause-good c = safe_is_good
-
-pub returns-clause-plain : goal.returns-clause-plain
-returns-clause-plain c = plain_rows_good c.plain_rows_are_functions.ensures
 
 pub returns-clause-all : goal.returns-clause-all
 returns-clause-all c = library_safe

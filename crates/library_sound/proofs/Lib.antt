@@ -1,0 +1,4 @@
+mod Plain
+mod Looks
+mod Steady
+mod Library

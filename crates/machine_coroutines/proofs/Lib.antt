@@ -1,0 +1,4 @@
+pub mod Buried
+pub mod Ended
+pub mod Handed
+pub mod Closed

@@ -1,0 +1,3 @@
+pub mod Burying
+pub mod Ends
+pub mod Closings

@@ -1,0 +1,4 @@
+pub mod Reading
+pub mod Afterwards
+pub mod Concats
+pub mod Joins

@@ -1,0 +1,67 @@
+// Operands of a concatenation that are joined (luaV_concat of lvm.c).
+ghost use Rattle.std.specs.Prelude.{◌≡◌, ◌+◌, ◌<◌, ◌^◌, IfOk};
+ghost use Rattle.meta_ops.specs.Heap.{IsIn};
+ghost use Rattle.move_laws.specs.Memory.{HasFrame, IsSound, ReadsSame};
+ghost use Rattle.machine_operations.specs.Joining.{Joins, MayJoin};
+
+use crate::concatenation::join_one;
+use lua_heap::World;
+use meta_ops::{Fault, Outcome};
+use std::alloc::AllocError;
+use table_core::Value;
+
+/// What joining operands came to.
+#[derive(Debug, Clone, Copy, PartialEq, Eq)]
+pub enum Joined {
+    /// They are all in this value.
+    Whole(Value),
+    /// A handler is to be called with two of them, and so many are left in front.
+    Asks {
+        handler: Value,
+        left: Value,
+        right: Value,
+        below: usize,
+    },
+    Fails(Fault),
+}
+
+/// Joins so many operands, in registers from `first` on, to what stands behind them, from the last one on and as far as no handler is asked for.
+/// The world stands for the same as before, also after a refusal.
+pub fn join(
+    world: &mut World,
+    first: usize,
+    count: usize,
+    last: Value,
+) -> Result<Joined, AllocError>
+    requires sound { IsSound world.old }
+    requires frame { HasFrame world.old }
+    requires last { IsIn world.old.strings world.old.tables.objects last }
+    requires room { first + count < 2 ^ 64 }
+    requires safe { MayJoin world.old first count last }
+    ensures joins { IfOk result (λ joined. Joins world.old world.new first count last joined) }
+    ensures same { ReadsSame world.old world.new }
+    ensures sound { IsSound world.new }
+{
+    let mut left = count;
+    let mut whole = last;
+    while left > 0 {
+        let below = left - 1;
+        match join_one(world, first + below, whole)? {
+            Outcome::Found(v) => {
+                whole = v;
+                left = below;
+            }
+            Outcome::Ask { handler, first } => {
+                return Ok(Joined::Asks {
+                    handler,
+                    left: first,
+                    right: whole,
+                    below,
+                });
+            }
+            Outcome::Fault(fault) => return Ok(Joined::Fails(fault)),
+            Outcome::Done => unreachable!(),
+        }
+    }
+    Ok(Joined::Whole(whole))
+}

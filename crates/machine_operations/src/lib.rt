@@ -1,0 +1,12 @@
+//! Operations of instructions on a world in memory, which a handler may be asked for, and what becomes of their values (lvm.c of Lua 5.4).
+#![tactic(auto)]
+
+mod concatenation;
+mod following;
+mod joining;
+mod operands;
+
+pub use concatenation::concatenate;
+pub use following::{advance, follow, keep};
+pub use joining::{Joined, join};
+pub use operands::{Values, operation_on, read_operands};
