@@ -3,5 +3,6 @@ pub mod Linked
 pub mod Callees
 pub mod Left
 pub mod Readied
-pub mod SoundTops
 pub mod Asked
+pub mod Blamed
+pub mod Over

@@ -1,6 +1,7 @@
 // Values that are called (luaD_precall and luaD_tryfuncTM of ldo.c).
 ghost use Rattle.std.specs.Prelude.{◌≡◌, ◌+◌, ℕ, [], List, drop, map, IfOk, OnErr};
 ghost use Rattle.int_core.specs.Value.{Value as Meant};
+ghost use Rattle.lua_heap.specs.Cells.{CellsAreListed};
 ghost use Rattle.lua_heap.specs.Codes.{AreCodes};
 ghost use Rattle.lua_heap.specs.Plain.{plain};
 ghost use Rattle.lua_heap.specs.Reading.{value as meant};
@@ -45,6 +46,7 @@ pub fn call_value(
     requires callable { CanCall world.old (meant world.old.strings called) }
     ensures makes { IfOk result (λ told. (env : List Meant) (x : Arg) (slot : ℕ) → arg env x ≡ meant world.old.strings called → drop slot env ≡ map (meant world.old.strings) arguments.items → makes_move (calls x slot) env (plain world.old budget.old) ≡ made (plain world.new budget.new) [] (told_of world.old.strings told)) }
     ensures running { HasStack world.new }
+    ensures listed { CellsAreListed world.old → CellsAreListed world.new }
     ensures rest { world.new ≡ record world.old { coros = world.new.coros; moving = world.new.moving } }
     ensures err { OnErr result ((world.new ≡ world.old) × (budget.new ≡ budget.old)) }
 {
@@ -66,7 +68,7 @@ pub fn call_value(
 }
 
 /// Arguments with what the links of `__call` put in front of them.
-fn with_links(
+pub(crate) fn with_links(
     heap: Heap,
     called: Value,
     links: usize,
@@ -94,6 +96,7 @@ pub fn enter_callee(
     requires function { CanEnter world.old (meant world.old.strings function) }
     ensures enters { IfOk result (λ told. EntersSo world.old world.new (meant world.old.strings function) (map (meant world.old.strings) arguments.items) (told_of world.old.strings told)) }
     ensures running { HasStack world.new }
+    ensures listed { CellsAreListed world.old → CellsAreListed world.new }
     ensures rest { world.new ≡ record world.old { coros = world.new.coros; moving = world.new.moving } }
     ensures err { OnErr result (world.new ≡ world.old) }
 {

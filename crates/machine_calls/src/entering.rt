@@ -2,11 +2,13 @@
 ghost use Rattle.std.specs.Prelude.{◌≡◌, ◌+◌, ◌≤◌, true, false, length, map, nat_le, IfOk, OnErr};
 ghost use Rattle.int_core.specs.Limits.{greatest_depth};
 ghost use Rattle.int_core.specs.Value.{a_function, object};
+ghost use Rattle.lua_heap.specs.Cells.{CellsAreListed};
 ghost use Rattle.lua_heap.specs.Codes.{AreCodes};
 ghost use Rattle.lua_heap.specs.Reading.{value as meant};
 ghost use Rattle.lua_stack.specs.Frames.{Enters};
 ghost use Rattle.move_laws.specs.Memory.{HasStack};
 ghost use Rattle.machine_calls.specs.Entering.{EntersSo, HasFunction, HasShape, entered_or_not};
+ghost use Rattle.machine_calls.specs.Waiting.{IsFull};
 
 use crate::running::running;
 use lua_heap::{Coro, World, law};
@@ -28,6 +30,7 @@ pub fn enter_function(
     requires function { HasFunction world.old function.0 }
     ensures enters { IfOk result (λ room. EntersSo world.old world.new (object a_function function.0) (map (meant world.old.strings) arguments.now) (entered_or_not room)) }
     ensures running { HasStack world.new }
+    ensures listed { CellsAreListed world.old → CellsAreListed world.new }
     ensures rest { world.new ≡ record world.old { coros = world.new.coros } }
     ensures err { OnErr result (world.new ≡ world.old) }
 {
@@ -65,6 +68,7 @@ fn enter_stack(
     ensures room { IfOk result (λ room. room ≡ nat_le (length stack.old.frames + 1) greatest_depth) }
     ensures entered { IfOk result (λ room. room ≡ true → Enters stack.old stack.new function shape arguments.now) }
     ensures kept { IfOk result (λ room. room ≡ false → stack.new ≡ stack.old) }
+    ensures cells { stack.new.open_cells ≡ stack.old.open_cells }
     ensures err { OnErr result (stack.new ≡ stack.old) }
 {
     if stack.len() >= GREATEST_DEPTH {
@@ -72,4 +76,15 @@ fn enter_stack(
     }
     stack.enter(function, shape, arguments)?;
     Ok(true)
+}
+
+/// Whether the running stack has as many frames as it may have.
+pub(crate) fn is_full(world: &World) -> bool
+    requires { HasStack world.now }
+    ensures { IsFull world.now result }
+{
+    match world.coros.get(running(world).0) {
+        Coro::Running(stack) => stack.len() >= GREATEST_DEPTH,
+        _ => unreachable!(),
+    }
 }

@@ -12,4 +12,4 @@ pub use calling::{Called, call_value, enter_callee};
 pub use entering::enter_function;
 pub use leaving::leave_frame;
 pub use preparing::{Prepared, make_ready};
-pub use waiting::ask_over;
+pub use waiting::{ask_over, call_over};

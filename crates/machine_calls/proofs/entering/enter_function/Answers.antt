@@ -1,5 +1,6 @@
 use Rattle.std.proofs.Common.{refl}
-use Rattle.machine_moves.proofs.Stacks.{within, found_runs}
+use Rattle.move_laws.proofs.Order.{listed_after}
+use Rattle.machine_moves.proofs.Stacks.{within, with_stack, found_runs}
 use Rattle.machine_moves.proofs.OnTop.{has_running, kept_whole, on_err, runs_after}
 use Rattle.machine_calls.proofs.Entered.{entered_so, if_ok_all}
 use Rattle.machine_calls.proofs.entering.enter_function.Goals as goal
@@ -24,3 +25,9 @@ pub returns-clause-err : goal.returns-clause-err
 returns-clause-err c =
     let r = found_runs c.get_mut.result.now c.in-Running.stack c.running-co.ensures c.get_mut.ensures.value c.in-Running.is in
     on_err c.enter_stack.result c.enter_stack.ensures.err (λ e. kept_whole c.args.world.now c.running-co.result c.in-Running.stack c.enter_stack.new.stack r e)
+
+pub returns-clause-listed : goal.returns-clause-listed
+returns-clause-listed c =
+    let W = c.args.world.now in
+    let r = found_runs c.get_mut.result.now c.in-Running.stack c.running-co.ensures c.get_mut.ensures.value c.in-Running.is in
+    listed_after W (with_stack W c.running-co.result c.enter_stack.new.stack) c.running-co.result c.in-Running.stack c.enter_stack.new.stack r (record { rest = refl; objects = refl }) c.enter_stack.ensures.cells
