@@ -7,7 +7,7 @@ use Rattle.list_laws.proofs.Items.{get_set_other, get_set_same, some_same}
 use Rattle.list_laws.proofs.Tests.{eq_refl, eq_not, eq_true, lt_not}
 use Rattle.list_laws.proofs.Values.{nth_get}
 use Rattle.machine_core.specs.World.{Cell, closed, open_at, Frame, lua, pcall, xpcall, handler, closing, frames_of, close_from}
-use Rattle.machine_core.specs.Moves.{all_closed_from, bury}
+use Rattle.machine_core.specs.Moves.{all_closed_from, bury, put_coroutine}
 use Rattle.machine_sound.proofs.Lists.{get_map, get_within, map_get}
 use Rattle.table_core.specs.declared.value.CellId.{CellId}
 use Rattle.table_core.specs.declared.value.CoroId.{CoroId}
@@ -69,7 +69,7 @@ found_listed (c ∷ cs) f r id e =
     by_test (is_at f r c)
     (λ t. record { place = 0; one = c; there = refl; cell_is = some_same _ _ (sym (ap (λ b. cond b (Some c.cell) (cell_at f r cs)) t) ∙ e) })
     (λ t. let h = found_listed cs f r id (sym (ap (λ b. cond b (Some c.cell) (cell_at f r cs)) t) ∙ e) in
-        record { place = suc h.place; one = h.one; there = h.there; cell_is = h.cell_is })
+    record { place = suc h.place; one = h.one; there = h.there; cell_is = h.cell_is })
 
 -- what the list has is found
 listed_found : (cs : List OpenCell) (i : ℕ) (c : OpenCell) → IsOnce cs → slice_get cs i ≡ Some c → cell_at c.frame c.register cs ≡ Some c.cell
@@ -81,8 +81,8 @@ listed_found (d ∷ cs) (suc i) c o e =
     let rest = listed_found cs i c o.1 e in
     by_test (is_at c.frame c.register d)
     (λ t. let s = at_is c.frame c.register d t in
-        let none : cell_at c.frame c.register cs ≡ None = ap (λ f. cell_at f c.register cs) (sym s.0) ∙ ap (λ r. cell_at d.frame r cs) (sym s.1) ∙ o.0 in
-        absurd (let bad : None ≡ Some c.cell = sym none ∙ rest in cc))
+    let none : cell_at c.frame c.register cs ≡ None = ap (λ f. cell_at f c.register cs) (sym s.0) ∙ ap (λ r. cell_at d.frame r cs) (sym s.1) ∙ o.0 in
+    absurd (let bad : None ≡ Some c.cell = sym none ∙ rest in cc))
     (λ t. ap (λ b. cond b (Some d.cell) (cell_at c.frame c.register cs)) t ∙ rest)
 
 -- cells after some were closed
@@ -309,10 +309,19 @@ module _ (W : Memory) (co : CoroId) (c d : Coro) (a : CellsAreListed W) (there :
       let bad : None ≡ Some fs = sym n ∙ ap (λ o. bind o frames_of) (sym (get_map (coroutine W.strings) W.coros.objects co.0 c there)) ∙ e in
       cc
 
+  pub bare_put : (spare fuel : ℕ) → plain (record W { coros = record { objects = slice_set W.coros.objects co.0 d; spare = spare } }) fuel ≡ put_coroutine (plain W fuel) co.0 (coroutine W.strings d)
+  unfolding put_coroutine
+  bare_put spare fuel = ap (λ ks. record (plain W fuel) { coroutines = ks }) (map-set (coroutine W.strings) W.coros.objects co.0 d)
+
   -- and where there was one
   module _ (s : KeptStack) (h : HasStack W.strings c s) where
     pub stack_within : AreWithin s.open_cells (length W.cells.objects)
     stack_within = each_within W.cells.objects (map open_cells_in W.coros.objects) co s.open_cells a (own_list h.1)
+
+    pub stack_put : (fuel : ℕ) → bind (slice_get (plain W fuel).coroutines co.0) frames_of ≡ None → ⊥
+    stack_put fuel e =
+        let bad : Some (frames (value W.strings) s) ≡ None = sym h.0 ∙ ap (λ o. bind o frames_of) (sym (get_map (coroutine W.strings) W.coros.objects co.0 c there)) ∙ e in
+        cc
 
     pub stack_once : IsOnce s.open_cells
     stack_once = a.once co.0 s.open_cells (own_list h.1)
@@ -323,7 +332,7 @@ module _ (W : Memory) (co : CoroId) (c d : Coro) (a : CellsAreListed W) (there :
 
       pub stack_buried : (spare more fuel : ℕ) (fs : List Frame) → bind (slice_get (plain W fuel).coroutines co.0) frames_of ≡ Some fs
           → plain (record W { cells = record { objects = cells; spare = spare }; coros = record { objects = slice_set W.coros.objects co.0 d; spare = more } }) fuel ≡ bury (plain W fuel) co.0 fs (coroutine W.strings d)
-      unfolding bury Rattle.machine_core.specs.Moves.put_coroutine
+      unfolding bury put_coroutine
       stack_buried spare more fuel fs g =
           let V = plain W fuel in
           let same : frames (value W.strings) s ≡ fs = some_same _ _ (sym h.0 ∙ ap (λ o. bind o frames_of) (sym (get_map (coroutine W.strings) W.coros.objects co.0 c there)) ∙ g) in

@@ -1,7 +1,7 @@
 // Coroutines whose frames are gone: each cell that is open in a frame keeps its value (luaF_close of lfunc.c over a whole stack).
-ghost use Rattle.std.specs.Prelude.{◌≡◌, ℕ, ◌<◌, List, None, Some, length, slice_get};
+ghost use Rattle.std.specs.Prelude.{◌≡◌, ℕ, ◌<◌, List, None, Some, length, slice_get, slice_set};
 ghost use Rattle.int_core.specs.Value.{bind};
-ghost use Rattle.machine_core.specs.Moves.{bury as buries};
+ghost use Rattle.machine_core.specs.Moves.{bury as buries, put_coroutine as puts};
 ghost use Rattle.machine_core.specs.World.{Frame, frames_of};
 ghost use Rattle.lua_heap.specs.Cells.{CellsAreListed, IsOnce, open_cells_in};
 ghost use Rattle.lua_heap.specs.Plain.{coroutine, plain};
@@ -19,6 +19,8 @@ pub(crate) fn bury(world: &mut World, co: CoroId, coro: Coro)
     requires bare { open_cells_in coro ≡ None }
     requires listed { CellsAreListed world.old }
     ensures plain { (fuel : ℕ) (fs : List Frame) → bind (slice_get (plain world.old fuel).coroutines co.0) frames_of ≡ Some fs → plain world.new fuel ≡ buries (plain world.old fuel) co.0 fs (coroutine world.old.strings coro) }
+    ensures put { (fuel : ℕ) → bind (slice_get (plain world.old fuel).coroutines co.0) frames_of ≡ None → plain world.new fuel ≡ puts (plain world.old fuel) co.0 (coroutine world.old.strings coro) }
+    ensures coros { world.new.coros.objects ≡ slice_set world.old.coros.objects co.0 coro }
     ensures listed { CellsAreListed world.new }
     ensures rest { world.new ≡ record world.old { cells = world.new.cells; coros = world.new.coros } }
 {

@@ -2,14 +2,18 @@
 //! (lcorolib.c and ldo.c of Lua 5.4; Lua 5.4 manual, 2.6 and 6.2).
 #![tactic(auto)]
 
+mod beginning;
 mod burying;
 mod closing;
 mod endings;
 mod ends;
 mod finishing;
 mod running;
+mod standing;
 
+pub use beginning::{Begun, begin_closing};
 pub use closing::{Closing, find_close, set_error, take_closing};
 pub use endings::{fail_main, fail_running, return_from_main, return_running};
-pub use finishing::{close_next, close_on, close_on_error};
 pub use ends::{end_coroutine, fail_coroutine, pending_values};
+pub use finishing::{close_next, close_on, close_on_error};
+pub use standing::{Status, create, runs_main, see_running, see_status, suspend};

@@ -1,11 +1,11 @@
 use Rattle.std.proofs.Common.{◌≡◌, None, Some, refl, ap, sym, ◌∙◌}
 use Rattle.std.specs.Prelude.{slice_get}
-use Rattle.machine_core.specs.Moves.{bury}
+use Rattle.machine_core.specs.Moves.{bury, put_coroutine}
 use Rattle.lua_heap.specs.declared.world.Coro.{Coro}
 use Rattle.lua_heap.specs.declared.world.Coro.TheVariants.{Fresh, Suspended, Running, Normal, Dead, Failed}
 use Rattle.lua_heap.specs.Cells.{open_cells_in}
 use Rattle.lua_heap.specs.Plain.{coroutine, plain}
-use Rattle.machine_coroutines.proofs.Buried.{bare_frames, bare_listed, stack_buried, stack_listed, stack_once, stack_within}
+use Rattle.machine_coroutines.proofs.Buried.{bare_frames, bare_listed, bare_put, stack_put, stack_buried, stack_listed, stack_once, stack_within}
 use Rattle.machine_coroutines.proofs.burying.bury.Goals as goal
 
 pub close_all-requires-clause-within : goal.close_all-requires-clause-within
@@ -131,3 +131,51 @@ returns-clause-listed c =
     let there : slice_get W.coros.objects c.args.co.0 ≡ Some was = c.get_mut.ensures.value ∙ ap (λ (k : Coro). Some k) (sym c.replace.ensures.value ∙ c.in-Failed.is) in
     let bare : open_cells_in c.replace.new.dest ≡ None = ap open_cells_in c.replace.ensures.after ∙ c.requires.bare in
     bare_listed W c.args.co was c.replace.new.dest c.requires.listed there bare refl
+
+pub returns-in-Suspended-clause-put : goal.returns-in-Suspended-clause-put
+returns-in-Suspended-clause-put c = λ fuel e.
+    let W = c.args.world.now in
+    let was = Suspended c.in-Suspended.stack in
+    let there : slice_get W.coros.objects c.args.co.0 ≡ Some was = c.get_mut.ensures.value ∙ ap (λ (k : Coro). Some k) (sym c.replace.ensures.value ∙ c.in-Suspended.is) in
+    let bare : open_cells_in c.replace.new.dest ≡ None = ap open_cells_in c.replace.ensures.after ∙ c.requires.bare in
+    absurd (stack_put W c.args.co was c.replace.new.dest c.requires.listed there bare c.in-Suspended.stack (refl, refl) fuel e)
+
+pub returns-in-Running-clause-put : goal.returns-in-Running-clause-put
+returns-in-Running-clause-put c = λ fuel e.
+    let W = c.args.world.now in
+    let was = Running c.in-Running.stack in
+    let there : slice_get W.coros.objects c.args.co.0 ≡ Some was = c.get_mut.ensures.value ∙ ap (λ (k : Coro). Some k) (sym c.replace.ensures.value ∙ c.in-Running.is) in
+    let bare : open_cells_in c.replace.new.dest ≡ None = ap open_cells_in c.replace.ensures.after ∙ c.requires.bare in
+    absurd (stack_put W c.args.co was c.replace.new.dest c.requires.listed there bare c.in-Running.stack (refl, refl) fuel e)
+
+pub returns-in-Normal-clause-put : goal.returns-in-Normal-clause-put
+returns-in-Normal-clause-put c = λ fuel e.
+    let W = c.args.world.now in
+    let was = Normal c.in-Normal.stack in
+    let there : slice_get W.coros.objects c.args.co.0 ≡ Some was = c.get_mut.ensures.value ∙ ap (λ (k : Coro). Some k) (sym c.replace.ensures.value ∙ c.in-Normal.is) in
+    let bare : open_cells_in c.replace.new.dest ≡ None = ap open_cells_in c.replace.ensures.after ∙ c.requires.bare in
+    absurd (stack_put W c.args.co was c.replace.new.dest c.requires.listed there bare c.in-Normal.stack (refl, refl) fuel e)
+
+pub returns-in-Fresh-clause-put : goal.returns-in-Fresh-clause-put
+returns-in-Fresh-clause-put c = λ fuel e.
+    let W = c.args.world.now in
+    let was = Fresh c.in-Fresh.field-0 in
+    let there : slice_get W.coros.objects c.args.co.0 ≡ Some was = c.get_mut.ensures.value ∙ ap (λ (k : Coro). Some k) (sym c.replace.ensures.value ∙ c.in-Fresh.is) in
+    let bare : open_cells_in c.replace.new.dest ≡ None = ap open_cells_in c.replace.ensures.after ∙ c.requires.bare in
+    bare_put W c.args.co was c.replace.new.dest c.requires.listed there bare W.coros.spare fuel ∙ ap (λ (d : Coro). put_coroutine (plain W fuel) c.args.co.0 (coroutine W.strings d)) c.replace.ensures.after
+
+pub returns-in-Dead-clause-put : goal.returns-in-Dead-clause-put
+returns-in-Dead-clause-put c = λ fuel e.
+    let W = c.args.world.now in
+    let was = Dead in
+    let there : slice_get W.coros.objects c.args.co.0 ≡ Some was = c.get_mut.ensures.value ∙ ap (λ (k : Coro). Some k) (sym c.replace.ensures.value ∙ c.in-Dead.is) in
+    let bare : open_cells_in c.replace.new.dest ≡ None = ap open_cells_in c.replace.ensures.after ∙ c.requires.bare in
+    bare_put W c.args.co was c.replace.new.dest c.requires.listed there bare W.coros.spare fuel ∙ ap (λ (d : Coro). put_coroutine (plain W fuel) c.args.co.0 (coroutine W.strings d)) c.replace.ensures.after
+
+pub returns-clause-put : goal.returns-clause-put
+returns-clause-put c = λ fuel e.
+    let W = c.args.world.now in
+    let was = Failed c.in-Failed.error c.in-Failed.pending in
+    let there : slice_get W.coros.objects c.args.co.0 ≡ Some was = c.get_mut.ensures.value ∙ ap (λ (k : Coro). Some k) (sym c.replace.ensures.value ∙ c.in-Failed.is) in
+    let bare : open_cells_in c.replace.new.dest ≡ None = ap open_cells_in c.replace.ensures.after ∙ c.requires.bare in
+    bare_put W c.args.co was c.replace.new.dest c.requires.listed there bare W.coros.spare fuel ∙ ap (λ (d : Coro). put_coroutine (plain W fuel) c.args.co.0 (coroutine W.strings d)) c.replace.ensures.after
