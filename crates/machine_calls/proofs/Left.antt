@@ -14,6 +14,7 @@ use Rattle.lua_heap.specs.Closing.{ClosesAll}
 use Rattle.lua_heap.specs.Reading.{value}
 use Rattle.lua_heap.specs.Plain.{plain, coroutine}
 use Rattle.move_laws.specs.Memory.{Runs, Makes}
+use Rattle.machine_calls.specs.Tails.{Drops}
 use Rattle.move_laws.proofs.Places.{place_is}
 use Rattle.move_laws.proofs.Running.{shown}
 
@@ -53,25 +54,29 @@ popped_so : (W : World) (at : Place) → pop (with_closed W at) at.stack ≡ pop
 unfolding popped
 popped_so W at = refl
 
+-- the frame is gone
+pub drops_so : (old shut gone : Memory) (at : Place) → place_of (plain old 0) ≡ Some at → ((fuel : ℕ) → plain shut fuel ≡ with_closed (plain old fuel) at) → Makes shut gone pop_frame [] [] tt
+    → (fuel : ℕ) → popped (plain old fuel) at ≡ plain gone fuel
+drops_so old shut gone at e k g fuel =
+    let V = plain old fuel in
+    let p = place_is (plain old 0) at e in
+    let stack : stack_of (plain shut fuel) ≡ Some at.stack = ap stack_of (k fuel) ∙ p.stack in
+    sym (popped_so V at) ∙ ap (λ W. pop W at.stack) (sym (k fuel))
+    ∙ world_made (sym (ap (λ o. bind {B = Made (Unit {0})} o (λ s. made (pop (plain shut fuel) s) [] tt)) stack) ∙ g.is fuel)
+
 abbrev with_moving : World → List Value → World
 with_moving W vs = record W { moving = vs }
 
 abbrev top_told : World → Option (Made TopShape)
 top_told W = bind (top_now W) (λ top. made W [] top)
 
-pub left_is : (old shut gone new : Memory) (at : Place) (env : List Value) (what : Given) (values : List Value) (told : TopShape) → place_of (plain old 0) ≡ Some at
-    → ((fuel : ℕ) → plain shut fuel ≡ with_closed (plain old fuel) at) → Makes shut gone pop_frame [] [] tt
-    → ((fuel : ℕ) → plain new fuel ≡ record (plain gone fuel) { moving = values }) → given_values env what ≡ values → Makes new new see_top [] [] told
+pub left_is : (old gone new : Memory) (at : Place) (env : List Value) (what : Given) (values : List Value) (told : TopShape) → place_of (plain old 0) ≡ Some at → Drops old gone
+    → ((fuel : ℕ) → plain new fuel ≡ with_moving (plain gone fuel) values) → given_values env what ≡ values → Makes new new see_top [] [] told
     → Makes old new (leave_frame what) env [] told
-left_is old shut gone new at env what values told e k g m q t = record {
+left_is old gone new at env what values told e d m q t = record {
   is = λ fuel.
       let V = plain old fuel in
-      let p = place_is (plain old 0) at e in
-      let stack : stack_of (plain shut fuel) ≡ Some at.stack = ap stack_of (k fuel) ∙ p.stack in
-      let out : popped V at ≡ plain gone fuel =
-      sym (popped_so V at) ∙ ap (λ W. pop W at.stack) (sym (k fuel))
-      ∙ world_made (sym (ap (λ o. bind {B = Made (Unit {0})} o (λ s. made (pop (plain shut fuel) s) [] tt)) stack) ∙ g.is fuel) in
-      let end : with_moving (popped V at) (given_values env what) ≡ plain new fuel = ap (with_moving (popped V at)) q ∙ ap (λ W. with_moving W values) out ∙ sym (m fuel) in
+      let end : with_moving (popped V at) (given_values env what) ≡ plain new fuel = ap (with_moving (popped V at)) q ∙ ap (λ W. with_moving W values) (d.is at e fuel) ∙ sym (m fuel) in
       ap (λ (o : Option Place). bind {B = Made TopShape} o (λ p. top_told (with_moving (popped V p) (given_values env what)))) e
       ∙ ap top_told end
       ∙ t.is fuel;

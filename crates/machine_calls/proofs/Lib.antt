@@ -6,3 +6,4 @@ pub mod Readied
 pub mod Asked
 pub mod Blamed
 pub mod Over
+pub mod InPlace

@@ -52,10 +52,10 @@ functions_own : (V : World) (at : Place) (w : Wait Value) (ms : List Own) (env :
 unfolding with_own put_top put_frames
 functions_own V at w ms env = refl
 
-abbrev entering : World → ℕ → List Value → Bool → Function → Option (Made CallShape)
+abbrev pub entering : World → ℕ → List Value → Bool → Function → Option (Made CallShape)
 entering P n arguments room f = cond room (made (push_all P (new_frame n f.code arguments ∷ [])) [] is_entered) (made P [] (not_entered stack_overflow))
 
-enters_is : (P : World) (n : ℕ) (arguments : List Value) (f : Function) (room : Bool) → slice_get P.functions n ≡ Some f → has_room P 1 ≡ room → enters P (object a_function n) arguments ≡ entering P n arguments room f
+pub enters_is : (P : World) (n : ℕ) (arguments : List Value) (f : Function) (room : Bool) → slice_get P.functions n ≡ Some f → has_room P 1 ≡ room → enters P (object a_function n) arguments ≡ entering P n arguments room f
 enters_is P n arguments f room g q =
     bind_at (λ f. entering P n arguments (has_room P 1) f) (slice_get P.functions n) f g ∙ ap (λ room. entering P n arguments room f) q
 
@@ -73,10 +73,10 @@ full_over old new wait prepared n arguments h q r = record {
 
 -- where there is room the function is entered
 
-abbrev told_in : Option (Made CallShape) → CallShape
+abbrev pub told_in : Option (Made CallShape) → CallShape
 told_in o = elim o [ None ↦ not_paid | Some d ↦ d.told ]
 
-shapes_apart : is_entered ≡ not_entered stack_overflow → ⊥
+pub shapes_apart : is_entered ≡ not_entered stack_overflow → ⊥
 shapes_apart e = absurd (cc)
 
 pub function_after : {old new : Memory} {n : ℕ} → ((plain new 0).functions ≡ (plain old 0).functions) → HasFunction old n → HasFunction new n

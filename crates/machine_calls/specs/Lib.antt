@@ -3,3 +3,4 @@ pub mod Calling
 pub mod Leaving
 pub mod Preparing
 pub mod Waiting
+pub mod Tails

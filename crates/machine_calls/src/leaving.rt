@@ -9,6 +9,7 @@ ghost use Rattle.machine_core.specs.Moves.{leave_frame as leaves, pop_frame as p
 ghost use Rattle.move_laws.specs.Memory.{HasFrame, HasStack, Makes};
 ghost use Rattle.machine_moves.specs.Tops.{TopIs, shape_of};
 ghost use Rattle.machine_calls.specs.Leaving.{HasClosed};
+ghost use Rattle.machine_calls.specs.Tails.{Drops};
 
 use crate::running::running;
 use lua_heap::{Coro, World};
@@ -25,11 +26,23 @@ pub fn leave_frame(world: &mut World, given: Vec<Value>) -> Top
     ensures listed { CellsAreListed world.new }
     ensures rest { world.new ≡ record world.old { cells = world.new.cells; coros = world.new.coros; moving = world.new.moving } }
 {
+    drop_frame(world);
+    world.moving = given;
+    see_top(world)
+}
+
+/// Takes the Lua frame on top away, and closes its cells.
+pub(crate) fn drop_frame(world: &mut World)
+    requires frame { HasFrame world.old }
+    requires listed { CellsAreListed world.old }
+    ensures drops { Drops world.old world.new }
+    ensures running { HasStack world.new }
+    ensures listed { CellsAreListed world.new }
+    ensures rest { world.new ≡ record world.old { cells = world.new.cells; coros = world.new.coros } }
+{
     let co = running(world);
     world.close_cells(co, 0);
     pop_closed(world);
-    world.moving = given;
-    see_top(world)
 }
 
 /// Takes the Lua frame on top away, whose cells are closed.

@@ -6,10 +6,12 @@ mod entering;
 mod leaving;
 mod preparing;
 mod running;
+mod tails;
 mod waiting;
 
 pub use calling::{Called, call_value, enter_callee};
 pub use entering::enter_function;
 pub use leaving::leave_frame;
 pub use preparing::{Prepared, make_ready};
+pub use tails::call_in_place;
 pub use waiting::{ask_over, call_over};
