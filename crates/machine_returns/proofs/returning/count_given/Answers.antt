@@ -3,7 +3,7 @@ use Rattle.std.specs.Prelude.{cond, map, pos, ◌==◌}
 use Rattle.std.proofs.lemmas.List.{length-map}
 use Rattle.int_core.specs.Value.{Shape, nil, integer, is_known, range}
 use Rattle.machine_core.specs.Text.{Text, read_list, read_registers}
-use Rattle.machine_core.specs.InstructionRows.{counted, read_values, returns}
+use Rattle.machine_core.specs.InstructionRows.{counted, read_values, returns as returns_text}
 use Rattle.machine_core.specs.FrameRows.{expand}
 use Rattle.machine_core.specs.Moves.{on_own, run}
 use Rattle.machine_sound.proofs.OpcodesCalls.{not_zero}
@@ -17,7 +17,7 @@ use Rattle.machine_returns.proofs.Given.{list_there}
 use Rattle.machine_returns.proofs.returning.count_given.Goals as goal
 
 abbrev returned : (from count : ℕ) → ℕ → Shape → Text
-returned from count n s = returns from (cond (count == 0) (counted s) (count - 1))
+returned from count n s = returns_text from (cond (count == 0) (counted s) (count - 1))
 
 pub read_list-requires-clause-there : goal.read_list-requires-clause-there
 read_list-requires-clause-there c =
@@ -31,7 +31,6 @@ returns-then-count-eq0 c =
     let vs = map (meant W.strings) list in
     let told : Shape = is_known (integer (pos (length list))) in
     let zero = c.if-count-eq0.true in
-    let size : c.len.result ≡ length list = search rules in
     let safe = subst (λ n. IsSafe (expand (read_values c.args.from n (returned c.args.from c.args.count))) [] W) zero (c.requires.safe no_code 0) in
     let d = can_do (read_list c.args.from) (λ n s. expand (returned c.args.from c.args.count n s)) safe in
     record {
@@ -40,8 +39,8 @@ returns-then-count-eq0 c =
       goes = λ k env fuel.
           subst (λ n. run (expand (read_values c.args.from n k)) env (plain W fuel) ≡ run (expand (k (length env) told)) (env ++ vs) (plain W fuel)) (sym zero)
           (act_is (on_own (read_list c.args.from)) (λ n s. expand (k n s)) env (plain W fuel) (plain W fuel) vs told ((c.read_list.ensures env).is fuel));
-      is = subst (λ n. cond (n == 0) (length list) (n - 1) ≡ c.len.result) (sym zero) (sym size);
-      there = list_there W c.args.from c.len.result vs told c.requires.sound d (c.read_list.ensures []) (length-map list (meant W.strings) ∙ sym size);
+      is = subst (λ n. cond (n == 0) (length list) (n - 1) ≡ length list) (sym zero) refl;
+      there = list_there W c.args.from (length list) vs told c.requires.sound d (c.read_list.ensures []) (length-map list (meant W.strings));
     }
 
 pub returns : goal.returns
