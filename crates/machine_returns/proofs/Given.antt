@@ -1,9 +1,9 @@
 -- How many values a frame returns.
 use Rattle.std.proofs.Common.{◌≡◌, ℕ, zero, suc, ◌+◌, ◌-◌, ◌≤◌, List, [], length, Option, Some, None, refl, ap, sym, subst, ◌∙◌, arith, true}
-use Rattle.std.specs.Prelude.{nat_le, pos}
+use Rattle.std.specs.Prelude.{nat_le}
 use Rattle.std.proofs.lemmas.Bool.Decides.{nat_tests}
 use Rattle.code_core.specs.Check.{Mark, fixed, open_from, mark}
-use Rattle.int_core.specs.Value.{Value, integer, Shape, is_known}
+use Rattle.int_core.specs.Value.{Value, Shape}
 use Rattle.machine_core.specs.Text.{behind, is_there, list_end, list_values, read_list, read_registers}
 use Rattle.machine_core.specs.Moves.{Made, made, on_own}
 use Rattle.machine_sound.proofs.Lists.{some_is}

@@ -83,11 +83,7 @@ pub fn return_some(
 
 /// The frame on top goes on returning the values of so many registers from one on. The last of its variables that is still to be closed is closed
 /// first, by its method in a step of its own. A refusal changes nothing.
-pub fn go_on_returning(
-    world: &mut World,
-    from: usize,
-    count: usize,
-) -> Result<Ending, AllocError>
+pub fn go_on_returning(world: &mut World, from: usize, count: usize) -> Result<Ending, AllocError>
     requires solid { IsSolid world.old }
     requires there { CanDo world.old (reads from count) }
     ensures leads { IfOk result (λ ending. (env : List Meant) → Leads (goes_on_by (returns from count)) env world.old world.new (ending_of ending)) }

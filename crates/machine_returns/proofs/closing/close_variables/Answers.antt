@@ -1,4 +1,4 @@
-use Rattle.std.proofs.Common.{[], ◌∷◌, ◌++◌, length, refl}
+use Rattle.std.proofs.Common.{[], ◌∷◌, refl}
 use Rattle.int_core.specs.Value.{nil}
 use Rattle.table_core.specs.declared.value.Value.TheVariants.{Nil}
 use Rattle.machine_core.specs.World.{for_close}
@@ -11,7 +11,7 @@ use Rattle.move_laws.proofs.Order.{steps_of}
 use Rattle.move_laws.proofs.Rows.{safe_after}
 use Rattle.machine_moves.specs.Ending.{ending_of}
 use Rattle.machine_returns.proofs.Tops.{solid_of, can_see, can_close}
-use Rattle.machine_returns.proofs.Closed.{close_text, seen_some, seen_none, method_named, may_call, closes_at_once, steps_first, where_ok}
+use Rattle.machine_returns.proofs.Closed.{close_text, seen_some, seen_none, may_call, closes_at_once, steps_first, where_ok}
 use Rattle.machine_returns.proofs.closing.close_variables.Goals as goal
 
 pub see_pending-requires : goal.see_pending-requires

@@ -1,4 +1,4 @@
-use Rattle.std.proofs.Common.{rules, ◌≡◌, ℕ, suc, ◌-◌, List, [], ◌++◌, length, refl, ap, sym, subst, ◌∙◌, arith}
+use Rattle.std.proofs.Common.{◌≡◌, ℕ, suc, ◌-◌, [], ◌++◌, length, refl, ap, sym, subst, arith}
 use Rattle.std.specs.Prelude.{cond, map, pos, ◌==◌}
 use Rattle.std.proofs.lemmas.List.{length-map}
 use Rattle.int_core.specs.Value.{Shape, nil, integer, is_known, range}

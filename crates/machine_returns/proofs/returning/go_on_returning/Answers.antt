@@ -1,10 +1,8 @@
-use Rattle.std.proofs.Common.{ℕ, [], ◌∷◌, ◌++◌, length, refl}
-use Rattle.std.specs.Prelude.{cond}
-use Rattle.int_core.specs.Value.{Shape, Value as Meant, nil}
+use Rattle.std.proofs.Common.{[], ◌∷◌, ◌++◌, length, refl}
+use Rattle.int_core.specs.Value.{nil}
 use Rattle.table_core.specs.declared.value.Value.TheVariants.{Nil}
 use Rattle.machine_core.specs.World.{returning}
-use Rattle.machine_core.specs.Text.{Text, read, written, own, read_registers, close, leave, results}
-use Rattle.machine_core.specs.InstructionRows.{is_true, returned_so}
+use Rattle.machine_core.specs.Text.{read, written}
 use Rattle.machine_core.specs.FrameRows.{by_asking, expand_by}
 use Rattle.lua_heap.specs.Reading.{value as meant}
 use Rattle.lua_stack.specs.declared.frame.Wait.TheVariants.{Returning}
