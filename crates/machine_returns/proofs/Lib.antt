@@ -3,3 +3,4 @@ pub mod Padded
 pub mod Taken
 pub mod Tops
 pub mod Closed
+pub mod Given

@@ -1,6 +1,5 @@
 -- Values that are written to registers behind nils.
 use Rattle.std.proofs.Common.{◌≡◌, ℕ, zero, suc, ◌≤◌, ◌<◌, List, [], ◌∷◌, length, take, drop, refl, ap, sym, ◌∙◌, arith}
-use Rattle.std.specs.Prelude.{map}
 use Rattle.int_core.specs.Value.{Value, known, nil, nth, range, write, write_all}
 use Rattle.machine_core.specs.Text.{nils}
 

@@ -1,8 +1,8 @@
 -- Results that are written, and where the frame goes on.
-use Rattle.std.proofs.Common.{◌≡◌, ℕ, zero, suc, ◌+◌, ◌-◌, List, [], ◌∷◌, Some, refl, ap, sym, subst, ◌∙◌, arith}
-use Rattle.std.specs.Prelude.{map, drop, pos}
+use Rattle.std.proofs.Common.{◌≡◌, ℕ, zero, suc, ◌+◌, ◌-◌, List, Some, refl, ap, sym, ◌∙◌, arith}
+use Rattle.std.specs.Prelude.{pos}
 use Rattle.int_core.specs.Value.{Value}
-use Rattle.machine_core.specs.Text.{Own, Text, go_by, write_list, write_registers}
+use Rattle.machine_core.specs.Text.{go_by, write_list, write_registers}
 use Rattle.machine_core.specs.InstructionRows.{next, then, write_values}
 use Rattle.machine_core.specs.FrameRows.{When, expand_by}
 use Rattle.machine_core.specs.Moves.{place_from, go, stop}

@@ -1,12 +1,12 @@
 -- Frames that wait in memory, and get what moves.
 use Rattle.std.proofs.Common.{◌≡◌, ℕ, zero, suc, List, [], ◌∷◌, ◌++◌, Some, refl, ap, sym, subst, ◌∙◌}
-use Rattle.std.specs.Prelude.{map, slice_set}
+use Rattle.std.specs.Prelude.{slice_set}
 use Rattle.int_core.specs.Value.{Value, without_last}
-use Rattle.machine_core.specs.World.{Wait, running, LuaFrame, lua, in_progress, World, Place, place_of, put_frames, put_top}
+use Rattle.machine_core.specs.World.{running, LuaFrame, lua, in_progress, World, Place, place_of, put_frames, put_top}
 use Rattle.machine_core.specs.Moves.{Made, made, take_moving}
 use Rattle.machine_core.specs.MachineStep.{woken}
 use Rattle.machine_sound.specs.Sound.{sizes, Valid, Solid, Top, TopIs, Sound}
-use Rattle.machine_sound.proofs.Frames.{set_stack, top_put as put_is, place_is, own_known, new_solid, new_world}
+use Rattle.machine_sound.proofs.Frames.{set_stack, top_put as put_is, place_is, own_known, new_solid}
 use Rattle.machine_sound.proofs.Lists.{each_none, some_is, without_push}
 use Rattle.machine_sound.proofs.LuaSteps.{settles}
 use Rattle.machine_sound.proofs.Waits.{with_moving, moving_solid}

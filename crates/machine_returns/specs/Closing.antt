@@ -2,8 +2,8 @@
 use Rattle.std.specs.Prelude.{ℕ, List}
 use Rattle.int_core.specs.Value.{Value}
 use Rattle.machine_core.specs.Text.{close_cells}
-use Rattle.machine_core.specs.InstructionRows.{closes, next, returns, then}
-use Rattle.machine_core.specs.FrameRows.{When, expand, expand_by}
+use Rattle.machine_core.specs.InstructionRows.{closes, next, then}
+use Rattle.machine_core.specs.FrameRows.{When, expand_by}
 use Rattle.lua_heap.specs.declared.world.World.{World as Memory}
 use Rattle.move_laws.specs.Memory.{IsSafe}
 

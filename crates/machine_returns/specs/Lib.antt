@@ -4,3 +4,4 @@ pub mod Failing
 pub mod Closing
 pub mod Names
 pub mod Marking
+pub mod Returning

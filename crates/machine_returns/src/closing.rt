@@ -1,11 +1,11 @@
 // Variables that are closed where their block ends (OP_CLOSE of lvm.c, luaF_close of lfunc.c).
-ghost use Rattle.std.specs.Prelude.{◌≡◌, ◌+◌, ◌<◌, ◌^◌, IfOk, List, OnErr};
+ghost use Rattle.std.specs.Prelude.{◌≡◌, ◌+◌, ◌<◌, ◌^◌, [], IfOk, List, OnErr};
 ghost use Rattle.int_core.specs.Value.{Value as Meant};
 ghost use Rattle.machine_core.specs.Text.{close_cells as closes_cells};
 ghost use Rattle.machine_core.specs.InstructionRows.{closes, next, then};
-ghost use Rattle.machine_core.specs.FrameRows.{When, expand_by, goes_on_by};
+ghost use Rattle.machine_core.specs.FrameRows.{When, expand, expand_by, goes_on_by};
 ghost use Rattle.machine_core.specs.Moves.{go};
-ghost use Rattle.move_laws.specs.Memory.{InOrder, Leads, StandsAt};
+ghost use Rattle.move_laws.specs.Memory.{InOrder, IsSafe, IsSound, Leads, StandsAt, Steps};
 ghost use Rattle.machine_moves.specs.Ending.{ending_of};
 ghost use Rattle.machine_returns.specs.Waking.{IsSolid};
 ghost use Rattle.machine_returns.specs.Closing.{MayClose, MayPass};
@@ -13,10 +13,42 @@ ghost use Rattle.machine_returns.specs.Closing.{MayClose, MayPass};
 use crate::closables::find_close;
 use lua_heap::World;
 use lua_stack::Wait;
-use machine_calls::{Prepared, ask_over};
+use machine_calls::{Prepared, ask_over, call_over};
 use machine_moves::{Ending, close_cells, go_to, put_in_front, see_pending};
 use std::alloc::AllocError;
 use table_core::Value;
+
+/// The variables of the frame on top are closed from a register on, at the place `pc`: the last one first, by its method. Where none is left the cells that
+/// are open there are closed, and the frame goes on behind the instruction. A refusal may leave it changed, but in order.
+pub fn close_variables(
+    world: &mut World,
+    budget: &mut u64,
+    pc: usize,
+    register: u32,
+) -> Result<Ending, AllocError>
+    requires sound { IsSound world.old }
+    requires at { StandsAt world.old pc }
+    requires room { pc + 2 < 2 ^ 64 }
+    requires safe { IsSafe (expand (closes register)) [] world.old }
+    ensures steps { IfOk result (λ ending. Steps (expand (closes register)) [] world.old budget.old world.new budget.new (ending_of ending)) }
+    ensures order { InOrder world.new }
+    ensures err { OnErr result ((world.new.printed ≡ world.old.printed) × (budget.new ≡ budget.old)) }
+{
+    let Some(v) = see_pending(world, register as usize) else {
+        pass_over(world, pc, register);
+        return Ok(Ending::Go);
+    };
+    let arguments = put_in_front(world.alloc, &[v], &[Value::Nil])?;
+    let method = find_close(world, v);
+    call_over(
+        world,
+        budget,
+        method,
+        arguments,
+        Wait::ForClose,
+        Prepared::Closed { register },
+    )
+}
 
 /// The frame on top goes on closing its variables from a register on, at the place `pc`: the last one first, by its method in a step of its own. Where none
 /// is left the cells that are open there are closed, and the frame goes on behind the instruction. A refusal changes nothing.

@@ -7,6 +7,7 @@ ghost use Rattle.machine_core.specs.FrameRows.{When, expand_by, handed};
 ghost use Rattle.machine_core.specs.Moves.{stop};
 ghost use Rattle.move_laws.specs.Memory.{CanDo, HasFrame, InOrder, Leads};
 ghost use Rattle.machine_moves.specs.Ending.{ending_of};
+ghost use Rattle.machine_moves.specs.declared.ending.Ending.TheVariants.{Spent};
 ghost use Rattle.machine_moves.specs.Tops.{shape_of};
 
 use lua_heap::World;
@@ -25,6 +26,7 @@ pub(crate) fn leave_with_results(
     requires order { InOrder world.old }
     requires there { CanDo world.old (reads from count) }
     ensures leads { IfOk result (λ ending. (when : When) (env : List Meant) → Leads (expand_by when (own (reads from count) (λ w _. leave (results w)))) env world.old world.new (ending_of ending)) }
+    ensures paid { IfOk result (λ ending. ending ≡ Spent → ⊥) }
     ensures order { InOrder world.new }
     ensures err { OnErr result (world.new ≡ world.old) }
 {
@@ -49,7 +51,8 @@ pub(crate) fn leave_with_error(world: &mut World, error: Value) -> Result<Ending
 
 /// How a step ends with results for what is on top.
 fn handed(top: Top) -> Ending
-    ensures { (in_main : Bool) → handed (shape_of in_main top) ≡ stop (ending_of result) }
+    ensures ends { (in_main : Bool) → handed (shape_of in_main top) ≡ stop (ending_of result) }
+    ensures paid { result ≡ Spent → ⊥ }
 {
     match top {
         Top::Lua => Ending::Go,

@@ -14,9 +14,9 @@ mod running;
 mod waking;
 
 pub use closables::{find_close, is_closable};
-pub use closing::go_on_closing;
+pub use closing::{close_variables, go_on_closing};
 pub use failing::{fail_with, unwind_function};
 pub use marking::mark;
 pub use results::{take_results, write_registers};
-pub use returning::go_on_returning;
+pub use returning::{go_on_returning, return_some, return_values};
 pub use waking::{doze, wake};

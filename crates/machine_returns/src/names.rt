@@ -12,11 +12,7 @@ use lua_heap::{World, law};
 use std::alloc::AllocError;
 
 /// The text of the error of a variable that cannot be closed, at a place of the function on top.
-pub(crate) fn not_closable(
-    world: &World,
-    pc: usize,
-    register: usize,
-) -> Result<Vec<u8>, AllocError>
+pub(crate) fn not_closable(world: &World, pc: usize, register: usize) -> Result<Vec<u8>, AllocError>
     requires codes { AreCodes world.now.strings world.now.codes }
     requires frame { HasCode world.now }
     ensures { IfOk result (λ text. TellsOpen world.now pc register text.items) }

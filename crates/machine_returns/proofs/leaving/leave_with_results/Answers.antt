@@ -20,4 +20,4 @@ returns-clause-leads c = λ when env.
     let all = drop_front env vs ∙ sym (ap (map (meant W.strings)) given) in
     first (λ w _. leave_row (results w)) (c.read_registers.ensures env)
     (first (λ _ top. handed top) (c.leave_frame-top.ensures.makes (env ++ vs) (results (length env)) all)
-    (subst (λ row. Leads row ((env ++ vs) ++ []) V V (ending_of c.handed.result)) (sym (c.handed.ensures (runs_main (plain V 0)))) ended))
+    (subst (λ row. Leads row ((env ++ vs) ++ []) V V (ending_of c.handed.result)) (sym (c.handed.ensures.ends (runs_main (plain V 0)))) ended))

@@ -1,13 +1,12 @@
-use Rattle.std.proofs.Common.{rules, ◌≡◌, ◌∙◌, ℕ, List, [], ◌∷◌, ◌++◌, Bool, true, false, refl, sym, subst}
+use Rattle.std.proofs.Common.{rules, ◌≡◌, ◌∙◌, ℕ, [], ◌∷◌, Bool, true, false, refl, sym, subst}
 use Rattle.std.specs.Prelude.{cond, pos}
 use Rattle.code_core.specs.Prototype.{Prototype}
-use Rattle.int_core.specs.Value.{Shape, Value as Meant, holds, shape}
-use Rattle.lua_heap.specs.declared.world.World.{World as Memory}
+use Rattle.int_core.specs.Value.{Shape, Value as Meant, holds}
 use Rattle.lua_heap.specs.Reading.{value as meant}
 use Rattle.machine_core.specs.Text.{Text, closable, go_by, read}
 use Rattle.machine_core.specs.InstructionRows.{variable_name}
 use Rattle.machine_core.specs.FrameRows.{at_once, expand, raises}
-use Rattle.machine_core.specs.Moves.{Ending, go, is_closable}
+use Rattle.machine_core.specs.Moves.{go, is_closable}
 use Rattle.move_laws.specs.Memory.{IsSafe, Leads, Makes}
 use Rattle.move_laws.proofs.Rows.{first, safe_after}
 use Rattle.machine_moves.specs.Ending.{ending_of}

@@ -1,4 +1,4 @@
-use Rattle.std.proofs.Common.{rules, ◌≡◌, subst, sym, ◌∙◌}
+use Rattle.std.proofs.Common.{rules, ◌≡◌, subst, ◌∙◌}
 use Rattle.machine_core.specs.FrameRows.{raises}
 use Rattle.move_laws.specs.Memory.{Leads}
 use Rattle.machine_moves.specs.Ending.{ending_of}

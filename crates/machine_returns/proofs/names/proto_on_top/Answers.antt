@@ -1,4 +1,4 @@
-use Rattle.std.proofs.Common.{◌≡◌, Some, None, sym, subst, ap, ◌∙◌}
+use Rattle.std.proofs.Common.{◌≡◌, sym, subst, ap, ◌∙◌}
 use Rattle.code_core.specs.Check.{IsChecked}
 use Rattle.lua_heap.specs.Codes.{functions, code_or_none}
 use Rattle.move_laws.proofs.Running.{has_stack, lua_top, of_top}

@@ -1,6 +1,6 @@
-use Rattle.std.proofs.Common.{[], ◌∷◌, ◌++◌, ap, refl, sym, subst, ◌∙◌}
+use Rattle.std.proofs.Common.{[], ◌++◌, ap, refl, sym, subst, ◌∙◌}
 use Rattle.lua_heap.specs.declared.world.World.{World as Memory}
-use Rattle.machine_core.specs.InstructionRows.{next, then}
+use Rattle.machine_core.specs.InstructionRows.{next}
 use Rattle.machine_core.specs.FrameRows.{expand_by}
 use Rattle.machine_core.specs.Moves.{go}
 use Rattle.move_laws.specs.Memory.{IsSafe, Leads}

@@ -1,11 +1,11 @@
-use Rattle.std.proofs.Common.{◌≡◌, ◌≤◌, ◌+◌, ℕ, List, [], ◌∷◌, ◌++◌, length, take, ap, refl, sym, ◌∙◌, arith}
+use Rattle.std.proofs.Common.{◌≡◌, ◌≤◌, ◌+◌, ℕ, List, [], ◌∷◌, ◌++◌, length, take, ap, sym, ◌∙◌, arith}
 use Rattle.std.specs.Prelude.{map}
 use Rattle.std.proofs.lemmas.List.{length-map, take-map}
-use Rattle.int_core.specs.Value.{Value as Meant, known, nil, range, write_all}
+use Rattle.int_core.specs.Value.{Value as Meant, range, write_all}
 use Rattle.table_core.specs.declared.value.Value.{Value as Kept}
 use Rattle.machine_core.specs.Text.{nils}
 use Rattle.machine_sound.proofs.Values.{length_write_all}
-use Rattle.machine_core.specs.World.{lua, LuaFrame, Frame}
+use Rattle.machine_core.specs.World.{lua}
 use Rattle.lua_stack.specs.Frames.{with_registers}
 use Rattle.machine_returns.proofs.Padded.{range_first, padded}
 use Rattle.machine_returns.proofs.results.write_padded.Goals as goal

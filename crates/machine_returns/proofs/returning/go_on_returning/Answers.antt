@@ -1,10 +1,8 @@
-use Rattle.std.proofs.Common.{ℕ, [], ◌∷◌, ◌++◌, length, refl}
-use Rattle.std.specs.Prelude.{cond}
-use Rattle.int_core.specs.Value.{Shape, Value as Meant, nil}
+use Rattle.std.proofs.Common.{[], ◌∷◌, ◌++◌, length, refl}
+use Rattle.int_core.specs.Value.{nil}
 use Rattle.table_core.specs.declared.value.Value.TheVariants.{Nil}
 use Rattle.machine_core.specs.World.{returning}
-use Rattle.machine_core.specs.Text.{Text, read, written, own, read_registers, close, leave, results}
-use Rattle.machine_core.specs.InstructionRows.{is_true, returned_so}
+use Rattle.machine_core.specs.Text.{read, written}
 use Rattle.machine_core.specs.FrameRows.{by_asking, expand_by}
 use Rattle.lua_heap.specs.Reading.{value as meant}
 use Rattle.lua_stack.specs.declared.frame.Wait.TheVariants.{Returning}
@@ -12,11 +10,8 @@ use Rattle.machine_calls.specs.declared.preparing.Prepared.TheVariants.{Returned
 use Rattle.move_laws.proofs.Rows.{first}
 use Rattle.machine_moves.specs.Ending.{ending_of}
 use Rattle.machine_returns.proofs.Tops.{can_see, can_return}
-use Rattle.machine_returns.proofs.Closed.{seen_some, seen_none, method_named, closes_by_asking, where_ok}
+use Rattle.machine_returns.proofs.Closed.{return_text, seen_some, seen_none, method_named, closes_by_asking, where_ok}
 use Rattle.machine_returns.proofs.returning.go_on_returning.Goals as goal
-
-abbrev seen : (from count : ℕ) → ℕ → Shape → Text
-seen from count v s = cond (is_true s) (close (read v) (written nil) (returning count) (returned_so from count)) (own (read_registers from count) (λ w _. leave (results w)))
 
 pub see_pending-requires : goal.see_pending-requires
 see_pending-requires c = can_see c.args.world.now c.requires.there.place 0 c.requires.solid c.requires.there.is
@@ -24,7 +19,7 @@ see_pending-requires c = can_see c.args.world.now c.requires.there.place 0 c.req
 pub returns-in_default-clause-leads : goal.returns-in_default-clause-leads
 returns-in_default-clause-leads c =
     where_ok c.leave_with_results.result c.leave_with_results.ensures.leads (λ ending l env.
-    first (λ v s. expand_by by_asking (seen c.args.from c.args.count v s)) (seen_none c.args.world.now 0 c.see_pending.result c.see_pending.ensures c.in_default.is env) (l by_asking (env ++ [])))
+    first (λ v s. expand_by by_asking (return_text c.args.from c.args.count v s)) (seen_none c.args.world.now 0 c.see_pending.result c.see_pending.ensures c.in_default.is env) (l by_asking (env ++ [])))
 
 pub ask_over-requires-clause-ready : goal.ask_over-requires-clause-ready
 ask_over-requires-clause-ready c = can_return c.args.world.now c.args.from c.args.count c.requires.solid c.requires.there
@@ -34,7 +29,7 @@ returns-clause-leads c =
     let W = c.args.world.now in
     let v = c.in-Some.v in
     where_ok c.ask_over.result c.ask_over.ensures.leads (λ ending asks env.
-    first (λ v s. expand_by by_asking (seen c.args.from c.args.count v s)) (seen_some W 0 c.see_pending.result v c.see_pending.ensures c.in-Some.is env)
+    first (λ v s. expand_by by_asking (return_text c.args.from c.args.count v s)) (seen_some W 0 c.see_pending.result v c.see_pending.ensures c.in-Some.is env)
     (closes_by_asking W c.ask_over.new.world v Nil c.find_close-method.result c.in_ok-arguments.arguments.items (Returning c.args.count) (ReturnedSo c.args.from c.args.count) (ending_of ending)
     (env ++ meant W.strings v ∷ []) (read (length env)) (written nil) (written nil) (returning c.args.count)
     c.find_close-method.ensures.finds asks c.in_ok-arguments.ensures (method_named env [] (meant W.strings v)) refl refl tt))
