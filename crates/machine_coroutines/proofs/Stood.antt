@@ -7,21 +7,23 @@ use Rattle.int_core.specs.Value.{Value, object, a_coroutine, bind, last}
 use Rattle.machine_core.specs.World.{Coroutine, fresh, World, Stack, stack_of}
 use Rattle.machine_core.specs.Text.{Arg, arg}
 use Rattle.machine_core.specs.Moves.{Made, made, Status, add_coroutine, coroutine_number, create, runs_main, see_running, see_status, status_of, suspend, suspend_running}
+use Rattle.list_laws.proofs.Items.{get_old}
 use Rattle.machine_sound.proofs.Lists.{bind_at, get_map}
 use Rattle.table_core.specs.declared.value.CoroId.{CoroId}
 use Rattle.table_core.specs.declared.value.Value.{Value as Kept}
 use Rattle.lua_stack.specs.Frames.{KeptStack}
 use Rattle.lua_heap.specs.declared.world.Coro.{Coro}
-use Rattle.lua_heap.specs.declared.world.Coro.TheVariants.{Fresh}
+use Rattle.lua_heap.specs.declared.world.Coro.TheVariants.{Fresh, Running}
 use Rattle.lua_heap.specs.declared.world.World.{World as Memory}
 use Rattle.lua_heap.specs.Cells.{AreListed, CellsAreListed, open_cells_in}
 use Rattle.lua_heap.specs.Changes.{AddsCoroutine, with_coroutine}
 use Rattle.lua_heap.specs.Law.{CellsStayListed}
 use Rattle.lua_heap.specs.Reading.{value}
 use Rattle.lua_heap.specs.Plain.{coroutine, plain}
-use Rattle.move_laws.specs.Memory.{Runs, Makes}
+use Rattle.move_laws.specs.Memory.{HasStack, Runs, Makes}
+use Rattle.move_laws.proofs.Running.{stack_runs}
 use Rattle.move_laws.proofs.Places.{stack_is}
-use Rattle.machine_moves.proofs.OnTop.{kept_as, stack_kept}
+use Rattle.machine_moves.proofs.OnTop.{has_running, kept_as, stack_kept}
 
 pub suspends_is : (old new : Memory) (co : CoroId) (s : KeptStack) (in_main : Bool) (env : List Value) → Runs old co s → in_main ≡ runs_main (plain old 0)
     → ((fuel : ℕ) (k : Stack) → stack_of (plain old fuel) ≡ Some k → plain new fuel ≡ suspend_running (plain old fuel) k) → Makes old new suspend env [] in_main
@@ -76,3 +78,11 @@ if_ok_on (Err e) p q f = tt
 pub on_both : {B E : Type 0} {P Q R : Type 0} (o : Result B E) → OnOk o P → OnErr o Q → (P → R) → (Q → R) → R
 on_both (Ok b) p q f g = f p
 on_both (Err e) p q f g = g q
+
+pub created_runs : {old new : Memory} {body : Kept} → AddsCoroutine old new (Fresh body) → HasStack old → HasStack new
+created_runs {old} {new} {body} a h =
+    let r = stack_runs old h in
+    has_running new r.co r.stack (record {
+      chain = ap (λ (W : Memory). last W.chain.items) a.rest ∙ r.runs.chain;
+      there = ap (λ cs. slice_get cs r.co.0) a.objects ∙ get_old old.coros.objects (Fresh body ∷ []) r.co.0 (Running r.stack) r.runs.there;
+    })

@@ -79,7 +79,7 @@ pub fn fail_main(world: &mut World) -> Result<Ending, AllocError>
 }
 
 /// The first value, or nil.
-pub(crate) fn first_of(values: &[Value]) -> Value
+pub fn first_of(values: &[Value]) -> Value
     ensures { (texts : List (List ℕ)) → meant texts result ≡ nth (map (meant texts) values.now) 0 }
 {
     match values.split_first() {

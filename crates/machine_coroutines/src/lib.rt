@@ -13,7 +13,7 @@ mod standing;
 
 pub use beginning::{Begun, begin_closing};
 pub use closing::{Closing, find_close, set_error, take_closing};
-pub use endings::{fail_main, fail_running, return_from_main, return_running};
+pub use endings::{fail_main, fail_running, first_of, return_from_main, return_running};
 pub use ends::{end_coroutine, fail_coroutine, pending_values};
 pub use finishing::{close_next, close_on, close_on_error};
 pub use standing::{Status, create, runs_main, see_running, see_status, suspend};

@@ -50,6 +50,7 @@ pub fn runs_main(world: &World) -> bool
 pub fn create(world: &mut World, body: Value) -> Result<CoroId, AllocError>
     requires { is_function (meant world.old.strings body) ≡ true }
     ensures makes { IfOk result (λ id. (env : List Meant) (x : Arg) → arg env x ≡ meant world.old.strings body → Makes world.old world.new (creates x) env (object a_coroutine id.0 ∷ []) tt) }
+    ensures running { HasStack world.old → HasStack world.new }
     ensures listed { CellsAreListed world.old → CellsAreListed world.new }
     ensures rest { world.new ≡ record world.old { coros = world.new.coros } }
     ensures err { OnErr result (world.new ≡ world.old) }

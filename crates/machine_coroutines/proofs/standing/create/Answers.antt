@@ -1,6 +1,7 @@
 use Rattle.std.proofs.Common.{sym, subst}
 use Rattle.lua_heap.specs.Cells.{CellsAreListed}
-use Rattle.machine_coroutines.proofs.Stood.{created_listed, creates_is, if_ok_on, on_both}
+use Rattle.move_laws.specs.Memory.{HasStack}
+use Rattle.machine_coroutines.proofs.Stood.{created_listed, created_runs, creates_is, if_ok_on, on_both}
 use Rattle.machine_coroutines.proofs.standing.create.Goals as goal
 
 pub returns-clause-makes : goal.returns-clause-makes
@@ -10,3 +11,6 @@ returns-clause-makes c =
 pub returns-clause-listed : goal.returns-clause-listed
 returns-clause-listed c = λ l.
     on_both c.add_coro.result c.add_coro.ensures.added c.add_coro.ensures.err (λ a. created_listed c.cells_stay_listed.ensures a l) (λ e. subst CellsAreListed (sym e) l)
+
+pub returns-clause-running : goal.returns-clause-running
+returns-clause-running c = λ h. on_both c.add_coro.result c.add_coro.ensures.added c.add_coro.ensures.err (λ a. created_runs a h) (λ e. subst HasStack (sym e) h)
