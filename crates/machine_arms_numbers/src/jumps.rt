@@ -26,7 +26,7 @@ fn pay(fuel: &mut u64) -> Option<()>
 
 /// Whether an offset leads back.
 #[inline(always)]
-fn leads_back(by: i32) -> bool
+pub fn leads_back(by: i32) -> bool
     ensures { result ≡ leads_back by }
 {
     by < 0
@@ -34,7 +34,7 @@ fn leads_back(by: i32) -> bool
 
 /// How far an offset leads.
 #[inline(always)]
-fn distance_of(by: i32) -> usize
+pub fn distance_of(by: i32) -> usize
     ensures value { result ≡ distance_of by }
     ensures bound { result ≤ 2 ^ 31 }
 {
@@ -108,7 +108,7 @@ pub(crate) fn for_loop(
 
 /// Whether a loop has a round.
 #[inline(always)]
-fn has_round(from: i64, limit: i64, step: i64) -> bool
+pub fn has_round(from: i64, limit: i64, step: i64) -> bool
     ensures { result ≡ runs from limit step }
 {
     if step >= 0 {
@@ -129,7 +129,7 @@ fn distance(low: i64, high: i64) -> u64
 
 /// How many rounds follow the first one, as an unsigned number.
 #[inline(always)]
-fn further_rounds(from: i64, limit: i64, step: i64) -> i64
+pub fn further_rounds(from: i64, limit: i64, step: i64) -> i64
     requires step { step ≢ pos 0 }
     requires round { IsTrue (runs from limit step) }
     ensures { result ≡ rounds from limit step }

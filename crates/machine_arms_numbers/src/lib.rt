@@ -11,3 +11,5 @@ mod registers;
 mod truths;
 
 pub use instruction::run_instruction;
+pub use jumps::{distance_of, further_rounds, has_round, leads_back};
+pub use registers::integer;

@@ -83,7 +83,7 @@ pub(crate) fn fetch(words: &[Instruction], pc: usize) -> Instruction
 
 /// The integer that a value is.
 #[inline(always)]
-pub(crate) fn integer(v: Value) -> Option<i64>
+pub fn integer(v: Value) -> Option<i64>
     ensures { result ≡ integer_in v }
 {
     match v {

@@ -1,0 +1,4 @@
+pub mod Paying
+pub mod Back
+pub mod Rounds
+pub mod Iterated
