@@ -5,3 +5,4 @@ pub mod Asked
 pub mod Handled
 pub mod Calls
 pub mod Thrown
+pub mod Caught

@@ -120,9 +120,9 @@ module _ (old : Memory) where
         looked env fuel
         ∙ ap (λ o. run (errs_at (length env) seen o) E (taken old fuel)) (is_level (level_in seen) level e)
         ∙ ap (λ v. ends raised (with_moving (plain old fuel) (v ∷ []))) (
-          nth_behind E (v ∷ [])
-          ∙ ap (placed (taken old fuel) level) (message_is env)
-          ∙ placed_same (plain old fuel) [] level (read_by (first_of old.moving.items)))
+        nth_behind E (v ∷ [])
+        ∙ ap (placed (taken old fuel) level) (message_is env)
+        ∙ placed_same (plain old fuel) [] level (read_by (first_of old.moving.items)))
         ∙ ap (ends raised) (sym (s.is fuel));
   }
 

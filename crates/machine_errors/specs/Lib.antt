@@ -3,3 +3,4 @@ pub mod Protected
 pub mod Asking
 pub mod Handlers
 pub mod Throwing
+pub mod Catching

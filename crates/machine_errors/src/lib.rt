@@ -3,6 +3,7 @@
 #![tactic(auto)]
 
 mod asking;
+mod catching;
 mod handlers;
 mod protected;
 mod protecting;
@@ -10,6 +11,7 @@ mod raising;
 mod running;
 mod throwing;
 
+pub use catching::{call_catcher, see_catcher};
 pub use handlers::{answer_handler, call_handler, fail_handler, give_up};
 pub use protected::{answer_error, answer_results};
 pub use protecting::{pcall, xpcall};

@@ -1,8 +1,9 @@
-// The running coroutine.
+// The stack of the running coroutine.
 ghost use Rattle.move_laws.specs.Memory.{HasStack};
-ghost use Rattle.machine_moves.specs.Moves.{RunsAs};
+ghost use Rattle.machine_moves.specs.Moves.{RunsAs, RunsOn};
 
-use lua_heap::World;
+use lua_heap::{Coro, World};
+use lua_stack::Stack;
 use table_core::CoroId;
 
 /// The coroutine that runs.
@@ -11,4 +12,15 @@ pub(crate) fn running(world: &World) -> CoroId
     ensures { RunsAs world.now result }
 {
     world.chain[world.chain.len() - 1]
+}
+
+/// Its stack.
+pub(crate) fn running_stack(world: &World) -> &Stack
+    requires { HasStack world.now }
+    ensures { RunsOn world.now result.now }
+{
+    match world.coros.get(running(world).0) {
+        Coro::Running(stack) => stack,
+        _ => unreachable!(),
+    }
 }
