@@ -1,7 +1,7 @@
 -- What is kept of code says the same among more strings.
-use Rattle.std.proofs.Common.{◌≡◌, ℕ, List, [], ◌∷◌, ◌++◌, map, length, true, ap, ◌∙◌}
+use Rattle.std.proofs.Common.{◌≡◌, ℕ, List, [], ◌∷◌, ◌++◌, map, true, ap, ◌∙◌}
 use Rattle.std.specs.List.{list_all}
-use Rattle.int_core.specs.Value.{Value as Meant, known, string}
+use Rattle.int_core.specs.Value.{known, string}
 use Rattle.code_core.specs.declared.proto.Const.{Const}
 use Rattle.code_core.specs.declared.proto.Const.TheVariants.{Nil, False, True, Int, Str as Text}
 use Rattle.code_core.specs.Prototype.{Parts, Prototype}

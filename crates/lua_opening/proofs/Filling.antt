@@ -4,7 +4,7 @@ use Rattle.std.specs.Prelude.{None}
 use Rattle.std.proofs.lemmas.List.{map_push}
 use Rattle.int_core.specs.Heap.{Table as Meant}
 use Rattle.int_core.specs.Rows.{set}
-use Rattle.int_core.specs.Value.{Value, table_values}
+use Rattle.int_core.specs.Value.{Value}
 use Rattle.table_core.specs.declared.value.Value.{Value as Kept}
 use Rattle.table_core.specs.Value.{lua_values}
 use Rattle.table_core.specs.Table.{Contents}

@@ -1,5 +1,5 @@
 -- The libraries' tables do not hang on the code of the prelude's functions.
-use Rattle.std.proofs.Common.{◌≡◌, ℕ, zero, suc, List, [], ◌∷◌, ◌++◌, length, refl, ap, arith}
+use Rattle.std.proofs.Common.{◌≡◌, ℕ, suc, List, [], ◌∷◌, ◌++◌, length, refl, ap, arith}
 use Rattle.std.specs.Prelude.{filter}
 use Rattle.int_core.specs.Heap.{Table}
 use Rattle.int_core.specs.Value.{Value, a_function, object}

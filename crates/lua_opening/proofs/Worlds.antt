@@ -1,13 +1,12 @@
 -- The world of the libraries, part by part.
 use Rattle.std.proofs.Common.{◌≡◌, ℕ, zero, suc, List, [], ◌∷◌, ◌++◌, map, length, Option, Some, None, refl, ap, sym, subst, ◌∙◌, append_assoc, ◌+◌, ◌≤◌, arith}
 use Rattle.std.specs.Prelude.{slice_get, codes}
-use Rattle.int_core.specs.Heap.{Heap}
 use Rattle.int_core.specs.Value.{a_table, object, greatest_string}
 use Rattle.code_core.specs.Prototype.{Prototype}
 use Rattle.library_rows.specs.Library.{Library}
 use Rattle.library_rows.specs.PreludeText.{prelude_functions}
 use Rattle.list_laws.proofs.Items.{append_nil, get_old}
-use Rattle.machine_core.specs.World.{Function, closed, World}
+use Rattle.machine_core.specs.World.{closed, World}
 use Rattle.machine_runs.specs.Opening.{numbers, prelude_function, opening}
 use Rattle.object_pool.specs.Pool.{Pool}
 use Rattle.table_core.specs.declared.value.FuncId.{FuncId}
@@ -16,7 +15,6 @@ use Rattle.table_core.specs.declared.value.CoroId.{CoroId}
 use Rattle.table_core.specs.declared.value.Value.{Value as Kept}
 use Rattle.table_core.specs.declared.value.Value.TheVariants.{Table}
 use Rattle.table_core.specs.Table.{Contents}
-use Rattle.lua_heap.specs.declared.world.Cell.{Cell}
 use Rattle.lua_heap.specs.declared.world.Cell.TheVariants.{Closed, Open}
 use Rattle.lua_heap.specs.declared.world.World.{World as Memory}
 use Rattle.lua_heap.specs.Adding.{Begins}

@@ -1,5 +1,5 @@
 -- The libraries' tables in the words of their definitions, and what a table in memory has of them.
-use Rattle.std.specs.Prelude.{◌≡◌, ℕ, ◌≤◌, Bool, true, ◌&&◌, List, [], ◌∷◌, ◌++◌, map, length, nat_le, Option, None}
+use Rattle.std.specs.Prelude.{◌≡◌, ℕ, ◌≤◌, Bool, true, ◌&&◌, List, [], ◌∷◌, ◌++◌, map, length, nat_le, None}
 use Rattle.int_core.specs.Heap.{Table as Meant}
 use Rattle.int_core.specs.Rows.{set}
 use Rattle.int_core.specs.Value.{string, integer, primitive, a_table, a_function, Value, known, object, table_values, greatest_string}

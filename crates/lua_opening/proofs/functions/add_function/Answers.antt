@@ -1,4 +1,4 @@
-use Rattle.std.proofs.Common.{◌≡◌, ℕ, List, [], ◌∷◌, ◌++◌, map, length, replicate, ap, sym, subst, ◌∙◌}
+use Rattle.std.proofs.Common.{ℕ, List, [], ◌∷◌, ◌++◌, map, length, replicate, ap, sym, subst, ◌∙◌}
 use Rattle.std.proofs.lemmas.List.{map_push}
 use Rattle.code_core.specs.declared.proto.UpDesc.{UpDesc}
 use Rattle.code_core.specs.Prototype.{Prototype}
@@ -6,10 +6,8 @@ use Rattle.table_core.specs.declared.value.CellId.{CellId}
 use Rattle.table_core.specs.declared.value.FuncId.{FuncId}
 use Rattle.lua_heap.specs.declared.world.Func.{Func}
 use Rattle.lua_heap.specs.declared.world.World.{World as Memory}
-use Rattle.lua_heap.specs.Adding.{Begins, AddsCode}
-use Rattle.lua_heap.specs.Changes.{AddsFunction}
+use Rattle.lua_heap.specs.Adding.{Begins}
 use Rattle.lua_heap.specs.Codes.{functions, AreCodes}
-use Rattle.lua_opening.specs.Functions.{Extends, AddsOne}
 use Rattle.lua_opening.proofs.Preludes.{copies}
 use Rattle.lua_opening.proofs.functions.add_function.Goals as goal
 

@@ -1,4 +1,4 @@
-use Rattle.std.proofs.Common.{◌≡◌, ℕ, List, [], ◌∷◌, ◌++◌, length, ap, sym, subst, ◌∙◌, append_assoc, arith}
+use Rattle.std.proofs.Common.{◌≡◌, List, [], ◌∷◌, ◌++◌, ap, sym, subst, ◌∙◌, append_assoc}
 use Rattle.code_core.specs.Prototype.{Prototype}
 use Rattle.list_laws.proofs.Items.{append_nil}
 use Rattle.lua_opening.specs.Functions.{AddsFunctions}
@@ -15,9 +15,12 @@ add_function-requires c = c.loop-code.invariant.2.extends.codes
 pub loop-code-preserved : goal.loop-code-preserved
 loop-code-preserved c =
     let i = c.loop-code.invariant in
-    let rest : List Prototype = c.next.new.self.rest.items in
-    (tt, tt, added_more c.args.world.now c.loop-code.world c.add_function.new.world c.args.environment.0 c.loop-code.yielded c.in-Some.code i.2 c.in_ok-add_function.ensures,
-    append_assoc c.loop-code.yielded (c.in-Some.code ∷ []) rest ∙ ap (λ l. c.loop-code.yielded ++ l) (sym c.in-Some.ensures.steps.0) ∙ i.3)
+    let rest : List Prototype = c.next.new.self.rest.items in (
+      tt,
+      tt,
+      added_more c.args.world.now c.loop-code.world c.add_function.new.world c.args.environment.0 c.loop-code.yielded c.in-Some.code i.2 c.in_ok-add_function.ensures,
+      append_assoc c.loop-code.yielded (c.in-Some.code ∷ []) rest ∙ ap (λ l. c.loop-code.yielded ++ l) (sym c.in-Some.ensures.steps.0) ∙ i.3,
+    )
 
 pub returns : goal.returns
 returns c =

@@ -1,4 +1,4 @@
-use Rattle.std.proofs.Common.{◌≡◌, ◌++◌, ℕ, List}
+use Rattle.std.proofs.Common.{◌≡◌, ◌++◌}
 use Rattle.lua_opening.specs.Functions.{AddsFunctions}
 use Rattle.lua_opening.proofs.functions.add_functions.Given as goal
 

@@ -1,4 +1,4 @@
-use Rattle.std.proofs.Common.{rules, ◌≡◌, ℕ, ◌+◌, ◌<◌, List, [], ◌∷◌, ◌++◌, map, take, get_or, sym, subst, Bor}
+use Rattle.std.proofs.Common.{rules, ℕ, ◌<◌, List, [], map, take, get_or, sym, subst, Bor}
 use Rattle.std.specs.Prelude.{length}
 use Rattle.int_core.specs.Value.{Value, known, string}
 use Rattle.lua_opening.specs.declared.rows.Item.{Item}

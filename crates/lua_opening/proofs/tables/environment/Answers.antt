@@ -1,4 +1,4 @@
-use Rattle.std.proofs.Common.{List, [], None, ap, sym, ◌∙◌}
+use Rattle.std.proofs.Common.{List, None, ap, sym, ◌∙◌}
 use Rattle.std.proofs.lemmas.Result.{IfOk-weaker}
 use Rattle.int_core.specs.Heap.{Table}
 use Rattle.int_core.specs.Value.{Value}

@@ -1,4 +1,4 @@
-use Rattle.std.proofs.Common.{◌≡◌, List, [], ◌∷◌, ◌++◌, ap, ◌∙◌}
+use Rattle.std.proofs.Common.{List, [], ◌∷◌, ◌++◌, ap, ◌∙◌}
 use Rattle.library_rows.specs.Library.{of_globals, of_coroutine, of_string, of_table, of_math, of_utf8}
 use Rattle.machine_runs.specs.Libraries.{library_table, environment, strings_meta}
 use Rattle.table_core.specs.Table.{Contents}
