@@ -1,0 +1,6 @@
+pub mod Filling
+pub mod Names
+pub mod Surroundings
+pub mod Preludes
+pub mod Worlds
+pub mod Constants

@@ -1,0 +1,34 @@
+// The world of the libraries.
+ghost use Rattle.std.specs.Prelude.{◌≡◌, ℕ, length, IfOk};
+ghost use Rattle.library_rows.specs.PreludeText.{prelude_functions};
+ghost use Rattle.lua_heap.specs.Cells.{CellsAreListed};
+ghost use Rattle.lua_heap.specs.Codes.{AreCodes};
+ghost use Rattle.lua_heap.specs.Plain.{plain};
+ghost use Rattle.machine_runs.specs.Opening.{opening};
+ghost use Rattle.lua_opening.specs.Opened.{prelude_of};
+
+use crate::functions::add_functions;
+use crate::tables::library_tables;
+use code_core::Checked;
+use lua_heap::{Cell, World};
+use std::alloc::{AllocError, Global};
+use table_core::{TableId, Value};
+
+/// The number of the metatable of strings.
+const STRING_METATABLE: TableId = TableId(7);
+
+/// The world before a script, with the tables of the libraries and the prelude's functions, whose code is given in the order of its text.
+pub fn open(alloc: Global, prelude: Vec<Checked>) -> Result<World, AllocError>
+    requires { length prelude.items ≡ length prelude_functions }
+    ensures plain { IfOk result (λ world. (fuel : ℕ) → plain world fuel ≡ record (opening (prelude_of prelude.items)) { fuel = fuel }) }
+    ensures codes { IfOk result (λ world. AreCodes world.strings world.codes) }
+    ensures listed { IfOk result (λ world. CellsAreListed world) }
+{
+    let mut world = World::new(alloc)?;
+    let variables = Value::Table(world.prelude.env);
+    let environment = world.add_cell(Cell::Closed(variables))?;
+    add_functions(&mut world, environment, prelude)?;
+    world.tables = library_tables(&mut world.strings, alloc)?;
+    world.string_meta = Some(STRING_METATABLE);
+    Ok(world)
+}
