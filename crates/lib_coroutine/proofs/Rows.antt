@@ -54,7 +54,7 @@ same_where V vs n = by (stack_of V)
     by None = refl
     by (Some s) = ap (λ l. text_or_none (slice_get l n)) (same_places V vs (reverse s.frames))
 
-blames_on : (V : World) (text : List ℕ) (env : List Value) → run (blames text) env (with_moving V []) ≡ run (blames text) [] V
+pub blames_on : (V : World) (text : List ℕ) (env : List Value) → run (blames text) env (with_moving V []) ≡ run (blames text) [] V
 blames_on V text env = ap (λ w. ends raised (with_moving V (limited (w ++ text) ∷ []))) (same_where V [] 0)
 
 -- a function that looks at its first argument
