@@ -35,10 +35,13 @@ returns-in_default-third-clause-leads c =
     let e : v.second ≡ Some c.in-Some.limit = search rules in
     let f : v.third ≡ None = search rules in
     raised_as c.args.world.now c.raise-in_default-third.new.world (λ p. expand (with_loop c.args.base (prepares c.args.base c.args.by))) (codes "'for' step must be a number")
-    (λ p. (x.values, λ fuel.
-    x.goes (prepares c.args.base c.args.by) fuel
-    ∙ ap (λ o. run (expand (prepares c.args.base c.args.by v.first o v.third)) x.values (plain c.args.world.now fuel)) e
-    ∙ ap (λ o. run (expand (prepares c.args.base c.args.by v.first (Some c.in-Some.limit) o)) x.values (plain c.args.world.now fuel)) f)) c.raise-in_default-third.result c.raise-in_default-third.ensures.leads
+    (λ p. (
+      x.values,
+      λ fuel.
+          x.goes (prepares c.args.base c.args.by) fuel
+          ∙ ap (λ o. run (expand (prepares c.args.base c.args.by v.first o v.third)) x.values (plain c.args.world.now fuel)) e
+          ∙ ap (λ o. run (expand (prepares c.args.base c.args.by v.first (Some c.in-Some.limit) o)) x.values (plain c.args.world.now fuel)) f,
+    )) c.raise-in_default-third.result c.raise-in_default-third.ensures.leads
 
 pub returns-in_default-first-clause-leads : goal.returns-in_default-first-clause-leads
 returns-in_default-first-clause-leads c =
@@ -48,11 +51,14 @@ returns-in_default-first-clause-leads c =
     let f : v.third ≡ Some c.in-Some-third.step = search rules in
     let g : v.first ≡ None = search rules in
     raised_as c.args.world.now c.raise-in_default-first.new.world (λ p. expand (with_loop c.args.base (prepares c.args.base c.args.by))) (codes "'for' initial value must be a number")
-    (λ p. (x.values, λ fuel.
-    x.goes (prepares c.args.base c.args.by) fuel
-    ∙ ap (λ o. run (expand (prepares c.args.base c.args.by v.first o v.third)) x.values (plain c.args.world.now fuel)) e
-    ∙ ap (λ o. run (expand (prepares c.args.base c.args.by v.first (Some c.in-Some.limit) o)) x.values (plain c.args.world.now fuel)) f
-    ∙ ap (λ o. run (expand (prepares c.args.base c.args.by o (Some c.in-Some.limit) (Some c.in-Some-third.step))) x.values (plain c.args.world.now fuel)) g)) c.raise-in_default-first.result c.raise-in_default-first.ensures.leads
+    (λ p. (
+      x.values,
+      λ fuel.
+          x.goes (prepares c.args.base c.args.by) fuel
+          ∙ ap (λ o. run (expand (prepares c.args.base c.args.by v.first o v.third)) x.values (plain c.args.world.now fuel)) e
+          ∙ ap (λ o. run (expand (prepares c.args.base c.args.by v.first (Some c.in-Some.limit) o)) x.values (plain c.args.world.now fuel)) f
+          ∙ ap (λ o. run (expand (prepares c.args.base c.args.by o (Some c.in-Some.limit) (Some c.in-Some-third.step))) x.values (plain c.args.world.now fuel)) g,
+    )) c.raise-in_default-first.result c.raise-in_default-first.ensures.leads
 
 pub returns-then-step-eq0-clause-leads : goal.returns-then-step-eq0-clause-leads
 returns-then-step-eq0-clause-leads c =
@@ -63,12 +69,15 @@ returns-then-step-eq0-clause-leads c =
     let g : v.first ≡ Some c.in-Some-first.from = search rules in
     let z : c.in-Some-third.step ≡ pos 0 = search rules in
     raised_as c.args.world.now c.raise-then-step-eq0.new.world (λ p. expand (with_loop c.args.base (prepares c.args.base c.args.by))) (codes "'for' step is zero")
-    (λ p. (x.values, λ fuel.
-    x.goes (prepares c.args.base c.args.by) fuel
-    ∙ ap (λ o. run (expand (prepares c.args.base c.args.by v.first o v.third)) x.values (plain c.args.world.now fuel)) e
-    ∙ ap (λ o. run (expand (prepares c.args.base c.args.by v.first (Some c.in-Some.limit) o)) x.values (plain c.args.world.now fuel)) f
-    ∙ ap (λ o. run (expand (prepares c.args.base c.args.by o (Some c.in-Some.limit) (Some c.in-Some-third.step))) x.values (plain c.args.world.now fuel)) g
-    ∙ ap (λ t. run (expand t) x.values (plain c.args.world.now fuel)) (no_step c.args.base c.args.by c.in-Some-first.from c.in-Some.limit c.in-Some-third.step z))) c.raise-then-step-eq0.result c.raise-then-step-eq0.ensures.leads
+    (λ p. (
+      x.values,
+      λ fuel.
+          x.goes (prepares c.args.base c.args.by) fuel
+          ∙ ap (λ o. run (expand (prepares c.args.base c.args.by v.first o v.third)) x.values (plain c.args.world.now fuel)) e
+          ∙ ap (λ o. run (expand (prepares c.args.base c.args.by v.first (Some c.in-Some.limit) o)) x.values (plain c.args.world.now fuel)) f
+          ∙ ap (λ o. run (expand (prepares c.args.base c.args.by o (Some c.in-Some.limit) (Some c.in-Some-third.step))) x.values (plain c.args.world.now fuel)) g
+          ∙ ap (λ t. run (expand t) x.values (plain c.args.world.now fuel)) (no_step c.args.base c.args.by c.in-Some-first.from c.in-Some.limit c.in-Some-third.step z),
+    )) c.raise-then-step-eq0.result c.raise-then-step-eq0.ensures.leads
 
 pub begin-requires-clause-safe : goal.begin-requires-clause-safe
 begin-requires-clause-safe c =
