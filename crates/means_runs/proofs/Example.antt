@@ -19,6 +19,7 @@ use Rattle.lua_meaning.specs.Meaning.{Script}
 use Rattle.machine_sound.specs.Sound.{Each}
 use Rattle.machine_sound.specs.Laws.{PrimitiveSafe}
 use Rattle.machine_sound.proofs.Lists.{each_none, each_tail}
+use Rattle.machine_sound.proofs.Steps.{safe_is_good}
 use Rattle.machine_sound.proofs.Values.{both_of}
 use Rattle.machine_sound.proofs.FrameRowsSafe.{pcall_safe, xpcall_safe, error_safe, resume_safe, yield_safe, close_safe, create_safe, status_safe, running_safe, yieldable_safe, print_safe}
 use Rattle.machine_runs.specs.Libraries.{environment_table}
@@ -140,7 +141,7 @@ some_script_runs =
       both.0,
       script,
       record {
-        safe = λ n l. (item n).safe;
+        safe = λ n l. safe_is_good _ (item n).row (item n).safe;
         same = λ n l. ((item n).primitive, refl, (item n).joined);
         sound = opening_sound [] (record { names = each_none (λ (e : Entry Prototype). length e.name ≤ greatest_string); codes = each_none (λ (e : Entry Prototype). IsChecked e.entry) });
         opened = both.1;
