@@ -35,10 +35,10 @@ use Rattle.exp_laws.proofs.Arithmetic.{Arithmetic, IsArithmetic, arithmetic_by, 
 use Rattle.exp_laws.proofs.Comparisons.{pick, Comparison, IsComparison, comparison_by, told_truth, truth_same, compare_step, compare_rest, skip_step}
 use Rattle.exp_laws.proofs.Going.{next_there, Goes, put_goes, at_place, goes_at, goes_after, operation_goes}
 
-told_concat : (count : ℕ) (reply : Reply) → told_values (for_concat count) reply ≡ told_values for_value reply
-told_concat count (values vs) = refl
-told_concat count (faulted words) = refl
-told_concat count (left e) = refl
+told_concat : (reply : Reply) → told_values (for_concat 0) reply ≡ told_values for_value reply
+told_concat (values vs) = refl
+told_concat (faulted words) = refl
+told_concat (left e) = refl
 
 sort_of : (op : BinOp) → IsArithmetic op ⊎ (IsComparison op ⊎ (op ≡ Join))
 sort_of Plus = inl tt
@@ -227,7 +227,7 @@ module _ (S : Setting) (pending : List Pending) where
       joined is =
           let size = ap (λ o. length (operator_code o t line)) is in
           let here = subst (λ o. HasAt S pc (operator_code o t line)) is has in
-          operation_goes S pending (for_concat 0) (told_concat 0) concat (v ∷ first ws ∷ []) n many line t pc opened _ _ env regs c k (ap (λ o. step (tree.at (give ws) (of_tree S pending env c) (left_of line o v ∷ k))) is)
+          operation_goes S pending (for_concat 0) told_concat concat (v ∷ first ws ∷ []) n many line t pc opened _ _ env regs c k (ap (λ o. step (tree.at (give ws) (of_tree S pending env c) (left_of line o v ∷ k))) is)
           (concat_step S.code t (of_code S pending pc regs opened) c here.0 (omega (arith, S.small)) (omega (arith, rel.room))
           ∙ ap₂ (λ x y. says_so (operates concat (x ∷ y ∷ [])) S.code (of_code S pending pc regs opened) c (λ x b d. heard (for_concat 0) S.code x b d)) e1 e2)
           (concat_rest S.code t pc here.0 (omega (arith, S.small))) (here_abc S Concat t 2 0 false line pc [] here) (omega (arith, size)) le (omega arith) rel

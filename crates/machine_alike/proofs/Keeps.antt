@@ -6,7 +6,7 @@ use Rattle.code_core.specs.declared.instruction.Instruction.{Instruction}
 use Rattle.code_core.specs.Instruction.{opcode_of}
 use Rattle.code_core.specs.Prototype.{Prototype}
 use Rattle.code_core.specs.Check.{at}
-use Rattle.int_core.specs.Value.{Value, bind, last}
+use Rattle.int_core.specs.Value.{Value, nth, bind, last}
 use Rattle.machine_core.specs.World.{Function, Wait, leaving, LuaFrame, Frame, lua, lua_frame, World, Stack, stack_of, Place, place_of}
 use Rattle.machine_core.specs.Text.{Text, trap}
 use Rattle.machine_core.specs.InstructionRows.{text_at, text_by, rest_by, rest_at}
@@ -18,7 +18,7 @@ use Rattle.machine_core.proofs.RowsOpen.{row_opens, rest_none}
 use Rattle.machine_alike.specs.Agree.{Pairs, Each, SameValues, SameFunction, SameWait, same_running, same_for_call, same_for_iterator, same_for_value, same_for_truth, same_dropped, same_for_concat, same_for_close, same_returning, same_leaving, SameLuaFrame, SameFrame, same_lua, same_pcall, same_xpcall, same_handler, same_closing, AgreeInTurn}
 use Rattle.machine_alike.specs.Laws.{SameOutcome, both_trap, both_end, NoneMade, StepsKeep}
 use Rattle.machine_alike.proofs.Pairwise.{zip_last, zip_length}
-use Rattle.machine_alike.proofs.Same.{SameStack, SamePlace, stack_same, function_at, extends_self}
+use Rattle.machine_alike.proofs.Same.{nth_same, SameStack, SamePlace, stack_same, function_at, extends_self}
 use Rattle.machine_alike.proofs.Frames.{moving_agrees, put_top_same}
 use Rattle.machine_alike.proofs.PlainRows.{asked_none, raised_none, unwound_none, handed_to_none}
 use Rattle.machine_alike.proofs.Opened.{open_none, Ready}
@@ -89,7 +89,8 @@ module _ (p : Pairs) (W X : World) (s t : Stack) (f g : LuaFrame) (a : AgreeInTu
   lua_by code ready v w same_for_value = goes_on code v w W.moving X.moving refl a.moving
   lua_by code ready v w same_for_truth = goes_on code v w W.moving X.moving refl a.moving
   lua_by code ready v w same_dropped = goes_on code v w W.moving X.moving refl a.moving
-  lua_by code ready v w (same_for_concat left) = goes_on code v w W.moving X.moving refl a.moving
+  lua_by code ready v w (same_for_concat zero) = goes_on code v w W.moving X.moving refl a.moving
+  lua_by code ready v w (same_for_concat (suc more)) = goes_on code v w (nth W.moving 0 ∷ []) (nth X.moving 0 ∷ []) refl (nth_same p W.moving X.moving 0 a.moving, tt)
   lua_by code ready v w same_for_close = goes_on code v w W.moving X.moving refl a.moving
   lua_by code ready v w (same_returning count) = goes_on code v w W.moving X.moving refl a.moving
   lua_by code ready v w (same_leaving x y k) = goes_on code v w (x ∷ []) (y ∷ []) (left_alike code f.own.pc x y) (k, tt)

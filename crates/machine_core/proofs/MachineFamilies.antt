@@ -150,6 +150,11 @@ interrupted_concat : with_handler 1 (codes "__concat") (with_parameters 2 3 (abx
 unfolding opcodes number_of int_wrap put_frames put_top push pop write_cell with_own put_coroutine back_to_resumer popped bury suspend_running wait_for_another go_into raw_set woken
 interrupted_concat = refl
 
+-- a handler that gives nothing gives nil, which is no operand for what is left
+concat_of_nothing : with_handler 1 (codes "__concat") (with_parameters 2 3 (abc Return0 0 0 0 false ∷ [])) 4 (abx LoadK 1 2 ∷ abc Move 2 0 0 false ∷ abx LoadK 3 3 ∷ abc Concat 1 3 0 false ∷ gives 1) (object a_table 0 ∷ []) ≡ Some (main_failed, text (codes "attempt to concatenate a nil value") ∷ [], 0)
+unfolding opcodes number_of int_wrap put_frames put_top push pop write_cell with_own put_coroutine back_to_resumer popped bury suspend_running wait_for_another go_into raw_set woken
+concat_of_nothing = refl
+
 concat_fault : alone 1 3 (abx LoadK 1 2 ∷ abc Move 2 0 0 false ∷ abc Concat 1 2 0 false ∷ gives 1) (truth true ∷ []) ≡ Some (main_failed, text (codes "attempt to concatenate a boolean value") ∷ [], 0)
 unfolding opcodes number_of int_wrap put_frames put_top push pop write_cell with_own put_coroutine back_to_resumer popped bury suspend_running wait_for_another go_into raw_set woken
 concat_fault = refl

@@ -10,7 +10,7 @@ use Rattle.code_core.specs.declared.proto.LocVar.{LocVar}
 use Rattle.code_core.specs.Instruction.{opcode_of, a_of, b_of, c_of, k_of, bx_of, sbx_of, sj_of, sb_of, sc_of}
 use Rattle.code_core.specs.Prototype.{Prototype, list_of}
 use Rattle.code_core.specs.Check.{at, in_front, extra_at}
-use Rattle.int_core.specs.Value.{nil, boolean, integer, a_table, Value, Shape, is_known, is_object, holds, same_truth, same_plain, same_integer}
+use Rattle.int_core.specs.Value.{nil, boolean, integer, a_table, Value, Shape, is_known, is_object, holds, nth, same_truth, same_plain, same_integer}
 use Rattle.int_core.specs.Ask.{Reply, values, faulted, left}
 use Rattle.machine_core.specs.World.{Wait, running, for_call, for_iterator, for_value, for_truth, dropped, for_concat, for_close, returning, leaving}
 use Rattle.int_core.specs.Operations.{Event, of_add, of_sub, of_mul, of_mod, of_idiv, of_band, of_bor, of_bxor, of_shl, of_shr, of_unm, of_bnot, computed, by_zero, type_name, Operation, index, store, arithmetic, concat, length', equal, less, less_equal}
@@ -359,9 +359,13 @@ after wait p pc (values vs) = rest_at wait p pc
 after wait p pc (faulted text) = raise text
 after wait p pc (left e) = fails
 
--- what the text may name
+-- the values that a text may name: where more operands are joined one value, nil where none came, so that those read after it stand behind it
+abbrev pub arrived : Wait Value → List Value → List Value
+arrived (leaving e) vs = e ∷ []
+arrived (for_concat (suc more)) vs = nth vs 0 ∷ []
+arrived wait vs = vs
+
 abbrev pub told_values : Wait Value → Reply → List Value
-told_values (leaving e) (values vs) = e ∷ []
-told_values wait (values vs) = vs
+told_values wait (values vs) = arrived wait vs
 told_values wait (faulted text) = []
 told_values wait (left e) = e ∷ []

@@ -1,12 +1,13 @@
 -- A step of a Lua frame on top does not trap: it runs its instruction, or what is left of one for which the answer came.
-use Rattle.std.proofs.Common.{ℕ, ◌-◌, ◌≡◌, ◌<◌, ◌≤◌, [], ◌∷◌, ◌++◌, Option, Some, None, refl, subst, sym, ap, ◌∙◌, length, Bool, true, false, arith}
+use Rattle.std.proofs.Common.{ℕ, zero, suc, ◌-◌, ◌≡◌, ◌<◌, ◌≤◌, [], ◌∷◌, ◌++◌, Option, Some, None, refl, subst, sym, ap, ◌∙◌, length, Bool, true, false, arith}
 use Rattle.std.specs.Prelude.{slice_get, IsTrue, IsSome}
-use Rattle.int_core.specs.Value.{Value, bind, last}
+use Rattle.int_core.specs.Value.{Value, nth, bind, last}
 use Rattle.code_core.specs.declared.opcode.Opcode.{Opcode}
 use Rattle.code_core.specs.declared.instruction.Instruction.{Instruction}
 use Rattle.code_core.specs.Prototype.{Prototype}
 use Rattle.code_core.specs.Check.{CodeIsChecked, at}
 use Rattle.machine_core.specs.World.{Function, Wait, running, for_call, for_iterator, for_value, for_truth, dropped, for_concat, for_close, returning, leaving, Frame, lua, pcall, xpcall, handler, closing, World, Stack, stack_of, Place, place_of, lua_frame, running_frames, find_open}
+use Rattle.machine_core.specs.Text.{read}
 use Rattle.machine_core.specs.InstructionRows.{text_at, rest_at, told_values}
 use Rattle.int_core.specs.Ask.{values}
 use Rattle.machine_core.specs.Moves.{lua_top, top_shape, go, returned, asks, calls_primitive, raised, unwinding, spent, main_yielded, main_returned, main_failed, Row, Outcome, trapped, ends, run}
@@ -17,6 +18,7 @@ use Rattle.machine_sound.specs.Safe.{on_lua, Is, Good}
 use Rattle.machine_sound.specs.Laws.{StepGood, GoesFromSound}
 use Rattle.machine_sound.proofs.Held.{lua_settles}
 use Rattle.machine_sound.proofs.Lists.{each_none, each_one, bind_at, last_push, some_is}
+use Rattle.machine_sound.proofs.Values.{arg_valid}
 use Rattle.machine_sound.proofs.Grow.{Grows, grows_then, values_on}
 use Rattle.machine_sound.proofs.Own.{OwnIs}
 use Rattle.machine_sound.proofs.Frames.{the_place, place_is, stack_is, top_put, top_ok, function_ok, own_known, new_grows, new_solid, new_top, new_world}
@@ -161,7 +163,8 @@ module _ (n : ℕ) (t : Top) (W : World) (h : TopIs n t W) (s : Solid n W) where
     told_ok for_value k = s.moving
     told_ok for_truth k = s.moving
     told_ok dropped k = s.moving
-    told_ok (for_concat c) k = s.moving
+    told_ok (for_concat zero) k = s.moving
+    told_ok (for_concat (suc c)) k = each_one (Valid (sizes n W)) (nth W.moving 0) (arg_valid (sizes n W) W.moving (read 0) s.moving tt)
     told_ok for_close k = s.moving
     told_ok (returning c) k = s.moving
 

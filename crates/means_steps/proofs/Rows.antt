@@ -4,7 +4,7 @@ use Rattle.std.specs.Prelude.{slice_get, slice_set, cond, nat_le, map}
 use Rattle.code_core.specs.Prototype.{Prototype}
 use Rattle.int_core.specs.Value.{Value, last}
 use Rattle.int_core.specs.Limits.{greatest_depth}
-use Rattle.int_core.specs.Operations.{Operation, Settled, found, ask, fault, cannot_arise, does, callee_of, Callee, callee, not_callable, greatest_chain}
+use Rattle.int_core.specs.Operations.{Operation, concat, Settled, found, ask, fault, cannot_arise, does, callee_of, Callee, callee, not_callable, greatest_chain}
 use Rattle.int_core.specs.Ask.{Captured, values, faulted, brought, operates, calls_last, leaves as leaves_ask, returns, throws, shared_by}
 use Rattle.list_laws.proofs.Ends.{upward, length_upward}
 use Rattle.list_laws.proofs.Items.{append_nil, get_set_same}
@@ -18,7 +18,7 @@ use Rattle.machine_core.specs.Moves.{Made, made, on_own, move_pc, open_register,
 use Rattle.machine_core.specs.FrameRows.{When, expand_by, calls_row, prepares, raises, after_call, after_leaving}
 use Rattle.machine_core.specs.Talk.{State, amid, heard, captured_done, marked}
 use Rattle.means_steps.proofs.Alike.{Alike}
-use Rattle.means_steps.proofs.Texts.{Reaches, effect_front, reads_nothing, plain_waits, plain_reach, plain_told, rest_named}
+use Rattle.means_steps.proofs.Texts.{Reaches, GivesOne, effect_front, reads_nothing, plain_waits, plain_reach, plain_told, join_gives_one, rest_named}
 use Rattle.means_steps.proofs.Local.{done_alike, done_pc}
 use Rattle.lua_meaning.specs.World as talk
 use Rattle.lua_meaning.specs.World.{Asker, talking, waiting, talks, gives_back, unwinds, ends as ends_turn, breaks, now_in, on_frames, as_known, without_name, shared_in, shared_out, second, answered, answered_at_once}
@@ -175,7 +175,7 @@ module _ (rows : ℕ → Option Primitive) (shown : List ℕ) (when : When) (n :
       subst (λ X. Leads rows shown X (run (expand_by when (operate op xs wait ps t)) env M)) (sym (asked rows shown when n g g' dressed pc (operates op (args_of env xs)) refl a1 c1 T ts (λ x b d. heard (named env wait) g.code x b d)))
       (by_move rows shown (says (does op (args_of env xs) T.heap)) (settle op xs) after_settling env M _ (settle_move M co n w own g below k.last k.runs k.there op xs env)
       (subst (λ H. Leads rows shown (says (does op (args_of env xs) H)) (go_on rows shown (settle op xs) after_settling env (settled M (place co below n w own g) (does op (args_of env xs) M.heap)))) around.heap
-      (by (does op (args_of env xs) M.heap))))
+      (by (does op (args_of env xs) M.heap) (join_gives_one op (args_of env xs) M.heap))))
     where
       a1 : Activation
       a1 = done ps g.code env a
@@ -217,8 +217,8 @@ module _ (rows : ℕ → Option Primitive) (shown : List ℕ) (when : When) (n :
         | is_fault text ↦ prepares ps (raises text)
       ]
 
-      by : (D : Settled) → Leads rows shown (says D) (go_on rows shown (settle op xs) after_settling env (settled M (place co below n w own g) D))
-      by (found H rs) =
+      by : (D : Settled) → (op ≡ concat → GivesOne D) → Leads rows shown (says D) (go_on rows shown (settle op xs) after_settling env (settled M (place co below n w own g) D))
+      by (found H rs) one =
           let rs1 : List Value = brought c1.held (shared_out (share c1 a1) vs1) a1.registers in
           let W : TalkWorld = record V { heap = H } in
           let goes : Text → List Value → TalkWorld = λ x ys. record W { frames = talking n (amid x ys (record a1 { registers = rs1 }) (record { held = c1.held; gone = [] })) ∷ ts; now = talks } in
@@ -228,12 +228,12 @@ module _ (rows : ℕ → Option Primitive) (shown : List ℕ) (when : When) (n :
           prepares_at (says (found H rs)) ps (only (length env) (expand_by when t)) env rs own M1 co below k.last k.there k.runs gd.1
           (subst (λ x. Leads rows shown (goes x (told_values (named env wait) (values rs))) (run (expand_by when t) (drop (length env) (env ++ rs)) P1))
           (gd.2 ∙ sym (rest_named env wait g.code pc) ∙ ap (rest_at (named env wait) g.code) (sym pc1))
-          (subst (λ ys. Leads rows shown (goes t ys) (run (expand_by when t) (drop (length env) (env ++ rs)) P1)) (sym (plain_told env rs wait gd.0))
+          (subst (λ ys. Leads rows shown (goes t ys) (run (expand_by when t) (drop (length env) (env ++ rs)) P1)) (sym (plain_told op env rs wait gd.0 one))
           (subst (λ ys. Leads rows shown (goes t rs) (run (expand_by when t) ys P1)) (sym (drop_front env rs))
           (reply_leads rows shown when n g g' dressed pc w t ih rs a1 own1 c1 P1 W co below ts al1.fixed pc1 (gd.3 (length rs)) said around1 q.0 q.1))))
-      by cannot_arise = tt
-      by (ask h args) = handler_leads rows shown when n g g' dressed pc w h args wait ps env a own c M T co below ts al e (plain_waits wait gd.0) (plain_reach (length env) wait gd.0) gd.1 said around k
-      by (fault text) =
+      by cannot_arise one = tt
+      by (ask h args) one = handler_leads rows shown when n g g' dressed pc w h args wait ps env a own c M T co below ts al e (plain_waits op wait gd.0) (plain_reach op (length env) wait gd.0) gd.1 said around k
+      by (fault text) one =
           let rs1 : List Value = brought c1.held (shared_out (share c1 a1) vs1) a1.registers in
           prepares_at (says (fault text)) ps (raises text) env [] own M co below k.last k.there k.runs gd.1
           (subst (λ ys. Leads rows shown (record V { frames = talking n (amid (raise text) ys (record a1 { registers = rs1 }) (record { held = c1.held; gone = [] })) ∷ ts; now = talks }) (run (raises text) (env ++ []) P)) (sym (told_faulted (named env wait) text))

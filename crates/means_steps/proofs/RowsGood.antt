@@ -124,7 +124,7 @@ module _ (p : Prototype) (pc : ℕ) (op : Opcode) (w : Instruction) (E : (wait :
 
   joins_good : (len i : ℕ) (x : Arg) → G len (joins (a_of w) i x)
   joins_good len zero x = λ s m l. refl
-  joins_good len (suc i) x = λ s m l. (tt, tt, E (for_concat i), λ n. joins_good n i (read 0))
+  joins_good len (suc i) x = λ s m l. (refl, tt, E (for_concat i), λ n. joins_good n i (read 0))
 
 value_good : (p : Prototype) (pc : ℕ) (op : Opcode) (w : Instruction) (E : (wait : Wait Arg) → rest wait p pc op w ≡ rest_at wait p pc) (len : ℕ) → Good p pc running len (value_comes p pc op w)
 value_good p pc MmBin w E len = before_good p pc MmBin w E len

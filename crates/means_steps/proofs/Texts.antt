@@ -1,13 +1,16 @@
 -- What is asked of a text, so that both readings of it lead to the same: it names what it has read, waits where it calls, and goes on as its
 -- wait says.
-use Rattle.std.proofs.Common.{ℕ, ◌+◌, ◌<◌, ◌≤◌, ◌≡◌, List, [], ◌∷◌, ◌++◌, length, refl, ap, ◌∙◌, arith}
-use Rattle.std.specs.Prelude.{codes}
+use Rattle.std.proofs.Common.{ℕ, zero, suc, ◌+◌, ◌<◌, ◌≤◌, ◌≡◌, Bool, true, false, cond, List, [], ◌∷◌, ◌++◌, Option, Some, None, length, refl, sym, subst, ap, ◌∙◌, arith}
+use Rattle.std.specs.Prelude.{codes, nat_le}
 use Rattle.code_core.specs.Prototype.{Prototype}
-use Rattle.int_core.specs.Value.{Value, nth, bind, Shape, range}
+use Rattle.int_core.specs.Value.{string, Value, known, nth, bind, Shape, range}
 use Rattle.machine_core.specs.World.{Cell, Wait, running, for_call, for_iterator, for_value, for_truth, dropped, for_concat, for_close, returning, leaving, Activation}
 use Rattle.machine_core.specs.Text.{Arg, read, written, arg, Own, read_register, read_registers, read_list, read_constant, read_varargs, see, write_register, write_registers, write_list, write_nils, end_list, cut_from, close_cells, mark_pending, see_pending, take_pending, drop_pending, keep_results, keep_pending, reads, effect, done, Text, go_by, own, open_cell, quick, operate, call, tail_call, close, closable, raise, leave, trap}
 use Rattle.machine_core.specs.InstructionRows.{rest_at, told_values}
 use Rattle.int_core.specs.Ask.{values}
+use Rattle.int_core.specs.Heap.{Heap}
+use Rattle.int_core.specs.Limits.{greatest_string}
+use Rattle.int_core.specs.Operations.{of_concat, handler_of, asked, of_type, at_fault, is_text, Operation, concat, Settled, found, ask, fault, concat_on, does, text_of}
 use Rattle.machine_core.specs.RowFits.{IsWaiting}
 use Rattle.machine_core.specs.Moves.{named, cells_after, cells_done}
 use Rattle.list_laws.proofs.Values.{nth_old}
@@ -40,11 +43,17 @@ abbrev pub Reaches : ℕ → List Own → Type 0
 Reaches len [] = Unit {0}
 Reaches len (m ∷ ms) = OwnReach len m × Reaches len ms
 
--- a wait for values of which no error is known
-abbrev pub IsPlain : Wait Arg → Type 0
-IsPlain running = ⊥
-IsPlain (leaving x) = ⊥
-IsPlain _ = Unit {0}
+-- a wait for what an operation gives, of which no error is known: what is joined on waits for a joined value
+abbrev pub IsPlain : Operation → Wait Arg → Type 0
+IsPlain operation running = ⊥
+IsPlain operation (leaving x) = ⊥
+IsPlain operation (for_concat i) = operation ≡ concat
+IsPlain operation _ = Unit {0}
+
+-- an operation that is settled has given one value
+abbrev pub GivesOne : Settled → Type 0
+GivesOne (found H vs) = nth vs 0 ∷ [] ≡ vs
+GivesOne _ = Unit {0}
 
 -- how many values a move reads at least
 abbrev pub least : Own → ℕ
@@ -57,7 +66,7 @@ Good p pc w len (go_by z) = w ≡ running
 Good p pc w len (own m k) = (s : Shape) (more : ℕ) → least m ≤ more → Good p pc w (len + more) (k len s)
 Good p pc w len (open_cell r t) = Good p pc w len t
 Good p pc w len (quick q k) = (more : ℕ) → Good p pc w (len + more) (k len)
-Good p pc w len (operate op xs wait prepared t) = IsPlain wait × Reaches len prepared × (t ≡ rest_at wait p pc) × ((n : ℕ) → Good p pc w n t)
+Good p pc w len (operate op xs wait prepared t) = IsPlain op wait × Reaches len prepared × (t ≡ rest_at wait p pc) × ((n : ℕ) → Good p pc w n t)
 Good p pc w len (call f slot wait prepared) = IsWaiting wait
 Good p pc w len (tail_call f slot) = Unit {0}
 Good p pc w len (close v e wait prepared) = IsWaiting wait × WaitReach len wait × Reaches len prepared
@@ -169,41 +178,65 @@ named_waits env for_close k = tt
 named_waits env (returning i) k = tt
 named_waits env (leaving x) k = tt
 
-pub plain_waits : (wait : Wait Arg) → IsPlain wait → IsWaiting wait
-plain_waits running k = k
-plain_waits for_call k = tt
-plain_waits for_iterator k = tt
-plain_waits for_value k = tt
-plain_waits for_truth k = tt
-plain_waits dropped k = tt
-plain_waits (for_concat i) k = tt
-plain_waits for_close k = tt
-plain_waits (returning i) k = tt
-plain_waits (leaving x) k = absurd k
+pub plain_waits : (operation : Operation) (wait : Wait Arg) → IsPlain operation wait → IsWaiting wait
+plain_waits operation running k = k
+plain_waits operation for_call k = tt
+plain_waits operation for_iterator k = tt
+plain_waits operation for_value k = tt
+plain_waits operation for_truth k = tt
+plain_waits operation dropped k = tt
+plain_waits operation (for_concat i) k = tt
+plain_waits operation for_close k = tt
+plain_waits operation (returning i) k = tt
+plain_waits operation (leaving x) k = absurd k
 
-pub plain_reach : (len : ℕ) (wait : Wait Arg) → IsPlain wait → WaitReach len wait
-plain_reach len running k = tt
-plain_reach len for_call k = tt
-plain_reach len for_iterator k = tt
-plain_reach len for_value k = tt
-plain_reach len for_truth k = tt
-plain_reach len dropped k = tt
-plain_reach len (for_concat i) k = tt
-plain_reach len for_close k = tt
-plain_reach len (returning i) k = tt
-plain_reach len (leaving x) k = absurd k
+pub plain_reach : (operation : Operation) (len : ℕ) (wait : Wait Arg) → IsPlain operation wait → WaitReach len wait
+plain_reach operation len running k = tt
+plain_reach operation len for_call k = tt
+plain_reach operation len for_iterator k = tt
+plain_reach operation len for_value k = tt
+plain_reach operation len for_truth k = tt
+plain_reach operation len dropped k = tt
+plain_reach operation len (for_concat i) k = tt
+plain_reach operation len for_close k = tt
+plain_reach operation len (returning i) k = tt
+plain_reach operation len (leaving x) k = absurd k
 
-pub plain_told : (env vs : List Value) (wait : Wait Arg) → IsPlain wait → told_values (named env wait) (values vs) ≡ vs
-plain_told env vs running k = refl
-plain_told env vs for_call k = refl
-plain_told env vs for_iterator k = refl
-plain_told env vs for_value k = refl
-plain_told env vs for_truth k = refl
-plain_told env vs dropped k = refl
-plain_told env vs (for_concat i) k = refl
-plain_told env vs for_close k = refl
-plain_told env vs (returning i) k = refl
-plain_told env vs (leaving x) k = absurd k
+pub plain_told : (operation : Operation) (env vs : List Value) (wait : Wait Arg) → IsPlain operation wait → (operation ≡ concat → nth vs 0 ∷ [] ≡ vs) → told_values (named env wait) (values vs) ≡ vs
+plain_told operation env vs running k one = refl
+plain_told operation env vs for_call k one = refl
+plain_told operation env vs for_iterator k one = refl
+plain_told operation env vs for_value k one = refl
+plain_told operation env vs for_truth k one = refl
+plain_told operation env vs dropped k one = refl
+plain_told operation env vs (for_concat zero) k one = refl
+plain_told operation env vs (for_concat (suc i)) k one = one k
+plain_told operation env vs for_close k one = refl
+plain_told operation env vs (returning i) k one = refl
+plain_told operation env vs (leaving x) k one = absurd k
+
+-- a join that is settled gives the joined text
+pub join_gives_one : (operation : Operation) (xs : List Value) (H : Heap) → operation ≡ concat → GivesOne (does operation xs H)
+join_gives_one operation xs H e = subst (λ o. GivesOne (does o xs H)) (sym e) (of xs)
+  where
+    in_limit : (text : List ℕ) (b : Bool) → GivesOne (cond b (found H (known (string text) ∷ [])) (fault (codes "resulting string too large")))
+    in_limit text true = refl
+    in_limit text false = tt
+
+    by_handler : (h : Option Value) (args : List Value) (words : List ℕ) → GivesOne (asked h args (fault words))
+    by_handler (Some h) args words = tt
+    by_handler None args words = tt
+
+    of_texts : (s t : Option (List ℕ)) (left right : Value) → GivesOne (concat_on H s t left right)
+    of_texts (Some s) (Some t) left right = in_limit (s ++ t) (nat_le (length (s ++ t)) greatest_string)
+    of_texts (Some s) None left right = by_handler (handler_of H of_concat left right) (left ∷ right ∷ []) (of_type (codes "concatenate") (at_fault is_text left right))
+    of_texts None t left right = by_handler (handler_of H of_concat left right) (left ∷ right ∷ []) (of_type (codes "concatenate") (at_fault is_text left right))
+
+    of : (xs : List Value) → GivesOne (does concat xs H)
+    of [] = tt
+    of (left ∷ []) = tt
+    of (left ∷ right ∷ []) = of_texts (text_of left) (text_of right) left right
+    of (left ∷ right ∷ more ∷ xs) = tt
 
 pub rest_named : (env : List Value) (wait : Wait Arg) (p : Prototype) (pc : ℕ) → rest_at (named env wait) p pc ≡ rest_at wait p pc
 rest_named env running p pc = refl
