@@ -6,9 +6,9 @@ pub mod Growing
 mod Numbered
 mod Opened
 mod Walk
-mod Added
+pub mod Added
 mod Listed
 mod Placed
 mod Resumed
-mod Captured
+pub mod Captured
 mod Closed

@@ -138,7 +138,7 @@ pc_stays x LeftSo p env t = refl
 pc_stays x (ReturnedSo from count) p env t = refl
 pc_stays x (Closed register) p env t = refl
 
-blamed_own : (V : World) (at : Place) (w : Wait Value) (x : Arg) (prepared : Prepared) (env : List Value) (text : List ℕ) → place_of V ≡ Some at
+pub blamed_own : (V : World) (at : Place) (w : Wait Value) (x : Arg) (prepared : Prepared) (env : List Value) (text : List ℕ) → place_of V ≡ Some at
     → blamed (with_own V at w (prepared_of x prepared) env) text ≡ blamed V text
 blamed_own V at w x prepared env text e =
     let U = with_cells V (cells_done (prepared_of x prepared) at.function.code at.stack.coroutine at.number env at.top.own V.cells) in
