@@ -52,7 +52,7 @@ prepares_never : (ms : List Own) (r : Row) → NeverSpends r → NeverSpends (pr
 prepares_never [] r h = h
 prepares_never (m ∷ ms) r h = λ n t. prepares_never ms r h
 
-handed_never : (top : TopShape) → NeverSpends (handed top)
+pub handed_never : (top : TopShape) → NeverSpends (handed top)
 handed_never lua_top = λ s. s
 handed_never pcall_top = λ s. s
 handed_never xpcall_top = λ s. s
@@ -60,7 +60,7 @@ handed_never handler_top = λ s. s
 handed_never closing_top = λ s. s
 handed_never (no_top in_main) = λ s. s
 
-raises_never : (text : List ℕ) → NeverSpends (raises text)
+pub raises_never : (text : List ℕ) → NeverSpends (raises text)
 raises_never text = λ n t s. s
 
 settled_never : (t : Text) (wait : Wait Arg) (prepared : List Own) → NeverSpends (goes_on_by t) → (n : ℕ) (s : SettledShape) → NeverSpends (elim s as (λ _. Row) [

@@ -1,3 +1,6 @@
 pub mod Free
+pub mod Unpaid
+pub mod Small
 pub mod Ready
+pub mod Joins
 pub mod Stepping

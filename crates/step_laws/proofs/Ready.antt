@@ -1,11 +1,12 @@
 -- What is known of a world in memory between two steps, whatever the budget is.
-use Rattle.std.proofs.Common.{◌≡◌, ℕ, ap, sym, subst, ◌∙◌, Bool, true, false}
+use Rattle.std.proofs.Common.{◌≡◌, ℕ, length, ap, sym, subst, ◌∙◌, Bool, true, false}
 use Rattle.std.specs.Prelude.{IsTrue}
 use Rattle.int_core.specs.Value.{Value}
+use Rattle.code_core.specs.Prototype.{Prototype}
 use Rattle.code_core.specs.Check.{at}
-use Rattle.machine_core.specs.World.{Wait, running, Place}
+use Rattle.machine_core.specs.World.{Function, Wait, running, Place}
 use Rattle.machine_core.specs.Moves.{Ending, go, returned, asks, calls_primitive, raised, unwinding, spent, main_yielded, main_returned, main_failed}
-use Rattle.machine_sound.specs.Sound.{sizes, waits_at, LuaWaits, Solid, TopIs, RunsOrWaits, FitsIfRuns, Settled, StackWaits, Rests, idle, on_top, all_wait, Sound}
+use Rattle.machine_sound.specs.Sound.{sizes, waits_at, waiting_size, LuaWaits, Solid, TopIs, RunsOrWaits, FitsIfRuns, Settled, StackWaits, Rests, idle, on_top, all_wait, Sound}
 use Rattle.machine_sound.specs.Safe.{EndIs}
 use Rattle.machine_sound.specs.Laws.{StepGood}
 use Rattle.machine_sound.proofs.Calls.{fuel_top}
@@ -18,8 +19,8 @@ use Rattle.lua_heap.specs.declared.world.World.{World as Memory}
 use Rattle.lua_heap.specs.Plain.{plain}
 use Rattle.move_laws.specs.Memory.{HasStack}
 use Rattle.move_laws.proofs.Places.{place_is}
-use Rattle.step_laws.specs.Steps.{RunsAt}
-use Rattle.step_laws.specs.Law.{ReadyByFuel, ReadyIsSound, StepsStayReady, GoHasFrame, ReturnedHasStack, AsksHasStack, RaisedHasStack, UnwindingHasStack, CallHasStack, RunningIsAt}
+use Rattle.step_laws.specs.Steps.{RunsAt, WaitsFor}
+use Rattle.step_laws.specs.Law.{ReadyByFuel, ReadyIsSound, StepsStayReady, GoHasFrame, ReturnedHasStack, AsksHasStack, RaisedHasStack, UnwindingHasStack, CallHasStack, RunningIsAt, WaitingIsAt}
 
 pub solid_by : (n : ℕ) (W : Memory) (f g : ℕ) → Solid n (plain W f) → Solid n (plain W g)
 solid_by n W f g s = moving_solid n (plain W f) (plain W f).moving g s s.moving
@@ -128,3 +129,38 @@ running_is_at W place s e w = by k.top.runs h.wait k.fits
       is_opcode = f.is_opcode;
     }
     by false x f = absurd (never x (subst (λ (wait : Wait Value). IsTrue (waits_at wait x.opcode x.instruction)) waited x.fits))
+
+pub waiting_is_at : WaitingIsAt
+waiting_is_at W p s = by k.top.runs h.wait
+  where
+    n : ℕ
+    n = s.primitives
+
+    k : Settled n (plain W 0)
+    k = settles n (plain W 0) p.place s.sound p.is
+
+    h : TopIs n k.top (plain W 0)
+    h = k.is_top
+
+    same : the_place n k.top (plain W 0) h ≡ p.place
+    same = some_is (top_place n k.top (plain W 0) h) p.is
+
+    by : (b : Bool) → RunsOrWaits b (sizes n (plain W 0)) h.top → WaitsFor W p
+    by true x = absurd (p.waits (sym (ap (λ (q : Place). q.top.wait) same) ∙ x))
+    by false x =
+        let found : x.function ≡ h.function = some_is x.there h.there in
+        let code : p.place.function.code ≡ x.function.code = sym (ap (λ (q : Place). q.function.code) same) ∙ ap (λ (f : Function). f.code) (sym found) in
+        let pc : p.place.top.own.pc ≡ h.top.own.pc = sym (ap (λ (q : Place). q.top.own.pc) same) in
+        record {
+          checked = (s.sound.solid.functions p.place.top.function p.place.function (place_is (plain W 0) p.place p.is).function).code;
+          instruction = x.instruction;
+          at_pc = ap (λ q. at q p.place.top.own.pc) code ∙ ap (at x.function.code) pc ∙ x.at_pc;
+          opcode = x.opcode;
+          is_opcode = x.is_opcode;
+          fits = subst (λ (wait : Wait Value). IsTrue (waits_at wait x.opcode x.instruction)) (ap (λ (q : Place). q.top.wait) same) x.fits;
+          size =
+              sym (ap (λ (q : Place). length q.top.own.registers) same)
+              ∙ x.size
+              ∙ ap (λ (wait : Wait Value). waiting_size wait x.instruction x.function.code.own.stack) (ap (λ (q : Place). q.top.wait) same)
+              ∙ ap (λ (c : Prototype). waiting_size p.place.top.wait x.instruction c.own.stack) (sym code);
+        }

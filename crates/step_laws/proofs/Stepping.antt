@@ -7,9 +7,9 @@ use Rattle.code_core.specs.Prototype.{Prototype}
 use Rattle.code_core.specs.Instruction.{opcode_of}
 use Rattle.machine_core.specs.World.{LuaFrame, Stack, stack_of, Place, place_of, World, Wait, running, for_call, for_iterator, for_value, for_truth, dropped, for_concat, for_close, returning, leaving}
 use Rattle.machine_core.specs.Text.{Text, trap}
-use Rattle.machine_core.specs.InstructionRows.{text_at, text_by, rest_at, told_values}
+use Rattle.machine_core.specs.InstructionRows.{text_at, text_by, rest_at, rest_by, told_values}
 use Rattle.machine_core.specs.FrameRows.{expand, goes_on_by, asked_row, raised_row, unwound, handed_to}
-use Rattle.machine_core.specs.Moves.{go, returned, asks, calls_primitive, raised, unwinding, spent, main_yielded, main_returned, main_failed, see_top, Row, act, Outcome, trapped, run}
+use Rattle.machine_core.specs.Moves.{Ending, go, returned, asks, calls_primitive, raised, unwinding, spent, main_yielded, main_returned, main_failed, see_top, Row, act, Outcome, trapped, run}
 use Rattle.machine_core.specs.MachineStep.{woken, lua_step, top_step, from_world}
 use Rattle.machine_sound.specs.Sound.{Solid, StackWaits}
 use Rattle.machine_sound.specs.Safe.{waiting, Safe, Good}
@@ -19,15 +19,17 @@ use Rattle.machine_sound.proofs.Steps.{from_waiting}
 use Rattle.machine_sound.proofs.FrameRowsSafe.{returned_safe, asked_safe, raised_safe, unwinding_safe}
 use Rattle.instruction_forms.specs.declared.form.Form.{Form}
 use Rattle.instruction_forms.specs.Forms.{text_of}
+use Rattle.instruction_forms.proofs.Waiting.{rest_has_form}
 use Rattle.lua_heap.specs.declared.world.World.{World as Memory}
 use Rattle.lua_heap.specs.Plain.{plain}
 use Rattle.lua_heap.specs.Reading.{value}
-use Rattle.move_laws.specs.Memory.{IsSafe}
+use Rattle.move_laws.specs.Memory.{IsSafe, Leads}
 use Rattle.move_laws.proofs.Order.{ended_from, steps_of}
 use Rattle.move_laws.proofs.Places.{place_is}
 use Rattle.move_laws.proofs.Rows.{first, safe_after}
-use Rattle.step_laws.specs.Steps.{RunsAt, HasForm}
-use Rattle.step_laws.specs.Law.{InstructionIsSafe, InstructionIsStep, AnswerIsSafe, AnswerIsStep, ReturnedIsSafe, ReturnedIsStep, UnwindingIsSafe, UnwindingIsStep, RaisedIsSafe, RaisedIsStep, AskedIsSafe, AskedIsStep, PrimitiveIsSafe, PrimitiveIsStep, EndStays}
+use Rattle.step_laws.specs.Steps.{Does, RunsAt, HasForm}
+use Rattle.step_laws.specs.Law.{InstructionIsSafe, InstructionIsStep, AnswerIsSafe, AnswerIsStep, AnswerHasForm, ReturnedIsSafe, ReturnedIsStep, UnwindingIsSafe, UnwindingIsStep, results_row, error_row, ResultsAreSafe, ResultsAreStep, ErrorIsSafe, ErrorIsStep, RaisedIsSafe, RaisedIsStep, AskedIsSafe, AskedIsStep, PrimitiveIsSafe, PrimitiveIsStep, EndStays}
+use Rattle.step_laws.proofs.Unpaid.{IsUnpaid, unpaid_never}
 use Rattle.step_laws.proofs.Free.{never_spent, free_never, rest_at_free, handed_to_never, unwound_never, raised_never}
 use Rattle.step_laws.proofs.Ready.{solid_by, sound_by, waits_by}
 
@@ -63,6 +65,13 @@ instruction_is_step rows old new fuel left to form k f s = record {
       ∙ ap (λ t. from_world W (run (expand t) [] W)) (text_is old form k f)
       ∙ s.is;
 }
+
+-- a row that pays for nothing
+pub unpaid_is_step : (rows : ℕ → Row) (old new : Memory) (fuel : ℕ) (to : Ending) (form : Form) (k : RunsAt old) → HasForm k.opcode k.instruction form
+    → IsUnpaid (text_of k.place.function.code k.place.top.own.pc form) → Leads (expand (text_of k.place.function.code k.place.top.own.pc form)) [] old new to → Does rows go old fuel new fuel to
+unpaid_is_step rows old new fuel to form k f u l =
+    let t = text_of k.place.function.code k.place.top.own.pc form in
+    instruction_is_step rows old new fuel fuel to form k f (steps_of fuel (never_spent (expand t) [] (plain old 0) (plain new 0) to (unpaid_never t u) (l.is 0)) l)
 
 -- a frame that goes on with what came
 
@@ -106,6 +115,15 @@ answer_is_step rows old awake new fuel to k w l = record {
       ∙ ended_from W (plain new fuel) to free;
 }
 
+pub answer_has_form : AnswerHasForm
+answer_has_form W k w form e =
+    let wait = k.place.top.wait in
+    let p = k.place.function.code in
+    let pc = k.place.top.own.pc in
+    ap (λ o. elim o as (λ _. Text) [ None ↦ trap | Some i ↦ rest_by wait p pc i (opcode_of i) ]) w.at_pc
+    ∙ ap (rest_by wait p pc w.instruction) w.is_opcode
+    ∙ sym (rest_has_form wait w.opcode w.instruction form p pc e w.fits)
+
 -- rows that begin where all frames wait
 
 row_safe : (n : ℕ) (r : Row) (W : Memory) → Solid n (plain W 0) → StackWaits n (plain W 0) → Safe (waiting None) [] r → IsSafe r [] W
@@ -116,6 +134,12 @@ returned_is_safe n W top r m = safe_after (λ _ top. handed_to top) (row_safe n 
 
 pub unwinding_is_safe : UnwindingIsSafe
 unwinding_is_safe n W top r m = safe_after (λ _ top. unwound top) (row_safe n (act see_top (λ _ top. unwound top)) W r.after.sound.solid r.after.ready unwinding_safe) m
+
+pub results_are_safe : ResultsAreSafe
+results_are_safe n W r = row_safe n results_row W r.after.sound.solid r.after.ready returned_safe
+
+pub error_is_safe : ErrorIsSafe
+error_is_safe n W r = row_safe n error_row W r.after.sound.solid r.after.ready unwinding_safe
 
 pub raised_is_safe : RaisedIsSafe
 raised_is_safe n W r = row_safe n raised_row W r.after.sound.solid r.after.ready raised_safe
@@ -135,6 +159,12 @@ returned_is_step rows old new fuel to top m l =
 pub unwinding_is_step : UnwindingIsStep
 unwinding_is_step rows old new fuel to top m l =
     record { is = (steps_of fuel (never_spent (unwound top) [] (plain old 0) (plain new 0) to (unwound_never top) (l.is 0)) (first (λ _ top. unwound top) m l)).is }
+
+pub results_are_step : ResultsAreStep
+results_are_step rows old new fuel to l = record { is = (steps_of fuel (never_spent results_row [] (plain old 0) (plain new 0) to (λ _ top. handed_to_never top) (l.is 0)) l).is }
+
+pub error_is_step : ErrorIsStep
+error_is_step rows old new fuel to l = record { is = (steps_of fuel (never_spent error_row [] (plain old 0) (plain new 0) to (λ _ top. unwound_never top) (l.is 0)) l).is }
 
 pub raised_is_step : RaisedIsStep
 raised_is_step rows old new fuel to l = record { is = (steps_of fuel (never_spent raised_row [] (plain old 0) (plain new 0) to raised_never (l.is 0)) l).is }

@@ -1,19 +1,20 @@
 -- What is proved of steps of the machine between worlds in memory.
 use Rattle.std.specs.Prelude.{◌≡◌, ℕ, true, [], Some, map}
 use Rattle.int_core.specs.Ask.{values}
-use Rattle.machine_core.specs.World.{running, Place, place_of}
+use Rattle.machine_core.specs.World.{running, for_concat, Place, place_of}
 use Rattle.machine_core.specs.InstructionRows.{rest_at, told_values}
 use Rattle.machine_core.specs.FrameRows.{expand, goes_on_by, asked_row, raised_row, unwound, handed_to}
-use Rattle.machine_core.specs.Moves.{Ending, go, returned, asks, calls_primitive, raised, unwinding, see_top, TopShape, Row}
+use Rattle.machine_core.specs.Moves.{Ending, go, returned, asks, calls_primitive, raised, unwinding, see_top, TopShape, Row, act}
 use Rattle.machine_runs.specs.Runs.{is_end}
 use Rattle.machine_sound.specs.Laws.{SoundAfter, PrimitivesSafe}
 use Rattle.instruction_forms.specs.declared.form.Form.{Form}
 use Rattle.instruction_forms.specs.Forms.{text_of}
+use Rattle.instruction_forms.specs.Waiting.{form_at, rest_of}
 use Rattle.lua_heap.specs.declared.world.World.{World as Memory}
 use Rattle.lua_heap.specs.Plain.{plain}
 use Rattle.lua_heap.specs.Reading.{value}
 use Rattle.move_laws.specs.Memory.{HasStack, HasFrame, InOrder, IsSafe, IsSound, Leads, Makes, Steps}
-use Rattle.step_laws.specs.Steps.{Does, IsReady, RunsAt, HasForm, WaitsAt, Wakes}
+use Rattle.step_laws.specs.Steps.{Does, IsReady, RunsAt, HasForm, WaitsAt, WaitsFor, Wakes}
 
 -- what the budget is makes no difference to what follows an ending
 abbrev pub ReadyByFuel : Type 0
@@ -70,6 +71,18 @@ AnswerIsStep = (rows : ℕ → Row) (old woken new : Memory) (fuel : ℕ) (to : 
     → Leads (goes_on_by (rest_at k.place.top.wait k.place.function.code k.place.top.own.pc)) (told_values k.place.top.wait (values (map (value old.strings) old.moving.items))) woken new to
     → Does rows go old fuel new fuel to
 
+-- a Lua frame on top that waits is at an instruction that may wait so, and what is left of that goes by its form
+abbrev pub WaitingIsAt : Type 0
+WaitingIsAt = (W : Memory) (k : WaitsAt W) → IsSound W → WaitsFor W k
+
+abbrev pub AnswerHasForm : Type 0
+AnswerHasForm = (W : Memory) (k : WaitsAt W) (w : WaitsFor W k) (form : Form) → form_at w.opcode w.instruction ≡ Some form
+    → rest_at k.place.top.wait k.place.function.code k.place.top.own.pc ≡ rest_of k.place.top.wait k.place.function.code k.place.top.own.pc w.instruction form
+
+-- a frame that waited for the value of a concatenation fits its place once it is woken
+abbrev pub JoinIsSound : Type 0
+JoinIsSound = (old woken : Memory) (k : WaitsAt old) → IsSound old → Wakes old woken k.place → InOrder woken → (left : ℕ) → k.place.top.wait ≡ for_concat left → IsSound woken
+
 -- results reach what is on top of the stack, and so does an error; neither row traps
 abbrev pub ReturnedIsSafe : Type 0
 ReturnedIsSafe = (primitives : ℕ) (W : Memory) (top : TopShape) → IsReady primitives returned W → Makes W W see_top [] [] top → IsSafe (handed_to top) [] W
@@ -82,6 +95,25 @@ UnwindingIsSafe = (primitives : ℕ) (W : Memory) (top : TopShape) → IsReady p
 
 abbrev pub UnwindingIsStep : Type 0
 UnwindingIsStep = (rows : ℕ → Row) (old new : Memory) (fuel : ℕ) (to : Ending) (top : TopShape) → Makes old old see_top [] [] top → Leads (unwound top) [] old new to → Does rows unwinding old fuel new fuel to
+
+-- so it is with the whole rows, which look at what is on top first
+abbrev pub results_row : Row
+results_row = act see_top (λ _ top. handed_to top)
+
+abbrev pub error_row : Row
+error_row = act see_top (λ _ top. unwound top)
+
+abbrev pub ResultsAreSafe : Type 0
+ResultsAreSafe = (primitives : ℕ) (W : Memory) → IsReady primitives returned W → IsSafe results_row [] W
+
+abbrev pub ResultsAreStep : Type 0
+ResultsAreStep = (rows : ℕ → Row) (old new : Memory) (fuel : ℕ) (to : Ending) → Leads results_row [] old new to → Does rows returned old fuel new fuel to
+
+abbrev pub ErrorIsSafe : Type 0
+ErrorIsSafe = (primitives : ℕ) (W : Memory) → IsReady primitives unwinding W → IsSafe error_row [] W
+
+abbrev pub ErrorIsStep : Type 0
+ErrorIsStep = (rows : ℕ → Row) (old new : Memory) (fuel : ℕ) (to : Ending) → Leads error_row [] old new to → Does rows unwinding old fuel new fuel to
 
 -- it is found who catches an error, what was asked for is called, and a primitive does its row
 abbrev pub RaisedIsSafe : Type 0

@@ -1,5 +1,6 @@
 // The laws, each with what it speaks of in `specs/`.
-ghost use Rattle.step_laws.specs.Law.{AnswerIsSafe, AnswerIsStep, AskedIsSafe, AskedIsStep, AsksHasStack, CallHasStack, EndStays, GoHasFrame, InstructionIsSafe, InstructionIsStep, PrimitiveIsSafe, PrimitiveIsStep, RaisedHasStack, RaisedIsSafe, RaisedIsStep, ReadyByFuel, ReadyIsSound, ReturnedHasStack, ReturnedIsSafe, ReturnedIsStep, RunningIsAt, StepsStayReady, UnwindingHasStack, UnwindingIsSafe, UnwindingIsStep};
+ghost use Rattle.step_laws.specs.Law.{AnswerHasForm, AnswerIsSafe, AnswerIsStep, AskedIsSafe, AskedIsStep, AsksHasStack, CallHasStack, EndStays, ErrorIsSafe, ErrorIsStep, GoHasFrame, InstructionIsSafe, InstructionIsStep, JoinIsSound, PrimitiveIsSafe, PrimitiveIsStep, RaisedHasStack, RaisedIsSafe, RaisedIsStep, ReadyByFuel, ReadyIsSound, ResultsAreSafe, ResultsAreStep, ReturnedHasStack, ReturnedIsSafe, ReturnedIsStep, RunningIsAt, StepsStayReady, UnwindingHasStack, UnwindingIsSafe, UnwindingIsStep, WaitingIsAt};
+ghost use Rattle.step_laws.specs.Small.{FormsAreSmall, FormsAreWithin};
 
 /// What follows an ending is so whatever the budget is, and a step leads to a world that is ready for the next one.
 pub fn steps_stay_ready()
@@ -13,6 +14,7 @@ pub fn steps_stay_ready()
 pub fn steps_have_frames()
     ensures go { GoHasFrame }
     ensures running { RunningIsAt }
+    ensures waiting { WaitingIsAt }
     ensures returned { ReturnedHasStack }
     ensures asks { AsksHasStack }
     ensures raised { RaisedHasStack }
@@ -24,6 +26,9 @@ pub fn steps_have_frames()
 pub fn rows_of_steps_are_safe()
     ensures instruction { InstructionIsSafe }
     ensures answer { AnswerIsSafe }
+    ensures joins { JoinIsSound }
+    ensures results { ResultsAreSafe }
+    ensures error { ErrorIsSafe }
     ensures returned { ReturnedIsSafe }
     ensures unwinding { UnwindingIsSafe }
     ensures raised { RaisedIsSafe }
@@ -31,10 +36,19 @@ pub fn rows_of_steps_are_safe()
     ensures primitive { PrimitiveIsSafe }
 {}
 
+/// What is left of an instruction goes by its form; the numbers that forms name are small, and registers that rows name late are those of the code.
+pub fn forms_are_known()
+    ensures answer { AnswerHasForm }
+    ensures small { FormsAreSmall }
+    ensures within { FormsAreWithin }
+{}
+
 /// What such a row does is the machine's step.
 pub fn rows_are_steps()
     ensures instruction { InstructionIsStep }
     ensures answer { AnswerIsStep }
+    ensures results { ResultsAreStep }
+    ensures error { ErrorIsStep }
     ensures returned { ReturnedIsStep }
     ensures unwinding { UnwindingIsStep }
     ensures raised { RaisedIsStep }

@@ -1,4 +1,4 @@
-use Rattle.step_laws.proofs.Stepping.{instruction_is_step, answer_is_step, returned_is_step, unwinding_is_step, raised_is_step, asked_is_step, primitive_is_step}
+use Rattle.step_laws.proofs.Stepping.{results_are_step, error_is_step, instruction_is_step, answer_is_step, returned_is_step, unwinding_is_step, raised_is_step, asked_is_step, primitive_is_step}
 use Rattle.step_laws.proofs.law.rows_are_steps.Goals as goal
 
 pub returns-clause-instruction : goal.returns-clause-instruction
@@ -21,3 +21,9 @@ returns-clause-asked c = asked_is_step
 
 pub returns-clause-primitive : goal.returns-clause-primitive
 returns-clause-primitive c = primitive_is_step
+
+pub returns-clause-results : goal.returns-clause-results
+returns-clause-results c = results_are_step
+
+pub returns-clause-error : goal.returns-clause-error
+returns-clause-error c = error_is_step
