@@ -4,3 +4,4 @@ pub mod Taken
 pub mod Tops
 pub mod Closed
 pub mod Given
+pub mod Going

@@ -5,3 +5,4 @@ pub mod Closing
 pub mod Names
 pub mod Marking
 pub mod Returning
+pub mod GoingOn

@@ -5,6 +5,7 @@
 mod closables;
 mod closing;
 mod failing;
+mod going_on;
 mod leaving;
 mod marking;
 mod names;
@@ -16,6 +17,7 @@ mod waking;
 pub use closables::{find_close, is_closable};
 pub use closing::{close_variables, go_on_closing};
 pub use failing::{fail_with, unwind_function};
+pub use going_on::go_on_called;
 pub use marking::mark;
 pub use results::{take_results, write_registers};
 pub use returning::{go_on_returning, return_some, return_values};
