@@ -1,10 +1,14 @@
 // What becomes of the value of an operation (luaV_finishOp of lvm.c).
-ghost use Rattle.std.specs.Prelude.{◌≡◌, ◌+◌, ◌<◌, ◌≤◌, ◌^◌, ℕ, List, cond, pos};
-ghost use Rattle.int_core.specs.Value.{Value as Meant, same_truth};
-ghost use Rattle.machine_core.specs.FrameRows.{expand};
+ghost use Rattle.std.specs.Prelude.{◌≡◌, ◌+◌, ◌<◌, ◌≤◌, ◌^◌, ℕ, List, Some, cond, map, pos};
+ghost use Rattle.int_core.specs.Value.{Value as Meant, nth, same_truth};
+ghost use Rattle.instruction_forms.specs.Forms.{follows};
+ghost use Rattle.lua_heap.specs.Plain.{plain};
+ghost use Rattle.lua_heap.specs.Reading.{value as meant};
+ghost use Rattle.machine_core.specs.FrameRows.{expand, goes_on_by};
 ghost use Rattle.machine_core.specs.Moves.{go};
 ghost use Rattle.machine_core.specs.Text.{go_by};
-ghost use Rattle.move_laws.specs.Memory.{InOrder, Leads, StandsAt};
+ghost use Rattle.machine_core.specs.World.{Place, place_of};
+ghost use Rattle.move_laws.specs.Memory.{InOrder, IsSafe, Leads, StandsAt};
 ghost use Rattle.machine_moves.specs.Code.{HasCode};
 ghost use Rattle.machine_operations.specs.Following.{Follows, HasFront, IsFront, Keeps, MayFollow, MayGo, MayKeep};
 
@@ -35,6 +39,30 @@ pub fn follow(world: &mut World, pc: usize, after: After, v: Value)
             let ahead = ahead_of(is_truthy(v), wanted);
             advance(world, pc, ahead);
         }
+    }
+}
+
+/// What becomes of the first value that came for an operation, or of nil where none did.
+pub fn take_value(world: &mut World, pc: usize, after: After, came: &[Value])
+    requires order { InOrder world.old }
+    requires code { HasCode world.old }
+    requires at { StandsAt world.old pc }
+    requires room { pc + 2 < 2 ^ 64 }
+    requires safe { (place : Place) → place_of (plain world.old 0) ≡ Some place → IsSafe (goes_on_by (follows place.function.code pc after)) (map (meant world.old.strings) came.now) world.old }
+    ensures leads { (place : Place) → place_of (plain world.old 0) ≡ Some place → Leads (goes_on_by (follows place.function.code pc after)) (map (meant world.old.strings) came.now) world.old world.new go }
+    ensures order { InOrder world.new }
+{
+    let v = first_or_nil(came);
+    follow(world, pc, after, v);
+}
+
+/// The first value, or nil.
+fn first_or_nil(came: &[Value]) -> Value
+    ensures { (texts : List (List ℕ)) → nth (map (meant texts) came.now) 0 ≡ meant texts result }
+{
+    match came.split_first() {
+        Some((first, _)) => *first,
+        None => Value::Nil,
     }
 }
 

@@ -7,6 +7,6 @@ mod joining;
 mod operands;
 
 pub use concatenation::concatenate;
-pub use following::{advance, follow, keep};
+pub use following::{advance, follow, keep, take_value};
 pub use joining::{Joined, join};
 pub use operands::{Values, operation_on, read_operands};
