@@ -47,21 +47,21 @@ ends_so : (P : World) (code : Prototype) (count : ℕ) → count ≡ length code
 unfolding begun
 ends_so P code count e = ap (λ count. record (with_body P code count (length P.functions)) { main = Some (length P.coroutines); moving = [] }) e
 
-pub begun_is : (W0 W1 W2 W3 W4 : Memory) (code : Prototype) (F : Func) (f : FuncId) (co : CoroId) (count fuel : ℕ)
-    → plain W1 fuel ≡ plain W0 fuel → W1 ≡ record W0 { strings = W1.strings; codes = W1.codes } → W2 ≡ record W1 { cells = W2.cells } → W2.cells.objects ≡ kept_cells W1.cells.objects W1.globals count
-    → AddsFunction W2 W3 F → prototype_at (functions W2.codes) F.code.0 ≡ code → map (λ c. c.0) F.cells.items ≡ numbers (length W1.cells.objects) count
-    → f.0 ≡ length W2.funcs.objects → AddsCoroutine W3 W4 (Fresh (FunctionValue f)) → co.0 ≡ length W3.coros.objects → count ≡ length code.own.upvalues
-    → record (plain W4 fuel) { main = Some co.0; moving = [] } ≡ begun (plain W0 fuel) code
-begun_is W0 W1 W2 W3 W4 code F f co count fuel p1 r1 r2 o2 a3 c3 n3 f3 a4 c4 e =
-    let P = plain W0 fuel in
-    let p2 : plain W2 fuel ≡ with_cells P count = cells_read W1 W2 count fuel r2 o2 ∙ ap (λ P. with_cells P count) p1 in
-    let cells : length W1.cells.objects ≡ length P.cells = ap (λ (W : Memory). length W.cells.objects) r1 ∙ sym (length-map W0.cells.objects (cell W0.strings)) in
-    let main : ◌≡◌ {A = Function} (function (functions W2.codes) F) (record { code = code; cells = numbers (length P.cells) count }) =
+pub begun_is : (old compiled captured defined ready : Memory) (code : Prototype) (F : Func) (f : FuncId) (co : CoroId) (count fuel : ℕ)
+    → plain compiled fuel ≡ plain old fuel → compiled ≡ record old { strings = compiled.strings; codes = compiled.codes } → captured ≡ record compiled { cells = captured.cells } → captured.cells.objects ≡ kept_cells compiled.cells.objects compiled.globals count
+    → AddsFunction captured defined F → prototype_at (functions captured.codes) F.code.0 ≡ code → map (λ c. c.0) F.cells.items ≡ numbers (length compiled.cells.objects) count
+    → f.0 ≡ length captured.funcs.objects → AddsCoroutine defined ready (Fresh (FunctionValue f)) → co.0 ≡ length defined.coros.objects → count ≡ length code.own.upvalues
+    → record (plain ready fuel) { main = Some co.0; moving = [] } ≡ begun (plain old fuel) code
+begun_is old compiled captured defined ready code F f co count fuel p1 r1 r2 o2 a3 c3 n3 f3 a4 c4 e =
+    let P = plain old fuel in
+    let p2 : plain captured fuel ≡ with_cells P count = cells_read compiled captured count fuel r2 o2 ∙ ap (λ P. with_cells P count) p1 in
+    let cells : length compiled.cells.objects ≡ length P.cells = ap (λ (W : Memory). length W.cells.objects) r1 ∙ sym (length-map old.cells.objects (cell old.strings)) in
+    let main : ◌≡◌ {A = Function} (function (functions captured.codes) F) (record { code = code; cells = numbers (length P.cells) count }) =
     ap {A = Prototype} {B = Function} (λ code. record { code = code; cells = map (λ c. c.0) F.cells.items }) c3 ∙ ap {A = List ℕ} {B = Function} (λ cells. record { code = code; cells = cells }) (n3 ∙ ap (λ n. numbers n count) cells) in
-    let p3 : plain W3 fuel ≡ with_main P code count = a3.plain fuel ∙ ap (λ g. with_function g (plain W2 fuel)) main ∙ ap (with_function (record { code = code; cells = numbers (length P.cells) count })) p2 in
+    let p3 : plain defined fuel ≡ with_main P code count = a3.plain fuel ∙ ap (λ g. with_function g (plain captured fuel)) main ∙ ap (with_function (record { code = code; cells = numbers (length P.cells) count })) p2 in
     let number : f.0 ≡ length P.functions =
-    f3 ∙ ap (λ (W : Memory). length W.funcs.objects) r2 ∙ ap (λ (W : Memory). length W.funcs.objects) r1 ∙ sym (length-map W0.funcs.objects (function (functions W0.codes))) in
-    let p4 : plain W4 fuel ≡ with_body P code count (length P.functions) = a4.plain fuel ∙ ap (with_coroutine (fresh (object a_function f.0))) p3 ∙ ap (with_body P code count) number in
+    f3 ∙ ap (λ (W : Memory). length W.funcs.objects) r2 ∙ ap (λ (W : Memory). length W.funcs.objects) r1 ∙ sym (length-map old.funcs.objects (function (functions old.codes))) in
+    let p4 : plain ready fuel ≡ with_body P code count (length P.functions) = a4.plain fuel ∙ ap (with_coroutine (fresh (object a_function f.0))) p3 ∙ ap (with_body P code count) number in
     let last : co.0 ≡ length P.coroutines =
-    c4 ∙ ap (λ (W : Memory). length W.coros.objects) a3.rest ∙ ap (λ (W : Memory). length W.coros.objects) r2 ∙ ap (λ (W : Memory). length W.coros.objects) r1 ∙ sym (length-map W0.coros.objects _) in
+    c4 ∙ ap (λ (W : Memory). length W.coros.objects) a3.rest ∙ ap (λ (W : Memory). length W.coros.objects) r2 ∙ ap (λ (W : Memory). length W.coros.objects) r1 ∙ sym (length-map old.coros.objects _) in
     ap (λ (V : World). record V { main = Some co.0; moving = [] }) p4 ∙ ap (λ n. record (with_body P code count (length P.functions)) { main = Some n; moving = [] }) last ∙ ends_so P code count e
