@@ -1,0 +1,41 @@
+-- What a row of a call supposes, and what it reads.
+use Rattle.std.specs.Prelude.{◌≡◌, ◌≤◌, ℕ, Bool, List, ◌++◌, Some, length, map}
+use Rattle.int_core.specs.Value.{Value, Shape}
+use Rattle.machine_core.specs.World.{running, Place, place_of}
+use Rattle.machine_core.specs.Text.{Text}
+use Rattle.machine_core.specs.InstructionRows.{read_values}
+use Rattle.machine_core.specs.FrameRows.{expand}
+use Rattle.machine_core.specs.Moves.{named, run}
+use Rattle.instruction_forms.specs.Forms.{wait_for_call}
+use Rattle.table_core.specs.declared.value.Value.{Value as Kept}
+use Rattle.lua_stack.specs.declared.frame.Wait.{Wait as KeptWait}
+use Rattle.lua_stack.specs.Frames.{wait_of}
+use Rattle.lua_heap.specs.declared.world.World.{World as Memory}
+use Rattle.lua_heap.specs.Plain.{plain}
+use Rattle.lua_heap.specs.Reading.{value}
+use Rattle.move_laws.specs.Memory.{IsSafe}
+use Rattle.machine_calls.specs.Waiting.{IsHeldWait}
+
+-- the Lua frame on top runs, and the registers that it keeps for a call are among those of its code
+pub record MayKeep (W : Memory) (keeps : ℕ) : Type 0 where
+  pub place : Place
+  pub is : place_of (plain W 0) ≡ Some place
+  pub running : place.top.wait ≡ running
+  pub within : keeps ≤ place.function.code.own.stack
+
+-- a row that begins with such reads does not trap
+pub record MayReadValues (W : Memory) (from count : ℕ) : Type 0 where
+  pub rest : ℕ → Shape → Text
+  pub env : List Value
+  pub safe : IsSafe (expand (read_values from count rest)) env W
+
+-- and these are the values that it reads
+pub record ReadsValues (W : Memory) (from count : ℕ) (values : List Kept) : Type 0 where
+  pub told : Shape
+  pub goes : (rest : ℕ → Shape → Text) (env : List Value) (fuel : ℕ)
+      → run (expand (read_values from count rest)) env (plain W fuel) ≡ run (expand (rest (length env) told)) (env ++ map (value W.strings) values) (plain W fuel)
+
+-- the wait of a frame that calls, in the words of rows
+pub record IsWaitOfCall (iterates : Bool) (wait : KeptWait) : Type 0 where
+  pub is : (f : Kept → Value) (env : List Value) → named env (wait_for_call iterates) ≡ wait_of f wait
+  pub held : (texts : List (List ℕ)) → IsHeldWait texts wait

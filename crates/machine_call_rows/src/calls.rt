@@ -1,0 +1,90 @@
+// Calls (OP_CALL, OP_TFORCALL and OP_TAILCALL of lvm.c).
+ghost use Rattle.std.specs.Prelude.{◌≡◌, ◌+◌, ◌<◌, ◌^◌, ℕ, [], IfOk, OnErr};
+ghost use Rattle.code_core.specs.Prototype.{Prototype};
+ghost use Rattle.instruction_forms.specs.Forms.{text_of};
+ghost use Rattle.instruction_forms.specs.declared.form.Form.TheVariants.{Call, TailCall};
+ghost use Rattle.machine_core.specs.FrameRows.{expand};
+ghost use Rattle.move_laws.specs.Memory.{InOrder, IsSafe, IsSound, Steps};
+ghost use Rattle.machine_moves.specs.Ending.{ending_of};
+ghost use Rattle.machine_call_rows.specs.Rows.{IsWaitOfCall, MayKeep, MayReadValues, ReadsValues};
+
+use lua_heap::World;
+use lua_stack::Wait;
+use machine_calls::{Prepared, call_in_place, call_over};
+use machine_moves::{Ending, read_list, read_register, read_registers};
+use std::alloc::AllocError;
+use table_core::Value;
+
+/// The value of a register is called for a unit of the budget, with the values of one register fewer than `count` behind it, or for 0 those up to the end
+/// of the open list. The frame on top waits for what comes of it, and keeps its registers below `keeps` (Lua 5.4 manual, 3.4.10; for an iterator 3.3.5).
+/// A value that cannot be called, and a full stack, are errors of that frame. A refusal may leave it changed, but in order.
+pub fn call(
+    world: &mut World,
+    budget: &mut u64,
+    function: usize,
+    count: usize,
+    keeps: usize,
+    iterates: bool,
+) -> Result<Ending, AllocError>
+    requires sound { IsSound world.old }
+    requires keeps { MayKeep world.old keeps }
+    requires near { function + 1 < 2 ^ 64 }
+    requires safe { (p : Prototype) (pc : ℕ) → IsSafe (expand (text_of p pc (Call function count keeps iterates))) [] world.old }
+    ensures steps { IfOk result (λ ending. (p : Prototype) (pc : ℕ) → Steps (expand (text_of p pc (Call function count keeps iterates))) [] world.old budget.old world.new budget.new (ending_of ending)) }
+    ensures order { InOrder world.new }
+    ensures err { OnErr result ((world.new.printed ≡ world.old.printed) × (budget.new ≡ budget.old)) }
+{
+    let called = read_register(world, function);
+    let arguments = read_values(world, function + 1, count).to_vec(world.alloc)?;
+    call_over(
+        world,
+        budget,
+        called,
+        arguments,
+        wait_of_call(iterates),
+        Prepared::GivenUp { register: keeps },
+    )
+}
+
+/// The value of a register is called in the same way in place of the frame on top, whose cells are closed (Lua 5.4 manual, 3.4.10). Where it cannot be
+/// called, that is an error of the frame, which is still there. A refusal may take the frame away, but leaves all in order.
+pub fn tail_call(
+    world: &mut World,
+    budget: &mut u64,
+    function: usize,
+    count: usize,
+) -> Result<Ending, AllocError>
+    requires sound { IsSound world.old }
+    requires near { function + 1 < 2 ^ 64 }
+    requires safe { (p : Prototype) (pc : ℕ) → IsSafe (expand (text_of p pc (TailCall function count))) [] world.old }
+    ensures steps { IfOk result (λ ending. (p : Prototype) (pc : ℕ) → Steps (expand (text_of p pc (TailCall function count))) [] world.old budget.old world.new budget.new (ending_of ending)) }
+    ensures order { InOrder world.new }
+    ensures err { OnErr result ((world.new.printed ≡ world.old.printed) × (budget.new ≡ budget.old)) }
+{
+    let called = read_register(world, function);
+    let arguments = read_values(world, function + 1, count).to_vec(world.alloc)?;
+    call_in_place(world, budget, called, arguments)
+}
+
+/// The values of one register fewer than `count` from one on, or for 0 those up to the end of the open list.
+fn read_values(world: &World, from: usize, count: usize) -> &[Value]
+    requires sound { IsSound world.now }
+    requires safe { MayReadValues world.now from count }
+    ensures { ReadsValues world.now from count result.now }
+{
+    if count == 0 {
+        return read_list(world, from);
+    }
+    read_registers(world, from, count - 1)
+}
+
+/// For what a frame waits that calls.
+fn wait_of_call(iterates: bool) -> Wait
+    ensures { IsWaitOfCall iterates result }
+{
+    if iterates {
+        Wait::ForIterator
+    } else {
+        Wait::ForCall
+    }
+}

@@ -1,0 +1,7 @@
+//! The machine's rows of calls on a world in memory (CALL, TFORCALL and TAILCALL of lvm.c of Lua 5.4). A call costs one unit of the budget; where none is left, nothing changes.
+#![tactic(auto)]
+
+mod calls;
+pub mod law;
+
+pub use calls::{call, tail_call};
