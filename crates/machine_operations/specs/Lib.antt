@@ -1,3 +1,4 @@
 pub mod Operands
 pub mod Following
 pub mod Joining
+pub mod Computing
