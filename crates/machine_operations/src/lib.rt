@@ -3,12 +3,15 @@
 
 mod computing;
 mod concatenation;
+mod copying;
 mod following;
 mod joining;
 mod operands;
+mod operating;
 
 pub use computing::arithmetic;
 pub use concatenation::concatenate;
 pub use following::{advance, follow, keep, take_value};
 pub use joining::{Joined, join};
 pub use operands::{Values, operation_on, read_operands};
+pub use operating::operate;
