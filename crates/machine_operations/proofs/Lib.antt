@@ -2,3 +2,9 @@ pub mod Reading
 pub mod Afterwards
 pub mod Concats
 pub mod Joins
+pub mod Written
+pub mod Ended
+pub mod Settled
+pub mod Integers
+pub mod Receivers
+pub mod Operated

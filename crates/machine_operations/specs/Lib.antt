@@ -1,3 +1,6 @@
 pub mod Operands
 pub mod Following
 pub mod Joining
+pub mod Copying
+pub mod Operating
+pub mod Computing

@@ -22,6 +22,11 @@ list_of (One v) = v ∷ []
 list_of (Two v w) = v ∷ w ∷ []
 list_of (Three v w u) = v ∷ w ∷ u ∷ []
 
+abbrev pub first_value : Values → Kept
+first_value (One v) = v
+first_value (Two v w) = v
+first_value (Three v w u) = v
+
 abbrev pub ordered : Bool → Kept → Kept → Values
 ordered true v w = Two w v
 ordered false v w = Two v w

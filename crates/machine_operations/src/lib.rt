@@ -1,12 +1,17 @@
 //! Operations of instructions on a world in memory, which a handler may be asked for, and what becomes of their values (lvm.c of Lua 5.4).
 #![tactic(auto)]
 
+mod computing;
 mod concatenation;
+mod copying;
 mod following;
 mod joining;
 mod operands;
+mod operating;
 
+pub use computing::arithmetic;
 pub use concatenation::concatenate;
 pub use following::{advance, follow, keep, take_value};
 pub use joining::{Joined, join};
 pub use operands::{Values, operation_on, read_operands};
+pub use operating::operate;
