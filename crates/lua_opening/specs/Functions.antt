@@ -6,7 +6,7 @@ use Rattle.machine_runs.specs.Opening.{numbers}
 use Rattle.lua_heap.specs.declared.world.Func.{Func}
 use Rattle.lua_heap.specs.declared.world.World.{World as Memory}
 use Rattle.lua_heap.specs.Adding.{Begins}
-use Rattle.lua_heap.specs.Codes.{functions, preorder, AreCodes}
+use Rattle.lua_heap.specs.Codes.{functions, prototype_at, AreCodes}
 use Rattle.lua_heap.specs.Plain.{function}
 
 -- all outer variables of a function are one cell
@@ -19,14 +19,13 @@ pub record Extends (old new : Memory) : Type 0 where
   pub codes : AreCodes new.strings new.codes
   pub rest : new ≡ record old { strings = new.strings; codes = new.codes; funcs = new.funcs; prelude = record old.prelude { funcs = new.prelude.funcs } }
 
--- one function comes last
-pub record AddsOne (old new : Memory) (cell : ℕ) (p : Prototype) : Type 0 where
-  pub extends : Extends old new
-  pub code : functions new.codes ≡ functions old.codes ++ (p ∷ preorder p.inner)
+-- one function comes last, of code that is kept already
+pub record AddsOne (old new : Memory) (cell number : ℕ) : Type 0 where
+  pub rest : new ≡ record old { funcs = new.funcs; prelude = record old.prelude { funcs = new.prelude.funcs } }
   pub made : Func
   pub objects : new.funcs.objects ≡ old.funcs.objects ++ made ∷ []
-  pub number : made.code.0 ≡ length (functions old.codes)
-  pub cells : map (λ c. c.0) made.cells.items ≡ map (λ _. cell) p.own.upvalues
+  pub code : made.code.0 ≡ number
+  pub cells : map (λ c. c.0) made.cells.items ≡ map (λ _. cell) (prototype_at (functions old.codes) number).own.upvalues
   pub named : map (λ f. f.0) new.prelude.funcs.items ≡ map (λ f. f.0) old.prelude.funcs.items ++ length old.funcs.objects ∷ []
 
 -- these are all functions; code that comes behind changes none of them

@@ -1,5 +1,6 @@
 // The world of the libraries.
 ghost use Rattle.std.specs.Prelude.{◌≡◌, ℕ, length, IfOk};
+ghost use Rattle.code_core.specs.Prototype.{list_of};
 ghost use Rattle.library_rows.specs.PreludeText.{prelude_functions};
 ghost use Rattle.lua_heap.specs.Cells.{CellsAreListed};
 ghost use Rattle.lua_heap.specs.Codes.{AreCodes};
@@ -17,10 +18,10 @@ use table_core::{TableId, Value};
 /// The number of the metatable of strings.
 const STRING_METATABLE: TableId = TableId(7);
 
-/// The world before a script, with the tables of the libraries and the prelude's functions, whose code is given in the order of its text.
-pub fn open(alloc: Global, prelude: Vec<Checked>) -> Result<World, AllocError>
-    requires { length prelude.items ≡ length prelude_functions }
-    ensures plain { IfOk result (λ world. (fuel : ℕ) → plain world fuel ≡ record (opening (prelude_of prelude.items)) { fuel = fuel }) }
+/// The world before a script, with the tables of the libraries and the functions that are defined in the prelude's code, in the order of its text.
+pub fn open(alloc: Global, prelude: Checked) -> Result<World, AllocError>
+    requires { length (list_of prelude.inner) ≡ length prelude_functions }
+    ensures plain { IfOk result (λ world. (fuel : ℕ) → plain world fuel ≡ record (opening (prelude_of (list_of prelude.inner))) { fuel = fuel }) }
     ensures codes { IfOk result (λ world. AreCodes world.strings world.codes) }
     ensures listed { IfOk result (λ world. CellsAreListed world) }
 {
