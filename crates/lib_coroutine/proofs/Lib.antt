@@ -1,3 +1,6 @@
 pub mod Rows
 pub mod Sound
 pub mod Closes
+pub mod Switched
+pub mod Resumes
+pub mod Begun

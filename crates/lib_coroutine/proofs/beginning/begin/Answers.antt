@@ -1,0 +1,17 @@
+use Rattle.std.proofs.Common.{◌≡◌, refl, ap, ◌∙◌}
+use Rattle.std.specs.Prelude.{Some, slice_get}
+use Rattle.lua_heap.specs.declared.world.Coro.TheVariants.{Fresh}
+use Rattle.lib_coroutine.proofs.Begun.{body_is_function, function_there}
+use Rattle.lib_coroutine.proofs.beginning.begin.Goals as goal
+
+pub begin_function-requires-clause-fresh : goal.begin_function-requires-clause-fresh
+begin_function-requires-clause-fresh c = c.requires.fresh ∙ ap (λ v. Some (Fresh v)) c.in-Func.is
+
+pub begin_function-requires-clause-function : goal.begin_function-requires-clause-function
+begin_function-requires-clause-function c = function_there c.requires.sound c.args.co c.in-Func.id (c.requires.fresh ∙ ap (λ v. Some (Fresh v)) c.in-Func.is)
+
+pub begin_primitive-requires-clause-fresh : goal.begin_primitive-requires-clause-fresh
+begin_primitive-requires-clause-fresh c = c.requires.fresh ∙ ap (λ v. Some (Fresh v)) c.in-Prim.is
+
+pub unreachable-requires : goal.unreachable-requires
+unreachable-requires c = body_is_function c.requires.sound c.args.co c.args.body c.requires.fresh c.in_default.not-Func c.in_default.not-Prim
