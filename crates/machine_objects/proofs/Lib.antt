@@ -1,0 +1,4 @@
+mod Made
+mod Found
+mod Opened
+mod Making
