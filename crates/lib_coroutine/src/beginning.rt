@@ -43,11 +43,7 @@ pub(crate) fn begin(world: &mut World, co: CoroId, body: Value) -> Result<Ending
 }
 
 /// A coroutine begins whose body is a Lua function.
-fn begin_function(
-    world: &mut World,
-    co: CoroId,
-    function: FuncId,
-) -> Result<Ending, AllocError>
+fn begin_function(world: &mut World, co: CoroId, function: FuncId) -> Result<Ending, AllocError>
     requires sound { IsSound world.old }
     requires running { HasStack world.old }
     requires first { FirstIs world.old (object a_coroutine co.0) }
@@ -66,11 +62,7 @@ fn begin_function(
 }
 
 /// A coroutine begins whose body is a primitive, which is called next.
-fn begin_primitive(
-    world: &mut World,
-    co: CoroId,
-    primitive: u16,
-) -> Result<Ending, AllocError>
+fn begin_primitive(world: &mut World, co: CoroId, primitive: u16) -> Result<Ending, AllocError>
     requires sound { IsSound world.old }
     requires running { HasStack world.old }
     requires first { FirstIs world.old (object a_coroutine co.0) }
@@ -88,11 +80,7 @@ fn begin_primitive(
 }
 
 /// A stack with the frame of a function that is called with these arguments.
-fn first_stack(
-    world: &World,
-    function: FuncId,
-    arguments: &[Value],
-) -> Result<Stack, AllocError>
+fn first_stack(world: &World, function: FuncId, arguments: &[Value]) -> Result<Stack, AllocError>
     requires codes { AreCodes world.now.strings world.now.codes }
     requires function { HasFunction world.now function.0 }
     ensures frames { IfOk result (λ stack. (f : Function) → slice_get (plain world.now 0).functions function.0 ≡ Some f → frames (meant world.now.strings) stack ≡ new_frame function.0 f.code (map (meant world.now.strings) arguments.now) ∷ []) }

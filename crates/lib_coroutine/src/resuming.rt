@@ -106,11 +106,7 @@ fn go_on(world: &mut World, co: CoroId) -> Result<Ending, AllocError>
 }
 
 /// A coroutine that cannot be resumed: the answer is false, and why.
-fn answer_refusal(
-    world: &mut World,
-    co: CoroId,
-    text: &'static [u8],
-) -> Result<Ending, AllocError>
+fn answer_refusal(world: &mut World, co: CoroId, text: &'static [u8]) -> Result<Ending, AllocError>
     requires sound { IsSound world.old }
     requires running { HasStack world.old }
     requires first { FirstIs world.old (object a_coroutine co.0) }
