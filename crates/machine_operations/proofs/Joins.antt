@@ -97,6 +97,7 @@ pub record Joining (old now : Memory) (first count left : ℕ) (last whole : Kep
   pub sound : IsSound now
   pub frame : HasFrame now
   pub same : ReadsSame old now
+  pub rest : now ≡ record old { strings = now.strings }
   pub there : IsIn now.strings now.tables.objects whole
   pub within : left ≤ count
   pub safe : MayJoin now first left whole
@@ -107,6 +108,7 @@ begins old first count last s f t m = record {
   sound = s;
   frame = f;
   same = record { is = λ fuel. refl };
+  rest = refl;
   there = t;
   within = omega arith;
   safe = m;
@@ -122,6 +124,9 @@ same_frame r f = record { place = f.place; is = ap place_of (r.is 0) ∙ f.is }
 same_then : {old now new : Memory} → ReadsSame old now → ReadsSame now new → ReadsSame old new
 same_then r q = record { is = λ fuel. q.is fuel ∙ r.is fuel }
 
+pub rest_then : (old : Memory) {now new : Memory} → now ≡ record old { strings = now.strings } → new ≡ record now { strings = new.strings } → new ≡ record old { strings = new.strings }
+rest_then old {now} {new} r q = q ∙ ap (λ (W : Memory). record W { strings = new.strings }) r
+
 module _ {old now new : Memory} {first count below : ℕ} {last whole : Kept} (j : Joining old now first count (suc below) last whole) (r : ReadsSame now new) where
   -- a string was found
   module _ (v : Kept) (k : JoinsOne now new (first + below) whole (Found v)) where
@@ -132,11 +137,12 @@ module _ {old now new : Memory} {first count below : ℕ} {last whole : Kept} (j
         one_step when now new first below whole (Found v) k more n fuel
         ∙ ap (λ env. run (expand_by when (joins first below (read 0))) env (plain new fuel)) (drop_front e (value new.strings v ∷ []))
 
-    pub found_goes : IsSound new → Joining old new first count below last v
-    found_goes s = record {
+    pub found_goes : IsSound new → new ≡ record now { strings = new.strings } → Joining old new first count below last v
+    found_goes s q = record {
       sound = s;
       frame = same_frame r j.frame;
       same = same_then j.same r;
+      rest = rest_then old j.rest q;
       there = k.concats.there v refl;
       within = (let l = j.within in omega (arith, l));
       safe = record {

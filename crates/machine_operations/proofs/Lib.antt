@@ -8,3 +8,5 @@ pub mod Settled
 pub mod Integers
 pub mod Receivers
 pub mod Operated
+pub mod Came
+pub mod Awake

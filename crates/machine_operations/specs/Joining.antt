@@ -1,13 +1,16 @@
 -- Operands that are joined, from the last one on.
-use Rattle.std.specs.Prelude.{◌≡◌, ℕ, zero, suc, ◌+◌, List, [], ◌∷◌, ◌++◌, drop}
+use Rattle.std.specs.Prelude.{◌≡◌, ℕ, zero, suc, ◌+◌, List, [], ◌∷◌, ◌++◌, drop, length, map}
+use Rattle.int_core.specs.Ask.{values}
 use Rattle.int_core.specs.Operations.{concat}
 use Rattle.int_core.specs.Value.{Value, Shape, shape, nth}
 use Rattle.machine_core.specs.World.{for_concat}
 use Rattle.machine_core.specs.Text.{Arg, arg, args_of, read, read_register}
-use Rattle.machine_core.specs.InstructionRows.{joins, to_register}
-use Rattle.machine_core.specs.FrameRows.{When, expand_by, calls_row, raises}
+use Rattle.machine_core.specs.InstructionRows.{joins, to_register, told_values}
+use Rattle.machine_core.specs.FrameRows.{When, expand_by, calls_row, goes_on_by, raises}
 use Rattle.machine_core.specs.Moves.{on_own, settle, Row, run}
+use Rattle.machine_sound.specs.Sound.{Each, Sizes, Valid}
 use Rattle.table_core.specs.declared.value.Value.{Value as Kept}
+use Rattle.table_core.specs.declared.value.Value.TheVariants.{Nil}
 use Rattle.lua_heap.specs.declared.world.World.{World as Memory}
 use Rattle.lua_heap.specs.Plain.{plain}
 use Rattle.lua_heap.specs.Reading.{value}
@@ -71,3 +74,21 @@ abbrev pub IsThere : Memory → Joined → Type 0
 IsThere W (Whole v) = IsIn W.strings W.tables.objects v
 IsThere W (Asks handler left right below) = Unit {0}
 IsThere W (Fails cause) = Unit {0}
+
+-- a frame goes on with what came for a concatenation of which so many operands are left: the first value, or nil
+
+abbrev pub rest_row : (first left : ℕ) → Row
+rest_row first left = goes_on_by (joins first left (read 0))
+
+abbrev pub told_for : (left : ℕ) → List Value → List Value
+told_for left came = told_values (for_concat left) (values came)
+
+abbrev pub first_or_nil : List Kept → Kept
+first_or_nil [] = Nil
+first_or_nil (v ∷ vs) = v
+
+-- what came is valid, by some numbers of objects with those of the tables that are there
+pub record AreValid (W : Memory) (came : List Kept) : Type 0 where
+  pub sizes : Sizes
+  pub tables : sizes.tables ≡ length W.tables.objects
+  pub valid : Each (Valid sizes) (map (value W.strings) came)

@@ -12,8 +12,12 @@ use meta_ops::{Outcome, concat, law};
 use std::alloc::AllocError;
 use table_core::Value;
 
-/// `left .. right` (Lua 5.4 manual, 3.4.6). The result is a string of the world, which stands for the same as before; a refusal changes nothing.
-pub fn concatenate(world: &mut World, left: Value, right: Value) -> Result<Outcome, AllocError>
+/// What `left .. right` comes to (Lua 5.4 manual, 3.4.6). The result is a string of the world, which stands for the same as before; a refusal changes nothing.
+pub fn settle_concatenation(
+    world: &mut World,
+    left: Value,
+    right: Value,
+) -> Result<Outcome, AllocError>
     requires sound { IsSound world.old }
     requires frame { HasFrame world.old }
     requires left { IsIn world.old.strings world.old.tables.objects left }
@@ -22,6 +26,7 @@ pub fn concatenate(world: &mut World, left: Value, right: Value) -> Result<Outco
     ensures done { IfOk result (λ outcome. is_done outcome ≡ false) }
     ensures same { ReadsSame world.old world.new }
     ensures sound { IsSound world.new }
+    ensures rest { world.new ≡ record world.old { strings = world.new.strings } }
     ensures err { OnErr result (world.new ≡ world.old) }
 {
     law::operands_are_there();
@@ -50,9 +55,10 @@ pub(crate) fn join_one(
     ensures done { IfOk result (λ outcome. is_done outcome ≡ false) }
     ensures same { ReadsSame world.old world.new }
     ensures sound { IsSound world.new }
+    ensures rest { world.new ≡ record world.old { strings = world.new.strings } }
     ensures err { OnErr result (world.new ≡ world.old) }
 {
     law::operands_are_there();
     let operand = read_register(world, register);
-    concatenate(world, operand, whole)
+    settle_concatenation(world, operand, whole)
 }

@@ -1,6 +1,6 @@
 // What becomes of the value of an operation (luaV_finishOp of lvm.c).
-ghost use Rattle.std.specs.Prelude.{◌≡◌, ◌+◌, ◌<◌, ◌≤◌, ◌^◌, ℕ, List, Some, cond, map, pos};
-ghost use Rattle.int_core.specs.Value.{Value as Meant, nth, same_truth};
+ghost use Rattle.std.specs.Prelude.{◌≡◌, ◌+◌, ◌<◌, ◌≤◌, ◌^◌, List, Some, cond, map, pos};
+ghost use Rattle.int_core.specs.Value.{Value as Meant, same_truth};
 ghost use Rattle.instruction_forms.specs.Forms.{follows};
 ghost use Rattle.lua_heap.specs.Plain.{plain};
 ghost use Rattle.lua_heap.specs.Reading.{value as meant};
@@ -11,6 +11,7 @@ ghost use Rattle.machine_core.specs.World.{Place, place_of};
 ghost use Rattle.move_laws.specs.Memory.{InOrder, IsSafe, Leads, StandsAt};
 ghost use Rattle.machine_moves.specs.Code.{HasCode};
 ghost use Rattle.machine_operations.specs.Following.{Follows, HasFront, IsFront, Keeps, MayFollow, MayGo, MayKeep};
+ghost use Rattle.machine_operations.specs.Joining.{first_or_nil};
 
 use instruction_forms::After;
 use lua_heap::World;
@@ -56,11 +57,11 @@ pub fn take_value(world: &mut World, pc: usize, after: After, came: &[Value])
     follow(world, pc, after, v);
 }
 
-/// The first value, or nil.
-fn first_or_nil(came: &[Value]) -> Value
-    ensures { (texts : List (List ℕ)) → nth (map (meant texts) came.now) 0 ≡ meant texts result }
+/// The first of some values, or nil.
+pub(crate) fn first_or_nil(values: &[Value]) -> Value
+    ensures { result ≡ first_or_nil values.now }
 {
-    match came.split_first() {
+    match values.split_first() {
         Some((first, _)) => *first,
         None => Value::Nil,
     }

@@ -41,6 +41,7 @@ pub fn join(
     ensures joins { IfOk result (λ joined. Joins world.old world.new first count last joined) }
     ensures same { ReadsSame world.old world.new }
     ensures sound { IsSound world.new }
+    ensures rest { world.new ≡ record world.old { strings = world.new.strings } }
 {
     let mut left = count;
     let mut whole = last;

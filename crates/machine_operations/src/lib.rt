@@ -2,6 +2,7 @@
 #![tactic(auto)]
 
 mod computing;
+mod concatenating;
 mod concatenation;
 mod copying;
 mod following;
@@ -10,7 +11,8 @@ mod operands;
 mod operating;
 
 pub use computing::arithmetic;
-pub use concatenation::concatenate;
+pub use concatenating::{concatenate, join_on};
+pub use concatenation::settle_concatenation;
 pub use following::{advance, follow, keep, take_value};
 pub use joining::{Joined, join};
 pub use operands::{Values, operation_on, read_operands};

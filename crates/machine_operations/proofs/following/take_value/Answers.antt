@@ -5,6 +5,7 @@ use Rattle.machine_core.specs.FrameRows.{by_asking}
 use Rattle.machine_core.specs.Moves.{go}
 use Rattle.move_laws.specs.Memory.{IsSafe, Leads}
 use Rattle.machine_operations.proofs.Afterwards.{follows_by}
+use Rattle.machine_operations.proofs.Came.{first_named}
 use Rattle.machine_operations.proofs.following.take_value.Goals as goal
 
 pub follow-requires-clause-safe : goal.follow-requires-clause-safe
@@ -16,7 +17,7 @@ follow-requires-clause-safe c =
       place = at.place;
       is = at.is;
       env = env;
-      named = c.first_or_nil-v.ensures W.strings;
+      named = first_named W.strings c.args.came.now c.first_or_nil-v.result c.first_or_nil-v.ensures;
       safe = subst (λ r. IsSafe r env W) (follows_by by_asking at.place.function.code c.args.pc c.args.after) (c.requires.safe at.place at.is);
     }
 
@@ -24,4 +25,4 @@ pub returns-clause-leads : goal.returns-clause-leads
 returns-clause-leads c = λ place is.
     let W = c.args.world.now in
     let env = map (meant W.strings) c.args.came.now in
-    subst (λ r. Leads r env W c.follow.new.world go) (sym (follows_by by_asking place.function.code c.args.pc c.args.after)) (c.follow.ensures.leads.leads place is env (c.first_or_nil-v.ensures W.strings))
+    subst (λ r. Leads r env W c.follow.new.world go) (sym (follows_by by_asking place.function.code c.args.pc c.args.after)) (c.follow.ensures.leads.leads place is env (first_named W.strings c.args.came.now c.first_or_nil-v.result c.first_or_nil-v.ensures))

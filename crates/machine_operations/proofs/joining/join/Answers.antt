@@ -1,7 +1,7 @@
 use Rattle.std.proofs.Common.{◌≡◌, suc, ◌+◌, ◌-◌, arith, subst}
 use Rattle.meta_ops.specs.declared.outcome.Outcome.{Outcome}
 use Rattle.machine_operations.specs.Joining.{JoinsOne}
-use Rattle.machine_operations.proofs.Joins.{Joining, asks_joins, can_read, comes_same, fails_joins, found_goes, whole_joins}
+use Rattle.machine_operations.proofs.Joins.{Joining, asks_joins, can_read, comes_same, fails_joins, found_goes, rest_then, whole_joins}
 use Rattle.machine_operations.proofs.joining.join.Goals as goal
 
 pub join_one-requires-clause-there : goal.join_one-requires-clause-there
@@ -17,7 +17,7 @@ loop-left-preserved c =
     let e : c.loop-left.left ≡ suc below = omega (arith, t) in
     let j = subst (λ left. Joining c.args.world.now c.loop-left.world c.args.first c.args.count left c.args.last c.loop-left.whole) e c.loop-left.invariant in
     found_goes j c.join_one.ensures.same c.in-Found.v
-    (subst (λ (o : Outcome). JoinsOne c.loop-left.world c.join_one.new.world (c.args.first + below) c.loop-left.whole o) c.in-Found.is c.in_ok-v.ensures.joins) c.join_one.ensures.sound
+    (subst (λ (o : Outcome). JoinsOne c.loop-left.world c.join_one.new.world (c.args.first + below) c.loop-left.whole o) c.in-Found.is c.in_ok-v.ensures.joins) c.join_one.ensures.sound c.join_one.ensures.rest
 
 pub returns-in-Ask-clause-joins : goal.returns-in-Ask-clause-joins
 returns-in-Ask-clause-joins c =
@@ -51,3 +51,9 @@ returns-in-Fault-clause-same c =
 
 pub returns-clause-joins : goal.returns-clause-joins
 returns-clause-joins c = let t = c.loop-left-test.false in whole_joins (omega (arith, t)) c.loop-left.invariant
+
+pub returns-in-Ask-clause-rest : goal.returns-in-Ask-clause-rest
+returns-in-Ask-clause-rest c = rest_then c.args.world.now c.loop-left.invariant.rest c.join_one.ensures.rest
+
+pub returns-in-Fault-clause-rest : goal.returns-in-Fault-clause-rest
+returns-in-Fault-clause-rest c = rest_then c.args.world.now c.loop-left.invariant.rest c.join_one.ensures.rest

@@ -5,7 +5,7 @@ use Rattle.lua_heap.specs.Reading.{value}
 use Rattle.meta_ops.specs.Heap.{heap_in}
 use Rattle.meta_ops.specs.Outcome.{is_done}
 use Rattle.machine_operations.proofs.Concats.{with_strings, ok_both, concat_same, concats, found_there, not_done}
-use Rattle.machine_operations.proofs.concatenation.concatenate.Goals as goal
+use Rattle.machine_operations.proofs.concatenation.settle_concatenation.Goals as goal
 
 pub returns-clause-settles : goal.returns-clause-settles
 returns-clause-settles c =
