@@ -1,8 +1,7 @@
 -- Coroutines that begin.
-use Rattle.std.proofs.Common.{◌≡◌, ℕ, ◌<◌, List, [], ◌∷◌, ◌++◌, length, Option, Some, None, refl, ap, sym, subst, ◌∙◌, true, false}
-use Rattle.std.specs.Prelude.{map, slice_get}
+use Rattle.std.proofs.Common.{◌≡◌, ℕ, List, Some, refl, true, false}
+use Rattle.std.specs.Prelude.{slice_get}
 use Rattle.int_core.specs.Operations.{is_function}
-use Rattle.int_core.specs.Value.{Value}
 use Rattle.machine_core.specs.World.{fresh}
 use Rattle.machine_sound.specs.Sound.{CoroutineOk, sizes}
 use Rattle.machine_sound.proofs.Lists.{get_map, get_there}

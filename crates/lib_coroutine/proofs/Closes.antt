@@ -1,12 +1,12 @@
 -- The row of `coroutine.close`, over whole worlds.
-use Rattle.std.proofs.Common.{◌≡◌, ℕ, List, [], ◌∷◌, ◌++◌, Option, Some, None, refl, ap, sym, ◌∙◌, append-nil, Bool, true, false}
+use Rattle.std.proofs.Common.{◌≡◌, ℕ, List, [], ◌++◌, Option, Some, None, refl, ap, sym, ◌∙◌, append-nil, Bool, true, false}
 use Rattle.std.specs.Prelude.{cond, flat_map, map, slice_get}
 use Rattle.int_core.specs.Limits.{stack_overflow}
 use Rattle.int_core.specs.Value.{Value, object, a_coroutine, shape, bind, nth}
 use Rattle.machine_core.specs.World.{Coroutine, fresh, suspended, in_progress, normal, dead, failed, closing, World, Stack, stack_of, push, put_frames}
 use Rattle.machine_core.specs.Text.{Arg, arg, read}
 use Rattle.machine_core.specs.FrameRows.{blames, closing_row}
-use Rattle.machine_core.specs.Moves.{Made, made, move, ResumeShape, resumed, refused, is_entered, not_entered, begin_closing, bury, closes_in, coroutine_number, has_room, pending_values, put_coroutine, take_moving, closes_coroutine as begins, Ending, run}
+use Rattle.machine_core.specs.Moves.{Made, made, move, ResumeShape, resumed, is_entered, not_entered, begin_closing, bury, closes_in, coroutine_number, has_room, pending_values, put_coroutine, take_moving, closes_coroutine as begins, Ending, run}
 use Rattle.machine_core.specs.MachineStep.{after_closing, close_row, closes_coroutine}
 use Rattle.lua_heap.specs.declared.world.World.{World as Memory}
 use Rattle.lua_heap.specs.Reading.{value}

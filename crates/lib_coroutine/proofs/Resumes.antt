@@ -1,15 +1,15 @@
 -- The row of `coroutine.resume`, over whole worlds.
-use Rattle.std.proofs.Common.{◌≡◌, ⊎_elim, ℕ, ◌+◌, ◌<◌, ◌≤◌, List, [], ◌∷◌, ◌++◌, length, map, Option, Some, None, refl, ap, sym, subst, ◌∙◌, append-nil, Bool, true, false, arith}
-use Rattle.std.specs.Prelude.{◌&&◌, cond, codes, drop, nat_lt, nat_le, slice_get, slice_set}
+use Rattle.std.proofs.Common.{◌≡◌, ⊎_elim, ℕ, ◌+◌, ◌≤◌, List, [], ◌∷◌, ◌++◌, length, map, Option, Some, None, refl, ap, sym, subst, ◌∙◌, append-nil, Bool, true, false, arith}
+use Rattle.std.specs.Prelude.{◌&&◌, cond, codes, drop, nat_lt, nat_le, slice_get}
 use Rattle.std.proofs.lemmas.List.{length-map}
 use Rattle.int_core.specs.Limits.{greatest_depth, greatest_resumes, stack_overflow}
 use Rattle.int_core.specs.Value.{boolean, string, Value, known, object, primitive, a_coroutine, a_function, shape, bind, last, nth}
 use Rattle.list_laws.proofs.Items.{some_same}
 use Rattle.list_laws.proofs.Tests.{lt_not, lt_off, split}
-use Rattle.machine_core.specs.World.{Function, LuaFrame, Frame, lua, Coroutine, fresh, suspended, in_progress, normal, dead, failed, World, Stack, stack_of, put_frames, push}
-use Rattle.machine_core.specs.Text.{Arg, arg, read, written}
+use Rattle.machine_core.specs.World.{Function, LuaFrame, Frame, lua, Coroutine, fresh, suspended, in_progress, World, Stack, stack_of, put_frames, push}
+use Rattle.machine_core.specs.Text.{read}
 use Rattle.machine_core.specs.FrameRows.{hand_over, handed}
-use Rattle.machine_core.specs.Moves.{Made, made, move, CallShape, is_entered, is_primitive, not_entered, ResumeShape, resumed, refused, resume, coroutine_number, can_start, enters, go_into, has_room, new_frame, push_all, put_coroutine, wait_for_another, starts_in, resumes as resumes_in, Ending, go, calls_primitive, Row, stop, ends, run, TopShape, lua_top, top_shape, see_top}
+use Rattle.machine_core.specs.Moves.{Made, made, is_entered, is_primitive, not_entered, ResumeShape, resumed, refused, resume, coroutine_number, can_start, enters, go_into, has_room, new_frame, push_all, put_coroutine, wait_for_another, starts_in, resumes as resumes_in, Ending, go, calls_primitive, stop, ends, run, TopShape, lua_top, top_shape, see_top}
 use Rattle.machine_core.specs.MachineStep.{after_resume, resume_row, resumes}
 use Rattle.machine_sound.proofs.Lists.{bind_at, get_map, get_set_same, last_push}
 use Rattle.machine_sound.proofs.Frames.{stack_is}
@@ -26,7 +26,7 @@ use Rattle.lua_heap.specs.Codes.{AreCodes}
 use Rattle.move_laws.specs.Memory.{HasStack, InOrder, Leads, ReadsSame}
 use Rattle.move_laws.proofs.Rows.{act_is}
 use Rattle.lib_coroutine.specs.Arguments.{FirstIs}
-use Rattle.lib_coroutine.specs.Resuming.{GoesInto, IsRefused, resumption_of, refusal_of}
+use Rattle.lib_coroutine.specs.Resuming.{GoesInto, resumption_of, refusal_of}
 use Rattle.lib_coroutine.specs.declared.resuming.Resumption.{Resumption}
 use Rattle.lib_coroutine.specs.declared.resuming.Resumption.TheVariants as resumption
 use Rattle.lib_coroutine.proofs.Rows.{leads_by, with_moving}

@@ -8,7 +8,6 @@ use Rattle.machine_core.specs.World.{Frame, Coroutine, fresh, in_progress, norma
 use Rattle.machine_core.specs.Moves.{go_into, put_coroutine, wait_for_another}
 use Rattle.machine_sound.proofs.Frames.{stack_is}
 use Rattle.machine_sound.proofs.Lists.{get_map, get_set_other, get_set_same, get_within, last_push, map_get, map_set, some_is}
-use Rattle.table_core.specs.declared.value.CellId.{CellId}
 use Rattle.table_core.specs.declared.value.CoroId.{CoroId}
 use Rattle.lua_stack.specs.declared.frame.OpenCell.{OpenCell}
 use Rattle.lua_stack.specs.Frames.{KeptStack, cell_at, frames}
@@ -22,7 +21,7 @@ use Rattle.lua_heap.specs.Plain.{coroutine, plain}
 use Rattle.move_laws.specs.Memory.{HasStack}
 use Rattle.move_laws.proofs.Places.{stack_is as stack_there}
 use Rattle.machine_coroutines.proofs.Beginnings.{set_set}
-use Rattle.lib_coroutine.specs.Resuming.{GoesInto, IsFresh, IsSuspended}
+use Rattle.lib_coroutine.specs.Resuming.{GoesInto, IsFresh}
 
 -- lists
 

@@ -1,5 +1,5 @@
-use Rattle.std.proofs.Common.{◌≡◌, refl, ap, ◌∙◌}
-use Rattle.std.specs.Prelude.{Some, slice_get}
+use Rattle.std.proofs.Common.{ap, ◌∙◌}
+use Rattle.std.specs.Prelude.{Some}
 use Rattle.lua_heap.specs.declared.world.Coro.TheVariants.{Fresh}
 use Rattle.lib_coroutine.proofs.Begun.{body_is_function, function_there}
 use Rattle.lib_coroutine.proofs.beginning.begin.Goals as goal

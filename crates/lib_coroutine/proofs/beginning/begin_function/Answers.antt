@@ -1,9 +1,8 @@
-use Rattle.std.proofs.Common.{rules, ◌≡◌, [], ◌∷◌, refl, ap, sym, ◌∙◌, subst}
-use Rattle.std.specs.Prelude.{drop, map}
+use Rattle.std.proofs.Common.{rules, ◌≡◌, [], ◌∷◌, refl, ap, ◌∙◌, subst}
+use Rattle.std.specs.Prelude.{drop}
 use Rattle.lua_stack.proofs.Called.{on_err}
 use Rattle.lua_heap.specs.declared.world.World.{World as Memory}
 use Rattle.lua_heap.specs.Reading.{value}
-use Rattle.lua_heap.specs.Plain.{plain}
 use Rattle.machine_core.specs.Moves.{new_frame}
 use Rattle.table_core.specs.declared.value.Value.TheVariants.{Func}
 use Rattle.lib_coroutine.specs.Resuming.{GoesInto}

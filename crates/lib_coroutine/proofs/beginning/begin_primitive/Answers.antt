@@ -1,4 +1,4 @@
-use Rattle.std.proofs.Common.{rules, ◌≡◌, [], ◌∷◌, refl, ap, sym, ◌∙◌, subst}
+use Rattle.std.proofs.Common.{rules, ◌≡◌, refl, ap, ◌∙◌, subst}
 use Rattle.std.specs.Prelude.{drop, map}
 use Rattle.lua_stack.specs.Frames.{frame_of}
 use Rattle.lua_stack.proofs.Called.{on_err}

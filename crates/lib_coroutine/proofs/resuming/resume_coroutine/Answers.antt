@@ -1,5 +1,4 @@
 use Rattle.std.proofs.Common.{rules, ◌≡◌, ◌≤◌, Some, ap, sym, subst, ◌∙◌, length}
-use Rattle.std.specs.Prelude.{slice_get}
 use Rattle.std.proofs.lemmas.Result.{on_err_weaker}
 use Rattle.int_core.specs.Limits.{greatest_resumes}
 use Rattle.lib_coroutine.specs.Resuming.{refusal_of, resumption_of}
