@@ -2,3 +2,4 @@ mod Made
 mod Found
 mod Opened
 mod Making
+mod Filled

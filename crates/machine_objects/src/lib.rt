@@ -1,11 +1,13 @@
-//! The machine's rows of open lists and of the functions that instructions make, on a world in memory (lvm.c and lfunc.c of Lua 5.4).
+//! The machine's rows of open lists and of the objects that instructions make and fill, on a world in memory (lvm.c and lfunc.c of Lua 5.4).
 #![tactic(auto)]
 
 mod closures;
+mod filling;
 mod functions;
 mod lists;
 mod running;
 
 pub use closures::new_function;
+pub use filling::fill_table;
 pub use functions::make_function;
 pub use lists::extra_arguments;
