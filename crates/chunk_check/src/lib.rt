@@ -14,6 +14,3 @@ mod writable;
 
 pub use checked::check;
 pub use fault::CheckFault;
-
-#[cfg(test)]
-mod tests;

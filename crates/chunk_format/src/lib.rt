@@ -13,6 +13,3 @@ mod output;
 pub use chunk::{read_chunk, read_function, write_chunk, write_function};
 pub use fault::ChunkFault;
 pub use law::no_chunk_goes_on;
-
-#[cfg(test)]
-mod tests;

@@ -10,6 +10,3 @@ pub use checked::Checked;
 pub use instruction::Instruction;
 pub use opcode::{OPCODES, Opcode};
 pub use proto::{AbsLine, Const, LocVar, Proto, UpDesc};
-
-#[cfg(test)]
-mod tests;

@@ -3,8 +3,6 @@
 #![tactic(auto)]
 
 mod fault;
-#[cfg(test)]
-mod tests;
 mod text;
 
 pub use fault::TextFault;

@@ -4,8 +4,6 @@
 mod arithmetic;
 mod list;
 mod numeral;
-#[cfg(test)]
-mod tests;
 
 pub use arithmetic::{add, floor_div, floor_mod, mul, neg, shl, shr, sub};
 pub use list::{Bytes, Numbers};

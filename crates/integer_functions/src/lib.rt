@@ -4,8 +4,6 @@
 
 mod digits;
 mod integers;
-#[cfg(test)]
-mod tests;
 
 pub use digits::read_in_base;
 pub use integers::{absolute, greater, is_below, lesser, remainder};

@@ -13,8 +13,6 @@ mod matching;
 mod numbers;
 mod repeating;
 mod seeking;
-#[cfg(test)]
-mod tests;
 
 pub use bytes::{byte, char, len, lower, reverse, sub, upper};
 pub use expanding::expand;

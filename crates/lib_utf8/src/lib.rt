@@ -7,8 +7,6 @@ mod codepoints;
 mod counting;
 mod offsets;
 mod places;
-#[cfg(test)]
-mod tests;
 mod walking;
 
 pub use characters::char;

@@ -8,8 +8,6 @@ mod reading;
 mod refusal;
 mod results;
 mod shape;
-#[cfg(test)]
-mod tests;
 mod text;
 
 pub use law::{answers_are_done, refusals_are_done};

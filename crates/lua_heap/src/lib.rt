@@ -14,8 +14,6 @@ mod objects;
 mod opening;
 mod places;
 mod strings;
-#[cfg(test)]
-mod tests;
 mod texts;
 mod trees;
 mod world;

@@ -16,8 +16,6 @@ mod plain;
 // What is answered.
 mod answer;
 mod find;
-#[cfg(test)]
-mod tests;
 
 pub use answer::{Capture, Match, PatternFault};
 pub use find::{Pattern, find_at};

@@ -10,8 +10,6 @@ mod leaving;
 mod pending;
 mod registers;
 mod stack;
-#[cfg(test)]
-mod tests;
 mod values;
 
 pub use frame::{OpenCell, Shape, Top, Wait};

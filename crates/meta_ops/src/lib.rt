@@ -15,8 +15,6 @@ mod numbers;
 mod operation;
 mod outcome;
 mod store;
-#[cfg(test)]
-mod tests;
 
 pub use callee::{Callee, callee_of};
 pub use compare::{equal, less, less_equal};

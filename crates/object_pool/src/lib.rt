@@ -3,7 +3,5 @@
 
 mod pool;
 mod segments;
-#[cfg(test)]
-mod tests;
 
 pub use pool::Pool;

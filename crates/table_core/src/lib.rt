@@ -7,8 +7,6 @@ mod indexed;
 mod keyed;
 mod rows;
 mod table;
-#[cfg(test)]
-mod tests;
 mod value;
 
 pub use table::{NoSuchKey, Table};

@@ -6,8 +6,6 @@ mod conversion;
 mod numbers;
 mod padding;
 mod quoting;
-#[cfg(test)]
-mod tests;
 mod texts;
 
 pub use conversion::Conversion;

@@ -8,8 +8,6 @@ mod growing;
 mod joining;
 mod places;
 mod repeat;
-#[cfg(test)]
-mod tests;
 
 pub use bytes::{byte_of, lowered, reversed, uppered};
 pub use fault::StringFault;

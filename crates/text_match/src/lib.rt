@@ -5,8 +5,6 @@
 mod hits;
 mod plain;
 mod searching;
-#[cfg(test)]
-mod tests;
 
 pub use hits::{Hit, first_hit};
 pub use plain::find_plain;

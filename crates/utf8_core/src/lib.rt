@@ -6,8 +6,6 @@ mod counting;
 mod decoding;
 mod encoding;
 mod offsets;
-#[cfg(test)]
-mod tests;
 mod walking;
 
 pub use counting::count;
