@@ -10,5 +10,8 @@ mod Meaning
 mod MetatableRows
 mod PackRows
 mod SeekRows
+mod Sorted
+mod SortRows
+mod Rewriting
 mod Seen
 mod TextRows

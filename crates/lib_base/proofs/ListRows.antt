@@ -22,7 +22,7 @@ unfoldable pub pushed : List Value → List Value → List Value
 pushed [] env = env
 pushed (v ∷ vs) env = pushed vs (v ∷ env)
 
-behind : (vs env : List Value) (j : ℕ) → nth (pushed vs env) (length vs + j) ≡ nth env j
+pub behind : (vs env : List Value) (j : ℕ) → nth (pushed vs env) (length vs + j) ≡ nth env j
 unfolding pushed
 behind [] env j = let e : zero + j ≡ j = omega arith in ap (nth env) e
 behind (v ∷ vs) env j = let e : suc (length vs) + j ≡ length vs + suc j = omega arith in ap (nth (pushed vs (v ∷ env))) e ∙ behind vs (v ∷ env) (suc j)

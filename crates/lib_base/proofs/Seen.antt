@@ -46,7 +46,7 @@ no_table texts (Table id) h = absurd (h id refl)
 no_table texts (Func id) h = refl
 no_table texts (Coro id) h = refl
 
-or_nil_valid : (z : Sizes) (o : Option Value) → OptionOk (Valid z) o → Valid z (or_nil o)
+pub or_nil_valid : (z : Sizes) (o : Option Value) → OptionOk (Valid z) o → Valid z (or_nil o)
 or_nil_valid z None h = tt
 or_nil_valid z (Some v) h = h
 

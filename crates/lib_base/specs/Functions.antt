@@ -1,7 +1,7 @@
 -- The row of each function of this crate.
 use Rattle.std.specs.Prelude.{true, false, List}
 use Rattle.int_core.specs.Value.{Shape}
-use Rattle.library_rows.specs.Base.{asserts, collects_garbage, gets_metatable, expand, joins, meta_field, next_of, packs, raw_equal, raw_get, raw_length, raw_set, seek, selects, sets_metatable, spreads, texts, types}
+use Rattle.library_rows.specs.Base.{asserts, collects_garbage, gets_metatable, expand, joins, meta_field, next_of, packs, raw_equal, raw_get, raw_length, raw_set, seek, selects, sets_metatable, sorts, spreads, texts, types}
 use Rattle.library_rows.specs.Formats.{kinds_row, layout_row}
 use Rattle.library_rows.specs.Integers.{math_abs_row, math_fmod_row, math_max_row, math_min_row, math_tointeger_row, math_type_row, math_ult_row}
 use Rattle.library_rows.specs.Codepoints.{utf8_char_row, utf8_codepoint_row, utf8_codes_row, utf8_len_row, utf8_offset_row, walks}
@@ -9,7 +9,7 @@ use Rattle.library_rows.specs.Library.{walk_number, walk_lax_number}
 use Rattle.library_rows.specs.Look.{Look}
 use Rattle.library_rows.specs.Plainly.{Outcome, plainly}
 use Rattle.lib_base.specs.declared.calls.Function.{Function}
-use Rattle.lib_base.specs.declared.calls.Function.TheVariants.{Assert, CollectGarbage, GetMetatable, Next, RawEqual, RawGet, RawLength, RawSet, Select, SetMetatable, TypeOf, Pack, Math, Join, MetaField, Spread, Text, Expand, Seek, OverTexts}
+use Rattle.lib_base.specs.declared.calls.Function.TheVariants.{Assert, CollectGarbage, GetMetatable, Next, RawEqual, RawGet, RawLength, RawSet, Select, SetMetatable, TypeOf, Pack, Sort, Math, Join, MetaField, Spread, Text, Expand, Seek, OverTexts}
 use Rattle.library_rows.specs.Searches.{find_row, match_row}
 use Rattle.library_rows.specs.Strings.{byte_row, char_row, from_row, len_row, lower_row, rep_row, reverse_row, sub_row, toint_row, tonumber_row, upper_row}
 use Rattle.lib_base.specs.declared.calls.Plain.{Plain}
@@ -69,6 +69,7 @@ function_row Select = selects
 function_row SetMetatable = sets_metatable
 function_row TypeOf = types
 function_row Pack = packs
+function_row Sort = sorts
 function_row (Math function) = plainly (math_row function)
 function_row Join = joins
 function_row MetaField = meta_field

@@ -5,6 +5,7 @@ pub mod Select
 pub mod Metatables
 pub mod Lists
 pub mod Packing
+pub mod Sorting
 pub mod Texts
 pub mod Math
 pub mod Functions

@@ -16,9 +16,8 @@ pub mod plain;
 pub mod raw;
 mod seeking;
 mod shapes;
+mod sorting;
 mod strings;
-#[cfg(test)]
-mod tests;
 mod text;
 pub mod texts;
 

@@ -36,7 +36,7 @@ pub(crate) fn count(function: &'static [u8], seen: Shape) -> Result<usize, Refus
 }
 
 /// The values at 1 to `many` of a table.
-fn items(world: &World, id: TableId, many: usize) -> Result<Vec<Value>, AllocError>
+pub(crate) fn items(world: &World, id: TableId, many: usize) -> Result<Vec<Value>, AllocError>
     requires { many < 2 ^ 63 }
     ensures { IfOk result (λ items. map (value world.now.strings) items.items ≡ items_from (heap_of world.now) (object a_table id.0) many 1) }
 {

@@ -23,7 +23,7 @@ pub(crate) fn reads_alike(world: &World)
 
 /// The table of a number, where there is one.
 #[inline(always)]
-fn table(world: &World, id: TableId) -> Option<&Table>
+pub(crate) fn table(world: &World, id: TableId) -> Option<&Table>
     ensures { option_map (λ table. table.now) result ≡ slice_get world.now.tables.objects id.0 }
 {
     if id.0 < world.tables.len() {

@@ -28,3 +28,6 @@ returns-in-Text-clause-changes c = changes_strings c.args.world.now c.text.new.w
 
 pub returns-in-RawSet-clause-err : goal.returns-in-RawSet-clause-err
 returns-in-RawSet-clause-err c = on_err_weaker c.raw_set.result (same_strings c.args.world.now c.raw_set.new.world c.args.arguments.now c.requires) c.raw_set.ensures.err
+
+pub returns-in-Sort-clause-err : goal.returns-in-Sort-clause-err
+returns-in-Sort-clause-err c = on_err_weaker c.sort.result (same_strings c.args.world.now c.sort.new.world c.args.arguments.now c.requires) c.sort.ensures.err
