@@ -201,48 +201,48 @@ module _ (W : Memory) (op : Named) (xs : Operands) (also : Option ℕ) (after : 
       })
 
   module _ (asked : Operation) (kind : kind_of asked ≡ operation_of op) (ops : (texts : List (List ℕ)) → operands_of texts asked ≡ map (value texts) (list_of vs)) where
-    module _ (W1 : Memory) (o : Came) (s : Settles W W1 asked o) where
+    module _ (settled : Memory) (o : Came) (s : Settles W settled asked o) where
       abbrev came : List Value
       came = values_of W.strings (more_of W.strings asked) o
 
       abbrev told : SettledShape
       told = told_of W.strings o
 
-      makes : Makes W W1 (settle (operation_of op) r.named) r.values came told
-      makes = subst (λ k. Makes W W1 (settle k r.named) r.values came told) kind (s.makes r.values r.named (here ∙ sym (ops W.strings)))
+      makes : Makes W settled (settle (operation_of op) r.named) r.values came told
+      makes = subst (λ k. Makes W settled (settle k r.named) r.values came told) kind (s.makes r.values r.named (here ∙ sym (ops W.strings)))
 
-      goes : (place : Place) (fuel : ℕ) → run (row place) [] (plain W fuel) ≡ run (goes_by place.function.code n told) (r.values ++ came) (plain W1 fuel)
+      goes : (place : Place) (fuel : ℕ) → run (row place) [] (plain W fuel) ≡ run (goes_by place.function.code n told) (r.values ++ came) (plain settled fuel)
       goes place fuel =
           r.goes (λ vs. operate (operation_of op) vs (wait_for after) (also_to also vs) (follows place.function.code pc after)) fuel
-          ∙ act_is (settle (operation_of op) r.named) (goes_by place.function.code) r.values (plain W fuel) (plain W1 fuel) came told (makes.is fuel)
+          ∙ act_is (settle (operation_of op) r.named) (goes_by place.function.code) r.values (plain W fuel) (plain settled fuel) came told (makes.is fuel)
 
-      safe : (place : Place) → IsSafe (row place) [] W → IsSafe (goes_by place.function.code n told) (r.values ++ came) W1
+      safe : (place : Place) → IsSafe (row place) [] W → IsSafe (goes_by place.function.code n told) (r.values ++ came) settled
       safe place k = record { never = λ fuel e. k.never fuel (goes place fuel ∙ e) }
 
-      pub same_world : (is_found ≡ told → ⊥) → ReadsSame W W1
+      pub same_world : (is_found ≡ told → ⊥) → ReadsSame W settled
       same_world k = record {
         is = λ fuel.
             let V = plain W fuel in
-            unchanged V h.place (does (operation_of op) (args_of r.values r.named) V.heap) (plain W1 fuel) came told k
+            unchanged V h.place (does (operation_of op) (args_of r.values r.named) V.heap) (plain settled fuel) came told k
             (sym (bind_at (λ p. settled_in V p (does (operation_of op) (args_of r.values r.named) V.heap)) (place_of V) h.place h.is) ∙ makes.is fuel);
       }
 
-    module _ (W1 : Memory) (texts : W1.strings ≡ W.strings) (places : place_of (plain W1 0) ≡ place_of (plain W 0)) where
+    module _ (settled : Memory) (texts : settled.strings ≡ W.strings) (places : place_of (plain settled 0) ≡ place_of (plain W 0)) where
       abbrev end_row : Prototype → Arg → Row
       end_row p x = prepares (moves_for also x) (only n (expand (follows p pc after)))
 
-      here_too : (v : Kept) → value W.strings v ≡ value W1.strings v
+      here_too : (v : Kept) → value W.strings v ≡ value settled.strings v
       here_too v = ap (λ texts. value texts v) (sym texts)
 
       -- a value was found
 
-      found_names : (v : Kept) → AreNamed W1 (r.values ++ value W.strings v ∷ []) x n first v
+      found_names : (v : Kept) → AreNamed settled (r.values ++ value W.strings v ∷ []) x n first v
       found_names v = record {
         copied = copied (value W.strings v ∷ []) ∙ here_too first;
         found = ap (λ env. nth env 0) (drop_front r.values (value W.strings v ∷ [])) ∙ here_too v;
       }
 
-      pub found_may : (v : Kept) → Settles W W1 asked (Found v) → (place : Place) → place_of (plain W 0) ≡ Some place → IsSafe (row place) [] W → MayEnd W1 pc also first after v
+      pub found_may : (v : Kept) → Settles W settled asked (Found v) → (place : Place) → place_of (plain W 0) ≡ Some place → IsSafe (row place) [] W → MayEnd settled pc also first after v
       found_may v s place is k = record {
         place = place;
         is = places ∙ is;
@@ -250,21 +250,21 @@ module _ (W : Memory) (op : Named) (xs : Operands) (also : Option ℕ) (after : 
         x = x;
         slot = n;
         names = found_names v;
-        safe = subst (λ ms. IsSafe (prepares ms (only n (expand (follows place.function.code pc after)))) (r.values ++ value W.strings v ∷ []) W1) moves (safe W1 (Found v) s place k);
+        safe = subst (λ ms. IsSafe (prepares ms (only n (expand (follows place.function.code pc after)))) (r.values ++ value W.strings v ∷ []) settled) moves (safe settled (Found v) s place k);
       }
 
-      pub found_leads : (v : Kept) → Settles W W1 asked (Found v) → (last : Memory) → EndsSo W1 last pc also first after v go → (place : Place) → place_of (plain W 0) ≡ Some place → Leads (row place) [] W last go
+      pub found_leads : (v : Kept) → Settles W settled asked (Found v) → (last : Memory) → EndsSo settled last pc also first after v go → (place : Place) → place_of (plain W 0) ≡ Some place → Leads (row place) [] W last go
       found_leads v s last e place is =
           let env = r.values ++ value W.strings v ∷ [] in
-          let l = subst (λ ms. Leads (prepares ms (only n (expand (follows place.function.code pc after)))) env W1 last go) (sym moves) (e.leads place (places ∙ is) env x n (found_names v)) in
-          record { is = λ fuel. goes W1 (Found v) s place fuel ∙ l.is fuel }
+          let l = subst (λ ms. Leads (prepares ms (only n (expand (follows place.function.code pc after)))) env settled last go) (sym moves) (e.leads place (places ∙ is) env x n (found_names v)) in
+          record { is = λ fuel. goes settled (Found v) s place fuel ∙ l.is fuel }
 
       -- a value was stored
 
-      done_names : AreNamed W1 (r.values ++ []) x n first Nil
+      done_names : AreNamed settled (r.values ++ []) x n first Nil
       done_names = record { copied = copied [] ∙ here_too first; found = ap (λ env. nth env 0) (drop_front r.values []) }
 
-      pub done_may : Settles W W1 asked Done → (place : Place) → place_of (plain W 0) ≡ Some place → IsSafe (row place) [] W → MayEnd W1 pc also first after Nil
+      pub done_may : Settles W settled asked Done → (place : Place) → place_of (plain W 0) ≡ Some place → IsSafe (row place) [] W → MayEnd settled pc also first after Nil
       done_may s place is k = record {
         place = place;
         is = places ∙ is;
@@ -272,41 +272,41 @@ module _ (W : Memory) (op : Named) (xs : Operands) (also : Option ℕ) (after : 
         x = x;
         slot = n;
         names = done_names;
-        safe = subst (λ ms. IsSafe (prepares ms (only n (expand (follows place.function.code pc after)))) (r.values ++ []) W1) moves (safe W1 Done s place k);
+        safe = subst (λ ms. IsSafe (prepares ms (only n (expand (follows place.function.code pc after)))) (r.values ++ []) settled) moves (safe settled Done s place k);
       }
 
-      pub done_leads : Settles W W1 asked Done → (last : Memory) → EndsSo W1 last pc also first after Nil go → (place : Place) → place_of (plain W 0) ≡ Some place → Leads (row place) [] W last go
+      pub done_leads : Settles W settled asked Done → (last : Memory) → EndsSo settled last pc also first after Nil go → (place : Place) → place_of (plain W 0) ≡ Some place → Leads (row place) [] W last go
       done_leads s last e place is =
-          let l = subst (λ ms. Leads (prepares ms (only n (expand (follows place.function.code pc after)))) (r.values ++ []) W1 last go) (sym moves) (e.leads place (places ∙ is) (r.values ++ []) x n done_names) in
-          record { is = λ fuel. goes W1 Done s place fuel ∙ l.is fuel }
+          let l = subst (λ ms. Leads (prepares ms (only n (expand (follows place.function.code pc after)))) (r.values ++ []) settled last go) (sym moves) (e.leads place (places ∙ is) (r.values ++ []) x n done_names) in
+          record { is = λ fuel. goes settled Done s place fuel ∙ l.is fuel }
 
       -- the frame is at fault
-      pub fault_leads : (cause : Cause) → Settles W W1 asked (Fault cause) → (last : Memory) → FailsSo W1 last also first cause raised → (place : Place) → Leads (row place) [] W last raised
+      pub fault_leads : (cause : Cause) → Settles W settled asked (Fault cause) → (last : Memory) → FailsSo settled last also first cause raised → (place : Place) → Leads (row place) [] W last raised
       fault_leads cause s last f place =
           let env = r.values ++ [] in
           let l = f.leads env x (copied [] ∙ here_too first) in
-          let m = subst (λ texts. Leads (prepares (moves_for also x) (raises (fault_text texts cause))) env W1 last raised) texts l in
-          let k = subst (λ ms. Leads (prepares ms (raises (fault_text W.strings cause))) env W1 last raised) (sym moves) m in
-          record { is = λ fuel. goes W1 (Fault cause) s place fuel ∙ k.is fuel }
+          let m = subst (λ texts. Leads (prepares (moves_for also x) (raises (fault_text texts cause))) env settled last raised) texts l in
+          let k = subst (λ ms. Leads (prepares ms (raises (fault_text W.strings cause))) env settled last raised) (sym moves) m in
+          record { is = λ fuel. goes settled (Fault cause) s place fuel ∙ k.is fuel }
 
       -- a handler is asked for
 
-      module _ (handler object : Kept) (s : Settles W W1 asked (Ask handler object)) (arguments : List Kept) (are : (texts : List (List ℕ)) → map (value texts) arguments ≡ value texts object ∷ more_of texts asked) where
+      module _ (handler object : Kept) (s : Settles W settled asked (Ask handler object)) (arguments : List Kept) (are : (texts : List (List ℕ)) → map (value texts) arguments ≡ value texts object ∷ more_of texts asked) where
         abbrev asked_env : List Value
         asked_env = r.values ++ (value W.strings handler ∷ value W.strings object ∷ more_of W.strings asked)
 
-        ask_names : IsNamed W1 asked_env (read n) (suc n) (wait_for after) x handler arguments (wait_kept after) (prepared_by also first)
+        ask_names : IsNamed settled asked_env (read n) (suc n) (wait_for after) x handler arguments (wait_kept after) (prepared_by also first)
         ask_names = record {
           calls = nth_behind r.values (value W.strings handler) (value W.strings object ∷ more_of W.strings asked) ∙ here_too handler;
           gives = drop_one_more r.values (value W.strings handler) (value W.strings object ∷ more_of W.strings asked) ∙ sym (are W.strings) ∙ ap (λ texts. map (value texts) arguments) (sym texts);
-          waits = waits_named (value W1.strings) asked_env after;
-          copies = copy_named (value W1.strings) asked_env x also first (copied (value W.strings handler ∷ value W.strings object ∷ more_of W.strings asked) ∙ here_too first);
+          waits = waits_named (value settled.strings) asked_env after;
+          copies = copy_named (value settled.strings) asked_env x also first (copied (value W.strings handler ∷ value W.strings object ∷ more_of W.strings asked) ∙ here_too first);
         }
 
         ask_moves : also_to also r.named ≡ prepared_of x (prepared_by also first)
         ask_moves = moves ∙ sym (prepared_named also x first)
 
-        pub ask_may : (place : Place) → IsSafe (row place) [] W → HasText W1.strings first → MayCall W1 handler arguments (wait_kept after) (prepared_by also first)
+        pub ask_may : (place : Place) → IsSafe (row place) [] W → HasText settled.strings first → MayCall settled handler arguments (wait_kept after) (prepared_by also first)
         ask_may place k t = record {
           env = asked_env;
           f = read n;
@@ -314,12 +314,12 @@ module _ (W : Memory) (op : Named) (xs : Operands) (also : Option ℕ) (after : 
           w = wait_for after;
           x = x;
           names = ask_names;
-          safe = subst (λ ms. IsSafe (call_row (read n) (suc n) (wait_for after) ms) asked_env W1) ask_moves (safe W1 (Ask handler object) s place k);
-          held_wait = waits_held W1.strings after;
-          held = copy_held W1.strings also first t;
+          safe = subst (λ ms. IsSafe (call_row (read n) (suc n) (wait_for after) ms) asked_env settled) ask_moves (safe settled (Ask handler object) s place k);
+          held_wait = waits_held settled.strings after;
+          held = copy_held settled.strings also first t;
         }
 
-        pub ask_steps : (last : Memory) (fuel left : ℕ) (ending : Ending) → CallsSo W1 last fuel left handler arguments (wait_kept after) (prepared_by also first) ending → (place : Place) → Steps (row place) [] W fuel last left ending
+        pub ask_steps : (last : Memory) (fuel left : ℕ) (ending : Ending) → CallsSo settled last fuel left handler arguments (wait_kept after) (prepared_by also first) ending → (place : Place) → Steps (row place) [] W fuel last left ending
         ask_steps last fuel left ending c place =
-            let l = subst (λ ms. Steps (call_row (read n) (suc n) (wait_for after) ms) asked_env W1 fuel last left ending) (sym ask_moves) (c.steps asked_env (read n) (suc n) (wait_for after) x ask_names) in
-            steps_from (same_world W1 (Ask handler object) s (λ e. absurd (cc))) (goes W1 (Ask handler object) s place fuel) l
+            let l = subst (λ ms. Steps (call_row (read n) (suc n) (wait_for after) ms) asked_env settled fuel last left ending) (sym ask_moves) (c.steps asked_env (read n) (suc n) (wait_for after) x ask_names) in
+            steps_from (same_world settled (Ask handler object) s (λ e. absurd (cc))) (goes settled (Ask handler object) s place fuel) l
