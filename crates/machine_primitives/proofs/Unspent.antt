@@ -1,0 +1,286 @@
+-- No function of a library pays, so none ends as spent.
+use Rattle.std.proofs.Common.{◌≡◌, ℕ, zero, suc, List, [], ◌∷◌, ◌++◌, Bool, true, false, Option, Some, None, length, refl, ap, sym, subst}
+use Rattle.std.specs.Prelude.{codes, ℤ, pos, negsuc, cond, drop, slice_get, ◌&&◌, nat_lt}
+use Rattle.int_core.specs.Limits.{greatest_resumes, stack_overflow}
+use Rattle.int_core.specs.Value.{nil, boolean, integer, string, primitive, a_table, a_function, a_coroutine, Value, known, object, Shape, is_known, is_object, bind}
+use Rattle.machine_core.specs.World.{Function, Coroutine, fresh, suspended, in_progress, normal, dead, failed, World, Stack, stack_of}
+use Rattle.machine_core.specs.Moves.{on_own, move_pc, open_register, outside, settle, enter, enter_tail, await, find_close, is_closable, begin_leaving, leave_frame, take_moving, look, give, give_with, blame, place_text, push_frame, call_value, see_top, see_catcher, pop_frame, take_closing, set_error, end_coroutine, fail_coroutine, suspend, create, consult, see_status, see_running, print, resume, begin_closing, Move, Told, Made, made, move, CallShape, is_entered, is_primitive, not_paid, not_entered, ResumeShape, resumed, refused, enters, has_room, push_all, new_frame, starts_in, can_start, resumes, wait_for_another, closes_in, closes_coroutine, go_into, coroutine_number, Ending, Row, traps, stop, only, act, Outcome, trapped, ends, run}
+use Rattle.machine_core.specs.World.{push, closing}
+use Rattle.machine_core.specs.Text.{Arg, read}
+use Rattle.machine_core.specs.FrameRows.{hand_over, blames, over_frame, closing_row}
+use Rattle.machine_core.specs.MachineStep.{gives_back, look_row, after_look, pcall_row, xpcall_row, error_row, level_in, errs_at, after_entry, after_resume, resume_row, yield_row, after_closing, close_row, can_call, wrong_type, create_row, sees_status, status_row, running_row, print_row}
+use Rattle.machine_core.specs.Moves.{Over, over_pcall, over_xpcall, LookShape, is_given, is_refused, is_raised, lua_top, pcall_top, xpcall_top, handler_top, closing_top, no_top, one_left, all_closed, closed_with_error}
+use Rattle.library_rows.specs.Look.{Look}
+use Rattle.lib_base.specs.Functions.{function_row}
+use Rattle.lua_heap.specs.declared.world.World.{World as Memory}
+use Rattle.lua_heap.specs.Plain.{plain}
+use Rattle.move_laws.specs.Memory.{Leads}
+use Rattle.machine_primitives.specs.declared.primitives.Called.{Called}
+use Rattle.machine_primitives.specs.declared.primitives.Called.TheVariants.{Library, Error, Pcall, Xpcall, Close, Create, IsYieldable, Resume, Running, Status, Yield, Build, Print}
+use Rattle.machine_primitives.specs.Primitives.{row_by}
+use Rattle.machine_sound.proofs.Lists.{bind_some, some_is}
+use Rattle.move_laws.proofs.Order.{is_spent}
+
+-- what a resume tells: it calls without paying
+
+abbrev pub Free : ResumeShape → Type 0
+Free (resumed not_paid) = ⊥
+Free (resumed is_entered) = Unit {0}
+Free (resumed (is_primitive n)) = Unit {0}
+Free (resumed (not_entered text)) = Unit {0}
+Free (refused text) = Unit {0}
+
+abbrev pub TellsSo : (m : Move) → Told m → Type 0
+TellsSo (resume x slot) s = Free s
+TellsSo (begin_closing x) s = Free s
+TellsSo m t = Unit {0}
+
+tells_of : {A : Type 0} (P : A → Type 0) (W : World) (vs : List Value) (t : A) (d : Made A) → made W vs t ≡ Some d → P t → P d.told
+tells_of {A} P W vs t d e p = subst (λ (d : Made A). P d.told) (some_is {o = made W vs t} refl e) p
+
+entered_free : (f : Value) (arguments : List Value) (W : World) (d : Made CallShape) → enters W f arguments ≡ Some d → Free (resumed d.told)
+entered_free (known nil) arguments W d e = absurd (cc)
+entered_free (known (boolean b)) arguments W d e = absurd (cc)
+entered_free (known (integer n)) arguments W d e = absurd (cc)
+entered_free (known (string s)) arguments W d e = absurd (cc)
+entered_free (known (primitive n)) arguments W d e = tells_of (λ s. Free (resumed s)) (record W { moving = arguments }) [] (is_primitive n) d e tt
+entered_free (object a_table n) arguments W d e = absurd (cc)
+entered_free (object a_coroutine n) arguments W d e = absurd (cc)
+entered_free (object a_function n) arguments W d e =
+    let f = bind_some (λ (f : Function). cond (has_room W 1) (made (push_all W (new_frame n f.code arguments ∷ [])) [] is_entered) (made W [] (not_entered stack_overflow))) (slice_get W.functions n) d e in
+    by (push_all W (new_frame n f.0.code arguments ∷ [])) (has_room W 1) f.2
+  where
+    by : (V : World) (room : Bool) → cond room (made V [] is_entered) (made W [] (not_entered stack_overflow)) ≡ Some d → Free (resumed d.told)
+    by V true e = tells_of (λ s. Free (resumed s)) V [] is_entered d e tt
+    by V false e = tells_of (λ s. Free (resumed s)) W [] (not_entered stack_overflow) d e tt
+
+starts_free : (c : Coroutine) (W : World) (co : ℕ) (arguments : List Value) (d : Made ResumeShape) → starts_in W co c arguments ≡ Some d → Free d.told
+starts_free (fresh body) W co arguments d e =
+    let x = bind_some (λ (x : Made CallShape). made x.world [] (resumed x.told)) (enters (go_into W co []) body arguments) d e in
+    tells_of Free x.0.world [] (resumed x.0.told) d x.2 (entered_free body arguments (go_into W co []) x.0 x.1)
+starts_free (suspended frames) W co arguments d e = tells_of Free _ [] (resumed is_entered) d e tt
+starts_free (in_progress frames) W co arguments d e = tells_of Free W [] (refused _) d e tt
+starts_free (normal frames) W co arguments d e = tells_of Free W [] (refused _) d e tt
+starts_free dead W co arguments d e = tells_of Free W [] (refused _) d e tt
+starts_free (failed v vs) W co arguments d e = tells_of Free W [] (refused _) d e tt
+
+resumes_free : (W : World) (s : Stack) (co : ℕ) (c : Coroutine) (arguments : List Value) (d : Made ResumeShape) → resumes W s co c arguments ≡ Some d → Free d.told
+resumes_free W s co c arguments d e = by (can_start c && nat_lt greatest_resumes (length W.chain)) e
+  where
+    by : (b : Bool) → cond b (made W [] (refused (codes "too many nested resumes"))) (starts_in (cond (can_start c) (wait_for_another W s) W) co c arguments) ≡ Some d → Free d.told
+    by true e = tells_of Free W [] (refused _) d e tt
+    by false e = starts_free c (cond (can_start c) (wait_for_another W s) W) co arguments d e
+
+closes_in_free : (W D : World) (s : Stack) (x : Option Value) (left : List Value) (d : Made ResumeShape) → closes_in W D s x left ≡ Some d → Free d.told
+closes_in_free W D s x left d e = by (has_room W 1) e
+  where
+    by : (b : Bool) → cond b (made (push D s (closing x left)) [] (resumed is_entered)) (made W [] (resumed (not_entered stack_overflow))) ≡ Some d → Free d.told
+    by true e = tells_of Free _ [] (resumed is_entered) d e tt
+    by false e = tells_of Free W [] (resumed (not_entered stack_overflow)) d e tt
+
+closes_free : (c : Coroutine) (W : World) (s : Stack) (co : ℕ) (d : Made ResumeShape) → closes_coroutine W s co c ≡ Some d → Free d.told
+closes_free (fresh body) W s co d e = closes_in_free W _ s None [] d e
+closes_free (suspended frames) W s co d e = closes_in_free W _ s None _ d e
+closes_free (in_progress frames) W s co d e = tells_of Free W [] (refused _) d e tt
+closes_free (normal frames) W s co d e = tells_of Free W [] (refused _) d e tt
+closes_free dead W s co d e = closes_in_free W W s None [] d e
+closes_free (failed x left) W s co d e = closes_in_free W _ s (Some x) left d e
+
+told_so : (m : Move) (env : List Value) (W : World) (d : Made (Told m)) → move m env W ≡ Some d → TellsSo m d.told
+told_so (resume x slot) env W d e =
+    let s = bind_some (λ s. bind (coroutine_number (Rattle.machine_core.specs.Text.arg env x)) (λ co. bind (slice_get W.coroutines co) (λ c. resumes W s co c (drop slot env)))) (stack_of W) d e in
+    let co = bind_some (λ co. bind (slice_get W.coroutines co) (λ c. resumes W s.0 co c (drop slot env))) (coroutine_number (Rattle.machine_core.specs.Text.arg env x)) d s.2 in
+    let c = bind_some (λ c. resumes W s.0 co.0 c (drop slot env)) (slice_get W.coroutines co.0) d co.2 in
+    resumes_free W s.0 co.0 c.0 (drop slot env) d c.2
+told_so (begin_closing x) env W d e =
+    let s = bind_some (λ s. bind (coroutine_number (Rattle.machine_core.specs.Text.arg env x)) (λ co. bind (slice_get W.coroutines co) (closes_coroutine W s co))) (stack_of W) d e in
+    let co = bind_some (λ co. bind (slice_get W.coroutines co) (closes_coroutine W s.0 co)) (coroutine_number (Rattle.machine_core.specs.Text.arg env x)) d s.2 in
+    let c = bind_some (closes_coroutine W s.0 co.0) (slice_get W.coroutines co.0) d co.2 in
+    closes_free c.0 W s.0 co.0 d c.2
+told_so (on_own x) env W d e = tt
+told_so (move_pc x) env W d e = tt
+told_so (open_register x) env W d e = tt
+told_so (outside x) env W d e = tt
+told_so (settle x y) env W d e = tt
+told_so (enter x y z w) env W d e = tt
+told_so (enter_tail x y) env W d e = tt
+told_so (await x y z w) env W d e = tt
+told_so (find_close x y) env W d e = tt
+told_so (is_closable x) env W d e = tt
+told_so (begin_leaving x) env W d e = tt
+told_so (leave_frame x) env W d e = tt
+told_so take_moving env W d e = tt
+told_so (look x) env W d e = tt
+told_so (give x) env W d e = tt
+told_so (give_with x y) env W d e = tt
+told_so (blame x) env W d e = tt
+told_so (place_text x y) env W d e = tt
+told_so (push_frame x) env W d e = tt
+told_so (call_value x y) env W d e = tt
+told_so see_top env W d e = tt
+told_so see_catcher env W d e = tt
+told_so pop_frame env W d e = tt
+told_so take_closing env W d e = tt
+told_so (set_error x) env W d e = tt
+told_so end_coroutine env W d e = tt
+told_so (fail_coroutine x) env W d e = tt
+told_so suspend env W d e = tt
+told_so (create x) env W d e = tt
+told_so (consult x y) env W d e = tt
+told_so (see_status x) env W d e = tt
+told_so see_running env W d e = tt
+told_so (print x) env W d e = tt
+
+-- a row that never ends as spent
+abbrev pub Unspent : Row → Type 0
+Unspent traps = Unit {0}
+Unspent (stop e) = is_spent e → ⊥
+Unspent (only slot r) = Unspent r
+Unspent (act m k) = (n : ℕ) (t : Told m) → TellsSo m t → Unspent (k n t)
+
+ending_in : Outcome → Ending
+ending_in trapped = Rattle.machine_core.specs.Moves.go
+ending_in (ends e W) = e
+
+pub unspent_ends : (r : Row) (env : List Value) (W V : World) (e : Ending) → Unspent r → run r env W ≡ ends e V → is_spent e → ⊥
+unfolding ending_in
+unspent_ends traps env W V e u h s = absurd (cc)
+unspent_ends (stop f) env W V e u h s = u (subst is_spent (sym (ap ending_in h)) s)
+unspent_ends (only slot r) env W V e u h s = unspent_ends r (drop slot env) W V e u h s
+unspent_ends (act m k) env W V e u h s =
+    by (λ d q h. unspent_ends (k (length env) d.told) (env ++ d.values) d.world V e (u (length env) d.told (told_so m env W d q)) h s) (move m env W) refl h
+  where
+    by : ((d : Made (Told m)) → move m env W ≡ Some d → run (k (length env) d.told) (env ++ d.values) d.world ≡ ends e V → ⊥)
+        → (o : Option (Made (Told m))) → move m env W ≡ o → elim o as (λ _. Outcome) [ None ↦ trapped | Some d ↦ run (k (length env) d.told) (env ++ d.values) d.world ] ≡ ends e V → ⊥
+    by goes None q h = absurd (cc)
+    by goes (Some d) q h = goes d q h
+
+-- and the rows of the libraries are so
+
+hands_over : Unspent hand_over
+hands_over n lua_top c = λ h. h
+hands_over n pcall_top c = λ h. h
+hands_over n xpcall_top c = λ h. h
+hands_over n handler_top c = λ h. h
+hands_over n closing_top c = λ h. h
+hands_over n (no_top b) c = λ h. h
+
+blames_so : (text : List ℕ) → Unspent (blames text)
+blames_so text n t c = λ h. h
+
+gives_so : (xs : List Arg) → Unspent (gives_back xs)
+gives_so xs n t c = hands_over
+
+looks : (l : Look) → Unspent (look_row l)
+looks l n t c = λ m s d. by m s
+  where
+    by : (m : ℕ) (s : LookShape) → Unspent (after_look m s)
+    by m is_given = λ n t c. hands_over
+    by m (is_refused text) = blames_so text
+    by m is_raised = λ n t c h. h
+
+over_so : (over : Over) (r : Row) → Unspent r → Unspent (over_frame over r)
+over_so over r u n true c = u
+over_so over r u n false c = blames_so stack_overflow
+
+pcall_so : Unspent pcall_row
+pcall_so n t c = over_so over_pcall _ (λ n t c h. h)
+
+xpcall_so : Unspent xpcall_row
+xpcall_so n t c = over_so (over_xpcall (read (suc n))) _ (λ n t c h. h)
+
+errs_so : (n : ℕ) (s : Shape) (o : Option ℤ) → Unspent (errs_at n s o)
+errs_so n s None = blames_so []
+errs_so n s (Some (pos zero)) = λ a b c h. h
+errs_so n s (Some (pos (suc level))) = λ a b c x y z h. h
+errs_so n s (Some (negsuc k)) = λ a b c h. h
+
+error_so : Unspent error_row
+error_so n t c = λ m s d. errs_so n s (level_in s)
+
+entry_so : (s : CallShape) → Free (resumed s) → Unspent (after_entry s)
+entry_so is_entered f = λ h. h
+entry_so (is_primitive n) f = λ h. h
+entry_so not_paid f = λ h. f
+entry_so (not_entered text) f = blames_so text
+
+resumes_so : (s : ResumeShape) → Free s → Unspent (after_resume s)
+resumes_so (resumed is_entered) f = hands_over
+resumes_so (resumed (is_primitive n)) f = λ h. h
+resumes_so (resumed not_paid) f = λ h. f
+resumes_so (resumed (not_entered text)) f = blames_so text
+resumes_so (refused text) f = λ n t c. hands_over
+
+resumed_so : (n : ℕ) (s : Shape) → Unspent (Rattle.machine_core.specs.MachineStep.resumes s n)
+resumed_so n (is_object a_coroutine) = λ a s f. resumes_so s f
+resumed_so n (is_object a_table) = blames_so []
+resumed_so n (is_object a_function) = blames_so []
+resumed_so n (is_known p) = blames_so []
+
+resume_so : Unspent resume_row
+resume_so n t c = λ m s d. resumed_so n s
+
+yield_so : Unspent yield_row
+yield_so n true c = λ h. h
+yield_so n false c = λ a t d b u e. hands_over
+
+closing_so : Unspent closing_row
+closing_so n one_left c = λ a t d b u e h. h
+closing_so n all_closed c = λ a t d b u e. hands_over
+closing_so n closed_with_error c = λ a t d b u e. hands_over
+
+closes_so : (s : ResumeShape) → Free s → Unspent (after_closing s)
+closes_so (resumed is_entered) f = closing_so
+closes_so (resumed (is_primitive n)) f = λ h. h
+closes_so (resumed not_paid) f = λ h. f
+closes_so (resumed (not_entered text)) f = blames_so text
+closes_so (refused text) f = blames_so text
+
+closed_so : (n : ℕ) (s : Shape) → Unspent (Rattle.machine_core.specs.MachineStep.closes_coroutine s n)
+closed_so n (is_object a_coroutine) = λ a s f. closes_so s f
+closed_so n (is_object a_table) = blames_so []
+closed_so n (is_object a_function) = blames_so []
+closed_so n (is_known p) = blames_so []
+
+close_so : Unspent close_row
+close_so n t c = λ m s d. closed_so n s
+
+creates_so : (n : ℕ) (text : List ℕ) (b : Bool) → Unspent (cond b (act (create (read n)) (λ co _. gives_back (read co ∷ []))) (blames text))
+creates_so n text true = λ a b c. gives_so []
+creates_so n text false = blames_so []
+
+create_so : Unspent create_row
+create_so n t c = λ m s d. creates_so n (wrong_type 1 (codes "create") (codes "function") s) (can_call s)
+
+statuses_so : (n : ℕ) (s : Shape) → Unspent (sees_status s n)
+statuses_so n (is_object a_coroutine) = λ a s f. gives_so []
+statuses_so n (is_object a_table) = blames_so []
+statuses_so n (is_object a_function) = blames_so []
+statuses_so n (is_known p) = blames_so []
+
+status_so : Unspent status_row
+status_so n t c = λ m s d. statuses_so n s
+
+running_so : Unspent running_row
+running_so n t c = gives_so []
+
+print_so : Unspent print_row
+print_so n t c = λ a b d. hands_over
+
+called_so : (c : Called) → Unspent (row_by c)
+called_so (Library f) = looks (function_row f)
+called_so Error = error_so
+called_so Pcall = pcall_so
+called_so Xpcall = xpcall_so
+called_so Close = close_so
+called_so Create = create_so
+called_so IsYieldable = gives_so []
+called_so Resume = resume_so
+called_so Running = running_so
+called_so Status = status_so
+called_so Yield = yield_so
+called_so Build = blames_so []
+called_so Print = print_so
+
+pub called_unspent : {W V : Memory} (c : Called) (e : Ending) → Leads (row_by c) [] W V e → is_spent e → ⊥
+called_unspent {W} {V} c e l = unspent_ends (row_by c) [] (plain W 0) (plain V 0) e (called_so c) (l.is 0)

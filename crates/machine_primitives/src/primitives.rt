@@ -1,0 +1,172 @@
+// Each function by its number (the order of `library_rows`; luaL_Reg of lauxlib.h).
+ghost use Rattle.std.specs.Prelude.{◌≡◌, ℕ, [], IfOk, IfSome, IfNone, OnErr, slice_get};
+ghost use Rattle.machine_core.specs.PrimitiveRows.{row_numbered};
+ghost use Rattle.machine_core.specs.Moves.{traps};
+ghost use Rattle.move_laws.specs.Memory.{HasStack, InOrder, IsSafe, IsSound, Leads, ReadsSame, Steps};
+ghost use Rattle.machine_moves.specs.Ending.{ending_of};
+ghost use Rattle.machine_primitives.specs.Primitives.{no_build, row_by};
+
+use lib_base::Function;
+use lib_base::math::Function as MathFunction;
+use lib_base::texts::Function as TextFunction;
+use lib_coroutine::{close, create, is_yieldable, resume, running, status, yield_running};
+use lua_heap::World;
+use machine_errors::{blame, error, pcall, xpcall};
+use machine_library::{call_function, print};
+use machine_moves::Ending;
+use std::alloc::AllocError;
+
+/// A function of the libraries that is no Lua text.
+#[derive(Debug, Clone, Copy, PartialEq, Eq)]
+enum Called {
+    /// It looks at values and tables alone.
+    Library(Function),
+    Error,
+    Pcall,
+    Xpcall,
+    Close,
+    Create,
+    IsYieldable,
+    Resume,
+    Running,
+    Status,
+    Yield,
+    /// What `load` stands on.
+    Build,
+    Print,
+}
+
+/// A function's number is its place here.
+static PRIMITIVES: [Called; 60] = [
+    Called::Library(Function::Assert),
+    Called::Library(Function::CollectGarbage),
+    Called::Error,
+    Called::Library(Function::GetMetatable),
+    Called::Library(Function::Next),
+    Called::Pcall,
+    Called::Library(Function::RawEqual),
+    Called::Library(Function::RawGet),
+    Called::Library(Function::RawLength),
+    Called::Library(Function::RawSet),
+    Called::Library(Function::Select),
+    Called::Library(Function::SetMetatable),
+    Called::Library(Function::OverTexts(TextFunction::ToNumber)),
+    Called::Library(Function::TypeOf),
+    Called::Xpcall,
+    Called::Close,
+    Called::Create,
+    Called::IsYieldable,
+    Called::Resume,
+    Called::Running,
+    Called::Status,
+    Called::Yield,
+    Called::Library(Function::OverTexts(TextFunction::Byte)),
+    Called::Library(Function::OverTexts(TextFunction::Char)),
+    Called::Library(Function::OverTexts(TextFunction::Find)),
+    Called::Library(Function::OverTexts(TextFunction::Len)),
+    Called::Library(Function::OverTexts(TextFunction::Lower)),
+    Called::Library(Function::OverTexts(TextFunction::Match)),
+    Called::Library(Function::OverTexts(TextFunction::Rep)),
+    Called::Library(Function::OverTexts(TextFunction::Reverse)),
+    Called::Library(Function::OverTexts(TextFunction::Sub)),
+    Called::Library(Function::OverTexts(TextFunction::Upper)),
+    Called::Library(Function::Pack),
+    Called::Library(Function::Sort),
+    Called::Library(Function::Math(MathFunction::Abs)),
+    Called::Library(Function::Math(MathFunction::Fmod)),
+    Called::Library(Function::Math(MathFunction::Max)),
+    Called::Library(Function::Math(MathFunction::Min)),
+    Called::Library(Function::Math(MathFunction::ToInteger)),
+    Called::Library(Function::Math(MathFunction::TypeOf)),
+    Called::Library(Function::Math(MathFunction::Ult)),
+    Called::Library(Function::OverTexts(TextFunction::Utf8Char)),
+    Called::Library(Function::OverTexts(TextFunction::Utf8Codepoint)),
+    Called::Library(Function::OverTexts(TextFunction::Utf8Codes)),
+    Called::Library(Function::OverTexts(TextFunction::Utf8Len)),
+    Called::Library(Function::OverTexts(TextFunction::Utf8Offset)),
+    Called::Build,
+    Called::Library(Function::Expand),
+    Called::Library(Function::OverTexts(TextFunction::From)),
+    Called::Library(Function::Join),
+    Called::Library(Function::OverTexts(TextFunction::Kinds)),
+    Called::Library(Function::OverTexts(TextFunction::Layout)),
+    Called::Library(Function::MetaField),
+    Called::Print,
+    Called::Library(Function::Seek),
+    Called::Library(Function::Spread),
+    Called::Library(Function::Text),
+    Called::Library(Function::OverTexts(TextFunction::ToInteger)),
+    Called::Library(Function::OverTexts(TextFunction::Walk)),
+    Called::Library(Function::OverTexts(TextFunction::WalkLax)),
+];
+
+/// The function of a number.
+fn of_number(number: u16) -> Option<Called>
+    ensures some { IfSome result (λ called. row_numbered no_build number ≡ row_by called) }
+    ensures none { IfNone result (row_numbered no_build number ≡ traps) }
+{
+    at_place(&PRIMITIVES, number)
+}
+
+/// What stands at a place.
+fn at_place(table: &[Called], place: u16) -> Option<Called>
+    ensures { result ≡ slice_get table.now place }
+{
+    table.get(usize::from(place)).copied()
+}
+
+/// Calls a function of the libraries by its number, with the values on their way. `load` is not there yet: its function is an error that says so.
+/// No function costs a unit of the budget. Where memory is wanting, all reads as before.
+pub fn primitive(world: &mut World, number: u16) -> Result<Ending, AllocError>
+    requires sound { IsSound world.old }
+    requires running { HasStack world.old }
+    requires safe { IsSafe (row_numbered no_build number) [] world.old }
+    ensures steps { IfOk result (λ ending. (fuel : ℕ) → Steps (row_numbered no_build number) [] world.old fuel world.new fuel (ending_of ending)) }
+    ensures order { InOrder world.new }
+    ensures err { OnErr result (ReadsSame world.old world.new) }
+{
+    match of_number(number) {
+        Some(called) => {
+            let ending = call(world, called)?;
+            Ok(ending)
+        }
+        None => unreachable!(),
+    }
+}
+
+/// Calls a function with the values on their way.
+fn call(world: &mut World, called: Called) -> Result<Ending, AllocError>
+    requires sound { IsSound world.old }
+    requires running { HasStack world.old }
+    requires safe { IsSafe (row_by called) [] world.old }
+    ensures leads { IfOk result (λ ending. Leads (row_by called) [] world.old world.new (ending_of ending)) }
+    ensures order { InOrder world.new }
+    ensures err { OnErr result (ReadsSame world.old world.new) }
+{
+    match called {
+        Called::Library(function) => call_function(world, function),
+        Called::Error => error(world),
+        Called::Pcall => pcall(world),
+        Called::Xpcall => xpcall(world),
+        Called::Close => close(world),
+        Called::Create => create(world),
+        Called::IsYieldable => is_yieldable(world),
+        Called::Resume => resume(world),
+        Called::Running => running(world),
+        Called::Status => status(world),
+        Called::Yield => yield_running(world),
+        Called::Build => build(world),
+        Called::Print => print(world),
+    }
+}
+
+/// What `load` stands on is not there yet.
+fn build(world: &mut World) -> Result<Ending, AllocError>
+    requires { IsSound world.old }
+    ensures leads { IfOk result (λ ending. Leads no_build [] world.old world.new (ending_of ending)) }
+    ensures order { InOrder world.new }
+    ensures err { OnErr result (ReadsSame world.old world.new) }
+{
+    let ending = blame(world, b"load is not built yet")?;
+    Ok(ending)
+}
