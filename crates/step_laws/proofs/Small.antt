@@ -5,7 +5,7 @@ use Rattle.std.specs.List.{list_all}
 use Rattle.std.specs.Option.{option_map}
 use Rattle.std.proofs.Math.Nat.{mod-lt}
 use Rattle.code_core.specs.declared.opcode.Opcode.{Opcode}
-use Rattle.code_core.specs.declared.opcode.Opcode.TheVariants.{OpSelf, MmBin, MmBinI, MmBinK, Concat, Close as Closes, Tbc, Call as Calls, TailCall as TailCalls, Return as Returns, Return0, Return1, ForLoop, ForPrep, TForPrep, TForCall, TForLoop, SetList, VarArg}
+use Rattle.code_core.specs.declared.opcode.Opcode.TheVariants.{OpSelf, MmBin, MmBinI, MmBinK, Concat, Close as Closes, Tbc, Call as Calls, TailCall as TailCalls, Return as Returns, Return0, Return1, ForLoop, ForPrep, TForPrep, TForCall, TForLoop, SetList, Closure, VarArg}
 use Rattle.code_core.specs.declared.instruction.Instruction.{Instruction}
 use Rattle.code_core.specs.Instruction.{a_of, b_of, c_of, k_of, bx_of, sb_of}
 use Rattle.code_core.specs.Fields.{registers}
@@ -65,6 +65,7 @@ each TForPrep i = let a = a_small i in let b = bx_small i in (omega (arith, a), 
 each TForCall i = let a = a_small i in (a, omega arith, omega (arith, a))
 each TForLoop i = (a_small i, bx_small i)
 each SetList i = (a_small i, b_small i, c_small i)
+each Closure i = bx_small i
 each VarArg i = (a_small i, c_small i)
 each op i = tt
 

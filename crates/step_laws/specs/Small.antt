@@ -4,7 +4,7 @@ use Rattle.code_core.specs.declared.opcode.Opcode.{Opcode}
 use Rattle.code_core.specs.declared.instruction.Instruction.{Instruction}
 use Rattle.machine_core.specs.Text.{behind}
 use Rattle.instruction_forms.specs.declared.form.Form.{Form}
-use Rattle.instruction_forms.specs.declared.form.Form.TheVariants.{Operate, Concatenate, Close, Mark, StartLoop, Loop, LoopOver, Call, TailCall, Return, ReturnSome, FillTable, ExtraArguments}
+use Rattle.instruction_forms.specs.declared.form.Form.TheVariants.{Operate, Concatenate, Close, Mark, StartLoop, Loop, LoopOver, Call, TailCall, Return, ReturnSome, FillTable, NewFunction, ExtraArguments}
 use Rattle.instruction_forms.specs.Waiting.{form_at}
 use Rattle.lua_heap.specs.declared.world.World.{World as Memory}
 use Rattle.step_laws.specs.Steps.{RunsAt}
@@ -22,6 +22,7 @@ IsSmall (TailCall function count) = (function < 256) × (count < 256)
 IsSmall (Return from count) = (from < 256) × (count < 256)
 IsSmall (ReturnSome from count) = (from < 256) × (count < 256)
 IsSmall (FillTable table count last far) = (table < 256) × (count < 256) × (last < 256)
+IsSmall (NewFunction inner to) = inner < 131072
 IsSmall (ExtraArguments to count) = (to < 256) × (count < 256)
 IsSmall form = Unit {0}
 
