@@ -10,7 +10,9 @@ use Rattle.tree_activation.specs.Activation.{start}
 use Rattle.lua_meaning.specs.World.{Function, Coroutine, fresh, suspended, running, normal, dead, failed, World}
 use Rattle.lua_meaning.specs.Calls.{frames_in}
 use Rattle.lua_meaning.specs.Meaning.{Script, Meaning, begun, run_from, IsMeaning}
-use Rattle.lua_meaning.specs.Opening.{Entry, prelude_function, opening, primitives}
+use Rattle.library_rows.specs.Library.{Entry}
+use Rattle.lua_meaning.specs.Opening.{environment_cells, prelude_function, primitives}
+use Rattle.lua_meaning.specs.TreeMeaning.{outer_of, tree_opening}
 use Rattle.list_laws.specs.Held.{Has}
 use Rattle.meaning_cells.specs.Alike.{Pairs, AreEven}
 use Rattle.meaning_cells.proofs.Steps.{starts_alike}
@@ -210,16 +212,20 @@ module _ (W : World Body State) (ready : IsReady W) (s : Script Body) (budget : 
 
 -- worlds of the libraries
 
-pub opening_ready : (prelude : List (Entry Body)) → IsReady (opening prelude)
+all_there : (count : ℕ) → AreThere (environment_cells count) 1
+all_there zero = tt
+all_there (suc count) = (omega arith, all_there count)
+
+pub opening_ready : (prelude : List (Entry Body)) → IsReady (tree_opening prelude)
 opening_ready prelude = record {
   coroutines = λ n c e. rests n c e;
-  functions = λ n f e. by n f (slice_get prelude n) (sym (slice_get-map prelude_function prelude n) ∙ e);
+  functions = λ n f e. by n f (slice_get prelude n) (sym (slice_get-map (prelude_function outer_of) prelude n) ∙ e);
 }
   where
     rests : (n : ℕ) (c : Coroutine State) → slice_get (running ∷ []) n ≡ Some c → frames_in (Some c) ≡ []
     rests zero c e = subst (λ z. frames_in (Some z) ≡ []) (ap (λ o. unwrap_or o c) e) refl
     rests (suc n) c e = absurd (cc)
 
-    by : (n : ℕ) (f : Function Body) (o : Option (Entry Body)) → option_map prelude_function o ≡ Some f → AreThere f.cells 1
+    by : (n : ℕ) (f : Function Body) (o : Option (Entry Body)) → option_map (prelude_function outer_of) o ≡ Some f → AreThere f.cells 1
     by n f None e = absurd (cc)
-    by n f (Some x) e = subst (λ z. AreThere z.cells 1) (ap (λ o. unwrap_or o f) e) (omega arith, tt)
+    by n f (Some x) e = subst (λ z. AreThere z.cells 1) (ap (λ o. unwrap_or o f) e) (all_there (outer_of x.entry))

@@ -1,9 +1,9 @@
 -- Turns and whole runs of both worlds.
 use Rattle.std.proofs.Common.{◌≡◌, ℕ, zero, suc, ◌+◌, ◌<◌, ◌≤◌, Bool, true, false, List, [], ◌∷◌, Option, Some, None, refl, ◌∙◌, ap, subst, arith}
+use Rattle.int_core.specs.Value.{string, known}
 use Rattle.tree_core.specs.Tree.{Body}
 use Rattle.tree_activation.specs.Work.{State}
 use Rattle.lua_meaning.specs.World.{System, yielded, returned, failed_with, spent, broken, ends, gives_back, World}
-use Rattle.lua_meaning.specs.Primitives.{word}
 use Rattle.lua_meaning.specs.Step.{has_ended, tick, ticks}
 use Rattle.lua_meaning.specs.Meaning.{Meaning, at_end, suspends, handed_line, run_from}
 use Rattle.lua_meaning.specs.Opening.{primitives}
@@ -155,7 +155,7 @@ module _ (budget : ℕ) where
 
   -- a script that was suspended at a yield is handed a line
   abbrev handed : Joint → List ℕ → Joint
-  handed J line = record J { printed = []; fuel = budget; now = gives_back (word line ∷ []) }
+  handed J line = record J { printed = []; fuel = budget; now = gives_back (known (string line) ∷ []) }
 
   abbrev OnLines : (side other : Joint → World Body State) (system to : System Body State) → (k : ℕ) → List (List ℕ) → Type 0
   OnLines side other system to k input = (J : Joint) → Stands J → (m : Meaning Body State) → run_from system primitives k (side J) input budget ≡ Some m

@@ -3,7 +3,7 @@ use Rattle.std.proofs.Common.{◌≡◌, ⊎_elim, ℕ, suc, ◌<◌, ◌≤◌,
 use Rattle.std.proofs.lemmas.List.{length-map}
 use Rattle.std.proofs.lemmas.Option.{slice_get-map}
 use Rattle.std.specs.Prelude.{ℤ, pos, slice_get, map, option_map, drop, codes}
-use Rattle.int_core.specs.Value.{Value, known, string, object, a_table, a_function, a_coroutine, nth}
+use Rattle.int_core.specs.Value.{Value, shape, known, string, object, a_table, a_function, a_coroutine, nth}
 use Rattle.int_core.specs.Limits.{limited}
 use Rattle.int_core.specs.Operations.{is_function}
 use Rattle.int_core.specs.Ask.{Ask, reads_upvalue, writes_upvalue, makes_table, makes_function, fills_table, pays, opens, operates, calls, calls_last, marks, closes, raises, leaves, Answer, Next, goes_on, says, stuck}
@@ -13,9 +13,11 @@ use Rattle.tree_activation.specs.Activation.{step}
 use Rattle.lua_meaning.specs.World.{System, Function, Frame, Coroutine, Now, talks, gives_back, raises_error, unwinds, calls_primitive, ends, World, now_in, breaks, second, without_name, as_known, shared_in}
 use Rattle.lua_meaning.specs.Calls.{text, truth}
 use Rattle.lua_meaning.specs.Asks.{none as no_values, handle, turns, talks_on}
-use Rattle.lua_meaning.specs.Primitives.{Primitive, lua_error, lua_pcall, lua_xpcall, coroutine_close, coroutine_create, coroutine_isyieldable, coroutine_resume, coroutine_running, coroutine_status, coroutine_yield, prelude_out, Done, done, wrong_type, name_in, row}
-use Rattle.lua_meaning.specs.Primitives.{refused as no_result}
-use Rattle.lua_meaning.specs.Step.{placed, error_by, level_in, creates, with_coroutine, status_of, runs_one, after_row, does_primitive, has_ended, tick_by, tick}
+use Rattle.library_rows.specs.Look.{Done, done}
+use Rattle.library_rows.specs.Look.{refused as no_result, raised as an_error}
+use Rattle.library_rows.specs.Arguments.{wrong_type}
+use Rattle.library_rows.specs.Library.{Primitive, base_error, base_pcall, base_xpcall, coroutine_close, coroutine_create, coroutine_isyieldable, coroutine_resume, coroutine_running, coroutine_status, coroutine_yield, prelude_build, prelude_out}
+use Rattle.lua_meaning.specs.Step.{placed, error_by, level_in, creates, with_coroutine, status_of, runs_one, bytes_in, row, after_row, does_primitive, has_ended, tick_by, tick}
 use Rattle.lua_meaning.specs.Opening.{primitives}
 use Rattle.meaning_cells.specs.Alike.{Member, Pairs, Cells, AreEven, Onward, Answered, after_asks, CarriesOwn, SameAsk, new_cell, Moves, FirstAlone, SecondOpens, BothOpen, Together}
 use Rattle.meaning_cells.proofs.Relation.{Rel, same, early, steps_behind}
@@ -33,13 +35,14 @@ row_both : (J : Joint) (o : Option Done) → Quiet J → Both (after_row (one J)
 row_both J None q = breaks_both J
 row_both J (Some (done H vs)) q = now_both (record J { heap = H }) (gives_back vs) q
 row_both J (Some (no_result why)) q = raises_both J why q
+row_both J (Some (an_error H e)) q = now_both (record J { heap = H }) (raises_error e) q
 
 placed_same : (J : Joint) (z : ℤ) (v : Value) → placed (one J) z v ≡ placed (two J) z v
 placed_same J (pos (suc level)) (known (string s)) = ap (λ place. limited (place ++ s)) (where_same J level)
 placed_same J z v = refl
 
 error_both : (J : Joint) (v level : Value) (o : Option ℤ) → Quiet J → Both (error_by (one J) v level o) (error_by (two J) v level o)
-error_both J v level None q = raises_both J (wrong_type 2 (codes "error") (codes "number") level) q
+error_both J v level None q = raises_both J (wrong_type 2 (codes "error") (codes "number") (shape level)) q
 error_both J v level (Some z) q =
     let K : Joint = record J { now = raises_error (placed (one J) z v) } in
     record { there = K; same = refl; same_too = ap (λ e. now_in (two J) (raises_error e)) (sym (placed_same J z v)); stands = quiet K q }
@@ -66,7 +69,7 @@ creates_both J f q =
         layers = q.layers;
       });
     })
-    (raises_both J (wrong_type 1 (codes "create") (codes "function") f) q)
+    (raises_both J (wrong_type 1 (codes "create") (codes "function") (shape f)) q)
 
 with_both : (J : Joint) (f : List ℕ) (v : Value) (F G : ℕ → Coroutine State → World Body State) → Quiet J
     → ((co : ℕ) (c : Thread) → LayersAt J.store co (layers_in c) → Both (F co (coroutine_one c)) (G co (coroutine_two c))) → Both (with_coroutine (one J) f v F) (with_coroutine (two J) f v G)
@@ -79,9 +82,9 @@ with_both J f (object a_coroutine co) F G q more =
         → Both (elim (option_map coroutine_one o) as (λ _. World Body State) [ None ↦ breaks (one J) | Some c ↦ F co c ]) (elim (option_map coroutine_two o) as (λ _. World Body State) [ None ↦ breaks (two J) | Some c ↦ G co c ])
     by None e = breaks_both J
     by (Some c) e = more co c (q.base.others co c e)
-with_both J f (known p) F G q more = raises_both J (wrong_type 1 f (codes "coroutine") (known p)) q
-with_both J f (object a_table m) F G q more = raises_both J (wrong_type 1 f (codes "coroutine") (object a_table m)) q
-with_both J f (object a_function m) F G q more = raises_both J (wrong_type 1 f (codes "coroutine") (object a_function m)) q
+with_both J f (known p) F G q more = raises_both J (wrong_type 1 f (codes "coroutine") (shape (known p))) q
+with_both J f (object a_table m) F G q more = raises_both J (wrong_type 1 f (codes "coroutine") (shape (object a_table m))) q
+with_both J f (object a_function m) F G q more = raises_both J (wrong_type 1 f (codes "coroutine") (shape (object a_function m))) q
 
 status_same : (c : Thread) → status_of (coroutine_one c) ≡ status_of (coroutine_two c)
 status_same (is_fresh body) = refl
@@ -96,9 +99,9 @@ runs_one_both J [] q = breaks_both J
 runs_one_both J (co ∷ chain) q = now_both J (gives_back (object a_coroutine co ∷ truth false ∷ [])) q
 
 primitive_both : (J : Joint) (p : Primitive) (vs : List Value) → Quiet J → Both (does_primitive first_form p (one J) vs) (does_primitive second_form p (two J) vs)
-primitive_both J lua_error vs q = error_both J (nth vs 0) (nth vs 1) (level_in (nth vs 1)) q
-primitive_both J lua_pcall vs q = calls_over_both J is_protected (nth vs 0) (drop 1 vs) q tt
-primitive_both J lua_xpcall vs q = calls_over_both J (is_handled (nth vs 1)) (nth vs 0) (drop 2 vs) q tt
+primitive_both J base_error vs q = error_both J (nth vs 0) (nth vs 1) (level_in (nth vs 1)) q
+primitive_both J base_pcall vs q = calls_over_both J is_protected (nth vs 0) (drop 1 vs) q tt
+primitive_both J base_xpcall vs q = calls_over_both J (is_handled (nth vs 1)) (nth vs 0) (drop 2 vs) q tt
 primitive_both J coroutine_create vs q = creates_both J (nth vs 0) q
 primitive_both J coroutine_resume vs q = with_both J (codes "resume") (nth vs 0) _ _ q (λ co c l. resumes_both J co c (drop 1 vs) q l)
 primitive_both J coroutine_yield vs q = yields_both J vs q
@@ -108,7 +111,8 @@ primitive_both J coroutine_status vs q =
     subst (λ z. Both (now_in (one J) (gives_back (text (status_of (coroutine_one c)) ∷ []))) (now_in (two J) (gives_back (text z ∷ [])))) (status_same c) (now_both J (gives_back (text (status_of (coroutine_one c)) ∷ [])) q))
 primitive_both J coroutine_isyieldable vs q = now_both J (gives_back (truth true ∷ [])) q
 primitive_both J coroutine_running vs q = runs_one_both J J.chain q
-primitive_both J prelude_out vs q = now_both (record J { printed = J.printed ++ name_in (nth vs 0) }) (gives_back []) q
+primitive_both J prelude_out vs q = now_both (record J { printed = J.printed ++ bytes_in (nth vs 0) }) (gives_back []) q
+primitive_both J prelude_build vs q = raises_both J (codes "load is not built yet") q
 primitive_both J p vs q = row_both J (row p J.heap vs) q
 
 -- no activation is on top

@@ -4,11 +4,12 @@ use Rattle.tree_core.specs.Tree.{Body}
 use Rattle.tree_activation.specs.Work.{Celling, when_declared, when_captured, State}
 use Rattle.code_core.specs.Prototype.{Prototype}
 use Rattle.machine_core.specs.Talk.{State as CodeState}
+use Rattle.library_rows.specs.Library.{Entry}
 use Rattle.lua_meaning.specs.World.{Function, Coroutine, World}
 use Rattle.lua_meaning.specs.Calls.{frames_in}
 use Rattle.lua_meaning.specs.Meaning.{Script, Meaning, IsMeaning}
-use Rattle.lua_meaning.specs.Opening.{Entry, opening, primitives}
-use Rattle.lua_meaning.specs.TreeMeaning.{trees}
+use Rattle.lua_meaning.specs.Opening.{primitives}
+use Rattle.lua_meaning.specs.TreeMeaning.{trees, tree_opening}
 use Rattle.code_means.specs.Means.{Means}
 use Rattle.code_means.specs.Runs.{codes_run, RunAlike}
 use Rattle.runs_alike.specs.Alike.{IsMeantBy, script, CodeEnds, WorldsAlike}
@@ -36,7 +37,7 @@ RunsDoNotShowCells =
 
 -- worlds of the libraries are such worlds
 abbrev pub OpeningsAreReady : Type 0
-OpeningsAreReady = (prelude : List (Entry Body)) → IsReady (opening prelude)
+OpeningsAreReady = (prelude : List (Entry Body)) → IsReady (tree_opening prelude)
 
 -- code, and the tree by the letter of the manual
 

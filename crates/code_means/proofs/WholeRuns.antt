@@ -8,6 +8,7 @@ use Rattle.tree_core.specs.Tree.{Body}
 use Rattle.tree_activation.specs.Work.{when_captured}
 use Rattle.code_core.specs.Opcode.{opcodes, number_of}
 use Rattle.code_core.specs.Prototype.{Prototype}
+use Rattle.lua_meaning.specs.Libraries.{primitive_values, constant_values, library_table}
 use Rattle.lua_meaning.specs.Meaning.{Meaning, Outcome, has_returned, has_failed, has_spent, is_suspended, is_broken}
 use Rattle.lua_meaning.specs.TreeMeaning.{tree_meaning}
 use Rattle.code_means.specs.Runs.{code_meaning}
@@ -60,7 +61,7 @@ protects_code = code 0 true (text "pcall" ∷ text "error" ∷ text "x" ∷ []) 
     (abc VarArgPrep 0 0 0 false ∷ abc GetTabUp 0 0 0 false ∷ abc GetTabUp 1 0 1 false ∷ abx LoadK 2 2 ∷ load_int 3 0 ∷ abc TailCall 0 4 0 false ∷ abc Return 0 0 0 false ∷ [])
 
 by_pcall : (tree_run protects [] 2, code_run protects_code [] 2) ≡ ran "return\tfalse\tx\n" 0
-unfolding opcodes number_of int_wrap digits
+unfolding opcodes number_of int_wrap digits primitive_values constant_values library_table
 by_pcall = refl
 
 -- return 1//0: an error of the own step, with its position
@@ -83,9 +84,9 @@ yields_code = code 0 true (text "coroutine" ∷ text "yield" ∷ []) (in_registe
     (abc VarArgPrep 0 0 0 false ∷ load_int 0 7 ∷ abc GetTabUp 1 0 0 false ∷ abc GetField 1 1 1 false ∷ load_int 2 5 ∷ abc Call 1 2 0 false ∷ abc Return 0 0 0 false ∷ [])
 
 suspended : (tree_run yields [] 1, code_run yields_code [] 1) ≡ ran "yield\t5\n" 3
-unfolding opcodes number_of int_wrap digits
+unfolding opcodes number_of int_wrap digits primitive_values constant_values library_table
 suspended = refl
 
 handed_a_line : (tree_run yields (codes "x" ∷ []) 1, code_run yields_code (codes "x" ∷ []) 1) ≡ ran "yield\t5\nreturn\t7\tx\n" 0
-unfolding opcodes number_of int_wrap digits
+unfolding opcodes number_of int_wrap digits primitive_values constant_values library_table
 handed_a_line = refl

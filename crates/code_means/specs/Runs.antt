@@ -7,9 +7,10 @@ use Rattle.machine_core.specs.Text.{last_pending, done}
 use Rattle.machine_core.specs.InstructionRows.{left_so}
 use Rattle.machine_core.specs.Talk as code
 use Rattle.machine_core.specs.Talk.{before, amid, talk_start, talk_step}
-use Rattle.lua_meaning.specs.World.{System}
+use Rattle.library_rows.specs.Library.{Entry}
+use Rattle.lua_meaning.specs.World.{System, World}
 use Rattle.lua_meaning.specs.Meaning.{Script, Meaning, Outcome, has_returned, has_failed, has_spent, is_suspended, is_broken, meaning}
-use Rattle.lua_meaning.specs.Opening.{Entry, opening, primitives}
+use Rattle.lua_meaning.specs.Opening.{opening, primitives}
 
 -- what code still closes where it is left: the pending registers are read from the last one on, each after what the closing before it changed
 
@@ -24,8 +25,15 @@ to_close p (amid t env a c) = closed_of p (length a.pending) a
 abbrev pub codes_run : System Prototype code.State
 codes_run = record { starts = talk_start; steps = talk_step; pending = to_close }
 
+-- how many outer variables a function names
+abbrev pub outer_in : Prototype → ℕ
+outer_in p = length p.own.upvalues
+
+abbrev pub code_opening : (prelude : List (Entry Prototype)) → World Prototype code.State
+code_opening prelude = opening outer_in prelude
+
 abbrev pub code_meaning : (steps : ℕ) → (prelude : List (Entry Prototype)) → Script Prototype → List (List ℕ) → (budget : ℕ) → Option (Meaning Prototype code.State)
-code_meaning steps prelude script input budget = meaning codes_run primitives steps (opening prelude) script input budget
+code_meaning steps prelude script input budget = meaning codes_run primitives steps (code_opening prelude) script input budget
 
 -- two runs end alike, whatever the worlds are in which they are suspended
 abbrev pub EndAlike : {A B S T : Type 0} → Outcome A S → Outcome B T → Type 0

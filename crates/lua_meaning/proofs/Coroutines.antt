@@ -9,10 +9,12 @@ use Rattle.tree_core.specs.declared.operator.BinOp.TheVariants.{Add, Mul, Concat
 use Rattle.tree_core.specs.declared.name.Place.TheVariants.{Local as LocalPlace, GlobalOf}
 use Rattle.tree_core.specs.Tree.{Body, Exp, True, Table, Var, While, NumFor, Keyed, fields}
 use Rattle.tree_activation.specs.Work.{State, when_captured}
-use Rattle.lua_meaning.specs.Primitives.{put_metatable}
+use Rattle.library_rows.specs.Look.{put_metatable}
 use Rattle.lua_meaning.specs.Meaning.{Meaning, is_suspended, lines}
 use Rattle.lua_meaning.specs.TreeMeaning.{tree_meaning, tree_onward}
 use Rattle.tree_terms.proofs.Forms.{name, closed, of_local, loc, outer, global, int, str, bin, call, field, function, block, returning, locals, loc_is, does, fun}
+use Rattle.lua_meaning.specs.Libraries.{primitive_values, constant_values, library_table, environment}
+use Rattle.lua_meaning.specs.Step.{row}
 use Rattle.lua_meaning.proofs.Scripts.{assign, local_function, env, chunk, prelude, summary, run, ran, prints, co, usual}
 
 -- the lines of an input
@@ -38,7 +40,7 @@ bumps = chunk (block (
     ∷ While 1 (True 1) (block (does (call (co "yield") (call (loc "a" 2) [] ∷ loc "n" 0 ∷ [])) ∷ [])) ∷ []))
 
 one_line : run 3000 bumps (codes "x" ∷ []) usual ≡ ran "yield\t1\t1\nyield\t2\t2\n" 3
-unfolding int_wrap digits raw_set
+unfolding int_wrap digits raw_set row primitive_values constant_values library_table environment
 one_line = refl
 
 -- the same script cut between the lines
@@ -50,7 +52,7 @@ abbrev begins : Body → List (List ℕ) → Option (Meaning Body State)
 begins main input = tree_meaning when_captured 3000 prelude (record { main = main; name = codes "@s.lua"; has_lines = Rattle.std.specs.Prelude.true }) input usual
 
 second_session : option_map summary (goes_on (begins bumps (codes "x" ∷ [])) (codes "y" ∷ [])) ≡ Some (codes "yield\t3\t3\n", 3)
-unfolding int_wrap digits raw_set
+unfolding int_wrap digits raw_set row primitive_values constant_values library_table environment
 second_session = refl
 
 -- print(pcall(function() local c <close> = setmetatable({},{__close=function(v,e) print("closed",e) end}) coroutine.yield("in") error("stop",0) end))
@@ -60,7 +62,7 @@ closes_after_yield : run 3000 (chunk (block (prints (call (global "pcall") (func
     ∷ does (call (co "yield") (str "in" ∷ []))
     ∷ does (call (global "error") (str "stop" ∷ int 0 ∷ [])) ∷ []))) ∷ []) ∷ []) ∷ []))) (codes "x" ∷ []) usual
     ≡ ran "yield\tin\nclosed\tstop\nfalse\tstop\nreturn\n" 0
-unfolding int_wrap digits raw_set put_metatable
+unfolding int_wrap digits raw_set put_metatable row primitive_values constant_values library_table environment
 closes_after_yield = refl
 
 -- local t=setmetatable({},{__index=function(t,k) return coroutine.yield(k) end}) print(t.color)
@@ -68,7 +70,7 @@ handler_yields : run 3000 (chunk (block (
     loc_is "t" 0 (call (global "setmetatable") (Table 1 (fields []) ∷ Table 1 (fields (Keyed 1 (str "__index")
     (function (fun ("t" ∷ "k" ∷ []) (env ∷ []) (returning [] (call (co "yield") (loc "k" 1 ∷ []) ∷ [])))) ∷ [])) ∷ []))
     ∷ prints (field (loc "t" 0) "color" ∷ []) ∷ []))) (codes "red" ∷ []) usual ≡ ran "yield\tcolor\nred\nreturn\n" 0
-unfolding int_wrap digits raw_set put_metatable
+unfolding int_wrap digits raw_set put_metatable row primitive_values constant_values library_table environment
 handler_yields = refl
 
 -- local co=coroutine.create(function() local c <close> = setmetatable({},{__close=function() print("c") end}) coroutine.yield() end)
@@ -80,7 +82,7 @@ closes_suspended : run 5000 (chunk (block (
     ∷ does (call (co "yield") []) ∷ []))) ∷ []))
     ∷ does (call (co "resume") (loc "co" 0 ∷ []))
     ∷ prints (call (co "close") (loc "co" 0 ∷ []) ∷ call (co "status") (loc "co" 0 ∷ []) ∷ []) ∷ []))) [] usual ≡ ran "c\ntrue\tdead\nreturn\n" 0
-unfolding int_wrap digits raw_set put_metatable
+unfolding int_wrap digits raw_set put_metatable row primitive_values constant_values library_table environment
 closes_suspended = refl
 
 -- local co=coroutine.create(function(a) local b=coroutine.yield(a+1) error("e"..b,0) end)
@@ -92,7 +94,7 @@ resumes : run 5000 (chunk (block (
     ∷ prints (call (co "resume") (loc "co" 0 ∷ int 1 ∷ []) ∷ [])
     ∷ prints (call (co "resume") (loc "co" 0 ∷ int 2 ∷ []) ∷ [])
     ∷ prints (call (co "status") (loc "co" 0 ∷ []) ∷ []) ∷ []))) [] usual ≡ ran "true\t2\nfalse\te2\ndead\nreturn\n" 0
-unfolding int_wrap digits raw_set
+unfolding int_wrap digits raw_set row primitive_values constant_values library_table environment
 resumes = refl
 
 -- while true do coroutine.yield() for i=1,3 do end end
@@ -101,18 +103,18 @@ yields_and_counts = chunk (block (While 1 (True 1) (block (does (call (co "yield
 
 -- each turn has the whole budget
 budget_for_each_turn : run 3000 yields_and_counts (codes "a" ∷ codes "b" ∷ []) 4 ≡ ran "yield\nyield\nyield\n" 3
-unfolding int_wrap digits raw_set
+unfolding int_wrap digits raw_set row primitive_values constant_values library_table environment
 budget_for_each_turn = refl
 
 second_turn_unpaid : run 3000 yields_and_counts (codes "a" ∷ codes "b" ∷ []) 3 ≡ ran "yield\n" 4
-unfolding int_wrap digits raw_set
+unfolding int_wrap digits raw_set row primitive_values constant_values library_table environment
 second_turn_unpaid = refl
 
 -- return coroutine.resume(coroutine.create(function() return coroutine.yield(1) end)): nothing is left of a coroutine but its results
 yield_in_tail_call : run 3000 (chunk (returning (
     loc_is "co" 0 (call (co "create") (function (fun [] (env ∷ []) (returning [] (call (co "yield") (int 1 ∷ []) ∷ []))) ∷ [])) ∷ [])
     (call (co "resume") (loc "co" 0 ∷ []) ∷ call (co "resume") (loc "co" 0 ∷ int 7 ∷ int 8 ∷ []) ∷ []))) [] usual ≡ ran "return\ttrue\ttrue\t7\t8\n" 0
-unfolding int_wrap digits raw_set
+unfolding int_wrap digits raw_set row primitive_values constant_values library_table environment
 yield_in_tail_call = refl
 
 -- local c=(what `running` gives) return coroutine.resume(c), and of a dead one; isyieldable
@@ -122,7 +124,7 @@ refusals : run 5000 (chunk (returning (
     (call (global "select") (int 2 ∷ call (co "resume") (call (co "running") [] ∷ []) ∷ [])
     ∷ call (global "select") (int 2 ∷ call (co "resume") (loc "d" 0 ∷ []) ∷ []) ∷ call (co "isyieldable") [] ∷ call (co "close") (loc "d" 0 ∷ []) ∷ []))) [] usual
     ≡ ran "return\tcannot resume non-suspended coroutine\tcannot resume dead coroutine\ttrue\ttrue\n" 0
-unfolding int_wrap digits raw_set
+unfolding int_wrap digits raw_set row primitive_values constant_values library_table environment
 refusals = refl
 
 -- local co=coroutine.create(function() local c <close> = (prints "c") error("e",0) end) return select(2,coroutine.resume(co)),coroutine.close(co)
@@ -134,7 +136,7 @@ failed_is_closed : run 5000 (chunk (returning (
     ∷ does (call (global "error") (str "e" ∷ int 0 ∷ [])) ∷ []))) ∷ []))
     ∷ prints (call (co "resume") (loc "co" 0 ∷ []) ∷ []) ∷ [])
     (call (co "close") (loc "co" 0 ∷ []) ∷ call (co "close") (loc "co" 0 ∷ []) ∷ []))) [] usual ≡ ran "false\te\nc\te\nreturn\tfalse\ttrue\n" 0
-unfolding int_wrap digits raw_set put_metatable
+unfolding int_wrap digits raw_set put_metatable row primitive_values constant_values library_table environment
 failed_is_closed = refl
 
 -- local a=coroutine.wrap(function() local n=0 local function bump() n=n+1 end while true do bump() n=n*2 coroutine.yield(n) bump() end end)
@@ -146,5 +148,5 @@ shared_across_yields : run 3000 (chunk (returning (
     ∷ While 1 (True 1) (block (
     does (call (loc "bump" 1) []) ∷ assign (loc "n" 0) (bin Mul (loc "n" 0) (int 2)) ∷ does (call (co "yield") (loc "n" 0 ∷ [])) ∷ does (call (loc "bump" 1) []) ∷ [])) ∷ []))) ∷ [])) ∷ [])
     (call (loc "a" 0) [] ∷ call (loc "a" 0) [] ∷ call (loc "a" 0) [] ∷ []))) [] usual ≡ ran "return\t2\t8\t20\n" 0
-unfolding int_wrap digits raw_set
+unfolding int_wrap digits raw_set row primitive_values constant_values library_table environment
 shared_across_yields = refl

@@ -14,8 +14,9 @@ use Rattle.lua_meaning.specs.World.{Function, Asker, Frame, talking, waiting, ra
 use Rattle.lua_meaning.specs.Calls.{raised_to, text, truth}
 use Rattle.lua_meaning.specs.Step.{ticks}
 use Rattle.lua_meaning.specs.Meaning.{begun}
-use Rattle.lua_meaning.specs.Opening.{opening, prelude_function, primitives, environment_table, globals_table}
-use Rattle.lua_meaning.specs.TreeMeaning.{trees}
+use Rattle.lua_meaning.specs.Libraries.{primitive_values, constant_values, library_table, environment, environment_table, globals_table}
+use Rattle.lua_meaning.specs.Opening.{prelude_function, primitives}
+use Rattle.lua_meaning.specs.TreeMeaning.{trees, outer_of, tree_opening}
 use Rattle.tree_terms.proofs.Forms.{of_local, loc, outer, global, int, bin, call, block, returning, does, fun}
 use Rattle.lua_meaning.proofs.Scripts.{local_function, chunk, prelude}
 
@@ -44,7 +45,7 @@ abbrev pub after : Celling → (steps : ℕ) → Run → Run
 after celling steps W = ticks (trees celling) primitives steps W
 
 abbrev pub begins : Celling → (script : Body) → (budget : ℕ) → Run
-begins celling script budget = begun (trees celling) primitives (opening prelude) (record { main = script; name = codes "@s.lua"; has_lines = true }) budget
+begins celling script budget = begun (trees celling) primitives (tree_opening prelude) (record { main = script; name = codes "@s.lua"; has_lines = true }) budget
 
 -- frames
 
@@ -109,7 +110,7 @@ tower celling caller (c ∷ cells) = waiting (f_waits celling c) ∷ tower celli
 
 abbrev pub functions : (script : Body) → List (Function Body)
 functions script =
-    map prelude_function prelude
+    map (prelude_function outer_of) prelude
     ++ record { made_of = script; source = codes "@s.lua"; has_lines = true; cells = 1 ∷ [] }
     ∷ record { made_of = calls_itself; source = codes "@s.lua"; has_lines = true; cells = 2 ∷ [] } ∷ []
 
@@ -150,6 +151,7 @@ steps_of_pcall when_declared = 21
 steps_of_pcall when_captured = 18
 
 pub pcall_calls : (celling : Celling) (budget : ℕ) → after celling (steps_of_pcall celling) (begins celling endless_in_pcall (suc (suc budget))) ≡ entered celling by_pcall [] [] budget
+unfolding primitive_values constant_values library_table
 pcall_calls when_captured budget = refl
 pcall_calls when_declared budget = refl
 

@@ -10,9 +10,10 @@ use Rattle.int_core.specs.Ask.{faulted, Ask, reads_upvalue, writes_upvalue, make
 use Rattle.lua_meaning.specs.World.{System, Function, Asker, Frame, talking, waiting, raising, protected, handled_by, handling, closing, Coroutine, fresh, suspended, running, normal, dead, failed, Now, talks, gives_back, raises_error, unwinds, calls_primitive, ends, World, now_in, breaks, has_room, on_frames, runs_main, raises_text, blamed, given_to, answered, answered_at_once, as_known, cell_of, shared_in}
 use Rattle.lua_meaning.specs.Calls.{error_in_handler, error_or_nil, put_coroutine, frames_in, back_to, returns_all, fails_all, enters_function, enters, pays_with, pays_for, calls_value, calls_over, closes_on, handed, raised_to, unwound, goes_along, goes_into, resumes, yields, closes_in, closes_coroutine}
 use Rattle.lua_meaning.specs.Asks.{calls_for, calls_in_place, settled, pays_unit, made_in, gets_function, handle, turns, talks_on}
-use Rattle.lua_meaning.specs.Primitives.{Primitive, lua_error, lua_pcall, lua_xpcall, coroutine_close, coroutine_create, coroutine_isyieldable, coroutine_resume, coroutine_running, coroutine_status, coroutine_yield, prelude_out, Done, done, row}
-use Rattle.lua_meaning.specs.Primitives.{refused as no_result}
-use Rattle.lua_meaning.specs.Step.{error_by, level_in, creates, with_coroutine, after_row, does_primitive, runs_one, has_ended, tick_by, tick, ticks}
+use Rattle.library_rows.specs.Look.{Done, done}
+use Rattle.library_rows.specs.Look.{refused as no_result, raised as an_error}
+use Rattle.library_rows.specs.Library.{Primitive, base_error, base_pcall, base_xpcall, coroutine_close, coroutine_create, coroutine_isyieldable, coroutine_resume, coroutine_running, coroutine_status, coroutine_yield, prelude_build, prelude_out}
+use Rattle.lua_meaning.specs.Step.{error_by, level_in, creates, with_coroutine, row, after_row, does_primitive, runs_one, has_ended, tick_by, tick, ticks}
 use Rattle.lua_meaning.specs.Laws.{AllShallow}
 
 -- at most this fuel, and shallow
@@ -290,15 +291,16 @@ module _ {F S : Type 0} (system : System F S) where
   row_keeps n W None k = now_keeps n W _ k
   row_keeps n W (Some (done H vs)) k = record { spends = k.spends; top = k.top; others = k.others }
   row_keeps n W (Some (no_result why)) k = now_keeps n W _ k
+  row_keeps n W (Some (an_error H e)) k = record { spends = k.spends; top = k.top; others = k.others }
 
   runs_one_keeps : (n : ℕ) (W : World F S) (chain : List ℕ) → Keeps n W → Keeps n (runs_one W chain)
   runs_one_keeps n W [] k = now_keeps n W _ k
   runs_one_keeps n W (co ∷ chain) k = now_keeps n W _ k
 
   primitive_keeps : (n : ℕ) (p : Primitive) (W : World F S) (vs : List Value) → Keeps n W → Keeps n (does_primitive system p W vs)
-  primitive_keeps n lua_error W vs k = error_keeps n W (nth vs 0) (nth vs 1) (level_in (nth vs 1)) k
-  primitive_keeps n lua_pcall W vs k = calls_over_keep n W protected (nth vs 0) (drop 1 vs) k
-  primitive_keeps n lua_xpcall W vs k = calls_over_keep n W (handled_by (nth vs 1)) (nth vs 0) (drop 2 vs) k
+  primitive_keeps n base_error W vs k = error_keeps n W (nth vs 0) (nth vs 1) (level_in (nth vs 1)) k
+  primitive_keeps n base_pcall W vs k = calls_over_keep n W protected (nth vs 0) (drop 1 vs) k
+  primitive_keeps n base_xpcall W vs k = calls_over_keep n W (handled_by (nth vs 1)) (nth vs 0) (drop 2 vs) k
   primitive_keeps n coroutine_create W vs k = creates_keep n W (nth vs 0) k
   primitive_keeps n coroutine_resume W vs k = with_keeps n W (codes "resume") (nth vs 0) _ k (λ co c few. resumes_keep n W co c (drop 1 vs) k few)
   primitive_keeps n coroutine_yield W vs k = yields_keep n W vs k
@@ -307,6 +309,7 @@ module _ {F S : Type 0} (system : System F S) where
   primitive_keeps n coroutine_isyieldable W vs k = now_keeps n W _ k
   primitive_keeps n coroutine_running W vs k = runs_one_keeps n W W.chain k
   primitive_keeps n prelude_out W vs k = record { spends = k.spends; top = k.top; others = k.others }
+  primitive_keeps n prelude_build W vs k = now_keeps n W _ k
   primitive_keeps n p W vs k = row_keeps n W (row p W.heap vs) k
 
   module _ (primitives : ℕ → Option Primitive) where

@@ -2,7 +2,7 @@
 use Rattle.std.proofs.Common.{◌≡◌, ℕ, zero, suc, ◌+◌, ◌≤◌, Bool, true, false, List, [], ◌∷◌, ◌++◌, Option, Some, None, refl, sym, ◌∙◌, ap, arith, append_assoc}
 use Rattle.std.specs.Prelude.{option_map}
 use Rattle.lua_meaning.specs.World.{System, World, yielded, returned, failed_with, spent, broken, Now, talks, gives_back, raises_error, unwinds, calls_primitive, ends}
-use Rattle.lua_meaning.specs.Primitives.{Primitive}
+use Rattle.library_rows.specs.Library.{Primitive}
 use Rattle.lua_meaning.specs.Step.{has_ended, tick, ticks}
 use Rattle.lua_meaning.specs.Meaning.{Meaning, Outcome, is_suspended, behind, at_end, suspends, handed_line, run_from, onward, begun, Script, IsMeaning, IsOnward}
 use Rattle.list_laws.proofs.Items.{some_same}

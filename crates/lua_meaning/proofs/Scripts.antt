@@ -8,9 +8,9 @@ use Rattle.tree_core.specs.declared.operator.BinOp.TheVariants.{Gt, Eq, Ne}
 use Rattle.tree_core.specs.declared.operator.UnOp.TheVariants.{Not}
 use Rattle.tree_core.specs.Tree.{Block, Body, BodyOf, Stat, LocalFunction, Assign, If, NumFor, Exp, Nil, Vararg, Var, Method, Unary, Paren, exps, arms}
 use Rattle.tree_activation.specs.Work.{Celling, when_captured, when_declared, State}
+use Rattle.library_rows.specs.Library.{of_globals, of_coroutine, of_prelude, Entry, entry}
 use Rattle.lua_meaning.specs.Meaning.{Meaning, Outcome, has_returned, has_failed, has_spent, is_suspended, is_broken}
 use Rattle.lua_meaning.specs.TreeMeaning.{tree_meaning}
-use Rattle.lua_meaning.specs.Opening.{Home, among_globals, in_coroutine, hidden, Entry}
 use Rattle.tree_terms.proofs.Forms.{name, no_variable, declared, of_local, loc, outer, global, int, str, call, bin, field, function, block, returning, locals, loc_is, does, when, fun, vararg_fun}
 
 -- names
@@ -92,13 +92,10 @@ wrap_body = fun ("f" ∷ []) (env ∷ []) (returning (
     (function (vararg_fun [] (of_local "_ENV" 1 ∷ of_local "c" 2 ∷ []) (returning []
     (call (global "after") (outer "c" 1 ∷ call (global "resume") (outer "c" 1 ∷ dots ∷ []) ∷ []) ∷ []))) ∷ []))
 
-abbrev pub entry : Home → String → Body → Entry Body
-entry home text body = record { home = home; name = codes text; body = body }
-
 abbrev pub prelude : List (Entry Body)
 prelude =
-    entry among_globals "tostring" tostring_body ∷ entry among_globals "print" print_body ∷ entry among_globals "pairs" pairs_body
-    ∷ entry hidden "after" after_body ∷ entry in_coroutine "wrap" wrap_body ∷ []
+    entry of_globals (codes "tostring") tostring_body ∷ entry of_globals (codes "print") print_body ∷ entry of_globals (codes "pairs") pairs_body
+    ∷ entry of_prelude (codes "after") after_body ∷ entry of_coroutine (codes "wrap") wrap_body ∷ []
 
 -- runs
 

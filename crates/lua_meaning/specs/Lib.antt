@@ -1,8 +1,8 @@
 pub mod World
 pub mod Calls
 pub mod Asks
-pub mod Primitives
 pub mod Step
+pub mod Libraries
 pub mod Opening
 pub mod Meaning
 pub mod TreeMeaning

@@ -3,7 +3,7 @@ use Rattle.std.specs.Prelude.{◌≡◌, ℕ, ◌==◌, Bool, true, false, cond,
 use Rattle.int_core.specs.Value.{nil, boolean, integer, string, a_table, Value, known, object, shape}
 use Rattle.int_core.specs.Operations.{type_name, integer_text}
 use Rattle.lua_meaning.specs.World.{System, talking, Ending, yielded, returned, failed_with, spent, broken, Now, talks, gives_back, ends, World}
-use Rattle.lua_meaning.specs.Primitives.{Primitive, word}
+use Rattle.library_rows.specs.Library.{Primitive}
 use Rattle.lua_meaning.specs.Step.{ticks}
 
 -- lines: each text before a line feed, and the text behind the last one where it is not empty
@@ -94,7 +94,7 @@ module _ {F S : Type 0} (system : System F S) (primitives : ℕ → Option Primi
 
   -- a suspended script is handed a line, with the whole budget
   abbrev pub handed_line : World F S → List ℕ → (budget : ℕ) → World F S
-  handed_line W line budget = record W { printed = []; fuel = budget; now = gives_back (word line ∷ []) }
+  handed_line W line budget = record W { printed = []; fuel = budget; now = gives_back (known (string line) ∷ []) }
 
   -- from a world in which a turn begins, with at most so many steps a turn; None where they do not suffice
   abbrev pub run_from : (steps : ℕ) → World F S → List (List ℕ) → (budget : ℕ) → Option (Meaning F S)

@@ -1,12 +1,16 @@
--- The primitives that move frames and coroutines or print, and the step of a world.
-use Rattle.std.specs.Prelude.{ℕ, zero, suc, ℤ, pos, Bool, true, false, cond, List, [], ◌∷◌, ◌++◌, length, drop, Option, Some, None, slice_get, codes}
-use Rattle.int_core.specs.Value.{string, a_coroutine, Value, known, object, is_nil, nth}
+-- The primitives, and the step of a world. Those that look at values and tables alone do what their rows say; those that move frames or coroutines,
+-- make a coroutine, print, or raise an error do it here.
+use Rattle.std.specs.Prelude.{ℕ, zero, suc, ℤ, pos, Bool, true, false, cond, List, [], ◌∷◌, ◌++◌, length, drop, Option, Some, None, option_map, slice_get, codes}
+use Rattle.int_core.specs.Value.{string, a_coroutine, Value, known, object, shape, is_nil, nth}
+use Rattle.int_core.specs.Heap.{Heap}
 use Rattle.int_core.specs.Limits.{limited}
 use Rattle.int_core.specs.Operations.{is_function, number_in}
+use Rattle.library_rows.specs.Look.{Done, done, refused, raised, looked}
+use Rattle.library_rows.specs.Arguments.{wrong_type}
+use Rattle.library_rows.specs.Library.{Primitive, base_error, base_pcall, base_xpcall, coroutine_close, coroutine_create, coroutine_isyieldable, coroutine_resume, coroutine_running, coroutine_status, coroutine_yield, prelude_build, prelude_out, row_of}
 use Rattle.lua_meaning.specs.World.{System, protected, handled_by, Coroutine, fresh, suspended, running, normal, dead, failed, Now, talks, gives_back, raises_error, unwinds, calls_primitive, ends, World, now_in, breaks, where_at, raises_text}
 use Rattle.lua_meaning.specs.Calls.{text, truth, calls_over, handed, raised_to, unwound, resumes, yields, closes_coroutine}
 use Rattle.lua_meaning.specs.Asks.{talks_on}
-use Rattle.lua_meaning.specs.Primitives.{Primitive, lua_error, lua_pcall, lua_xpcall, coroutine_close, coroutine_create, coroutine_isyieldable, coroutine_resume, coroutine_running, coroutine_status, coroutine_yield, prelude_out, Done, done, refused, wrong_type, name_in, row}
 
 abbrev pub gives_one : {F S : Type 0} → World F S → Value → World F S
 gives_one W v = now_in W (gives_back (v ∷ []))
@@ -18,7 +22,7 @@ placed W (pos (suc level)) (known (string s)) = limited (where_at W level ++ s)
 placed W level v = v
 
 abbrev pub error_by : {F S : Type 0} → World F S → Value → Value → Option ℤ → World F S
-error_by W v level None = raises_text W (wrong_type 2 (codes "error") (codes "number") level)
+error_by W v level None = raises_text W (wrong_type 2 (codes "error") (codes "number") (shape level))
 error_by W v level (Some n) = now_in W (raises_error (placed W n v))
 
 abbrev pub level_in : Value → Option ℤ
@@ -30,11 +34,11 @@ abbrev pub creates : {F S : Type 0} → World F S → Value → World F S
 creates W f =
     cond (is_function f)
     (gives_one (record W { coroutines = W.coroutines ++ fresh f ∷ [] }) (object a_coroutine (length W.coroutines)))
-    (raises_text W (wrong_type 1 (codes "create") (codes "function") f))
+    (raises_text W (wrong_type 1 (codes "create") (codes "function") (shape f)))
 
 abbrev pub with_coroutine : {F S : Type 0} → World F S → List ℕ → Value → (ℕ → Coroutine S → World F S) → World F S
 with_coroutine W f (object a_coroutine n) goes = elim (slice_get W.coroutines n) [ None ↦ breaks W | Some c ↦ goes n c ]
-with_coroutine W f v goes = raises_text W (wrong_type 1 f (codes "coroutine") v)
+with_coroutine W f v goes = raises_text W (wrong_type 1 f (codes "coroutine") (shape v))
 
 abbrev pub status_of : {S : Type 0} → Coroutine S → List ℕ
 status_of (fresh body) = codes "suspended"
@@ -49,10 +53,20 @@ abbrev pub runs_one : {F S : Type 0} → World F S → (chain : List ℕ) → Wo
 runs_one W [] = breaks W
 runs_one W (co ∷ chain) = now_in W (gives_back (object a_coroutine co ∷ truth false ∷ []))
 
+-- a string's bytes
+abbrev pub bytes_in : Value → List ℕ
+bytes_in (known (string bytes)) = bytes
+bytes_in v = []
+
+-- what a primitive that looks at values and tables alone comes to; None for the others
+unfoldable pub row : Primitive → Heap → List Value → Option Done
+row p H vs = option_map (λ l. looked l vs H) (row_of p)
+
 abbrev pub after_row : {F S : Type 0} → World F S → Option Done → World F S
 after_row W None = breaks W
 after_row W (Some (done H vs)) = now_in (record W { heap = H }) (gives_back vs)
 after_row W (Some (refused why)) = raises_text W why
+after_row W (Some (raised H e)) = now_in (record W { heap = H }) (raises_error e)
 
 abbrev pub has_ended : Now → Bool
 has_ended (ends ending) = true
@@ -60,9 +74,9 @@ has_ended now = false
 
 module _ {F S : Type 0} (system : System F S) where
   abbrev pub does_primitive : Primitive → World F S → List Value → World F S
-  does_primitive lua_error W vs = error_by W (nth vs 0) (nth vs 1) (level_in (nth vs 1))
-  does_primitive lua_pcall W vs = calls_over system W protected (nth vs 0) (drop 1 vs)
-  does_primitive lua_xpcall W vs = calls_over system W (handled_by (nth vs 1)) (nth vs 0) (drop 2 vs)
+  does_primitive base_error W vs = error_by W (nth vs 0) (nth vs 1) (level_in (nth vs 1))
+  does_primitive base_pcall W vs = calls_over system W protected (nth vs 0) (drop 1 vs)
+  does_primitive base_xpcall W vs = calls_over system W (handled_by (nth vs 1)) (nth vs 0) (drop 2 vs)
   does_primitive coroutine_create W vs = creates W (nth vs 0)
   does_primitive coroutine_resume W vs = with_coroutine W (codes "resume") (nth vs 0) (λ co c. resumes system W co c (drop 1 vs))
   does_primitive coroutine_yield W vs = yields W vs
@@ -70,7 +84,9 @@ module _ {F S : Type 0} (system : System F S) where
   does_primitive coroutine_status W vs = with_coroutine W (codes "status") (nth vs 0) (λ co c. gives_one W (text (status_of c)))
   does_primitive coroutine_isyieldable W vs = gives_one W (truth true)
   does_primitive coroutine_running W vs = runs_one W W.chain
-  does_primitive prelude_out W vs = now_in (record W { printed = W.printed ++ name_in (nth vs 0) }) (gives_back [])
+  does_primitive prelude_out W vs = now_in (record W { printed = W.printed ++ bytes_in (nth vs 0) }) (gives_back [])
+  -- until a text can be made a function while a script runs, `load` is an error
+  does_primitive prelude_build W vs = raises_text W (codes "load is not built yet")
   does_primitive p W vs = after_row W (row p W.heap vs)
 
   module _ (primitives : ℕ → Option Primitive) where

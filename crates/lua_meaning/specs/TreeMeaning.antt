@@ -1,19 +1,27 @@
 -- What a script's tree means: the worlds are those in which activations of trees talk.
-use Rattle.std.specs.Prelude.{ℕ, List, Option}
-use Rattle.tree_core.specs.Tree.{Body}
+use Rattle.std.specs.Prelude.{ℕ, List, length, Option}
+use Rattle.library_rows.specs.Library.{Entry}
+use Rattle.tree_core.specs.Tree.{Body, BodyOf}
 use Rattle.tree_activation.specs.Work.{Celling, State}
 use Rattle.tree_activation.specs.Asking.{to_close}
 use Rattle.tree_activation.specs.Activation.{start, step}
 use Rattle.lua_meaning.specs.World.{System, World}
 use Rattle.lua_meaning.specs.Meaning.{Script, Meaning, meaning, onward}
-use Rattle.lua_meaning.specs.Opening.{Entry, opening, primitives}
+use Rattle.lua_meaning.specs.Opening.{opening, primitives}
 
 -- a local variable gets its cell as `celling` says
 abbrev pub trees : Celling → System Body State
 trees celling = record { starts = start celling; steps = λ body s. step s; pending = λ body s. to_close s }
 
+-- how many outer variables a function names
+abbrev pub outer_of : Body → ℕ
+outer_of (BodyOf params vararg inner upvalues line) = length upvalues
+
+abbrev pub tree_opening : (prelude : List (Entry Body)) → World Body State
+tree_opening prelude = opening outer_of prelude
+
 abbrev pub tree_meaning : Celling → (steps : ℕ) → (prelude : List (Entry Body)) → Script Body → List (List ℕ) → (budget : ℕ) → Option (Meaning Body State)
-tree_meaning celling steps prelude script input budget = meaning (trees celling) primitives steps (opening prelude) script input budget
+tree_meaning celling steps prelude script input budget = meaning (trees celling) primitives steps (tree_opening prelude) script input budget
 
 abbrev pub tree_onward : Celling → (steps : ℕ) → World Body State → List (List ℕ) → (budget : ℕ) → Option (Meaning Body State)
 tree_onward celling steps W input budget = onward (trees celling) primitives steps W input budget

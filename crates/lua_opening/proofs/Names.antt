@@ -6,8 +6,8 @@ use Rattle.int_core.specs.Value.{Value, a_function, object}
 use Rattle.code_core.specs.Prototype.{Prototype}
 use Rattle.library_rows.specs.Library.{Library, Entry, entry}
 use Rattle.library_rows.specs.PreludeText.{prelude_functions}
-use Rattle.machine_runs.specs.Libraries.{constant_values, primitive_values, functions_from, table_of, is_in, library_table, first_of_each, environment}
-use Rattle.lua_opening.specs.Opened.{entries_of, prelude_of}
+use Rattle.lua_meaning.specs.Libraries.{constant_values, primitive_values, functions_from, table_of, is_in, library_table, first_of_each, environment}
+use Rattle.lua_meaning.specs.Opening.{entries_of, prelude_of}
 
 -- the prelude's functions as values
 abbrev pub functions_named : ℕ → List (List ℕ × Library) → List (Entry Value)

@@ -1,6 +1,6 @@
 -- The rows of the prelude's environment have names of their own.
 use Rattle.std.proofs.Common.{◌≡◌, [], refl}
-use Rattle.machine_runs.specs.Libraries.{primitive_values}
+use Rattle.lua_meaning.specs.Libraries.{primitive_values}
 use Rattle.lua_opening.specs.Opened.{set_all}
 use Rattle.lua_opening.proofs.Names.{environment_named}
 

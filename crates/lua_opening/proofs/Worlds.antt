@@ -24,7 +24,8 @@ use Rattle.lua_heap.specs.Codes.{functions}
 use Rattle.lua_heap.specs.Opening.{opened_world}
 use Rattle.lua_heap.specs.Plain.{table, function, cell, coroutine, plain}
 use Rattle.lua_heap.specs.Reading.{value, text_or, text_of, too_long, zeros}
-use Rattle.lua_opening.specs.Opened.{entries_of, prelude_of, tables_of}
+use Rattle.lua_meaning.specs.Opening.{entries_of, prelude_of}
+use Rattle.lua_opening.specs.Opened.{tables_of}
 use Rattle.lua_opening.specs.Functions.{shares, AddsFunctions}
 
 -- worlds are the same where their parts are

@@ -4,25 +4,14 @@ use Rattle.int_core.specs.Heap.{Table as Meant}
 use Rattle.int_core.specs.Rows.{set}
 use Rattle.int_core.specs.Value.{string, integer, primitive, a_table, a_function, Value, known, object, table_values, greatest_string}
 use Rattle.code_core.specs.Prototype.{Prototype}
-use Rattle.library_rows.specs.Library.{Library, of_globals, of_coroutine, of_string, of_table, of_math, of_utf8, Entry, entry}
-use Rattle.library_rows.specs.PreludeText.{prelude_functions}
-use Rattle.machine_runs.specs.Libraries.{library_table, environment, strings_meta}
+use Rattle.library_rows.specs.Library.{of_globals, of_coroutine, of_string, of_table, of_math, of_utf8, Entry}
+use Rattle.lua_meaning.specs.Libraries.{library_table, environment, strings_meta}
 use Rattle.table_core.specs.declared.value.Value.{Value as Kept}
 use Rattle.table_core.specs.Value.{lua_values}
 use Rattle.table_core.specs.Table.{Contents}
 use Rattle.lua_heap.specs.Reading.{row}
 use Rattle.lua_opening.specs.declared.rows.Item.{Item}
 use Rattle.lua_opening.specs.declared.rows.Item.TheVariants.{Primitive, Function, Table, Integer, Text}
-
--- functions by the names and tables that they have, as far as there are code and names
-abbrev pub entries_of : List (List ℕ × Library) → List Prototype → List (Entry Prototype)
-entries_of [] codes = []
-entries_of (f ∷ fs) [] = []
-entries_of (f ∷ fs) (p ∷ ps) = entry f.1 f.0 p ∷ entries_of fs ps
-
--- the prelude whose functions have this code, in the order of its text
-abbrev pub prelude_of : List Prototype → List (Entry Prototype)
-prelude_of codes = entries_of prelude_functions codes
 
 -- the tables of the libraries by their numbers
 abbrev pub tables_of : List (Entry Prototype) → List Meant

@@ -6,7 +6,7 @@ ghost use Rattle.lua_heap.specs.Cells.{CellsAreListed};
 ghost use Rattle.lua_heap.specs.Codes.{AreCodes};
 ghost use Rattle.lua_heap.specs.Plain.{plain};
 ghost use Rattle.machine_runs.specs.Opening.{opening};
-ghost use Rattle.lua_opening.specs.Opened.{prelude_of};
+ghost use Rattle.lua_meaning.specs.Opening.{prelude_of};
 
 use crate::functions::add_functions;
 use crate::tables::library_tables;

@@ -5,8 +5,9 @@ ghost use Rattle.library_rows.specs.Library.{of_coroutine, of_globals, of_math, 
 ghost use Rattle.library_rows.specs.PreludeText.{prelude_functions};
 ghost use Rattle.lua_heap.specs.Adding.{Begins};
 ghost use Rattle.lua_heap.specs.Plain.{table};
-ghost use Rattle.machine_runs.specs.Libraries.{environment, library_table, strings_meta};
-ghost use Rattle.lua_opening.specs.Opened.{IsTable, prelude_of, tables_of};
+ghost use Rattle.lua_meaning.specs.Libraries.{environment, library_table, strings_meta};
+ghost use Rattle.lua_meaning.specs.Opening.{prelude_of};
+ghost use Rattle.lua_opening.specs.Opened.{IsTable, tables_of};
 
 use crate::rows::{Item, filled};
 use lua_heap::{Strings, law};

@@ -19,7 +19,7 @@ use Rattle.lua_meaning.specs.World as talk
 use Rattle.lua_meaning.specs.World.{breaks, raises_text}
 use Rattle.lua_meaning.specs.Calls as calls
 use Rattle.lua_meaning.specs.Calls.{closes_on, all_pending}
-use Rattle.lua_meaning.specs.Primitives.{coroutine_close}
+use Rattle.library_rows.specs.Library.{coroutine_close}
 use Rattle.lua_meaning.specs.Step.{does_primitive}
 use Rattle.code_means.specs.Runs.{codes_run}
 use Rattle.machine_sound.specs.Sound.{sizes, FrameOk}

@@ -19,7 +19,7 @@ use Rattle.lua_meaning.specs.World as talk
 use Rattle.lua_meaning.specs.World.{gives_back, breaks, now_in}
 use Rattle.lua_meaning.specs.Calls as calls
 use Rattle.lua_meaning.specs.Calls.{refuses, goes_into}
-use Rattle.lua_meaning.specs.Primitives.{coroutine_resume}
+use Rattle.library_rows.specs.Library.{coroutine_resume}
 use Rattle.lua_meaning.specs.Step.{does_primitive}
 use Rattle.code_means.specs.Runs.{codes_run}
 use Rattle.machine_sound.specs.Sound.{Solid, StackWaits}

@@ -7,7 +7,7 @@ use Rattle.machine_core.specs.FrameRows.{hand_over, coroutine_fails, handed_to}
 use Rattle.machine_core.specs.MachineStep.{yield_row, resume_row}
 use Rattle.lua_meaning.specs.World.{gives_back}
 use Rattle.lua_meaning.specs.Calls.{fails_all, handed}
-use Rattle.lua_meaning.specs.Primitives.{coroutine_resume, coroutine_yield}
+use Rattle.library_rows.specs.Library.{coroutine_resume, coroutine_yield}
 use Rattle.lua_meaning.specs.Step.{does_primitive}
 use Rattle.code_means.specs.Runs.{codes_run}
 use Rattle.machine_sound.specs.Sound.{Solid, StackWaits}

@@ -10,7 +10,7 @@ use Rattle.lua_meaning.specs.World.{waiting, handling, gives_back, raises_error,
 use Rattle.lua_meaning.specs.World as talk
 use Rattle.lua_meaning.specs.Calls.{calls_value, error_in_handler, handed}
 use Rattle.lua_meaning.specs.Calls as calls
-use Rattle.lua_meaning.specs.Primitives.{Primitive, lua_pcall, lua_xpcall, coroutine_close, coroutine_resume}
+use Rattle.library_rows.specs.Library.{Primitive, base_pcall, base_xpcall, coroutine_close, coroutine_resume}
 use Rattle.lua_meaning.specs.Step.{does_primitive, tick}
 use Rattle.code_means.specs.Runs.{codes_run}
 use Rattle.machine_sound.specs.Sound.{Solid, StackWaits}
@@ -69,7 +69,7 @@ TextsRaised = (primitives : ℕ) (M : World) (T : TalkWorld) → AtRest primitiv
 -- `pcall` and `xpcall` push a frame, over which a value is to be called, or there is no room for it
 abbrev pub ProtectedCalls : Type 0
 ProtectedCalls = (primitives : ℕ) (M : World) (T : TalkWorld) → AtRest primitives false M T
-    → ComesTo (run pcall_row [] M) (does_primitive codes_run lua_pcall T M.moving) × ComesTo (run xpcall_row [] M) (does_primitive codes_run lua_xpcall T M.moving)
+    → ComesTo (run pcall_row [] M) (does_primitive codes_run base_pcall T M.moving) × ComesTo (run xpcall_row [] M) (does_primitive codes_run base_xpcall T M.moving)
 
 -- it is found who catches an error that was raised: a message handler is called on top of all frames, else frames are left with it, or the
 -- coroutine fails

@@ -16,7 +16,7 @@ use Rattle.machine_sound.proofs.Values.{le_of, lt_of, both_of}
 use Rattle.machine_sound.proofs.Grow.{Grows, table_on, function_on, coroutine_on, valid_on}
 use Rattle.machine_sound.proofs.Chains.{chain_beside}
 use Rattle.machine_sound.proofs.Waits.{moving_solid}
-use Rattle.machine_runs.specs.Libraries.{library_tables, plain_value, primitives_from, functions_from, primitive_values, constant_values, function_values, library_values, put_by_name, by_name, row_of_entry, table_of, is_in, library_table, is_named, first_of_each, environment, strings_meta}
+use Rattle.lua_meaning.specs.Libraries.{library_tables, plain_value, primitives_from, functions_from, primitive_values, constant_values, function_values, library_values, put_by_name, by_name, row_of_entry, table_of, is_in, library_table, is_named, first_of_each, environment, strings_meta}
 use Rattle.machine_runs.specs.Opening.{numbers, environment_cell, prelude_function, opening, nil_cells, main_cells, main_function, begun, handed_line}
 use Rattle.machine_runs.specs.Laws.{PreludeOk, MayTurn}
 

@@ -18,7 +18,7 @@ use Rattle.machine_core.specs.World.{put_top, put_frames, push, pop}
 use Rattle.machine_core.specs.Moves.{traps, with_own, back_to_resumer, popped, bury, suspend_running, wait_for_another, go_into, put_coroutine, add_printed}
 use Rattle.machine_core.specs.MachineStep.{woken}
 use Rattle.machine_core.specs.PrimitiveRows.{row_numbered}
-use Rattle.machine_runs.specs.Libraries.{primitive_values, constant_values, library_table, environment}
+use Rattle.lua_meaning.specs.Libraries.{primitive_values, constant_values, library_table, environment}
 use Rattle.machine_runs.specs.Opening.{opening, begun, handed_line}
 use Rattle.machine_runs.specs.Runs.{wakes, Close, has_returned, has_failed, has_spent, is_suspended, Run, run_from}
 

@@ -1,4 +1,3 @@
-pub mod Libraries
 pub mod Opening
 pub mod Runs
 pub mod Laws

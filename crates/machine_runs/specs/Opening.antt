@@ -3,9 +3,9 @@ use Rattle.std.specs.Prelude.{ℕ, zero, suc, pos, List, [], ◌∷◌, ◌++◌
 use Rattle.int_core.specs.Value.{nil, string, a_table, a_function, known, object}
 use Rattle.code_core.specs.declared.proto.UpDesc.{UpDesc}
 use Rattle.code_core.specs.Prototype.{Prototype}
-use Rattle.library_rows.specs.Library.{Entry, of_globals, of_coroutine, of_string, of_table, of_math, of_utf8}
+use Rattle.library_rows.specs.Library.{Entry}
 use Rattle.machine_core.specs.World.{Function, Cell, closed, fresh, World}
-use Rattle.machine_runs.specs.Libraries.{globals_table, environment_table, strings_metatable, library_table, environment, strings_meta}
+use Rattle.lua_meaning.specs.Libraries.{globals_table, environment_table, library_heap}
 
 -- that many numbers from one on
 abbrev pub numbers : (from count : ℕ) → List ℕ
@@ -22,12 +22,7 @@ prelude_function e = record { code = e.entry; cells = map environment_cell e.ent
 -- nothing has run yet, and there is no script
 unfoldable pub opening : List (Entry Prototype) → World
 opening prelude = record {
-  heap = record {
-    tables =
-        library_table of_globals prelude ∷ environment prelude ∷ library_table of_coroutine prelude ∷ library_table of_string prelude
-        ∷ library_table of_table prelude ∷ library_table of_math prelude ∷ library_table of_utf8 prelude ∷ strings_meta ∷ [];
-    string_metatable = Some strings_metatable;
-  };
+  heap = library_heap prelude;
   functions = map prelude_function prelude;
   cells = closed (object a_table environment_table) ∷ [];
   coroutines = [];

@@ -7,8 +7,9 @@ use Rattle.tree_activation.specs.Activation.{start}
 use Rattle.lua_meaning.specs.World.{running, yielded, returned, failed_with, spent, broken, Now, talks, gives_back, raises_error, unwinds, calls_primitive, ends}
 use Rattle.lua_meaning.specs.Step.{has_ended, tick, ticks}
 use Rattle.lua_meaning.specs.Meaning.{Script, Meaning, IsMeaning, behind, report, at_end, suspends, begun, handed_line, run_from}
-use Rattle.lua_meaning.specs.Opening.{Entry, opening, primitives}
-use Rattle.lua_meaning.specs.TreeMeaning.{trees}
+use Rattle.library_rows.specs.Library.{Entry}
+use Rattle.lua_meaning.specs.Opening.{primitives}
+use Rattle.lua_meaning.specs.TreeMeaning.{trees, tree_opening}
 use Rattle.lua_meaning.proofs.Runs.{ended_within, given_within}
 use Rattle.meaning_ends.proofs.Measure.{measure}
 use Rattle.meaning_ends.specs.Turns.{History, began, went_on, was_handed, world_after, Ends}
@@ -94,7 +95,7 @@ module _ (celling : Celling) where
       (λ called. after_so V.fuel (fresh_count V.coroutines) _ (call_after celling V.fuel can.0 V.now V (omega arith) can.1 called))
       (λ apart. goes_on_so V.fuel (can.0 + cost V.now) _ (tick_goes celling V.fuel (can.0 + cost V.now) can.0 V.now V refl (omega arith) can.1 (omega arith) apart))
 
-  begun_can : (prelude : List (Entry Body)) (script : Script Body) (budget : ℕ) → CanEnd (begun (trees celling) primitives (opening prelude) script budget)
+  begun_can : (prelude : List (Entry Body)) (script : Script Body) (budget : ℕ) → CanEnd (begun (trees celling) primitives (tree_opening prelude) script budget)
   begun_can prelude script budget =
       let size = 4 * measure (start celling script.main []) + 2 in (
         size + 1,
@@ -160,7 +161,7 @@ pub turn_ends : (celling : Celling) (h : History) → Ends celling (world_after 
 turn_ends celling h = can_end celling (world_after celling h) (after_can celling h)
 
 pub has_meaning : (celling : Celling) (prelude : List (Entry Body)) (script : Script Body) (input : List (List ℕ)) (budget : ℕ)
-    → (m : Meaning Body State) × IsMeaning (trees celling) primitives (opening prelude) script input budget m
+    → (m : Meaning Body State) × IsMeaning (trees celling) primitives (tree_opening prelude) script input budget m
 has_meaning celling prelude script input budget =
-    let there = run_gives celling (begun (trees celling) primitives (opening prelude) script budget) input budget (begun_can celling prelude script budget) in
+    let there = run_gives celling (begun (trees celling) primitives (tree_opening prelude) script budget) input budget (begun_can celling prelude script budget) in
     (there.0, record { steps = there.1; gives = there.2 })

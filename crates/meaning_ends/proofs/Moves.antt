@@ -12,9 +12,10 @@ use Rattle.tree_activation.specs.Activation.{start, step}
 use Rattle.lua_meaning.specs.World.{System, Function, Asker, Frame, talking, waiting, raising, protected, handled_by, handling, closing, Coroutine, fresh, suspended, running, normal, dead, failed, Now, talks, gives_back, raises_error, unwinds, calls_primitive, ends, World, now_in, breaks, has_room, on_frames, runs_main, raises_text, given_to, answered, answered_at_once, as_known, cell_of, shared_in, shared_out}
 use Rattle.lua_meaning.specs.Calls.{error_in_handler, error_or_nil, put_coroutine, frames_in, back_to, returns_all, fails_all, enters_function, enters, pays_with, pays_for, calls_value, calls_over, closes_on, handed, raised_to, unwound, goes_along, resumes, yields, closes_in, closes_coroutine, all_pending, text}
 use Rattle.lua_meaning.specs.Asks.{calls_for, calls_in_place, settled, pays_unit, made_in, gets_function, handle, turns, talks_on}
-use Rattle.lua_meaning.specs.Primitives.{Primitive, lua_error, lua_pcall, lua_xpcall, coroutine_close, coroutine_create, coroutine_isyieldable, coroutine_resume, coroutine_running, coroutine_status, coroutine_yield, prelude_out, Done, done, row}
-use Rattle.lua_meaning.specs.Primitives.{refused as no_result}
-use Rattle.lua_meaning.specs.Step.{error_by, level_in, creates, with_coroutine, after_row, does_primitive, has_ended, tick_by, gives_one, status_of, runs_one}
+use Rattle.library_rows.specs.Look.{Done, done}
+use Rattle.library_rows.specs.Look.{refused as no_result, raised as an_error}
+use Rattle.library_rows.specs.Library.{Primitive, base_error, base_pcall, base_xpcall, coroutine_close, coroutine_create, coroutine_isyieldable, coroutine_resume, coroutine_running, coroutine_status, coroutine_yield, prelude_build, prelude_out}
+use Rattle.lua_meaning.specs.Step.{error_by, level_in, creates, with_coroutine, row, after_row, does_primitive, has_ended, tick_by, gives_one, status_of, runs_one}
 use Rattle.lua_meaning.specs.Opening.{primitives}
 use Rattle.lua_meaning.specs.TreeMeaning.{trees}
 use Rattle.meaning_ends.specs.Units.{IsOnTheUnit, FallsBelow}
@@ -419,6 +420,7 @@ module _ (celling : Celling) where
   row_after b c m W None h p = has_end_too refl (m, p)
   row_after b c m W (Some (done H vs)) h p = settles h refl (m, p)
   row_after b c m W (Some (no_result why)) h p = settles h refl (m, p)
+  row_after b c m W (Some (an_error H e)) h p = settles h refl (m, p)
 
   yields_after : (b c m : ℕ) (W : Run) (vs : List Value) → W.fuel ≤ b → Fits W.chain W.frames W.coroutines m → After b c (yields W vs)
   yields_after b c m W vs h p =
@@ -430,9 +432,9 @@ module _ (celling : Celling) where
   runs_one_after b c m W (co ∷ chain) h p = settles h refl (m, p)
 
   primitive_after : (b m : ℕ) (k : Primitive) (W : Run) (vs : List Value) → W.fuel ≤ b → Fits W.chain W.frames W.coroutines m → After b (fresh_count W.coroutines) (does_primitive system k W vs)
-  primitive_after b m lua_error W vs h p = error_after b _ m W (nth vs 0) (nth vs 1) (level_in (nth vs 1)) h p
-  primitive_after b m lua_pcall W vs h p = after b _ (1 + m + 4) _ (calls_over_go b (1 + m + 4) m 1 W protected (nth vs 0) (drop 1 vs) h p (omega arith) (omega arith))
-  primitive_after b m lua_xpcall W vs h p = after b _ (1 + m + 4) _ (calls_over_go b (1 + m + 4) m 1 W (handled_by (nth vs 1)) (nth vs 0) (drop 2 vs) h p (omega arith) (omega arith))
+  primitive_after b m base_error W vs h p = error_after b _ m W (nth vs 0) (nth vs 1) (level_in (nth vs 1)) h p
+  primitive_after b m base_pcall W vs h p = after b _ (1 + m + 4) _ (calls_over_go b (1 + m + 4) m 1 W protected (nth vs 0) (drop 1 vs) h p (omega arith) (omega arith))
+  primitive_after b m base_xpcall W vs h p = after b _ (1 + m + 4) _ (calls_over_go b (1 + m + 4) m 1 W (handled_by (nth vs 1)) (nth vs 0) (drop 2 vs) h p (omega arith) (omega arith))
   primitive_after b m coroutine_create W vs h p = creates_after b _ m W (nth vs 0) h p
   primitive_after b m coroutine_resume W vs h p =
       with_after b _ m p.others W (codes "resume") (nth vs 0) (λ co c. resumes system W co c (drop 1 vs)) h p p.others_fit (λ co d e fit. resumes_after b m p.others co W d (drop 1 vs) h p e fit)
@@ -444,6 +446,7 @@ module _ (celling : Celling) where
   primitive_after b m coroutine_isyieldable W vs h p = settles h refl (m, p)
   primitive_after b m coroutine_running W vs h p = runs_one_after b _ m W W.chain h p
   primitive_after b m prelude_out W vs h p = settles h refl (m, p)
+  primitive_after b m prelude_build W vs h p = settles h refl (m, p)
   primitive_after b m k W vs h p = row_after b _ m W (row k W.heap vs) h p
 
   called_after : (b m : ℕ) (o : Option Primitive) (W : Run) (vs : List Value) → W.fuel ≤ b → Fits W.chain W.frames W.coroutines m

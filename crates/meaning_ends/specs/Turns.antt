@@ -5,8 +5,9 @@ use Rattle.tree_activation.specs.Work.{Celling, State}
 use Rattle.lua_meaning.specs.World.{World}
 use Rattle.lua_meaning.specs.Step.{has_ended, tick, ticks}
 use Rattle.lua_meaning.specs.Meaning.{Script, Meaning, IsMeaning, begun, handed_line}
-use Rattle.lua_meaning.specs.Opening.{Entry, opening, primitives}
-use Rattle.lua_meaning.specs.TreeMeaning.{trees}
+use Rattle.library_rows.specs.Library.{Entry}
+use Rattle.lua_meaning.specs.Opening.{primitives}
+use Rattle.lua_meaning.specs.TreeMeaning.{trees, tree_opening}
 
 -- how a run came to where it is: a script began, the world made a step, or a line was handed over
 pub data History : Type 0 where
@@ -15,7 +16,7 @@ pub data History : Type 0 where
   was_handed : History → (line : List ℕ) → (budget : ℕ) → History
 
 abbrev pub world_after : Celling → History → World Body State
-world_after celling (began prelude script budget) = begun (trees celling) primitives (opening prelude) script budget
+world_after celling (began prelude script budget) = begun (trees celling) primitives (tree_opening prelude) script budget
 world_after celling (went_on h) = tick (trees celling) primitives (world_after celling h)
 world_after celling (was_handed h line budget) = handed_line (trees celling) primitives (world_after celling h) line budget
 
@@ -28,4 +29,4 @@ TurnsEnd = (celling : Celling) (h : History) → Ends celling (world_after celli
 abbrev pub EveryScriptHasAMeaning : Type 0
 EveryScriptHasAMeaning =
     (celling : Celling) (prelude : List (Entry Body)) (script : Script Body) (input : List (List ℕ)) (budget : ℕ)
-    → (m : Meaning Body State) × IsMeaning (trees celling) primitives (opening prelude) script input budget m
+    → (m : Meaning Body State) × IsMeaning (trees celling) primitives (tree_opening prelude) script input budget m

@@ -12,7 +12,7 @@ use Rattle.machine_core.specs.FrameRows.{hand_over}
 use Rattle.machine_core.specs.Talk.{State, talk_start}
 use Rattle.lua_meaning.specs.World as talk
 use Rattle.lua_meaning.specs.World.{running, talking, talks}
-use Rattle.lua_meaning.specs.Primitives.{Primitive}
+use Rattle.library_rows.specs.Library.{Primitive}
 use Rattle.lua_meaning.specs.Meaning as meaning
 use Rattle.lua_meaning.specs.Meaning.{Script}
 use Rattle.code_means.specs.Runs.{codes_run}

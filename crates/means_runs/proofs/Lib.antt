@@ -2,4 +2,4 @@ pub mod Turns
 pub mod Lines
 pub mod First
 pub mod Runs
-pub mod Example
+pub mod Opened

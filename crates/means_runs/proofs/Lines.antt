@@ -12,7 +12,7 @@ use Rattle.machine_core.specs.MachineStep.{and_then, steps}
 use Rattle.machine_core.specs.Talk.{State}
 use Rattle.lua_meaning.specs.World as talk
 use Rattle.lua_meaning.specs.World.{gives_back}
-use Rattle.lua_meaning.specs.Primitives.{Primitive}
+use Rattle.library_rows.specs.Library.{Primitive}
 use Rattle.lua_meaning.specs.Step.{has_ended, ticks}
 use Rattle.lua_meaning.specs.Meaning as meaning
 use Rattle.lua_meaning.specs.Meaning.{Meaning, run_from as means_from, at_end as means_at, suspends as means_suspended, report as talk_report}

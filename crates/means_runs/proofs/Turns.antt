@@ -8,7 +8,7 @@ use Rattle.machine_core.specs.FrameRows.{asked_row, after_asked, refused_under}
 use Rattle.machine_core.specs.MachineStep.{step_by, step, steps, from_world, and_then}
 use Rattle.lua_meaning.specs.World as talk
 use Rattle.lua_meaning.specs.World.{Now, talks, gives_back, raises_error, unwinds}
-use Rattle.lua_meaning.specs.Primitives.{Primitive}
+use Rattle.library_rows.specs.Library.{Primitive}
 use Rattle.lua_meaning.specs.Step.{has_ended, tick, tick_by, ticks}
 use Rattle.lua_meaning.proofs.Runs.{ended_within}
 use Rattle.code_means.specs.Runs.{codes_run}

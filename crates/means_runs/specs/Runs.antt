@@ -1,17 +1,17 @@
 -- A script's code by the machine, and as activations that talk to the world: what it prints and how it ends.
-use Rattle.std.specs.Prelude.{◌≡◌, ◌≤◌, ℕ, Bool, List, [], ◌∷◌, length, Option, map}
+use Rattle.std.specs.Prelude.{◌≡◌, ◌≤◌, ℕ, false, List, [], ◌∷◌, length, Option, map}
 use Rattle.int_core.specs.Value.{greatest_string}
 use Rattle.code_core.specs.Prototype.{Prototype}
 use Rattle.code_core.specs.Check.{IsChecked}
-use Rattle.library_rows.specs.Library.{Entry, all_entries}
+use Rattle.library_rows.specs.Library.{Entry}
 use Rattle.machine_core.specs.World.{closed, World}
 use Rattle.machine_core.specs.Moves.{Row}
 use Rattle.machine_core.specs.Talk.{State}
 use Rattle.lua_meaning.specs.World.{running}
-use Rattle.lua_meaning.specs.Primitives.{Primitive}
+use Rattle.library_rows.specs.Library.{Primitive}
 use Rattle.lua_meaning.specs.Meaning as meaning
 use Rattle.lua_meaning.specs.Meaning.{Script, Meaning, Outcome, IsMeaning}
-use Rattle.code_means.specs.Runs.{codes_run}
+use Rattle.code_means.specs.Runs.{codes_run, code_opening}
 use Rattle.machine_sound.specs.Sound.{Each, Sound}
 use Rattle.machine_sound.specs.Laws.{PrimitivesSafe}
 use Rattle.machine_runs.specs.Opening.{opening, begun}
@@ -70,14 +70,10 @@ ScriptsMean =
     (primitives : ℕ) (rows : ℕ → Row) (library : ℕ → Option Primitive) (W : World) (T : TalkWorld) (script : Script Prototype) (input : List (List ℕ)) (budget : ℕ) → ScriptWorlds primitives rows library W T script input
     → (m : Meaning Prototype State) → IsMeaning codes_run library T script input budget m → (r : Run) × CodeRun rows (begun W script.main) input budget r × RunsAlike r m
 
--- code that keeps its source's name and lines, or neither
-abbrev pub HasName : Entry Prototype → Type 0
-HasName e = (has_lines : Bool) × (source : List ℕ) × Named has_lines source e.entry
+-- code without lines and names
+abbrev pub IsBare : Entry Prototype → Type 0
+IsBare e = Named false [] e.entry
 
--- the world of the libraries has another one beside it
+-- the machine's world of the libraries, and that in which activations talk
 abbrev pub OpensAlike : Type 0
-OpensAlike = (prelude : List (Entry Prototype)) → Each HasName prelude → (T : TalkWorld) × OpenAlike (opening prelude) T
-
--- and there is a script that begins in both
-abbrev pub SomeScriptRuns : Type 0
-SomeScriptRuns = (rows : ℕ → Row) × (library : ℕ → Option Primitive) × (T : TalkWorld) × (script : Script Prototype) × ScriptWorlds (length all_entries) rows library (opening []) T script []
+OpensAlike = (prelude : List (Entry Prototype)) → Each IsBare prelude → OpenAlike (opening prelude) (code_opening prelude)

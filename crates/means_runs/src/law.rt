@@ -1,5 +1,5 @@
 // The law, with what it speaks of in `specs/`.
-ghost use Rattle.means_runs.specs.Runs.{OpensAlike, ScriptsMean, ScriptsRun, SomeScriptRuns};
+ghost use Rattle.means_runs.specs.Runs.{OpensAlike, ScriptsMean, ScriptsRun};
 
 /// From worlds before a script that are alike, the machine prints and ends on any lines of input and every budget as the script's code means
 /// it in the world that answers the asks of its activations, and the other way round: what is printed is the same, byte for byte, and both
@@ -10,10 +10,8 @@ pub fn scripts_run_as_they_mean()
     ensures means { ScriptsMean }
 {}
 
-/// The world of the libraries, with whatever prelude whose code keeps its source's name and lines or neither, has another world beside it
-/// that is alike; and there is a script that begins in both, with the primitives that move frames and coroutines, make or look at a
-/// coroutine, print or raise, so the law above speaks of something.
-pub fn some_script_runs()
-    ensures worlds { OpensAlike }
-    ensures script { SomeScriptRuns }
+/// The machine's world of the libraries and the one in which the code of a script is given its meaning are
+/// alike, with whatever prelude whose code has no lines and names.
+pub fn opening_worlds_are_alike()
+    ensures { OpensAlike }
 {}

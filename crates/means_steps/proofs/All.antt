@@ -8,7 +8,7 @@ use Rattle.machine_core.specs.FrameRows.{hand_over, handed_to, unwound, raised_r
 use Rattle.machine_core.specs.MachineStep.{step_by}
 use Rattle.lua_meaning.specs.World.{breaks}
 use Rattle.lua_meaning.specs.Calls as calls
-use Rattle.lua_meaning.specs.Primitives.{Primitive}
+use Rattle.library_rows.specs.Library.{Primitive}
 use Rattle.lua_meaning.specs.Step.{does_primitive, tick, tick_by}
 use Rattle.code_means.specs.Runs.{codes_run}
 use Rattle.machine_sound.specs.Sound.{Solid, Settled, StackWaits}

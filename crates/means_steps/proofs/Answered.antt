@@ -22,7 +22,7 @@ use Rattle.means_steps.proofs.Texts.{Good}
 use Rattle.lua_meaning.specs.World as talk
 use Rattle.lua_meaning.specs.World.{Asker, talking, waiting, raising, talks, as_known, without_name, shared_in, shared_out, second, raises_error, now_in, on_frames}
 use Rattle.lua_meaning.specs.Asks.{turns, handle}
-use Rattle.lua_meaning.specs.Primitives.{Primitive}
+use Rattle.library_rows.specs.Library.{Primitive}
 use Rattle.code_means.specs.Runs.{codes_run}
 use Rattle.machine_means.specs.Joined.{TalkFrame, TalkWorld, Dressed, RegistersPair, LuaPair, Joined, line_known}
 use Rattle.machine_means.specs.Stands.{error_raised}

@@ -9,7 +9,7 @@ use Rattle.machine_core.specs.Moves.{call_value, TopShape, lua_top, pcall_top, x
 use Rattle.machine_core.specs.FrameRows.{refused_under as machine_refuses, after_asked, asked_row}
 use Rattle.machine_core.specs.MachineStep.{step_by}
 use Rattle.lua_meaning.specs.Calls.{calls_value, pays_for}
-use Rattle.lua_meaning.specs.Primitives.{Primitive}
+use Rattle.library_rows.specs.Library.{Primitive}
 use Rattle.code_means.specs.Runs.{codes_run}
 use Rattle.machine_sound.specs.Sound.{Solid, StackWaits}
 use Rattle.machine_means.specs.Joined.{TalkWorld, Joined}

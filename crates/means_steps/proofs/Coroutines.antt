@@ -18,18 +18,17 @@ use Rattle.machine_core.specs.Talk.{State}
 use Rattle.machine_means.proofs.Lists.{nth_mid}
 use Rattle.lua_meaning.specs.World as talk
 use Rattle.lua_meaning.specs.World.{gives_back, raises_error, raises_text, now_in}
-use Rattle.lua_meaning.specs.Primitives.{Primitive, lua_error, coroutine_create, wrong_type}
+use Rattle.library_rows.specs.Arguments.{wrong_type}
+use Rattle.library_rows.specs.Library.{Primitive, base_error, coroutine_create}
 use Rattle.lua_meaning.specs.Step.{level_in, placed, error_by, creates, gives_one, does_primitive}
 use Rattle.machine_sound.proofs.Frames.{stack_is}
 use Rattle.machine_means.specs.Joined.{TalkWorld, Stacks, CoroutinePair, CoroutinesPair, HoldsIn, Joined}
-use Rattle.machine_means.specs.Stands.{error_raised, AtRest}
-use Rattle.machine_means.proofs.Handing.{moved, told_now}
-use Rattle.machine_means.proofs.Loosened.{loosened}
+use Rattle.machine_means.specs.Stands.{AtRest}
 use Rattle.machine_means.proofs.Frames.{own_stack}
 use Rattle.machine_means.proofs.Places.{where_same}
 use Rattle.machine_means.proofs.AtRest.{stack_now, only}
 use Rattle.means_steps.specs.Steps.{Leads, PrimitiveJoined}
-use Rattle.means_steps.proofs.Primitives.{raises_so, hands}
+use Rattle.means_steps.proofs.Primitives.{raises_so, raises_value, hands}
 
 -- both worlds have one coroutine more, which holds no cell
 
@@ -110,7 +109,7 @@ module _ (library : ℕ → Option Primitive) (primitives : ℕ) (M : World) (T 
   makes = act (create (read 0)) (λ co _. rows.gives_back (read co ∷ []))
 
   abbrev text : List ℕ
-  text = wrong_type 1 (codes "create") (codes "function") (nth M.moving 0)
+  text = wrong_type 1 (codes "create") (codes "function") (shape (nth M.moving 0))
 
   abbrev made_talk : TalkWorld
   made_talk = gives_one (record T { coroutines = T.coroutines ++ talk.fresh v ∷ [] }) (object a_coroutine (length T.coroutines))
@@ -167,23 +166,20 @@ module _ (library : ℕ → Option Primitive) (primitives : ℕ) (M : World) (T 
   placed_same level (known (primitive n)) = refl
   placed_same level (object kind n) = refl
 
-  raises_value : (u : Value) → Leads library M.printed (now_in T (raises_error u)) (ends raised (record M { moving = u ∷ [] }))
-  raises_value u = (0, error_raised (record M { moving = u ∷ [] }) (now_in T (raises_error u)) u refl refl (told_now true (record M { moving = u ∷ [] }) T (raises_error u) (moved true M T (u ∷ []) (loosened true M T k.joined))))
-
   errs_by : (n : Option ℤ) → Leads library M.printed (error_by T v (nth M.moving 1) n) (run (errs_at 0 (shape (nth M.moving 1)) n) env N)
-  errs_by None = raises_so library primitives M T k (wrong_type 2 (codes "error") (codes "number") (nth M.moving 1)) env
+  errs_by None = raises_so library primitives M T k (wrong_type 2 (codes "error") (codes "number") (shape (nth M.moving 1))) env
   errs_by (Some (pos (suc level))) =
       let u : Value = moves.placed N level (nth env 0) in
       subst (λ x. Leads library M.printed (now_in T (raises_error (placed T (pos (suc level)) v))) (ends raised (record M { moving = x ∷ [] }))) (sym (nth_mid env [] u))
-      (subst (λ x. Leads library M.printed (now_in T (raises_error x)) (ends raised (record M { moving = u ∷ [] }))) (ap (moves.placed N level) env_first ∙ placed_same level v) (raises_value u))
-  errs_by (Some (pos zero)) = subst (λ x. Leads library M.printed (now_in T (raises_error v)) (ends raised (record M { moving = x ∷ [] }))) (sym env_first) (raises_value v)
-  errs_by (Some (negsuc n)) = subst (λ x. Leads library M.printed (now_in T (raises_error v)) (ends raised (record M { moving = x ∷ [] }))) (sym env_first) (raises_value v)
+      (subst (λ x. Leads library M.printed (now_in T (raises_error x)) (ends raised (record M { moving = u ∷ [] }))) (ap (moves.placed N level) env_first ∙ placed_same level v) (raises_value library primitives M T k M T u k.joined))
+  errs_by (Some (pos zero)) = subst (λ x. Leads library M.printed (now_in T (raises_error v)) (ends raised (record M { moving = x ∷ [] }))) (sym env_first) (raises_value library primitives M T k M T v k.joined)
+  errs_by (Some (negsuc n)) = subst (λ x. Leads library M.printed (now_in T (raises_error v)) (ends raised (record M { moving = x ∷ [] }))) (sym env_first) (raises_value library primitives M T k M T v k.joined)
 
-  pub errs_so : Leads library M.printed (does_primitive Rattle.code_means.specs.Runs.codes_run lua_error T M.moving) (run error_row [] M)
+  pub errs_so : Leads library M.printed (does_primitive Rattle.code_means.specs.Runs.codes_run base_error T M.moving) (run error_row [] M)
   errs_so = subst (λ n. Leads library M.printed (error_by T v (nth M.moving 1) n) (run error_row [] M)) (level_same (nth M.moving 1)) (errs_by (rows.level_in (shape (nth M.moving 1))))
 
 pub create_leads : PrimitiveJoined create_row coroutine_create
 create_leads library primitives M T k = creates_so library primitives M T k
 
-pub error_leads : PrimitiveJoined error_row lua_error
+pub error_leads : PrimitiveJoined error_row base_error
 error_leads library primitives M T k = errs_so library primitives M T k

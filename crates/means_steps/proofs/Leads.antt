@@ -10,7 +10,7 @@ use Rattle.machine_core.specs.Talk.{State, talk_step}
 use Rattle.lua_meaning.specs.World as talk
 use Rattle.lua_meaning.specs.World.{talking, talks, breaks, as_known, without_name}
 use Rattle.lua_meaning.specs.Asks.{turns, talks_on}
-use Rattle.lua_meaning.specs.Primitives.{Primitive}
+use Rattle.library_rows.specs.Library.{Primitive}
 use Rattle.lua_meaning.specs.Step.{has_ended, tick, ticks}
 use Rattle.code_means.specs.Runs.{codes_run}
 use Rattle.machine_means.specs.Joined.{TalkFrame, TalkWorld, Dressed, PartsNamed, line_known}

@@ -22,4 +22,5 @@ pub mod Asking
 pub mod Mains
 pub mod Primitives
 pub mod Coroutines
+pub mod Libraries
 pub mod All

@@ -18,7 +18,7 @@ use Rattle.lua_meaning.specs.World as talk
 use Rattle.lua_meaning.specs.World.{now_in}
 use Rattle.lua_meaning.specs.Calls as calls
 use Rattle.lua_meaning.specs.Calls.{yields, leaves_coroutine, truth, all_pending}
-use Rattle.lua_meaning.specs.Primitives.{Primitive}
+use Rattle.library_rows.specs.Library.{Primitive}
 use Rattle.code_means.specs.Runs.{codes_run}
 use Rattle.machine_sound.specs.Sound.{Solid, StackWaits}
 use Rattle.machine_sound.proofs.Frames.{stack_is}

@@ -1,9 +1,10 @@
 -- The primitives: those that move frames and coroutines, make or look at a coroutine, print, raise, or look at values and tables alone.
 use Rattle.std.proofs.Common.{ℕ, zero, suc, ◌<◌, ◌≡◌, List, [], ◌∷◌, ◌++◌, length, Option, Some, None, refl, sym, ap, subst, ◌∙◌, arith, Bool, true, false}
-use Rattle.std.specs.Prelude.{slice_get, drop, codes}
+use Rattle.std.specs.Prelude.{slice_get, option_map, drop, codes}
+use Rattle.int_core.specs.Heap.{Heap}
 use Rattle.int_core.specs.Value.{Value, known, object, nil, boolean, integer, string, primitive, a_table, a_function, a_coroutine, shape, nth, bind}
-use Rattle.library_rows.specs.Look as look
-use Rattle.library_rows.specs.Look.{Look, looked}
+use Rattle.library_rows.specs.Look.{Look, Done, looked}
+use Rattle.library_rows.specs.Look.{done as came, refused as was_refused, raised as was_raised}
 use Rattle.list_laws.specs.Held.{Held}
 use Rattle.list_laws.proofs.Items.{append_nil}
 use Rattle.list_laws.proofs.Values.{drop_front}
@@ -18,13 +19,16 @@ use Rattle.machine_core.specs.Talk.{State}
 use Rattle.lua_meaning.specs.World as talk
 use Rattle.lua_meaning.specs.World.{gives_back, raises_error, raises_text, now_in, breaks}
 use Rattle.lua_meaning.specs.Calls as calls
-use Rattle.lua_meaning.specs.Primitives.{Primitive, lua_pcall, lua_xpcall, coroutine_close, coroutine_isyieldable, coroutine_resume, coroutine_running, coroutine_status, coroutine_yield, prelude_out, Done, row, wrong_type, name_in}
-use Rattle.lua_meaning.specs.Step.{gives_one, status_of, with_coroutine, runs_one, after_row, does_primitive}
+use Rattle.library_rows.specs.Arguments.{wrong_type}
+use Rattle.library_rows.specs.Library.{Primitive, base_error, base_pcall, base_xpcall, coroutine_close, coroutine_create, coroutine_isyieldable, coroutine_resume, coroutine_running, coroutine_status, coroutine_yield, prelude_build, prelude_out, row_of}
+use Rattle.lua_meaning.specs.Step.{gives_one, status_of, with_coroutine, runs_one, bytes_in as bytes_of, row, after_row, does_primitive}
 use Rattle.code_means.specs.Runs.{codes_run}
 use Rattle.machine_sound.proofs.Frames.{stack_is}
 use Rattle.machine_means.specs.Joined.{TalkWorld, Stacks, CoroutinePair, Joined}
 use Rattle.machine_means.specs.Laws.{HasBegun}
-use Rattle.machine_means.specs.Stands.{AtRest}
+use Rattle.machine_means.specs.Stands.{error_raised, AtRest}
+use Rattle.machine_means.proofs.Lists.{nth_mid}
+use Rattle.machine_means.proofs.Loosened.{loosened}
 use Rattle.machine_means.proofs.CellWrites.{all3_first}
 use Rattle.machine_means.proofs.Handing.{moved, told_now, gives}
 use Rattle.machine_means.proofs.AtRest.{stack_now}
@@ -34,12 +38,12 @@ use Rattle.machine_means.proofs.Resumed.{resumes_joined}
 use Rattle.machine_means.proofs.Beginning.{coroutines_begin}
 use Rattle.machine_means.proofs.Burying.{coroutines_closed}
 use Rattle.machine_means.proofs.Running.{runs_first}
-use Rattle.means_steps.specs.Steps.{Leads, PrimitiveJoined, SameDone, LooksAs}
+use Rattle.means_steps.specs.Steps.{Leads, PrimitiveJoined}
 use Rattle.means_steps.proofs.Within.{EndsNoTurn, comes_leads, gives_leads, either, resume_free, close_free}
 use Rattle.means_steps.proofs.Mains.{main_yields}
 
 -- a text that is raised costs nothing
-blames_free : (text : List ℕ) → EndsNoTurn (blames text)
+pub blames_free : (text : List ℕ) → EndsNoTurn (blames text)
 blames_free text = λ _ _ _. tt
 
 module _ (library : ℕ → Option Primitive) (primitives : ℕ) (M : World) (T : TalkWorld) (k : AtRest primitives false M T) where
@@ -63,39 +67,65 @@ module _ (library : ℕ → Option Primitive) (primitives : ℕ) (M : World) (T 
   hands_here : (env mv : List Value) → Leads library M.printed (now_in T (gives_back mv)) (run hand_over env (record M { moving = mv }))
   hands_here env mv = hands (record M { moving = mv }) T env mv (stack_now primitives M T false k) (moved false M T mv k.joined) refl
 
--- a row that looks at values and tables alone
-pub look_leads : (l : Look) (p : Primitive) → LooksAs l p → PrimitiveJoined (look_row l) p
-look_leads l p x library primitives M T k =
-    subst (λ X. Leads library M.printed X (run (look_row l) [] M)) (sym (x.looks T M.moving))
-    (subst (λ H. Leads library M.printed (after_row T (row p H M.moving)) (run (look_row l) [] M)) k.joined.heap (by (looked l M.moving M.heap) (row p M.heap M.moving) (x.same M.heap M.moving)))
+  -- an error's value is raised as it is
+  pub raises_value : (W : World) (U : TalkWorld) (e : Value) → Joined false W U → Leads library M.printed (now_in U (raises_error e)) (ends raised (record W { moving = e ∷ [] }))
+  raises_value W U e j =
+      (0, error_raised (record W { moving = e ∷ [] }) (now_in U (raises_error e)) e refl refl (told_now true (record W { moving = e ∷ [] }) U (raises_error e) (moved true W U (e ∷ []) (loosened true W U j))))
+
+-- a primitive that looks at values and tables alone does in both worlds what its row says
+
+row_is : (p : Primitive) (l : Look) (H : Heap) (vs : List Value) → row_of p ≡ Some l → row p H vs ≡ Some (looked l vs H)
+unfolding row
+row_is p l H vs e = ap (option_map (λ (l : Look). looked l vs H)) e
+
+told_by_row : (p : Primitive) (l : Look) (T : TalkWorld) (vs : List Value) → row_of p ≡ Some l → does_primitive codes_run p T vs ≡ after_row T (Some (looked l vs T.heap))
+told_by_row base_error l T vs e = absurd (cc)
+told_by_row base_pcall l T vs e = absurd (cc)
+told_by_row base_xpcall l T vs e = absurd (cc)
+told_by_row coroutine_close l T vs e = absurd (cc)
+told_by_row coroutine_create l T vs e = absurd (cc)
+told_by_row coroutine_isyieldable l T vs e = absurd (cc)
+told_by_row coroutine_resume l T vs e = absurd (cc)
+told_by_row coroutine_running l T vs e = absurd (cc)
+told_by_row coroutine_status l T vs e = absurd (cc)
+told_by_row coroutine_yield l T vs e = absurd (cc)
+told_by_row prelude_build l T vs e = absurd (cc)
+told_by_row prelude_out l T vs e = absurd (cc)
+told_by_row p l T vs e = ap (after_row T) (row_is p l T.heap vs e)
+
+pub look_leads : (l : Look) (p : Primitive) → row_of p ≡ Some l → PrimitiveJoined (look_row l) p
+look_leads l p is library primitives M T k =
+    subst (λ X. Leads library M.printed X (run (look_row l) [] M)) (sym (told_by_row p l T M.moving is))
+    (subst (λ H. Leads library M.printed (after_row T (Some (looked l M.moving H))) (run (look_row l) [] M)) k.joined.heap (by (looked l M.moving M.heap)))
   where
-    out : look.Done → Outcome
+    out : Done → Outcome
     out d = elim (consulted (record M { moving = [] }) d) as (λ _. Outcome) [ None ↦ trapped | Some r ↦ run (after_look (length M.moving) r.told) (M.moving ++ r.values) r.world ]
 
-    by : (d : look.Done) (e : Option Done) → SameDone d e → Leads library M.printed (after_row T e) (out d)
-    by (look.done H vs) e same =
-        let W : World = record M { heap = H; moving = vs } in
-        let U : TalkWorld = record T { heap = H } in
-        let j : Joined false W U = record {
-          heap = refl;
-          globals = k.joined.globals;
-          printed = k.joined.printed;
-          fuel = k.joined.fuel;
-          chain = k.joined.chain;
-          functions = k.joined.functions;
-          held = k.joined.held;
-          cells = k.joined.cells;
-          coroutines = k.joined.coroutines;
-        } in
-        subst (λ e. Leads library M.printed (after_row T e) (out (look.done H vs))) (sym same)
-        (subst (λ xs. Leads library M.printed (now_in U (gives_back vs)) (run hand_over ((M.moving ++ vs) ++ []) (record M { heap = H; moving = xs }))) (sym (drop_front M.moving vs))
-        (hands library primitives M T k W U ((M.moving ++ vs) ++ []) vs (stack_is W k.waits.coroutine k.waits.frames k.waits.last k.waits.running) j refl))
-    by (look.refused text) e same = subst (λ e. Leads library M.printed (after_row T e) (out (look.refused text))) (sym same) (raises_so library primitives M T k text (M.moving ++ []))
-    by (look.raised H v) e same = absurd same
+    with_heap : (H : Heap) (vs : List Value) → Joined false (record M { heap = H; moving = vs }) (record T { heap = H })
+    with_heap H vs = record {
+      heap = refl;
+      globals = k.joined.globals;
+      printed = k.joined.printed;
+      fuel = k.joined.fuel;
+      chain = k.joined.chain;
+      functions = k.joined.functions;
+      held = k.joined.held;
+      cells = k.joined.cells;
+      coroutines = k.joined.coroutines;
+    }
+
+    by : (d : Done) → Leads library M.printed (after_row T (Some d)) (out d)
+    by (came H vs) =
+        subst (λ xs. Leads library M.printed (now_in (record T { heap = H }) (gives_back vs)) (run hand_over ((M.moving ++ vs) ++ []) (record M { heap = H; moving = xs }))) (sym (drop_front M.moving vs))
+        (hands library primitives M T k (record M { heap = H; moving = vs }) (record T { heap = H }) ((M.moving ++ vs) ++ []) vs (stack_is (record M { heap = H; moving = vs }) k.waits.coroutine k.waits.frames k.waits.last k.waits.running) (with_heap H vs) refl)
+    by (was_refused text) = raises_so library primitives M T k text (M.moving ++ [])
+    by (was_raised H e) =
+        subst (λ x. Leads library M.printed (now_in (record T { heap = H }) (raises_error e)) (ends raised (record M { heap = H; moving = x ∷ [] }))) (sym (nth_mid M.moving [] e))
+        (raises_value library primitives M T k (record M { heap = H; moving = [] }) (record T { heap = H }) e (with_heap H []))
 
 -- printing
 
-same_bytes : (v : Value) → bytes_in v ≡ name_in v
+same_bytes : (v : Value) → bytes_in v ≡ bytes_of v
 same_bytes (known (string s)) = refl
 same_bytes (known nil) = refl
 same_bytes (known (boolean b)) = refl
@@ -108,7 +138,7 @@ unfolding add_printed
 print_leads library primitives M T k =
     let v : Value = nth M.moving 0 in
     let W : World = record M { printed = M.printed ++ bytes_in v; moving = [] } in
-    let U : TalkWorld = record T { printed = T.printed ++ name_in v } in
+    let U : TalkWorld = record T { printed = T.printed ++ bytes_of v } in
     let j : Joined false W U = record {
       heap = k.joined.heap;
       globals = k.joined.globals;
@@ -138,13 +168,13 @@ running_leads library primitives M T k =
 
 -- `pcall` and `xpcall`
 
-pub pcall_leads : PrimitiveJoined pcall_row lua_pcall
+pub pcall_leads : PrimitiveJoined pcall_row base_pcall
 pcall_leads library primitives M T k =
-    comes_leads library M.printed pcall_row [] M (does_primitive codes_run lua_pcall T M.moving) (λ _ _ _ _ room _. either room _ _ (λ _ _ _. tt) (λ _ _ _. tt)) (protected_calls primitives M T k).0
+    comes_leads library M.printed pcall_row [] M (does_primitive codes_run base_pcall T M.moving) (λ _ _ _ _ room _. either room _ _ (λ _ _ _. tt) (λ _ _ _. tt)) (protected_calls primitives M T k).0
 
-pub xpcall_leads : PrimitiveJoined xpcall_row lua_xpcall
+pub xpcall_leads : PrimitiveJoined xpcall_row base_xpcall
 xpcall_leads library primitives M T k =
-    comes_leads library M.printed xpcall_row [] M (does_primitive codes_run lua_xpcall T M.moving) (λ _ _ _ _ room _. either room _ _ (λ _ _ _. tt) (λ _ _ _. tt)) (protected_calls primitives M T k).1
+    comes_leads library M.printed xpcall_row [] M (does_primitive codes_run base_xpcall T M.moving) (λ _ _ _ _ room _. either room _ _ (λ _ _ _. tt) (λ _ _ _. tt)) (protected_calls primitives M T k).1
 
 -- `yield`
 
@@ -204,9 +234,9 @@ module _ (library : ℕ → Option Primitive) (primitives : ℕ) (M : World) (T 
       let c = there_is co e in
       let m = first_of M.moving co e in
       subst (λ l. Leads library M.printed (does_primitive codes_run coroutine_resume T l) (run resume_row [] M)) (sym m) (resumed_out (run resume_row [] M) refl co (drop 1 M.moving) m c.0 c.1)
-  resume_any (known p) e = resumes_by (known p) e (raises_so library primitives M T k (wrong_type 1 (codes "resume") (codes "coroutine") (known p)) (M.moving ++ []))
-  resume_any (object a_table n) e = resumes_by (object a_table n) e (raises_so library primitives M T k (wrong_type 1 (codes "resume") (codes "coroutine") (object a_table n)) (M.moving ++ []))
-  resume_any (object a_function n) e = resumes_by (object a_function n) e (raises_so library primitives M T k (wrong_type 1 (codes "resume") (codes "coroutine") (object a_function n)) (M.moving ++ []))
+  resume_any (known p) e = resumes_by (known p) e (raises_so library primitives M T k (wrong_type 1 (codes "resume") (codes "coroutine") (shape (known p))) (M.moving ++ []))
+  resume_any (object a_table n) e = resumes_by (object a_table n) e (raises_so library primitives M T k (wrong_type 1 (codes "resume") (codes "coroutine") (shape (object a_table n))) (M.moving ++ []))
+  resume_any (object a_function n) e = resumes_by (object a_function n) e (raises_so library primitives M T k (wrong_type 1 (codes "resume") (codes "coroutine") (shape (object a_function n))) (M.moving ++ []))
 
   closes_by : (v : Value) → nth M.moving 0 ≡ v → Leads library M.printed (with_coroutine T (codes "close") v (λ co c. calls.closes_coroutine codes_run T co c)) (run (rows.closes_coroutine (shape v) 0) (M.moving ++ []) (record M { moving = [] }))
       → Leads library M.printed (does_primitive codes_run coroutine_close T M.moving) (run close_row [] M)
@@ -219,9 +249,9 @@ module _ (library : ℕ → Option Primitive) (primitives : ℕ) (M : World) (T 
       let m = first_of M.moving co e in
       subst (λ l. Leads library M.printed (does_primitive codes_run coroutine_close T l) (run close_row [] M)) (sym m)
       (comes_leads library M.printed close_row [] M (does_primitive codes_run coroutine_close T (object a_coroutine co ∷ drop 1 M.moving)) close_free (coroutines_closed primitives M T k co (drop 1 M.moving) m c.0 c.1))
-  close_any (known p) e = closes_by (known p) e (raises_so library primitives M T k (wrong_type 1 (codes "close") (codes "coroutine") (known p)) (M.moving ++ []))
-  close_any (object a_table n) e = closes_by (object a_table n) e (raises_so library primitives M T k (wrong_type 1 (codes "close") (codes "coroutine") (object a_table n)) (M.moving ++ []))
-  close_any (object a_function n) e = closes_by (object a_function n) e (raises_so library primitives M T k (wrong_type 1 (codes "close") (codes "coroutine") (object a_function n)) (M.moving ++ []))
+  close_any (known p) e = closes_by (known p) e (raises_so library primitives M T k (wrong_type 1 (codes "close") (codes "coroutine") (shape (known p))) (M.moving ++ []))
+  close_any (object a_table n) e = closes_by (object a_table n) e (raises_so library primitives M T k (wrong_type 1 (codes "close") (codes "coroutine") (shape (object a_table n))) (M.moving ++ []))
+  close_any (object a_function n) e = closes_by (object a_function n) e (raises_so library primitives M T k (wrong_type 1 (codes "close") (codes "coroutine") (shape (object a_function n))) (M.moving ++ []))
 
   -- `status`
 
@@ -261,9 +291,9 @@ module _ (library : ℕ → Option Primitive) (primitives : ℕ) (M : World) (T 
     where
       N : World
       N = record M { moving = [] }
-  status_any (known p) e = status_by (known p) e (raises_so library primitives M T k (wrong_type 1 (codes "status") (codes "coroutine") (known p)) (M.moving ++ []))
-  status_any (object a_table n) e = status_by (object a_table n) e (raises_so library primitives M T k (wrong_type 1 (codes "status") (codes "coroutine") (object a_table n)) (M.moving ++ []))
-  status_any (object a_function n) e = status_by (object a_function n) e (raises_so library primitives M T k (wrong_type 1 (codes "status") (codes "coroutine") (object a_function n)) (M.moving ++ []))
+  status_any (known p) e = status_by (known p) e (raises_so library primitives M T k (wrong_type 1 (codes "status") (codes "coroutine") (shape (known p))) (M.moving ++ []))
+  status_any (object a_table n) e = status_by (object a_table n) e (raises_so library primitives M T k (wrong_type 1 (codes "status") (codes "coroutine") (shape (object a_table n))) (M.moving ++ []))
+  status_any (object a_function n) e = status_by (object a_function n) e (raises_so library primitives M T k (wrong_type 1 (codes "status") (codes "coroutine") (shape (object a_function n))) (M.moving ++ []))
 
 pub resume_leads : PrimitiveJoined resume_row coroutine_resume
 resume_leads library primitives M T k = resume_any library primitives M T k (nth M.moving 0) refl

@@ -16,7 +16,7 @@ use Rattle.means_steps.proofs.Texts.{Good}
 use Rattle.lua_meaning.specs.World as talk
 use Rattle.lua_meaning.specs.World.{Asker, talking, talks, ends, breaks, now_in, as_known, shared_in, second, cell_of, without_name, answered_at_once}
 use Rattle.lua_meaning.specs.Asks.{turns, handle, made_in, of_maker, cells_named, gets_function, pays_unit, one}
-use Rattle.lua_meaning.specs.Primitives.{Primitive}
+use Rattle.library_rows.specs.Library.{Primitive}
 use Rattle.code_means.specs.Runs.{codes_run}
 use Rattle.machine_means.specs.Joined.{TalkFrame, TalkWorld, Dressed, Named, AllNamed, Both, FunctionsPair, RegistersPair, line_known}
 use Rattle.machine_means.proofs.FrameWrites.{below_length}

@@ -25,7 +25,7 @@ use Rattle.lua_meaning.specs.World.{Asker, talking, waiting, talks, gives_back, 
 use Rattle.lua_meaning.specs.Calls as calls_in
 use Rattle.lua_meaning.specs.Calls.{calls_value, pays_for}
 use Rattle.lua_meaning.specs.Asks.{settled as talk_settled}
-use Rattle.lua_meaning.specs.Primitives.{Primitive}
+use Rattle.library_rows.specs.Library.{Primitive}
 use Rattle.code_means.specs.Runs.{codes_run}
 use Rattle.machine_means.specs.Joined.{TalkFrame, TalkWorld, Dressed, RegistersPair, Joined, line_known}
 use Rattle.machine_means.specs.Stands.{results_come, error_leaves}

@@ -17,7 +17,7 @@ use Rattle.means_steps.proofs.Alike.{Alike}
 use Rattle.means_steps.proofs.RowsGood.{Knows, text_good}
 use Rattle.lua_meaning.specs.World as talk
 use Rattle.lua_meaning.specs.World.{Asker, talking, waiting, raising, talks, gives_back, unwinds, shared_in, shared_out, answered}
-use Rattle.lua_meaning.specs.Primitives.{Primitive}
+use Rattle.library_rows.specs.Library.{Primitive}
 use Rattle.lua_meaning.specs.Step.{tick}
 use Rattle.code_means.specs.Runs.{codes_run}
 use Rattle.machine_sound.specs.Sound.{Solid}

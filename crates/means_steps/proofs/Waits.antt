@@ -22,7 +22,7 @@ use Rattle.lua_meaning.specs.World as talk
 use Rattle.lua_meaning.specs.World.{Asker, talking, waiting, talks, gives_back, unwinds, ends as ends_turn, breaks, now_in, on_frames, as_known, without_name, shared_in, shared_out, second, answered, answered_at_once}
 use Rattle.lua_meaning.specs.Calls.{calls_value, pays_for}
 use Rattle.lua_meaning.specs.Asks.{turns}
-use Rattle.lua_meaning.specs.Primitives.{Primitive}
+use Rattle.library_rows.specs.Library.{Primitive}
 use Rattle.code_means.specs.Runs.{codes_run}
 use Rattle.machine_means.specs.Joined.{TalkFrame, TalkWorld, Dressed, RegistersPair, Joined, line_known}
 use Rattle.machine_means.specs.Stands.{call_asked}

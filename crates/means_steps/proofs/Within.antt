@@ -9,7 +9,7 @@ use Rattle.machine_core.specs.Text.{arg}
 use Rattle.machine_core.specs.Moves.{Made, made, Told, Move, on_own, move_pc, open_register, outside, settle, enter, enter_tail, await, find_close, is_closable, begin_leaving, leave_frame, take_moving, look, give, give_with, blame, place_text, push_frame, call_value, see_top, see_catcher, pop_frame, take_closing, set_error, end_coroutine, fail_coroutine, suspend, resume, begin_closing, consult, create, see_status, see_running, print, move, CallShape, is_entered, is_primitive, not_paid, not_entered, TopShape, lua_top, pcall_top, xpcall_top, handler_top, closing_top, no_top, ClosingShape, one_left, all_closed, closed_with_error, ResumeShape, resumed, refused, enters, has_room, starts_in, resumes, can_start, wait_for_another, closes_in, closes_coroutine, coroutine_number, Row, traps, stop, only, act, Ending, go, returned, asks, calls_primitive, raised, unwinding, spent, main_yielded, main_returned, main_failed, Outcome, trapped, ends, run}
 use Rattle.machine_core.specs.FrameRows.{hand_over, handed, closing_by, handed_to, unwound, raised_row, raised_to, coroutine_fails}
 use Rattle.machine_core.specs.MachineStep.{after_entry, after_resume, after_closing, resumes as row_resumes, closes_coroutine as row_closes, resume_row, close_row}
-use Rattle.lua_meaning.specs.Primitives.{Primitive}
+use Rattle.library_rows.specs.Library.{Primitive}
 use Rattle.machine_means.specs.Joined.{TalkWorld}
 use Rattle.machine_means.specs.Laws.{GivesBack}
 use Rattle.machine_means.specs.Stands.{Stands, results_come, ComesTo}

@@ -1,15 +1,14 @@
 -- What a step of the machine with a Lua frame on top is in the world in which activations talk: some ticks of it.
-use Rattle.std.specs.Prelude.{◌≡◌, ℕ, ◌<◌, false, List, [], ◌∷◌, Option, Some, slice_get, slice_set}
+use Rattle.std.specs.Prelude.{◌≡◌, ℕ, ◌<◌, false, List, [], ◌∷◌, length, Option, Some, slice_get, slice_set}
 use Rattle.int_core.specs.Value.{Value}
-use Rattle.library_rows.specs.Look as look
-use Rattle.library_rows.specs.Look.{Look, looked}
-use Rattle.int_core.specs.Heap.{Heap}
 use Rattle.machine_core.specs.World.{Frame, suspended, in_progress, World}
 use Rattle.machine_core.specs.Moves.{Ending, go, returned, asks, calls_primitive, raised, unwinding, spent, main_yielded, main_returned, main_failed, Row, Outcome, trapped, ends, run}
-use Rattle.machine_core.specs.MachineStep.{look_row, step_by}
+use Rattle.machine_core.specs.MachineStep.{step_by}
+use Rattle.machine_core.specs.PrimitiveRows.{primitive_row, row_numbered}
 use Rattle.lua_meaning.specs.World as talk
-use Rattle.lua_meaning.specs.Primitives.{Primitive, Done, done, refused, row}
-use Rattle.lua_meaning.specs.Step.{does_primitive, after_row, tick, ticks}
+use Rattle.library_rows.specs.Library.{Primitive, prelude_build, all_entries}
+use Rattle.lua_meaning.specs.Step.{does_primitive, tick, ticks}
+use Rattle.lua_meaning.specs.Opening.{primitives as meant}
 use Rattle.code_means.specs.Runs.{codes_run}
 use Rattle.machine_sound.specs.Sound.{Solid, Settled}
 use Rattle.machine_sound.specs.Laws.{SoundAfter}
@@ -55,28 +54,20 @@ Leads known shown T (ends ending W) = (j : ℕ) × EndsSo shown ending W (ticks 
 abbrev pub RunningSteps : Type 0
 RunningSteps = (primitives : ℕ) (rows : ℕ → Row) (known : ℕ → Option Primitive) (M : World) (T : TalkWorld) → Solid primitives M → Settled primitives M → Works M T → Leads known M.printed (tick codes_run known T) (step_by rows go M)
 
--- what a library row that looks at values and tables alone came to, and what the other world says of it
-abbrev pub SameDone : look.Done → Option Done → Type 0
-SameDone (look.done H vs) d = d ≡ Some (done H vs)
-SameDone (look.refused text) d = d ≡ Some (refused text)
-SameDone (look.raised H v) d = ⊥
-
--- such a row of the machine, and a primitive of the other world
-pub record LooksAs (l : Look) (p : Primitive) : Type 0 where
-  pub looks : (T : TalkWorld) (vs : List Value) → does_primitive codes_run p T vs ≡ after_row T (row p T.heap vs)
-  pub same : (H : Heap) (vs : List Value) → SameDone (looked l vs H) (row p H vs)
-
 -- a primitive's row is called where all frames wait, and so is the primitive in the other world
 abbrev pub PrimitiveJoined : Row → Primitive → Type 0
 PrimitiveJoined r p = (library : ℕ → Option Primitive) (primitives : ℕ) (M : World) (T : TalkWorld) → AtRest primitives false M T → Leads library M.printed (does_primitive codes_run p T M.moving) (run r [] M)
 
--- so it is with every row that looks at values and tables alone
-abbrev pub LookRowsJoined : Type 0
-LookRowsJoined = (l : Look) (p : Primitive) → LooksAs l p → PrimitiveJoined (look_row l) p
+-- so it is with each function of the libraries that is no Lua text, where what makes functions of texts does as in the other world
+abbrev pub PrimitivesJoined : Type 0
+PrimitivesJoined = (build : Row) → PrimitiveJoined build prelude_build → (p : Primitive) → PrimitiveJoined (primitive_row build p) p
 
 -- each number is that of the same primitive in both
 abbrev pub SameLibrary : (primitives : ℕ) → (ℕ → Row) → (ℕ → Option Primitive) → Type 0
 SameLibrary primitives rows library = (n : ℕ) → n < primitives → (p : Primitive) × (library n ≡ Some p) × PrimitiveJoined (rows n) p
+
+abbrev pub LibrariesAreSame : Type 0
+LibrariesAreSame = (build : Row) → PrimitiveJoined build prelude_build → SameLibrary (length all_entries) (row_numbered build) meant
 
 abbrev pub GoesOn : Ending → Type 0
 GoesOn go = Unit {0}

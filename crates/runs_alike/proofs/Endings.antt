@@ -4,7 +4,7 @@ use Rattle.std.specs.Prelude.{option_map}
 use Rattle.int_core.specs.Value.{Value}
 use Rattle.int_core.specs.Ask.{NextLike}
 use Rattle.lua_meaning.specs.World.{System, yielded, returned, failed_with, spent, broken, Now, talks, gives_back, raises_error, unwinds, calls_primitive, ends, World, as_known}
-use Rattle.lua_meaning.specs.Primitives.{Primitive}
+use Rattle.library_rows.specs.Library.{Primitive}
 use Rattle.lua_meaning.specs.Step.{has_ended, ticks}
 use Rattle.lua_meaning.specs.Meaning.{report, has_returned, has_failed, has_spent, is_suspended, is_broken, Meaning, behind, meant, at_end, suspends, handed_line, run_from}
 use Rattle.code_means.specs.Runs.{RunAlike}

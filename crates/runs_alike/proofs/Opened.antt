@@ -4,7 +4,7 @@ use Rattle.std.specs.Prelude.{slice_get}
 use Rattle.int_core.specs.Value.{Value, object, a_table}
 use Rattle.int_core.specs.Heap.{Heap}
 use Rattle.lua_meaning.specs.World.{System, Function, talking, Coroutine, fresh, running, dead, failed, talks, World}
-use Rattle.lua_meaning.specs.Primitives.{Primitive}
+use Rattle.library_rows.specs.Library.{Primitive}
 use Rattle.lua_meaning.specs.Meaning.{begun}
 use Rattle.runs_alike.specs.Alike.{FunctionAlike, FunctionsAlike, CoroutinesAlike, WorldsAlike, script}
 use Rattle.runs_alike.proofs.Dressed.{Part, state, dressed_function, dress_functions, dress_coroutines, dress_world, Mid, FunctionsLike, Body, CoroutinesLike, Like}

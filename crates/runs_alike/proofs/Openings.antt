@@ -1,57 +1,53 @@
 -- Worlds of the libraries with alike preludes are alike.
-use Rattle.std.proofs.Common.{◌≡◌, ℕ, suc, Bool, cond, List, [], ◌∷◌, ◌++◌, None, refl, ◌∙◌, ap}
-use Rattle.std.specs.Prelude.{codes, map}
-use Rattle.int_core.specs.Value.{Value, object, a_table, a_function}
+use Rattle.std.proofs.Common.{◌≡◌, ℕ, suc, List, [], ◌∷◌, ◌++◌, Some, refl, sym, ◌∙◌, ap}
+use Rattle.std.specs.Prelude.{map, filter}
+use Rattle.int_core.specs.Value.{Value, object, a_function}
 use Rattle.int_core.specs.Heap.{Heap}
-use Rattle.lua_meaning.specs.Primitives.{word}
-use Rattle.lua_meaning.specs.Opening.{Home, among_globals, in_coroutine, Entry, is_at, functions_at, functions_from, library, base_values, coroutine_values, private_values, globals_table, coroutine_table, prelude_function, opening}
-use Rattle.runs_alike.specs.Alike.{FunctionsAlike, EntriesAlike, WorldsAlike}
+use Rattle.tree_core.specs.Tree.{Body}
+use Rattle.library_rows.specs.Library.{Library, of_globals, of_coroutine, of_string, of_table, of_math, of_utf8, Entry, entry}
+use Rattle.code_core.specs.Prototype.{Prototype}
+use Rattle.lua_meaning.specs.Libraries.{functions_from, primitive_values, constant_values, table_of, is_in, library_table, first_of_each, environment, strings_meta, strings_metatable, library_heap}
+use Rattle.lua_meaning.specs.Opening.{environment_cells, prelude_function}
+use Rattle.lua_meaning.specs.TreeMeaning.{outer_of, tree_opening}
+use Rattle.code_means.specs.Runs.{outer_in, code_opening}
+use Rattle.runs_alike.specs.Alike.{FunctionsAlike, IsMeantBy, EntriesAlike, WorldsAlike}
 
-abbrev row_by : List ℕ → ℕ → List ℕ × Value
-row_by name n = (name, object a_function n)
+-- the tables by what the prelude's functions are in them
 
-abbrev heap_by : (of_globals of_all of_coroutine : List (List ℕ × Value)) → Heap
-heap_by of_globals of_all of_coroutine = record {
-  tables =
-      library ((codes "_G", object a_table globals_table) ∷ (codes "_VERSION", word (codes "Lua 5.4")) ∷ (codes "coroutine", object a_table coroutine_table)
-      ∷ base_values ++ of_globals)
-      ∷ library (base_values ++ coroutine_values ++ private_values ++ of_all)
-      ∷ library (coroutine_values ++ of_coroutine) ∷ [];
-  string_metatable = None;
+abbrev heap_by : List (Entry Value) → Heap
+heap_by fs = record {
+  tables = table_by of_globals ∷ table_of (first_of_each [] (primitive_values ++ fs)) ∷ table_by of_coroutine ∷ table_by of_string ∷ table_by of_table ∷ table_by of_math ∷ table_by of_utf8 ∷ strings_meta ∷ [];
+  string_metatable = Some strings_metatable;
 }
+  where
+    table_by : Library → Rattle.int_core.specs.Heap.Table
+    table_by library = table_of (filter (is_in library) (constant_values ++ (primitive_values ++ fs)))
 
-module _ {A B : Type 0} (R : Bool → A → B → Type 0) where
-  at_same : (home : Home) (from : ℕ) (xs : List (Entry A)) (ys : List (Entry B)) → EntriesAlike R xs ys → functions_at home from xs ≡ functions_at home from ys
-  at_same home from [] [] like = refl
-  at_same home from (x ∷ xs) (y ∷ ys) like =
-      ap (λ h. cond (is_at home h) (row_by x.name from ∷ functions_at home (suc from) xs) (functions_at home (suc from) xs)) like.0.home
-      ∙ ap (λ n. cond (is_at home y.home) (row_by n from ∷ functions_at home (suc from) xs) (functions_at home (suc from) xs)) like.0.name
-      ∙ ap (λ rest. cond (is_at home y.home) (row_by y.name from ∷ rest) rest) (at_same home (suc from) xs ys like.1)
-  at_same home from [] (y ∷ ys) like = absurd like
-  at_same home from (x ∷ xs) [] like = absurd like
+pub heap_is : {F : Type 0} → (prelude : List (Entry F)) → library_heap prelude ≡ heap_by (functions_from 0 prelude)
+unfolding library_table environment
+heap_is prelude = refl
 
-  all_same : (from : ℕ) (xs : List (Entry A)) (ys : List (Entry B)) → EntriesAlike R xs ys → functions_from from xs ≡ functions_from from ys
-  all_same from [] [] like = refl
-  all_same from (x ∷ xs) (y ∷ ys) like =
-      ap (λ n. row_by n from ∷ functions_from (suc from) xs) like.0.name ∙ ap (λ rest. row_by y.name from ∷ rest) (all_same (suc from) xs ys like.1)
-  all_same from [] (y ∷ ys) like = absurd like
-  all_same from (x ∷ xs) [] like = absurd like
+values_same : (from : ℕ) (xs : List (Entry Body)) (ys : List (Entry Prototype)) → EntriesAlike xs ys → functions_from from xs ≡ functions_from from ys
+values_same from [] [] like = refl
+values_same from (x ∷ xs) (y ∷ ys) like =
+    ap (λ library. entry library x.name (object a_function from) ∷ functions_from (suc from) xs) like.0.library
+    ∙ ap (λ name. entry y.library name (object a_function from) ∷ functions_from (suc from) xs) like.0.name
+    ∙ ap (λ rest. entry y.library y.name (object a_function from) ∷ rest) (values_same (suc from) xs ys like.1)
+values_same from [] (y ∷ ys) like = absurd like
+values_same from (x ∷ xs) [] like = absurd like
 
-  functions_alike : (xs : List (Entry A)) (ys : List (Entry B)) → EntriesAlike R xs ys → FunctionsAlike R (map prelude_function xs) (map prelude_function ys)
-  functions_alike [] [] like = tt
-  functions_alike (x ∷ xs) (y ∷ ys) like = (record { made_of = like.0.body; source = refl; has_lines = refl; cells = refl }, functions_alike xs ys like.1)
-  functions_alike [] (y ∷ ys) like = absurd like
-  functions_alike (x ∷ xs) [] like = absurd like
+functions_alike : (xs : List (Entry Body)) (ys : List (Entry Prototype)) → EntriesAlike xs ys → FunctionsAlike IsMeantBy (map (prelude_function outer_of) xs) (map (prelude_function outer_in) ys)
+functions_alike [] [] like = tt
+functions_alike (x ∷ xs) (y ∷ ys) like = (record { made_of = like.0.meant; source = refl; has_lines = refl; cells = ap environment_cells like.0.outer }, functions_alike xs ys like.1)
+functions_alike [] (y ∷ ys) like = absurd like
+functions_alike (x ∷ xs) [] like = absurd like
 
-  pub openings_alike : {S T : Type 0} → (xs : List (Entry A)) (ys : List (Entry B)) → EntriesAlike R xs ys → WorldsAlike {A = A} {B = B} {S = S} {T = T} R (opening xs) (opening ys)
-  openings_alike xs ys like = record {
-    heap =
-        ap (λ g. heap_by g (functions_from 0 xs) (functions_at in_coroutine 0 xs)) (at_same among_globals 0 xs ys like)
-        ∙ ap (λ a. heap_by (functions_at among_globals 0 ys) a (functions_at in_coroutine 0 xs)) (all_same 0 xs ys like)
-        ∙ ap (λ c. heap_by (functions_at among_globals 0 ys) (functions_from 0 ys) c) (at_same in_coroutine 0 xs ys like);
-    functions = functions_alike xs ys like;
-    cells = refl;
-    coroutines = (tt, tt);
-    globals = refl;
-    chain = refl;
-  }
+pub openings_alike : (xs : List (Entry Body)) (ys : List (Entry Prototype)) → EntriesAlike xs ys → WorldsAlike IsMeantBy (tree_opening xs) (code_opening ys)
+openings_alike xs ys like = record {
+  heap = heap_is xs ∙ ap heap_by (values_same 0 xs ys like) ∙ sym (heap_is ys);
+  functions = functions_alike xs ys like;
+  cells = refl;
+  coroutines = (tt, tt);
+  globals = refl;
+  chain = refl;
+}

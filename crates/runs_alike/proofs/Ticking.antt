@@ -8,9 +8,10 @@ use Rattle.int_core.specs.Ask.{Answer, IsLeft, FitsAsk, Next, goes_on, says, stu
 use Rattle.lua_meaning.specs.World.{System, Function, Frame, talking, protected, handled_by, Coroutine, fresh, suspended, running, normal, dead, failed, talks, gives_back, raises_error, World, now_in, breaks, shared_in, as_known}
 use Rattle.lua_meaning.specs.Calls.{text}
 use Rattle.lua_meaning.specs.Asks.{turns}
-use Rattle.lua_meaning.specs.Primitives.{Primitive, lua_error, lua_pcall, lua_xpcall, coroutine_close, coroutine_create, coroutine_isyieldable, coroutine_resume, coroutine_running, coroutine_status, coroutine_yield, prelude_out, Done, done, name_in, row}
-use Rattle.lua_meaning.specs.Primitives.{refused as no_result}
-use Rattle.lua_meaning.specs.Step.{placed, error_by, level_in, creates, with_coroutine, status_of, runs_one, after_row, does_primitive, has_ended, tick, ticks}
+use Rattle.library_rows.specs.Look.{Done, done}
+use Rattle.library_rows.specs.Look.{refused as no_result, raised as an_error}
+use Rattle.library_rows.specs.Library.{Primitive, base_error, base_pcall, base_xpcall, coroutine_close, coroutine_create, coroutine_isyieldable, coroutine_resume, coroutine_running, coroutine_status, coroutine_yield, prelude_build, prelude_out}
+use Rattle.lua_meaning.specs.Step.{placed, error_by, level_in, creates, with_coroutine, status_of, runs_one, bytes_in, row, after_row, does_primitive, has_ended, tick, ticks}
 use Rattle.runs_alike.proofs.Dressed.{Part, dress, dress_coroutine, dress_coroutines, dress_world, Mid, Body, FramesLike, CoroutineLike, CoroutinesLike, Like, Out}
 use Rattle.runs_alike.proofs.Moving.{with_same, with_like, where_same, either_out, now_out, raises_out, yields_out}
 use Rattle.runs_alike.proofs.Answering.{calls_over_out, resumes_out, closes_out}
@@ -116,6 +117,7 @@ module _ {A B S T : Type 0} (Sa : System A S) (Sb : System B T) (R : Bool → A 
   row_out W bs xss xs None like = now_out Sa Sb R Q W bs xss xs _ like
   row_out W bs xss xs (Some (done H vs)) like = now_out Sa Sb R Q (record W { heap = H }) bs xss xs _ (record { functions = like.functions; coroutines = like.coroutines; frames = like.frames })
   row_out W bs xss xs (Some (no_result why)) like = raises_out Sa Sb R Q why W bs xss xs like
+  row_out W bs xss xs (Some (an_error H e)) like = now_out Sa Sb R Q (record W { heap = H }) bs xss xs _ (record { functions = like.functions; coroutines = like.coroutines; frames = like.frames })
 
   placed_same : (W : World A S) (bs : List B) (xss : List (List (Part T))) (xs : List (Part T)) (z : ℤ) (v : Value) → Alike W bs xss xs → placed (dress_world W bs xss xs) z v ≡ placed W z v
   placed_same W bs xss xs (Rattle.std.specs.Prelude.pos (suc level)) (known (string s)) like = ap (λ place. limited (place ++ s)) (where_same Sa Sb R Q level W bs xss xs like)
@@ -189,9 +191,9 @@ module _ {A B S T : Type 0} (Sa : System A S) (Sb : System B T) (R : Bool → A 
 
   pub primitive_out : (p : Primitive) (W : World A S) (bs : List B) (xss : List (List (Part T))) (xs : List (Part T)) (vs : List Value) → Alike W bs xss xs
       → Both (does_primitive Sa p W vs) (does_primitive Sb p (dress_world W bs xss xs) vs)
-  primitive_out lua_error W bs xss xs vs like = error_out W bs xss xs (nth vs 0) (nth vs 1) (level_in (nth vs 1)) like
-  primitive_out lua_pcall W bs xss xs vs like = calls_over_out Sa Sb R Q asks begins W bs xss xs protected (nth vs 0) (drop 1 vs) tt like
-  primitive_out lua_xpcall W bs xss xs vs like = calls_over_out Sa Sb R Q asks begins W bs xss xs (handled_by (nth vs 1)) (nth vs 0) (drop 2 vs) tt like
+  primitive_out base_error W bs xss xs vs like = error_out W bs xss xs (nth vs 0) (nth vs 1) (level_in (nth vs 1)) like
+  primitive_out base_pcall W bs xss xs vs like = calls_over_out Sa Sb R Q asks begins W bs xss xs protected (nth vs 0) (drop 1 vs) tt like
+  primitive_out base_xpcall W bs xss xs vs like = calls_over_out Sa Sb R Q asks begins W bs xss xs (handled_by (nth vs 1)) (nth vs 0) (drop 2 vs) tt like
   primitive_out coroutine_create W bs xss xs vs like = creates_out W bs xss xs (nth vs 0) like
   primitive_out coroutine_resume W bs xss xs vs like =
       with_out W bs xss xs (codes "resume") (nth vs 0) _ _ like (λ co c ys one. resumes_out Sa Sb R Q asks begins W bs xss xs co c ys (drop 1 vs) like one)
@@ -204,5 +206,6 @@ module _ {A B S T : Type 0} (Sa : System A S) (Sb : System B T) (R : Bool → A 
   primitive_out coroutine_isyieldable W bs xss xs vs like = now_out Sa Sb R Q W bs xss xs _ like
   primitive_out coroutine_running W bs xss xs vs like = runs_one_out W bs xss xs W.chain like
   primitive_out prelude_out W bs xss xs vs like =
-      now_out Sa Sb R Q (record W { printed = W.printed ++ name_in (nth vs 0) }) bs xss xs _ (record { functions = like.functions; coroutines = like.coroutines; frames = like.frames })
+      now_out Sa Sb R Q (record W { printed = W.printed ++ bytes_in (nth vs 0) }) bs xss xs _ (record { functions = like.functions; coroutines = like.coroutines; frames = like.frames })
+  primitive_out prelude_build W bs xss xs vs like = raises_out Sa Sb R Q (codes "load is not built yet") W bs xss xs like
   primitive_out p W bs xss xs vs like = row_out W bs xss xs (row p W.heap vs) like

@@ -5,7 +5,7 @@ use Rattle.int_core.specs.Value.{Value}
 use Rattle.int_core.specs.Ask.{Next, goes_on, says, stuck, on_from, runs, NextLike}
 use Rattle.lua_meaning.specs.World.{System, Function, Frame, talking, waiting, raising, protected, handled_by, handling, closing, Now, talks, gives_back, raises_error, unwinds, calls_primitive, ends, broken, World, breaks, as_known}
 use Rattle.lua_meaning.specs.Asks.{turns}
-use Rattle.lua_meaning.specs.Primitives.{Primitive}
+use Rattle.library_rows.specs.Library.{Primitive}
 use Rattle.lua_meaning.specs.Step.{does_primitive, has_ended, tick, ticks}
 use Rattle.runs_alike.proofs.Dressed.{Part, state, goes, dressed_function, dress, dress_world, Mid, Body, Like, Out}
 use Rattle.runs_alike.proofs.Moving.{same_out, now_out}

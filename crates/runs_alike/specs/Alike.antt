@@ -4,12 +4,13 @@ use Rattle.tree_core.specs.Tree.{Body}
 use Rattle.tree_activation.specs.Work.{when_captured, State as TreeState}
 use Rattle.code_core.specs.Prototype.{Prototype}
 use Rattle.machine_core.specs.Talk.{State as CodeState}
+use Rattle.library_rows.specs.Library.{Entry}
 use Rattle.lua_meaning.specs.World.{Function, Coroutine, fresh, running, dead, failed, World}
 use Rattle.lua_meaning.specs.Meaning.{Script, Meaning, IsMeaning}
-use Rattle.lua_meaning.specs.Opening.{Entry, opening, primitives}
-use Rattle.lua_meaning.specs.TreeMeaning.{trees}
+use Rattle.lua_meaning.specs.Opening.{primitives}
+use Rattle.lua_meaning.specs.TreeMeaning.{trees, outer_of, tree_opening}
 use Rattle.code_means.specs.Means.{Means}
-use Rattle.code_means.specs.Runs.{codes_run, RunAlike}
+use Rattle.code_means.specs.Runs.{codes_run, outer_in, code_opening, RunAlike}
 
 -- two functions differ only in what they are made of, and these are related
 pub record FunctionAlike {A B : Type 0} (R : Bool → A → B → Type 0) (f : Function A) (g : Function B) : Type 0 where
@@ -72,19 +73,18 @@ WholeRunsEndAlike =
     → ((m : Meaning Body TreeState) → IsMeaning (trees when_captured) primitives W (script main name lines) input budget m → CodeEnds V (script code name lines) input budget m)
     × ((m : Meaning Prototype CodeState) → IsMeaning codes_run primitives V (script code name lines) input budget m → TreeEnds W (script main name lines) input budget m)
 
--- functions of the prelude of the same name and home, whose lines are not known
-pub record EntryAlike {A B : Type 0} (R : Bool → A → B → Type 0) (x : Entry A) (y : Entry B) : Type 0 where
-  pub home : x.home ≡ y.home
+-- functions of the prelude of the same name and library, whose lines are not known, and that name as many outer variables
+pub record EntryAlike (x : Entry Body) (y : Entry Prototype) : Type 0 where
+  pub library : x.library ≡ y.library
   pub name : x.name ≡ y.name
-  pub body : R false x.body y.body
+  pub outer : outer_of x.entry ≡ outer_in y.entry
+  pub meant : IsMeantBy false x.entry y.entry
 
-abbrev pub EntriesAlike : {A B : Type 0} → (Bool → A → B → Type 0) → List (Entry A) → List (Entry B) → Type 0
-EntriesAlike R [] [] = Unit {0}
-EntriesAlike R (x ∷ xs) (y ∷ ys) = EntryAlike R x y × EntriesAlike R xs ys
-EntriesAlike R _ _ = ⊥
+abbrev pub EntriesAlike : List (Entry Body) → List (Entry Prototype) → Type 0
+EntriesAlike [] [] = Unit {0}
+EntriesAlike (x ∷ xs) (y ∷ ys) = EntryAlike x y × EntriesAlike xs ys
+EntriesAlike _ _ = ⊥
 
 -- worlds of the libraries, with such preludes
 abbrev pub OpeningsAlike : Type 0
-OpeningsAlike =
-    (xs : List (Entry Body)) (ys : List (Entry Prototype)) → EntriesAlike IsMeantBy xs ys
-    → WorldsAlike {A = Body} {B = Prototype} {S = TreeState} {T = CodeState} IsMeantBy (opening xs) (opening ys)
+OpeningsAlike = (xs : List (Entry Body)) (ys : List (Entry Prototype)) → EntriesAlike xs ys → WorldsAlike IsMeantBy (tree_opening xs) (code_opening ys)

@@ -1,1 +1,1 @@
-mod Preludes
+pub mod Preludes

@@ -10,13 +10,14 @@ use Rattle.scope_core.specs.Places.{placed}
 use Rattle.scope_core.specs.Rules.{violations}
 use Rattle.code_core.specs.Prototype.{Prototype}
 use Rattle.machine_core.specs.Talk.{State as CodeState}
+use Rattle.library_rows.specs.Library.{Entry, entry}
 use Rattle.lua_meaning.specs.Meaning.{Meaning, IsMeaning}
-use Rattle.lua_meaning.specs.Opening.{Entry, opening, primitives}
-use Rattle.lua_meaning.specs.TreeMeaning.{trees}
-use Rattle.code_means.specs.Runs.{codes_run}
+use Rattle.lua_meaning.specs.Opening.{primitives}
+use Rattle.lua_meaning.specs.TreeMeaning.{trees, tree_opening}
+use Rattle.code_means.specs.Runs.{codes_run, code_opening}
 use Rattle.code_of.specs.CodeOf.{code_of}
 use Rattle.stat_laws.specs.Fits.{is_known, BodyFits}
-use Rattle.runs_alike.specs.Alike.{IsMeantBy, EntriesAlike, script, CodeEnds}
+use Rattle.runs_alike.specs.Alike.{EntriesAlike, script, CodeEnds}
 use Rattle.cells_alike.specs.Alike.{LetterEnds}
 
 -- both ways, in worlds of the libraries whose preludes are alike: of a source of at most 1,048,576 bytes that the grammar reads as a tree without
@@ -24,21 +25,21 @@ use Rattle.cells_alike.specs.Alike.{LetterEnds}
 abbrev pub CompiledSourcesRunAlike : Type 0
 CompiledSourcesRunAlike =
     (source : List ℕ) (tokens : List Lexeme) (tree : Block) → length source ≤ 1048576 → TokensOf source tokens → Derives tokens tree → violations tree ≡ []
-    → (prelude : List (Entry Body)) (compiled : List (Entry Prototype)) → EntriesAlike IsMeantBy prelude compiled
+    → (prelude : List (Entry Body)) (compiled : List (Entry Prototype)) → EntriesAlike prelude compiled
     → (given : Option (List ℕ)) (name : List ℕ) (input : List (List ℕ)) (budget : ℕ)
-    → ((m : Meaning Body State) → IsMeaning (trees when_declared) primitives (opening prelude) (script (placed tree) name (is_known given)) input budget m
-    → CodeEnds (opening compiled) (script (code_of given (placed tree)) name (is_known given)) input budget m)
-    × ((m : Meaning Prototype CodeState) → IsMeaning codes_run primitives (opening compiled) (script (code_of given (placed tree)) name (is_known given)) input budget m
-    → LetterEnds (opening prelude) (script (placed tree) name (is_known given)) input budget m)
+    → ((m : Meaning Body State) → IsMeaning (trees when_declared) primitives (tree_opening prelude) (script (placed tree) name (is_known given)) input budget m
+    → CodeEnds (code_opening compiled) (script (code_of given (placed tree)) name (is_known given)) input budget m)
+    × ((m : Meaning Prototype CodeState) → IsMeaning codes_run primitives (code_opening compiled) (script (code_of given (placed tree)) name (is_known given)) input budget m
+    → LetterEnds (tree_opening prelude) (script (placed tree) name (is_known given)) input budget m)
 
 -- a prelude is compiled function by function, without lines
 
 abbrev pub compiled_entry : Entry Body → Entry Prototype
-compiled_entry x = record { home = x.home; name = x.name; body = code_of None x.body }
+compiled_entry x = entry x.library x.name (code_of None x.entry)
 
 abbrev pub EntriesFit : List (Entry Body) → Type 0
 EntriesFit [] = Unit {0}
-EntriesFit (x ∷ xs) = BodyFits None x.body × EntriesFit xs
+EntriesFit (x ∷ xs) = BodyFits None x.entry × EntriesFit xs
 
 abbrev pub CompiledPreludesAreAlike : Type 0
-CompiledPreludesAreAlike = (prelude : List (Entry Body)) → EntriesFit prelude → EntriesAlike IsMeantBy prelude (map compiled_entry prelude)
+CompiledPreludesAreAlike = (prelude : List (Entry Body)) → EntriesFit prelude → EntriesAlike prelude (map compiled_entry prelude)

@@ -2,7 +2,7 @@ use Rattle.std.proofs.Common.{List, None, ap, sym, ◌∙◌}
 use Rattle.std.proofs.lemmas.Result.{IfOk-weaker}
 use Rattle.int_core.specs.Heap.{Table}
 use Rattle.int_core.specs.Value.{Value}
-use Rattle.machine_runs.specs.Libraries.{primitive_values}
+use Rattle.lua_meaning.specs.Libraries.{primitive_values}
 use Rattle.lua_opening.proofs.Names.{environment_named, environment_is}
 use Rattle.lua_opening.proofs.Surroundings.{environment_set}
 use Rattle.lua_opening.proofs.tables.environment.Goals as goal

@@ -1,7 +1,7 @@
 use Rattle.std.proofs.Common.{refl, ◌∙◌}
 use Rattle.std.proofs.lemmas.Result.{IfOk-weaker}
 use Rattle.library_rows.specs.Library.{of_math}
-use Rattle.machine_runs.specs.Libraries.{constant_values, primitive_values}
+use Rattle.lua_meaning.specs.Libraries.{constant_values, primitive_values}
 use Rattle.lua_opening.proofs.Names.{library_is}
 use Rattle.lua_opening.proofs.tables.integers.Goals as goal
 

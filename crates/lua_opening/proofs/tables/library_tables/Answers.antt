@@ -1,8 +1,9 @@
 use Rattle.std.proofs.Common.{List, [], ◌∷◌, ◌++◌, ap, ◌∙◌}
 use Rattle.library_rows.specs.Library.{of_globals, of_coroutine, of_string, of_table, of_math, of_utf8}
-use Rattle.machine_runs.specs.Libraries.{library_table, environment, strings_meta}
+use Rattle.lua_meaning.specs.Libraries.{library_table, environment, strings_meta}
 use Rattle.table_core.specs.Table.{Contents}
-use Rattle.lua_opening.specs.Opened.{AreTables, prelude_of, tables_of}
+use Rattle.lua_meaning.specs.Opening.{prelude_of}
+use Rattle.lua_opening.specs.Opened.{AreTables, tables_of}
 use Rattle.lua_opening.proofs.Filling.{begins_on, pushed, tables_are}
 use Rattle.lua_opening.proofs.tables.library_tables.Goals as goal
 

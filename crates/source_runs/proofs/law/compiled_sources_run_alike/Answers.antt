@@ -1,8 +1,8 @@
 use Rattle.scope_core.specs.Places.{placed}
 use Rattle.code_of.specs.CodeOf.{code_of}
-use Rattle.lua_meaning.specs.Opening.{opening}
+use Rattle.lua_meaning.specs.TreeMeaning.{tree_opening}
+use Rattle.code_means.specs.Runs.{code_opening}
 use Rattle.stat_laws.specs.Fits.{is_known}
-use Rattle.runs_alike.specs.Alike.{IsMeantBy}
 use Rattle.runs_alike.proofs.Openings.{openings_alike}
 use Rattle.cells_alike.proofs.Begun.{opening_ready}
 use Rattle.cells_alike.proofs.Letter.{code_after, letter_after}
@@ -12,9 +12,9 @@ use Rattle.source_runs.proofs.law.compiled_sources_run_alike.Goals as goal
 pub returns : goal.returns
 returns c = λ source tokens tree small t d keeps prelude compiled like given name input budget.
     let means = source_means source tokens tree small t d keeps given in
-    let W = opening prelude in
-    let V = opening compiled in
-    let worlds = openings_alike IsMeantBy prelude compiled like in (
+    let W = tree_opening prelude in
+    let V = code_opening compiled in
+    let worlds = openings_alike prelude compiled like in (
       code_after W V (opening_ready prelude) worlds (placed tree) (code_of given (placed tree)) name (is_known given) means input budget,
       letter_after W V (opening_ready prelude) worlds (placed tree) (code_of given (placed tree)) name (is_known given) means input budget,
     )

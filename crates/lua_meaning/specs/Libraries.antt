@@ -1,11 +1,11 @@
 -- The tables of the libraries as a script finds them (Lua 5.4 manual, 6): the primitives by the libraries' numbers, the values that are no
--- functions, and the functions of the prelude, which are Lua text. The rows of each table stand in the order of their names.
-use Rattle.std.specs.Prelude.{ℕ, suc, Bool, true, false, cond, List, [], ◌∷◌, ◌++◌, map, filter, None, bytes_eq, codes}
+-- functions, and the functions of the prelude, which are Lua text. What these are made of, F, is left open. The rows of each table stand in the order of
+-- their names.
+use Rattle.std.specs.Prelude.{ℕ, suc, Bool, true, false, cond, List, [], ◌∷◌, ◌++◌, map, filter, Some, None, bytes_eq, codes}
 use Rattle.std.specs.List.{list_any}
 use Rattle.int_core.specs.Value.{Plain, string, primitive, a_table, a_function, Value, known, object}
-use Rattle.int_core.specs.Heap.{Table}
+use Rattle.int_core.specs.Heap.{Table, Heap}
 use Rattle.int_core.specs.Operations.{before}
-use Rattle.code_core.specs.Prototype.{Prototype}
 use Rattle.library_rows.specs.Library.{Library, of_globals, of_coroutine, of_string, of_table, of_math, of_utf8, of_prelude, Primitive, Entry, entry, all_entries, constants}
 
 -- tables by number. Scripts cannot reach that of the prelude's variables, its environment
@@ -54,7 +54,7 @@ primitives_from n [] = []
 primitives_from n (e ∷ es) = entry e.library e.name (known (primitive n)) ∷ primitives_from (suc n) es
 
 -- the prelude's functions are the first ones, in the order of their text
-abbrev pub functions_from : (number : ℕ) → List (Entry Prototype) → List (Entry Value)
+abbrev pub functions_from : {F : Type 0} → (number : ℕ) → List (Entry F) → List (Entry Value)
 functions_from n [] = []
 functions_from n (e ∷ es) = entry e.library e.name (object a_function n) ∷ functions_from (suc n) es
 
@@ -65,10 +65,10 @@ primitive_values = primitives_from 0 all_entries
 unfoldable pub constant_values : List (Entry Value)
 constant_values = library_tables ++ map plain_value constants
 
-abbrev pub function_values : List (Entry Prototype) → List (Entry Value)
+abbrev pub function_values : {F : Type 0} → List (Entry F) → List (Entry Value)
 function_values prelude = primitive_values ++ functions_from 0 prelude
 
-abbrev pub library_values : List (Entry Prototype) → List (Entry Value)
+abbrev pub library_values : {F : Type 0} → List (Entry F) → List (Entry Value)
 library_values prelude = constant_values ++ function_values prelude
 
 -- tables of them
@@ -102,7 +102,7 @@ abbrev pub is_in : Library → Entry Value → Bool
 is_in library e = same_library library e.library
 
 -- the table of a library
-unfoldable pub library_table : Library → List (Entry Prototype) → Table
+unfoldable pub library_table : {F : Type 0} → Library → List (Entry F) → Table
 library_table library prelude = table_of (filter (is_in library) (library_values prelude))
 
 -- of several entries with one name the first counts: `type` is that of values, `char` and `len` are those of strings
@@ -115,9 +115,18 @@ first_of_each seen [] = []
 first_of_each seen (e ∷ es) = cond (list_any (is_named e.name) seen) (first_of_each seen es) (e ∷ first_of_each (e ∷ seen) es)
 
 -- the prelude's environment: all functions by their last names
-unfoldable pub environment : List (Entry Prototype) → Table
+unfoldable pub environment : {F : Type 0} → List (Entry F) → Table
 environment prelude = table_of (first_of_each [] (function_values prelude))
 
 -- by `__index` a string has the functions of its library as methods
 abbrev pub strings_meta : Table
 strings_meta = record { rows = (known (string (codes "__index")), object a_table string_table) ∷ []; metatable = None }
+
+-- the tables by their numbers
+abbrev pub library_heap : {F : Type 0} → List (Entry F) → Heap
+library_heap prelude = record {
+  tables =
+      library_table of_globals prelude ∷ environment prelude ∷ library_table of_coroutine prelude ∷ library_table of_string prelude
+      ∷ library_table of_table prelude ∷ library_table of_math prelude ∷ library_table of_utf8 prelude ∷ strings_meta ∷ [];
+  string_metatable = Some strings_metatable;
+}
