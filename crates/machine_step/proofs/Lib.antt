@@ -1,0 +1,4 @@
+mod Words
+mod ByForm
+mod Awake
+mod Steps

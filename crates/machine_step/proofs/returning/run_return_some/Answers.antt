@@ -1,0 +1,15 @@
+use Rattle.std.proofs.Common.{[]}
+use Rattle.std.proofs.lemmas.Result.{IfOk-weaker}
+use Rattle.machine_step.proofs.ByForm.{does, returns_there, may_return}
+use Rattle.machine_step.proofs.returning.run_return_some.Goals as goal
+
+pub returns-clause-does : goal.returns-clause-does
+returns-clause-does c =
+    let r = c.requires.runs in
+    IfOk-weaker c.return_some.result _ _ (λ ending s. does r (s [])) c.return_some.ensures.steps
+
+pub return_some-requires-clause-there : goal.return_some-requires-clause-there
+return_some-requires-clause-there c = returns_there c.requires.runs c.requires.sound
+
+pub return_some-requires-clause-safe : goal.return_some-requires-clause-safe
+return_some-requires-clause-safe c = may_return c.requires.runs c.requires.sound

@@ -1,0 +1,126 @@
+// A Lua frame that waits, and goes on with what moves (luaV_finishOp of lvm.c of Lua 5.4).
+ghost use Rattle.std.specs.Prelude.{◌≡◌, ◌<◌, IfOk, OnErr};
+ghost use Rattle.code_core.specs.Instruction.{opcode_of};
+ghost use Rattle.lua_stack.specs.declared.frame.Wait.TheVariants.{Dropped, ForConcat, ForTruth, ForValue};
+ghost use Rattle.machine_core.specs.Moves.{go};
+ghost use Rattle.machine_moves.specs.Ending.{ending_of};
+ghost use Rattle.machine_returns.specs.Waking.{IsSolid};
+ghost use Rattle.move_laws.specs.Memory.{InOrder, IsSound};
+ghost use Rattle.machine_step.specs.Places.{GoesOnSo, IsAwake, WaitsHere, is_handled};
+ghost use Rattle.machine_step.specs.Step.{Passes};
+
+use code_core::{Instruction, Opcode};
+use instruction_forms::After;
+use lua_heap::World;
+use lua_stack::Wait;
+use machine_moves::Ending;
+use machine_operations::{join_on, take_value};
+use machine_returns::{go_on_called, wake};
+use std::alloc::AllocError;
+use table_core::Value;
+
+/// The Lua frame on top, which waits at this word, gets what moves and does what is left of the instruction. After a refusal the world is in order, and no
+/// more has been printed.
+pub(crate) fn go_on(world: &mut World, pc: usize, word: Instruction) -> Result<Ending, AllocError>
+    requires sound { IsSound world.old }
+    requires waits { WaitsHere world.old pc word }
+    ensures does { IfOk result (λ next. Passes go world.old world.new (ending_of next)) }
+    ensures order { InOrder world.new }
+    ensures err { OnErr result (world.new.printed.items ≡ world.old.printed.items) }
+{
+    let (wait, came) = wake(world);
+    go_on_with(world, pc, word, wait, &came)
+}
+
+/// What is left of the instruction is done with what came.
+fn go_on_with(
+    world: &mut World,
+    pc: usize,
+    word: Instruction,
+    wait: Wait,
+    came: &[Value],
+) -> Result<Ending, AllocError>
+    requires solid { IsSolid world.old }
+    requires awake { IsAwake world.old pc word wait came.now }
+    ensures goes { IfOk result (λ next. GoesOnSo world.old world.new word wait came.now (ending_of next)) }
+    ensures order { InOrder world.new }
+    ensures err { OnErr result (world.new.printed.items ≡ world.old.printed.items) }
+{
+    match wait {
+        Wait::Running => unreachable!(),
+        Wait::ForCall => go_on_called(world, pc, word, wait, came),
+        Wait::ForIterator => go_on_called(world, pc, word, wait, came),
+        Wait::ForValue => Ok(take_operation(world, pc, word, came)),
+        Wait::ForTruth => Ok(take_truth(world, pc, word, came)),
+        Wait::Dropped => Ok(drop_value(world, pc, word, came)),
+        Wait::ForConcat(left) => join_with(world, pc, word, left, came),
+        Wait::ForClose => go_on_called(world, pc, word, wait, came),
+        Wait::Returning(_) => go_on_called(world, pc, word, wait, came),
+        Wait::Leaving(_) => go_on_called(world, pc, word, wait, came),
+    }
+}
+
+/// The value of an operation goes to its register.
+fn take_operation(world: &mut World, pc: usize, word: Instruction, came: &[Value]) -> Ending
+    requires order { InOrder world.old }
+    requires awake { IsAwake world.old pc word ForValue came.now }
+    ensures goes { GoesOnSo world.old world.new word ForValue came.now (ending_of result) }
+    ensures order { InOrder world.new }
+{
+    if is_handled(word) {
+        take_value(world, pc, After::ToRegisterBefore, came);
+        return Ending::Go;
+    }
+    take_value(world, pc, After::ToRegister(usize::from(word.a())), came);
+    Ending::Go
+}
+
+/// The truth of a value decides whether the next instruction is passed over.
+fn take_truth(world: &mut World, pc: usize, word: Instruction, came: &[Value]) -> Ending
+    requires order { InOrder world.old }
+    requires awake { IsAwake world.old pc word ForTruth came.now }
+    ensures goes { GoesOnSo world.old world.new word ForTruth came.now (ending_of result) }
+    ensures order { InOrder world.new }
+{
+    take_value(world, pc, After::Tests(word.k()), came);
+    Ending::Go
+}
+
+/// Nothing becomes of a value.
+fn drop_value(world: &mut World, pc: usize, word: Instruction, came: &[Value]) -> Ending
+    requires order { InOrder world.old }
+    requires awake { IsAwake world.old pc word Dropped came.now }
+    ensures goes { GoesOnSo world.old world.new word Dropped came.now (ending_of result) }
+    ensures order { InOrder world.new }
+{
+    take_value(world, pc, After::Next, came);
+    Ending::Go
+}
+
+/// The operands that are left are joined with the value that came.
+fn join_with(
+    world: &mut World,
+    pc: usize,
+    word: Instruction,
+    left: usize,
+    came: &[Value],
+) -> Result<Ending, AllocError>
+    requires awake { IsAwake world.old pc word (ForConcat left) came.now }
+    ensures goes { IfOk result (λ next. GoesOnSo world.old world.new word (ForConcat left) came.now (ending_of next)) }
+    ensures order { InOrder world.new }
+    ensures err { OnErr result (world.new.printed.items ≡ world.old.printed.items) }
+{
+    join_on(world, pc, usize::from(word.a()), left, came)
+}
+
+/// Whether it is an MMBIN or its kin.
+fn is_handled(word: Instruction) -> bool
+    ensures { result ≡ is_handled (opcode_of word) }
+{
+    match word.opcode() {
+        Some(Opcode::MmBin) => true,
+        Some(Opcode::MmBinI) => true,
+        Some(Opcode::MmBinK) => true,
+        _ => false,
+    }
+}

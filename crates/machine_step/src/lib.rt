@@ -1,0 +1,15 @@
+//! A step of the machine on a world in memory: a script is one step after another (luaV_execute of lvm.c, luaD_throw and luaD_poscall of ldo.c of Lua 5.4).
+#![tactic(auto)]
+
+mod calling;
+mod computing;
+mod going_on;
+mod instructions;
+mod jumping;
+mod loading;
+mod objects;
+mod returning;
+mod stack;
+mod stepping;
+
+pub use stepping::step;
