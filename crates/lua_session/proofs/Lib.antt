@@ -1,3 +1,5 @@
 mod Cells
 mod Begun
+mod Handed
 mod Lines
+mod Waking

@@ -1,2 +1,3 @@
 pub mod Report
 pub mod Beginning
+pub mod Resuming

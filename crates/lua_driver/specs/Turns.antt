@@ -1,0 +1,28 @@
+-- Turns of a world in memory.
+use Rattle.std.specs.Prelude.{◌≡◌, ℕ, length}
+use Rattle.library_rows.specs.Library.{all_entries}
+use Rattle.machine_core.specs.Moves.{Ending, Row, ends}
+use Rattle.machine_core.specs.MachineStep.{steps}
+use Rattle.machine_sound.specs.Sound.{Sound}
+use Rattle.machine_runs.specs.Laws.{MayTurn}
+use Rattle.machine_runs.specs.Runs.{turn}
+use Rattle.lua_heap.specs.declared.world.World.{World as Memory}
+use Rattle.lua_heap.specs.Plain.{plain}
+use Rattle.move_laws.specs.Memory.{InOrder}
+
+-- some steps lead from one world and budget to others, and end so
+pub record Reaches (rows : ℕ → Row) (from : Ending) (old : Memory) (fuel : ℕ) (new : Memory) (left : ℕ) (to : Ending) : Type 0 where
+  pub count : ℕ
+  pub is : steps rows count from (plain old fuel) ≡ ends to (plain new left)
+
+-- the script may be resumed: it has not begun, or has yielded
+pub record MayGoOn (W : Memory) : Type 0 where
+  pub sound : Sound (length all_entries) (plain W 0)
+  pub order : InOrder W
+  pub may : MayTurn (plain W 0)
+
+-- a turn ends so
+pub record Turns (rows : ℕ → Row) (old new : Memory) (budget : ℕ) (ending : Ending) : Type 0 where
+  pub count : ℕ
+  pub left : ℕ
+  pub is : turn rows count (plain old 0) budget ≡ ends ending (plain new left)

@@ -1,0 +1,9 @@
+//! The driver of the machine: turns of a script, from where its main coroutine is resumed to where it yields, ends or has spent its budget
+//! (`lua_resume` of Lua's ldo.c).
+#![tactic(auto)]
+
+mod running;
+mod turning;
+
+pub use running::run;
+pub use turning::turn;
