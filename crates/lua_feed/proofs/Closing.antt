@@ -1,0 +1,27 @@
+-- A turn's end closes the run, or is a yield.
+use Rattle.std.proofs.Common.{◌≡◌, ap, true, Some, None, refl}
+use Rattle.list_laws.proofs.Items.{some_same}
+use Rattle.machine_core.specs.Moves.{Ending, spent, main_yielded, main_returned, main_failed}
+use Rattle.machine_runs.specs.Runs.{is_end}
+use Rattle.lua_feed.specs.declared.feeding.Close.{Close as Kept}
+use Rattle.lua_feed.specs.declared.feeding.Close.TheVariants.{Returned, Failed, Spent}
+use Rattle.lua_feed.specs.Closes.{close_of, closing}
+use Rattle.lua_feed.proofs.Runs.{close_at, is_last}
+
+pub yields : (e : Ending) → is_end e ≡ true → closing e ≡ None → e ≡ main_yielded
+yields main_yielded h c = refl
+yields main_returned h c = absurd (cc)
+yields main_failed h c = absurd (cc)
+yields spent h c = absurd (cc)
+yields _ h c = absurd (cc)
+
+pub record Last (e : Ending) (k : Kept) : Type 0 where
+  pub last : is_last e ≡ true
+  pub close : close_at e ≡ close_of k
+
+pub last : (e : Ending) (k : Kept) → closing e ≡ Some k → Last e k
+last main_returned k c = record { last = refl; close = ap close_of (some_same Returned k c) }
+last main_failed k c = record { last = refl; close = ap close_of (some_same Failed k c) }
+last spent k c = record { last = refl; close = ap close_of (some_same Spent k c) }
+last main_yielded k c = absurd (cc)
+last _ k c = absurd (cc)

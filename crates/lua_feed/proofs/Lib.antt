@@ -1,0 +1,6 @@
+mod Causes
+mod Closing
+mod Fed
+mod Runs
+mod Starting
+mod Texts

@@ -1,0 +1,52 @@
+use Rattle.std.proofs.Common.{rules, ◌≡◌, refl, subst}
+use Rattle.std.specs.Prelude.{Err}
+use Rattle.machine_core.specs.World.{World}
+use Rattle.machine_step.specs.Step.{library}
+use Rattle.io_edge.specs.Lines.{ahead}
+use Rattle.lua_stack.proofs.Called.{on_err}
+use Rattle.lua_feed.specs.Closes.{close_of}
+use Rattle.lua_feed.specs.Faults.{is_input_fault, is_output_fault}
+use Rattle.lua_feed.specs.Feeding.{IsFed, IsFedFront}
+use Rattle.lua_feed.specs.Running.{started}
+use Rattle.lua_feed.proofs.Causes.{cause_since, same_input, same_output}
+use Rattle.lua_feed.proofs.Fed.{only_same}
+use Rattle.lua_feed.proofs.Starting.{unfed_front}
+use Rattle.lua_feed.proofs.script.run_code.Goals as goal
+
+pub returns-in_err-world-clause-front : goal.returns-in_err-world-clause-front
+returns-in_err-world-clause-front g c =
+    on_err _ c.from_residual.result
+    (unfed_front library (started c.args.prelude c.args.code) c.args.budget (ahead c.args.reader.now (g.S.Source.left c.args.input.now)) (g.K.Sink.written c.args.out.now) _ refl)
+
+pub returns-in_err-world-clause-grows : goal.returns-in_err-world-clause-grows
+returns-in_err-world-clause-grows g c = on_err _ c.from_residual.result (only_same (g.K.Sink.written c.args.out.now) _ refl)
+
+pub returns-in_err-close-clause-front : goal.returns-in_err-close-clause-front
+returns-in_err-close-clause-front g c =
+    on_err _ c.from_residual-in_err-close.result
+    (subst (λ (W : World). IsFedFront library W c.args.budget (ahead c.args.reader.now (g.S.Source.left c.args.input.now)) (g.K.Sink.written c.args.out.now) (g.K.Sink.written c.feed.new.out))
+    c.in_ok-world.ensures.begun c.in_err-close.ensures.front)
+
+pub returns-in_err-close-clause-grows : goal.returns-in_err-close-clause-grows
+returns-in_err-close-clause-grows g c = on_err _ c.from_residual-in_err-close.result c.in_err-close.ensures.grows
+
+pub returns-in_err-close-clause-input : goal.returns-in_err-close-clause-input
+returns-in_err-close-clause-input g c =
+    let fault = c.in_err-close.field-0.0 in
+    let was : c.feed.result ≡ Err fault = search rules in
+    let is : c.from_residual-in_err-close.result ≡ Err fault = search rules in
+    cause_since (g.S.Source.faults c.args.input.now) (g.S.Source.faults c.args.input.now) (g.S.Source.faults c.feed.new.input) (is_input_fault c.feed.result) (is_input_fault c.from_residual-in_err-close.result)
+    refl (same_input fault c.feed.result c.from_residual-in_err-close.result was is) c.feed.ensures.input
+
+pub returns-in_err-close-clause-output : goal.returns-in_err-close-clause-output
+returns-in_err-close-clause-output g c =
+    let fault = c.in_err-close.field-0.0 in
+    let was : c.feed.result ≡ Err fault = search rules in
+    let is : c.from_residual-in_err-close.result ≡ Err fault = search rules in
+    cause_since (g.K.Sink.faults c.args.out.now) (g.K.Sink.faults c.args.out.now) (g.K.Sink.faults c.feed.new.out) (is_output_fault c.feed.result) (is_output_fault c.from_residual-in_err-close.result)
+    refl (same_output fault c.feed.result c.from_residual-in_err-close.result was is) c.feed.ensures.output
+
+pub returns-clause-runs : goal.returns-clause-runs
+returns-clause-runs g c =
+    subst (λ (W : World). IsFed library W c.args.budget (ahead c.args.reader.now (g.S.Source.left c.args.input.now)) (g.K.Sink.written c.args.out.now) (g.K.Sink.written c.feed.new.out) (close_of c.in_ok-close.close))
+    c.in_ok-world.ensures.begun c.in_ok-close.ensures.fed

@@ -1,0 +1,4 @@
+pub mod Closes
+pub mod Faults
+pub mod Feeding
+pub mod Running

@@ -1,0 +1,78 @@
+// A script is fed line by line.
+ghost use Rattle.std.specs.Prelude.{◌≡◌, IfOk, IfSome, IsErrOf, OnErr};
+ghost use Rattle.io_edge.specs.Causes.{HasCause};
+ghost use Rattle.io_edge.specs.Lines.{ahead, lines_of};
+ghost use Rattle.lua_heap.specs.Plain.{plain};
+ghost use Rattle.machine_moves.specs.Ending.{ending_of};
+ghost use Rattle.move_laws.specs.Memory.{InOrder};
+ghost use Rattle.lua_driver.specs.Turns.{MayGoOn};
+ghost use Rattle.lua_feed.specs.Closes.{close_of, closing};
+ghost use Rattle.lua_feed.specs.Faults.{is_input_fault, is_output_fault};
+ghost use Rattle.lua_feed.specs.Feeding.{IsFed, IsFedFront, OnlyGrows, PassLimits};
+ghost use Rattle.machine_step.specs.Step.{library};
+
+use crate::fault::FeedFault;
+use crate::writing::write_turn;
+use io_edge::{LineReader, Sink, Source};
+use lua_heap::World;
+use lua_session::hand_line;
+use machine_moves::Ending;
+
+/// How a script closed that was fed.
+#[derive(Debug, Clone, Copy, PartialEq, Eq)]
+pub enum Close {
+    Returned,
+    Failed,
+    /// A turn spent its budget.
+    Spent,
+    /// It yielded, and there is no further line.
+    Suspended,
+}
+
+/// Does turns of a script, each with the whole budget, and hands a line of the input to each turn but the first, up to the turn in which the script
+/// returns, fails or spends its budget, or to the end of the input. Each turn's printed bytes and the line that reports its end are written before the
+/// next line is read.
+///
+/// # Errors
+///
+/// `Input` and `Output` where a device fails, `Limit` where a line or the input up to its end is too long, and `Memory`. A front of what the run on the
+/// lines prints was written then, and the script cannot be resumed any more.
+pub fn feed<S: Source, K: Sink>(
+    world: &mut World,
+    budget: u64,
+    reader: &mut LineReader,
+    input: &mut S,
+    out: &mut K,
+) -> Result<Close, FeedFault>
+    requires { MayGoOn world.old }
+    ensures fed { IfOk result (λ close. IsFed library (plain world.old 0) budget (ahead reader.old (S.left input.old)) (K.written out.old) (K.written out.new) (close_of close)) }
+    ensures front { OnErr result (IsFedFront library (plain world.old 0) budget (ahead reader.old (S.left input.old)) (K.written out.old) (K.written out.new)) }
+    ensures grows { OnErr result (OnlyGrows (K.written out.old) (K.written out.new)) }
+    ensures input { HasCause (S.faults input.old) (S.faults input.new) (is_input_fault result) }
+    ensures output { HasCause (K.faults out.old) (K.faults out.new) (is_output_fault result) }
+    ensures limit { IsErrOf result FeedFault.Limit → IfSome (ahead reader.old (S.left input.old)) (λ text. PassLimits reader.old.taken (lines_of text)) }
+    ensures order { InOrder world.new }
+{
+    'turns: loop {
+        let ending = write_turn(world, budget, out)?;
+        if let Some(close) = close_at(ending) {
+            return Ok(close);
+        }
+        let Some(line) = reader.next_line(input)? else {
+            return Ok(Close::Suspended);
+        };
+        hand_line(world, line.as_slice())?;
+    }
+}
+
+/// How the end of a turn closes a run, unless it is a yield.
+fn close_at(ending: Ending) -> Option<Close>
+    ensures { result ≡ closing (ending_of ending) }
+{
+    match ending {
+        Ending::MainReturned => Some(Close::Returned),
+        Ending::MainFailed => Some(Close::Failed),
+        Ending::Spent => Some(Close::Spent),
+        _ => None,
+    }
+}
