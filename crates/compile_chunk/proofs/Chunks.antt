@@ -15,7 +15,7 @@ use Rattle.compiler.specs.Source.{IsOfSource, name_where}
 use Rattle.chunk_format.specs.Grammar.{ChunkOf}
 use Rattle.chunk_format.specs.Spelling as spelled
 use Rattle.compile_text.specs.Source.{IsTreeOf}
-use Rattle.compile_chunk.specs.Chunk.{IsChunkOf}
+use Rattle.compile_chunk.specs.Chunk.{IsChunkOf, IsCodeOf}
 
 pub of_source : (source : List ℕ) (resolved : Resolved) → IsTreeOf source resolved → IsOfSource resolved
 of_source source resolved t = record {
@@ -34,15 +34,22 @@ writable p c = last_true (none_or_one_per (length p.own.line_info) (length p.own
     last_true : (a b c d : Bool) → (a && (b && (c && d))) ≡ true → d ≡ true
     last_true a b c d h = (and_parts c d (and_parts b (c && d) (and_parts a (b && (c && d)) h).1).1).1
 
-pub chunk_made : (name source bytes : List ℕ) (strip : Bool) (resolved : Resolved) (code : Prototype) → IsTreeOf source resolved
-    → code ≡ code_of (name_where (not strip) name) (plain_body resolved.main) → Means (not strip) code (plain_body resolved.main) → IsChecked code
-    → bytes ≡ spelled.chunk code → ChunkOf code bytes → IsChunkOf name source strip bytes
-chunk_made name source bytes strip resolved code t is means checked wrote fits = record {
+pub code_made : (name source : List ℕ) (lines : Bool) (resolved : Resolved) (code : Prototype) → IsTreeOf source resolved
+    → code ≡ code_of (name_where lines name) (plain_body resolved.main) → Means lines code (plain_body resolved.main) → IsCodeOf name source lines code
+code_made name source lines resolved code t is means = record {
   tree = t.tree;
   is_source = t.is_source;
+  code_is = is ∙ ap (code_of (name_where lines name)) t.placed_is;
+  means = subst (λ body. Means lines code body) t.placed_is means;
+}
+
+pub chunk_made : (name source bytes : List ℕ) (strip : Bool) (code : Prototype) → IsCodeOf name source (not strip) code → IsChecked code → bytes ≡ spelled.chunk code → ChunkOf code bytes → IsChunkOf name source strip bytes
+chunk_made name source bytes strip code c checked wrote fits = record {
+  tree = c.tree;
+  is_source = c.is_source;
   code = code;
-  code_is = is ∙ ap (code_of (name_where (not strip) name)) t.placed_is;
-  means = subst (λ body. Means (not strip) code body) t.placed_is means;
+  code_is = c.code_is;
+  means = c.means;
   checked = checked;
   spelled = wrote;
   in_grammar = fits;

@@ -23,6 +23,13 @@ is_in_line byte = not (nat_eq byte 10) && not (nat_eq byte 13)
 abbrev pub script_in : List ℕ → List ℕ
 script_in content = cond (begins_with_hash content) (drop (prefix_len is_in_line content) content) content
 
+-- The code of a source means the source's tree. With lines it has the source's name and the lines of its instructions, else none
+pub record IsCodeOf (name source : List ℕ) (lines : Bool) (code : Prototype) : Type 0 where
+  pub tree : Block
+  pub is_source : IsSource source tree
+  pub code_is : code ≡ code_of (name_where lines name) (placed tree)
+  pub means : Means lines code (placed tree)
+
 -- The bytes spell the code of the source, which is checked and means the source's tree. With lines it has the source's name and the lines of
 -- its instructions; stripped it has none
 pub record IsChunkOf (name source : List ℕ) (strip : Bool) (bytes : List ℕ) : Type 0 where
