@@ -1,1 +1,0 @@
-local x = 6 local y = x * 7 print(y - x)

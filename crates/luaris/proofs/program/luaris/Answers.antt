@@ -1,8 +1,0 @@
-use Rattle.luaris.proofs.ReportLemmas.{reported, unreported}
-use Rattle.luaris.proofs.program.luaris.Goals as goal
-
-pub returns-in-Err-clause-reports : goal.returns-in-Err-clause-reports
-returns-in-Err-clause-reports g c = reported _ _ c.in-Err.fault _ _ _ _ _ c.report.result c.in-Err.ensures.fits c.status.ensures c.report.ensures.cause c.report.ensures.written
-
-pub returns-in-Ok-clause-reports : goal.returns-in-Ok-clause-reports
-returns-in-Ok-clause-reports g c = unreported _ _ _ _

@@ -1,0 +1,183 @@
+-- How the checking of a file ends.
+use Rattle.std.proofs.Common.{Result, Ok, Err, OnOk, OnErr, IfErr, ◌≡◌, ◌⊎◌, inl, inr, ℕ, List, ◌++◌, Option, Some, None, IfSome, true, refl, sym, ap, subst, ◌∙◌, arith}
+use Rattle.std.specs.Option.{option_map}
+use Rattle.std.specs.Prelude.{is_err, IsErrOf}
+use Rattle.std.specs.Bool.{OnTrue, OnFalse}
+use Rattle.std.specs.declared.vec.Vec.{Vec}
+use Rattle.std.specs.declared.alloc.Global.{Global}
+use Rattle.code_core.specs.Prototype.{Prototype}
+use Rattle.io_edge.specs.declared.fault.FileFault.{FileFault}
+use Rattle.io_edge.specs.declared.fault.FileFault.TheVariants.{Failed, Absent, Memory}
+use Rattle.io_edge.specs.Causes.{HasCause, is_failed}
+use Rattle.io_edge.specs.Content.{FileMap, GrowsByFront, MayEndTelling}
+use Rattle.program.specs.declared.fault.Fault.{Fault}
+use Rattle.program.specs.declared.fault.Fault.TheVariants as fault
+use Rattle.program.specs.Devices.{Device, Holds}
+use Rattle.program.specs.Checking.{IsAccepted, HoldsNoChunk, Reports, report_of, IsCheck}
+use Rattle.program.specs.Faults.{done_status, fault_of_file}
+use Rattle.program.specs.Outcomes.{IsChunkIn, IsNoChunkFor}
+use Rattle.program.specs.Report.{ChunkFits, status_of_fault}
+use Rattle.program.proofs.DeviceLemmas.{grows_by_none, grows_by_all, only_same, only_front, keeps_telling, same_content, not_lacking, holds_read, no_content, lacks_name, stays, told_lacking}
+
+-- the text is what is written of the bytes
+pub record IsCounts (content text : List ℕ) : Type 0 where
+  pub writes : Reports content text
+  pub only : (text' : List ℕ) → Reports content text' → text' ≡ text
+
+pub counted : (content text : List ℕ) (code : Prototype) → IsChunkIn content code → text ≡ report_of code → IsCounts content text
+counted content text code own is = record {
+  writes = (code, own.accepted, is);
+  only = λ text' (other, accepted, is'). is' ∙ ap report_of (sym (own.only other accepted)) ∙ sym is;
+}
+
+pub refused_check : (name content : List ℕ) (f k : ℕ) (held : Option FileMap) (written : Option (List ℕ)) (status : ℕ) → status ≡ 8 → IfSome held (λ files. files name ≡ Some content) → HoldsNoChunk content → IsCheck name (record { faults = f; faults' = f; content = held; content' = held }) (record { faults = k; faults' = k; content = written; content' = written }) status
+refused_check name content f k held written status own found refuses =
+    record {
+      right_words = λ is. absurd (omega arith);
+      absent_only = λ is told. absurd (omega arith);
+      absent = λ lacks same. absurd (not_lacking name content held found lacks);
+      refused_only = λ is told. (content, holds_read name content held found told, refuses);
+      refused = λ content' has refuses' same ample. own;
+      fault_only = λ is. absurd (omega arith);
+      fault = λ grew. absurd (elim grew [ inl less ↦ stays f held held less | inr less ↦ stays k written written less ]);
+      done = λ content' text has writes same same' ample. absurd (refuses writes.0 (subst (λ c. IsAccepted c writes.0) (same_content name content content' held found has) writes.1));
+      done_only = λ is told. absurd (omega arith);
+      front = λ content' text has writes. grows_by_none text written;
+      grows = only_same written;
+      unwritten = λ other other'. refl;
+      files_kept = keeps_telling held;
+      files_same = λ other. refl;
+    }
+
+pub memory_check : (name content : List ℕ) (f k : ℕ) (held : Option FileMap) (written : Option (List ℕ)) → IfSome held (λ files. files name ≡ Some content) → IsCheck name (record { faults = f; faults' = f; content = held; content' = held }) (record { faults = k; faults' = k; content = written; content' = written }) 9
+memory_check name content f k held written found =
+    record {
+      right_words = λ is. absurd (omega arith);
+      absent_only = λ is told. absurd (omega arith);
+      absent = λ lacks same. absurd (not_lacking name content held found lacks);
+      refused_only = λ is told. absurd (omega arith);
+      refused = λ content' has refuses same ample. absurd (ample refl);
+      fault_only = λ is. absurd (omega arith);
+      fault = λ grew. absurd (elim grew [ inl less ↦ stays f held held less | inr less ↦ stays k written written less ]);
+      done = λ content' text has writes same same' ample. absurd (ample refl);
+      done_only = λ is told. absurd (omega arith);
+      front = λ content' text has writes. grows_by_none text written;
+      grows = only_same written;
+      unwritten = λ other other'. refl;
+      files_kept = keeps_telling held;
+      files_same = λ other. refl;
+    }
+
+failed_check : (name content text : List ℕ) (f k k' : ℕ) (held : Option FileMap) (written written' : Option (List ℕ)) → IfSome held (λ files. files name ≡ Some content) → IsCounts content text → HasCause k k' true → GrowsByFront text written written' → IsCheck name (record { faults = f; faults' = f; content = held; content' = held }) (record { faults = k; faults' = k'; content = written; content' = written' }) 6
+failed_check name content text f k k' held written written' found own cause front =
+    record {
+      right_words = λ is. absurd (omega arith);
+      absent_only = λ is told. absurd (omega arith);
+      absent = λ lacks same. absurd (not_lacking name content held found lacks);
+      refused_only = λ is told. absurd (omega arith);
+      refused = λ content' has refuses same ample. absurd (refuses own.writes.0 (subst (λ c. IsAccepted c own.writes.0) (sym (same_content name content content' held found has)) own.writes.1));
+      fault_only = λ is. inr cause.rose;
+      fault = λ grew. refl;
+      done = λ content' text' has writes same same' ample. absurd (same' cause.rose);
+      done_only = λ is told. absurd (omega arith);
+      front = λ content' text' has writes. subst (λ t. GrowsByFront t written written') (sym (own.only text' (subst (λ c. Reports c text') (same_content name content content' held found has) writes))) front;
+      grows = only_front text written written' front;
+      unwritten = λ other other'. absurd (other' refl);
+      files_kept = keeps_telling held;
+      files_same = λ other. absurd (other refl);
+    }
+
+done_check : (name content text : List ℕ) (f k k' : ℕ) (held : Option FileMap) (written written' : Option (List ℕ)) → IfSome held (λ files. files name ≡ Some content) → IsCounts content text → k' ≡ k → written' ≡ option_map (λ before. before ++ text) written → IsCheck name (record { faults = f; faults' = f; content = held; content' = held }) (record { faults = k; faults' = k'; content = written; content' = written' }) 0
+done_check name content text f k k' held written written' found own same_count wrote =
+    record {
+      right_words = λ is. absurd (omega arith);
+      absent_only = λ is told. absurd (omega arith);
+      absent = λ lacks same. absurd (not_lacking name content held found lacks);
+      refused_only = λ is told. absurd (omega arith);
+      refused = λ content' has refuses same ample. absurd (refuses own.writes.0 (subst (λ c. IsAccepted c own.writes.0) (sym (same_content name content content' held found has)) own.writes.1));
+      fault_only = λ is. absurd (omega arith);
+      fault = λ grew. absurd (elim grew [ inl less ↦ stays f held held less | inr less ↦ omega (arith, same_count) ]);
+      done = λ content' text' has writes same same' ample.
+          let texts = own.only text' (subst (λ c. Reports c text') (same_content name content content' held found has) writes) in
+          (refl, wrote ∙ ap (λ t. option_map (λ before. before ++ t) written) (sym texts));
+      done_only = λ is told. (content, text, holds_read name content held found told, own.writes, wrote);
+      front = λ content' text' has writes. subst (λ t. GrowsByFront t written written') (sym (own.only text' (subst (λ c. Reports c text') (same_content name content content' held found has) writes))) (grows_by_all text written written' wrote);
+      grows = only_front text written written' (grows_by_all text written written' wrote);
+      unwritten = λ other other'. absurd (other refl);
+      files_kept = keeps_telling held;
+      files_same = λ other. refl;
+    }
+
+-- the counts are written, or that fails
+pub written_check : (name content text : List ℕ) (f k k' : ℕ) (held : Option FileMap) (written written' : Option (List ℕ)) (result : Result (Unit {0}) Fault) → IfSome held (λ files. files name ≡ Some content) → IsCounts content text → HasCause k k' (is_err result) → OnOk result (written' ≡ option_map (λ before. before ++ text) written) → OnErr result (GrowsByFront text written written') → IfErr result (λ made. made ≡ fault.Device) → IsCheck name (record { faults = f; faults' = f; content = held; content' = held }) (record { faults = k; faults' = k'; content = written; content' = written' }) (done_status result)
+written_check name content text f k k' held written written' (Ok done) found own cause wrote front device = done_check name content text f k k' held written written' found own cause.only wrote
+written_check name content text f k k' held written written' (Err reason) found own cause wrote front device = rw device (failed_check name content text f k k' held written written' found own cause front)
+
+-- the bytes are refused, or no memory is found
+pub stopped_check : (name content : List ℕ) (f k : ℕ) (held : Option FileMap) (written : Option (List ℕ)) (reason : Fault) → IfSome held (λ files. files name ≡ Some content) → IsNoChunkFor content reason ⊎ (reason ≡ fault.Memory) → IsCheck name (record { faults = f; faults' = f; content = held; content' = held }) (record { faults = k; faults' = k; content = written; content' = written }) (status_of_fault reason)
+stopped_check name content f k held written reason found (inl refusal) = refused_check name content f k held written (status_of_fault reason) refusal.status found refusal.holds_none
+stopped_check name content f k held written reason found (inr memory) = rw memory (memory_check name content f k held written found)
+
+-- the file is not read
+pub unread_check : (name : List ℕ) (f f' k : ℕ) (held held' : Option FileMap) (written : Option (List ℕ)) (reason : FileFault) → HasCause f f' (is_failed {T = Vec ℕ Global} (Err reason)) → (IsErrOf {T = Vec ℕ Global} (Err reason) Absent → IfSome held (λ files. files name ≡ None)) → IfSome held (λ files. files name ≡ None → IsErrOf {T = Vec ℕ Global} (Err reason) Absent ⊎ IsErrOf {T = Vec ℕ Global} (Err reason) Failed) → OnFalse (is_failed {T = Vec ℕ Global} (Err reason)) (held' ≡ held) → OnTrue (is_failed {T = Vec ℕ Global} (Err reason)) (MayEndTelling held held') → IsCheck name (record { faults = f; faults' = f'; content = held; content' = held' }) (record { faults = k; faults' = k; content = written; content' = written }) (status_of_fault (fault_of_file reason))
+unread_check name f f' k held held' written Failed cause absent lacking kept failed =
+    record {
+      right_words = λ is. absurd (omega arith);
+      absent_only = λ is told. absurd (omega arith);
+      absent = λ lacks same. absurd (same cause.rose);
+      refused_only = λ is told. absurd (omega arith);
+      refused = λ content has refuses same ample. absurd (same cause.rose);
+      fault_only = λ is. inl cause.rose;
+      fault = λ grew. refl;
+      done = λ content text has writes same same' ample. absurd (same cause.rose);
+      done_only = λ is told. absurd (omega arith);
+      front = λ content text has writes. grows_by_none text written;
+      grows = only_same written;
+      unwritten = λ other other'. refl;
+      files_kept = failed;
+      files_same = λ other. absurd (other refl);
+    }
+unread_check name f f' k held held' written Absent cause absent lacking kept failed =
+    let none = absent refl in
+    record {
+      right_words = λ is. absurd (omega arith);
+      absent_only = λ is told. lacks_name name held none told;
+      absent = λ lacks same. refl;
+      refused_only = λ is told. absurd (omega arith);
+      refused = λ content has refuses same ample. absurd (no_content name content held none has);
+      fault_only = λ is. absurd (omega arith);
+      fault = λ grew. absurd (elim grew [ inl less ↦ omega (arith, cause.only) | inr less ↦ stays k written written less ]);
+      done = λ content text has writes same same' ample. absurd (no_content name content held none has);
+      done_only = λ is told. absurd (omega arith);
+      front = λ content text has writes. grows_by_none text written;
+      grows = only_same written;
+      unwritten = λ other other'. refl;
+      files_kept = rw kept (keeps_telling held);
+      files_same = λ other. kept;
+    }
+unread_check name f f' k held held' written Memory cause absent lacking kept failed =
+    record {
+      right_words = λ is. absurd (omega arith);
+      absent_only = λ is told. absurd (omega arith);
+      absent = λ lacks same. absurd (elim (told_lacking name held lacking lacks) [ inl bad ↦ cc | inr bad ↦ cc ]);
+      refused_only = λ is told. absurd (omega arith);
+      refused = λ content has refuses same ample. absurd (ample refl);
+      fault_only = λ is. absurd (omega arith);
+      fault = λ grew. absurd (elim grew [ inl less ↦ omega (arith, cause.only) | inr less ↦ stays k written written less ]);
+      done = λ content text has writes same same' ample. absurd (ample refl);
+      done_only = λ is told. absurd (omega arith);
+      front = λ content text has writes. grows_by_none text written;
+      grows = only_same written;
+      unwritten = λ other other'. refl;
+      files_kept = rw kept (keeps_telling held);
+      files_same = λ other. kept;
+    }
+
+-- the files stay as they are
+pub with_files_kept : (name : List ℕ) (f f' : ℕ) (held held' : Option FileMap) (out : Device (List ℕ)) (status status' : ℕ) → f' ≡ f → held' ≡ held → status ≡ status' → IsCheck name (record { faults = f; faults' = f; content = held; content' = held }) out status' → IsCheck name (record { faults = f; faults' = f'; content = held; content' = held' }) out status
+with_files_kept name f f' held held' out status status' faults kept same work = rw (faults, kept, same) work
+
+-- what a refusal tells of the bytes that the files hold
+pub refusal_tells : (name content content' : List ℕ) (held : Option FileMap) (reason : Fault) → IfSome held (λ files. files name ≡ Some content) → Holds held name content' → IsNoChunkFor content reason ⊎ (reason ≡ fault.Memory) → ChunkFits content' reason
+refusal_tells name content content' held reason found has (inl refusal) = subst (λ c. ChunkFits c reason) (sym (same_content name content content' held found has)) refusal.fits
+refusal_tells name content content' held reason found has (inr memory) = rw memory tt

@@ -1,0 +1,171 @@
+-- How compiling a script's file ends.
+use Rattle.std.proofs.Common.{Err, ◌≡◌, ◌⊎◌, inl, inr, ℕ, List, Option, Some, None, IfSome, Bool, true, not, refl, sym, ap, subst, ◌∙◌, arith, rules}
+use Rattle.std.specs.Option.{option_map}
+use Rattle.std.specs.Prelude.{IsErrOf}
+use Rattle.std.specs.Bool.{OnTrue, OnFalse}
+use Rattle.std.specs.declared.vec.Vec.{Vec}
+use Rattle.std.specs.declared.alloc.Global.{Global}
+use Rattle.io_edge.specs.declared.fault.FileFault.{FileFault}
+use Rattle.io_edge.specs.declared.fault.FileFault.TheVariants.{Failed, Absent, Memory}
+use Rattle.io_edge.specs.Causes.{HasCause, is_failed}
+use Rattle.io_edge.specs.Content.{FileMap, MayEndTelling, KeepsOtherFiles, with_file}
+use Rattle.compile_text.specs.Source.{IsRefused, IsSource}
+use Rattle.compile_text.specs.declared.fault.TextFault.{TextFault}
+use Rattle.compile_text.specs.declared.fault.TextFault.TheVariants as text
+use Rattle.compile_chunk.specs.Chunk.{script_in}
+use Rattle.program.specs.declared.fault.Fault.{Fault}
+use Rattle.program.specs.declared.fault.Fault.TheVariants as fault
+use Rattle.program.specs.Faults.{fault_of_file, fault_of_text}
+use Rattle.program.specs.Outcomes.{IsChunk, IsNoScriptFor}
+use Rattle.program.specs.Devices.{Holds}
+use Rattle.program.specs.Compiling.{Compiles, HoldsNoScript, IsCompilation}
+use Rattle.program.specs.Report.{ScriptFits, status_of_fault}
+use Rattle.program.proofs.DeviceLemmas.{keeps_telling, same_content, not_lacking, holds_read, no_content, lacks_name, stays, told_lacking}
+
+pub text_refused : (content : List ℕ) (reason : TextFault) → IsRefused (script_in content) reason → IsNoScriptFor content (fault_of_text reason) ⊎ (fault_of_text reason ≡ fault.Memory)
+text_refused content (text.Source line) refused = inl (record { status = refl; holds_none = refused.none; fits = refused })
+text_refused content (text.Rule rule line) refused = inl (record { status = refl; holds_none = refused.none; fits = refused })
+text_refused content text.Memory refused = inr refl
+
+-- a device of which the telling may have ended keeps its other files
+keeps_others : (name : List ℕ) (before now : Option FileMap) → MayEndTelling before now → KeepsOtherFiles name before now
+keeps_others name before (Some after) h = (after, h, λ other differ. refl)
+keeps_others name before None h = tt
+
+replaces_others : (name bytes : List ℕ) (before now : Option FileMap) → now ≡ option_map (λ held. with_file held name bytes) before → KeepsOtherFiles name before now
+replaces_others name bytes (Some files) (Some after) is = (files, refl, λ other differ. let same : after ≡ with_file files name bytes = cc in search rules)
+replaces_others name bytes (Some files) None is = tt
+replaces_others name bytes None (Some after) is = absurd (cc)
+replaces_others name bytes None None is = tt
+
+-- the file of the script is not read
+pub unread_compilation : (script chunk : List ℕ) (strip : Bool) (f f' : ℕ) (held held' : Option FileMap) (reason : FileFault) → HasCause f f' (is_failed {T = Vec ℕ Global} (Err reason)) → (IsErrOf {T = Vec ℕ Global} (Err reason) Absent → IfSome held (λ files. files script ≡ None)) → IfSome held (λ files. files script ≡ None → IsErrOf {T = Vec ℕ Global} (Err reason) Absent ⊎ IsErrOf {T = Vec ℕ Global} (Err reason) Failed) → OnFalse (is_failed {T = Vec ℕ Global} (Err reason)) (held' ≡ held) → OnTrue (is_failed {T = Vec ℕ Global} (Err reason)) (MayEndTelling held held')
+    → IsCompilation script chunk strip (record { faults = f; faults' = f'; content = held; content' = held' }) (status_of_fault (fault_of_file reason))
+unread_compilation script chunk strip f f' held held' Failed cause absent lacking kept failed = record {
+  right_words = λ is. absurd (omega arith);
+  absent_only = λ is told. absurd (omega arith);
+  absent = λ lacks same. absurd (same cause.rose);
+  refused_only = λ is told. absurd (omega arith);
+  refused = λ content has none same ample. absurd (same cause.rose);
+  fault_only = λ is. cause.rose;
+  fault = λ grew. refl;
+  done = λ content bytes has compiles same ample. absurd (same cause.rose);
+  done_only = λ is told. absurd (omega arith);
+  others_kept = keeps_others chunk held held' failed;
+  files_same = λ other other'. absurd (other' refl);
+}
+unread_compilation script chunk strip f f' held held' Absent cause absent lacking kept failed =
+    let none = absent refl in
+    record {
+      right_words = λ is. absurd (omega arith);
+      absent_only = λ is told. lacks_name script held none told;
+      absent = λ lacks same. refl;
+      refused_only = λ is told. absurd (omega arith);
+      refused = λ content has refuses same ample. absurd (no_content script content held none has);
+      fault_only = λ is. absurd (omega arith);
+      fault = λ grew. absurd (omega (arith, cause.only, grew));
+      done = λ content bytes has compiles same ample. absurd (no_content script content held none has);
+      done_only = λ is told. absurd (omega arith);
+      others_kept = keeps_others chunk held held' (rw kept (keeps_telling held));
+      files_same = λ other other'. kept;
+    }
+unread_compilation script chunk strip f f' held held' Memory cause absent lacking kept failed = record {
+  right_words = λ is. absurd (omega arith);
+  absent_only = λ is told. absurd (omega arith);
+  absent = λ lacks same. absurd (elim (told_lacking script held lacking lacks) [ inl bad ↦ cc | inr bad ↦ cc ]);
+  refused_only = λ is told. absurd (omega arith);
+  refused = λ content has refuses same ample. absurd (ample refl);
+  fault_only = λ is. absurd (omega arith);
+  fault = λ grew. absurd (omega (arith, cause.only, grew));
+  done = λ content bytes has compiles same ample. absurd (ample refl);
+  done_only = λ is told. absurd (omega arith);
+  others_kept = keeps_others chunk held held' (rw kept (keeps_telling held));
+  files_same = λ other other'. kept;
+}
+
+-- the file holds no script
+refused_compilation : (script chunk : List ℕ) (strip : Bool) (content : List ℕ) (f : ℕ) (held : Option FileMap) (status : ℕ) → status ≡ 5 → IfSome held (λ files. files script ≡ Some content) → HoldsNoScript content
+    → IsCompilation script chunk strip (record { faults = f; faults' = f; content = held; content' = held }) status
+refused_compilation script chunk strip content f held status own found none = record {
+  right_words = λ is. absurd (omega arith);
+  absent_only = λ is told. absurd (omega arith);
+  absent = λ lacks same. absurd (not_lacking script content held found lacks);
+  refused_only = λ is told. (content, holds_read script content held found told, none);
+  refused = λ content' has refuses same ample. own;
+  fault_only = λ is. absurd (omega arith);
+  fault = λ grew. absurd (stays f held held grew);
+  done = λ content' bytes has compiles same ample. absurd (none compiles.tree (subst (λ c. IsSource (script_in c) compiles.tree) (same_content script content content' held found has) compiles.is_source));
+  done_only = λ is told. absurd (omega arith);
+  others_kept = keeps_others chunk held held (keeps_telling held);
+  files_same = λ other other'. refl;
+}
+
+-- no memory is found
+memory_compilation : (script chunk : List ℕ) (strip : Bool) (content : List ℕ) (f : ℕ) (held : Option FileMap) → IfSome held (λ files. files script ≡ Some content)
+    → IsCompilation script chunk strip (record { faults = f; faults' = f; content = held; content' = held }) 9
+memory_compilation script chunk strip content f held found = record {
+  right_words = λ is. absurd (omega arith);
+  absent_only = λ is told. absurd (omega arith);
+  absent = λ lacks same. absurd (not_lacking script content held found lacks);
+  refused_only = λ is told. absurd (omega arith);
+  refused = λ content' has refuses same ample. absurd (ample refl);
+  fault_only = λ is. absurd (omega arith);
+  fault = λ grew. absurd (stays f held held grew);
+  done = λ content' bytes has compiles same ample. absurd (ample refl);
+  done_only = λ is told. absurd (omega arith);
+  others_kept = keeps_others chunk held held (keeps_telling held);
+  files_same = λ other other'. refl;
+}
+
+-- the script has no chunk, for one of both causes
+pub stopped_compilation : (script chunk : List ℕ) (strip : Bool) (content : List ℕ) (f : ℕ) (held : Option FileMap) (reason : Fault) → IfSome held (λ files. files script ≡ Some content) → IsNoScriptFor content reason ⊎ (reason ≡ fault.Memory)
+    → IsCompilation script chunk strip (record { faults = f; faults' = f; content = held; content' = held }) (status_of_fault reason)
+stopped_compilation script chunk strip content f held reason found (inl refusal) = refused_compilation script chunk strip content f held (status_of_fault reason) refusal.status found refusal.holds_none
+stopped_compilation script chunk strip content f held reason found (inr memory) = rw memory (memory_compilation script chunk strip content f held found)
+
+-- the chunk is put into its file, or that fails
+pub put_compilation : (script chunk : List ℕ) (strip : Bool) (content bytes : List ℕ) (f f' : ℕ) (held held' : Option FileMap) → IfSome held (λ files. files script ≡ Some content) → IsChunk script strip content bytes
+    → f' ≡ f → held' ≡ option_map (λ files. with_file files chunk bytes) held
+    → IsCompilation script chunk strip (record { faults = f; faults' = f'; content = held; content' = held' }) 0
+put_compilation script chunk strip content bytes f f' held held' found made same_count put = record {
+  right_words = λ is. absurd (omega arith);
+  absent_only = λ is told. absurd (omega arith);
+  absent = λ lacks same. absurd (not_lacking script content held found lacks);
+  refused_only = λ is told. absurd (omega arith);
+  refused = λ content' has none same ample. absurd (none made.compiles.tree (subst (λ c. IsSource (script_in c) made.compiles.tree) (sym (same_content script content content' held found has)) made.compiles.is_source));
+  fault_only = λ is. absurd (omega arith);
+  fault = λ grew. absurd (omega (arith, same_count, grew));
+  done = λ content' bytes' has compiles same ample.
+      let one = made.only bytes' (subst (λ c. Compiles script strip c bytes') (same_content script content content' held found has) compiles) in
+      (refl, put ∙ ap (λ b. option_map (λ files. with_file files chunk b) held) (sym one));
+  done_only = λ is told. (content, bytes, holds_read script content held found told, made.compiles, put);
+  others_kept = replaces_others chunk bytes held held' put;
+  files_same = λ other other'. absurd (other refl);
+}
+
+pub unput_compilation : (script chunk : List ℕ) (strip : Bool) (content bytes : List ℕ) (f f' : ℕ) (held held' : Option FileMap) → IfSome held (λ files. files script ≡ Some content) → IsChunk script strip content bytes
+    → HasCause f f' true → KeepsOtherFiles chunk held held'
+    → IsCompilation script chunk strip (record { faults = f; faults' = f'; content = held; content' = held' }) 6
+unput_compilation script chunk strip content bytes f f' held held' found made cause kept = record {
+  right_words = λ is. absurd (omega arith);
+  absent_only = λ is told. absurd (omega arith);
+  absent = λ lacks same. absurd (same cause.rose);
+  refused_only = λ is told. absurd (omega arith);
+  refused = λ content' has none same ample. absurd (same cause.rose);
+  fault_only = λ is. cause.rose;
+  fault = λ grew. refl;
+  done = λ content' bytes' has compiles same ample. absurd (same cause.rose);
+  done_only = λ is told. absurd (omega arith);
+  others_kept = kept;
+  files_same = λ other other'. absurd (other' refl);
+}
+
+-- the file was read, and the files are as they were
+pub with_same_files : (script chunk : List ℕ) (strip : Bool) (f f' : ℕ) (held held' : Option FileMap) (status status' : ℕ) → f' ≡ f → held' ≡ held → status ≡ status'
+    → IsCompilation script chunk strip (record { faults = f; faults' = f; content = held; content' = held }) status' → IsCompilation script chunk strip (record { faults = f; faults' = f'; content = held; content' = held' }) status
+with_same_files script chunk strip f f' held held' status status' faults kept same work = rw (faults, kept, same) work
+
+-- what a refusal tells of the bytes that the files hold
+pub text_tells : (script content content' : List ℕ) (held : Option FileMap) (reason : Fault) → IfSome held (λ files. files script ≡ Some content) → Holds held script content' → IsNoScriptFor content reason ⊎ (reason ≡ fault.Memory) → ScriptFits content' reason
+text_tells script content content' held reason found has (inl refusal) = subst (λ c. ScriptFits c reason) (sym (same_content script content content' held found has)) refusal.fits
+text_tells script content content' held reason found has (inr memory) = rw memory tt

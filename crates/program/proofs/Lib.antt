@@ -1,0 +1,9 @@
+pub mod DeviceLemmas
+pub mod ChunkLemmas
+pub mod CheckLemmas
+pub mod CompileLemmas
+pub mod CodeLemmas
+pub mod MeaningLemmas
+pub mod RunLemmas
+pub mod ReportLemmas
+pub mod Meant

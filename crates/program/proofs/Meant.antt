@@ -1,0 +1,68 @@
+-- What a script does that was run to an end, its source means.
+use Rattle.std.proofs.Common.{◌≡◌, ℕ, ◌≤◌, true, false, List, ◌++◌, length, Option, Some, None, IfSome, ap, subst, ◌∙◌}
+use Rattle.std.specs.Option.{option_map}
+use Rattle.tree_core.specs.Tree.{Body}
+use Rattle.tree_activation.specs.Work.{State}
+use Rattle.scope_core.specs.Places.{placed}
+use Rattle.code_core.specs.Prototype.{list_of}
+use Rattle.code_of.specs.CodeOf.{code_of}
+use Rattle.compile_chunk.specs.Chunk.{IsCodeOf, script_in}
+use Rattle.library_rows.specs.PreludeText.{prelude_text}
+use Rattle.lua_meaning.specs.Meaning.{Meaning}
+use Rattle.lua_meaning.specs.Opening.{prelude_of}
+use Rattle.machine_runs.specs.Opening.{opening, begun}
+use Rattle.machine_runs.specs.Runs.{Run, CodeRun}
+use Rattle.machine_step.specs.Step.{library}
+use Rattle.scripts_mean.specs.Scripts.{IsRead, functions_in, RunsAs, ScriptsDo, PreludeIsAlike}
+use Rattle.io_edge.specs.Content.{FileMap}
+use Rattle.io_edge.specs.Lines.{lines_of}
+use Rattle.lua_feed.specs.Running.{started}
+use Rattle.program.specs.Devices.{Device}
+use Rattle.program.specs.Checking.{begins_chunk, IsAccepted}
+use Rattle.program.specs.Compiling.{source_name}
+use Rattle.program.specs.Running as running
+use Rattle.program.specs.Meaning.{MeansOn, AreShort, has_ended, IsDoneAsMeant}
+use Rattle.program.specs.Running.{RunsOn, IsNotRun, Ends}
+use Rattle.program.proofs.MeaningLemmas.{read_of, by_script, name_is_short, ends_with}
+
+-- a file that is not run has another status
+pub not_run_ends : (name : List ℕ) (files : Device FileMap) (status : ℕ) → IsNotRun name files status → has_ended status ≡ true → ⊥
+not_run_ends name files _ (running.absent lacks) ended = cc
+not_run_ends name files _ (running.unread rose) ended = cc
+not_run_ends name files _ (running.no_prelude bad) ended = cc
+not_run_ends name files _ (running.no_script content has begins bare) ended = cc
+not_run_ends name files _ (running.no_chunk content has begins bare) ended = cc
+not_run_ends name files _ running.no_memory ended = cc
+
+-- what the run of a script's code does the script means
+pub run_meant : ScriptsDo → PreludeIsAlike → (name content : List ℕ) (lines : List (List ℕ)) (budget : ℕ) (run : Run)
+    → length name ≤ 65536 → AreShort lines → begins_chunk content ≡ false → RunsOn name content lines budget run
+    → (m : Meaning Body State) × MeansOn name content lines budget m × RunsAs run m
+run_meant law alike name content lines budget run short fits begins goes =
+    let made : IsCodeOf (source_name name) (script_in content) true goes.code = by_script (IsAccepted content goes.code) (IsCodeOf (source_name name) (script_in content) true goes.code) (begins_chunk content) begins goes.holds in
+    let own = goes.is_prelude.compiled in
+    let read : IsRead prelude_text own.tree = read_of prelude_text own.tree own.is_source in
+    let code : goes.code ≡ code_of (Some (source_name name)) (placed made.tree) = made.code_is in
+    let prelude : goes.prelude ≡ code_of None (placed own.tree) = own.code_is in
+    let starts : started goes.prelude goes.code ≡ begun (opening (prelude_of (list_of (code_of None (placed own.tree)).inner))) (code_of (Some (source_name name)) (placed made.tree))
+    = ap (λ p. started p goes.code) prelude ∙ ap (λ c. started (code_of None (placed own.tree)) c) code in
+    let meant = law (script_in content) made.tree (prelude_of (functions_in (placed own.tree))) (prelude_of (list_of (code_of None (placed own.tree)).inner)) (Some (source_name name)) lines budget
+    (record { read = read_of (script_in content) made.tree made.is_source; libraries = alike own.tree read; name = name_is_short name short; lines = fits })
+    run (subst (λ W. CodeRun library W lines budget run) starts goes.runs) in
+    (meant.0, record { is_script = begins; tree = made.tree; is_source = made.is_source; prelude = own.tree; is_prelude = read; means = meant.1 }, meant.2)
+
+pub told_lines : (left : Option (List ℕ)) (text : List ℕ) (lines : List (List ℕ)) → IfSome left (λ bytes. lines ≡ lines_of bytes) → left ≡ Some text → lines ≡ lines_of text
+told_lines (Some bytes) text lines are told = let same : bytes ≡ text = cc in are ∙ ap lines_of same
+told_lines None text lines are told = absurd (cc)
+
+-- a run that came to an end
+pub done : ScriptsDo → PreludeIsAlike → (name content text : List ℕ) (budget : ℕ) (input out : Device (List ℕ)) (status : ℕ) → length name ≤ 65536
+    → begins_chunk content ≡ false → input.content ≡ Some text → AreShort (lines_of text) → has_ended status ≡ true → Ends name content budget input out status
+    → IsDoneAsMeant name content (lines_of text) budget out status
+done law alike name content text budget input out _ short begins told fits ended (running.closed lines are run goes written) =
+    let same : lines ≡ lines_of text = told_lines input.content text lines are told in
+    let meant = run_meant law alike name content (lines_of text) budget run short fits begins (subst (λ l. RunsOn name content l budget run) same goes) in
+    record { m = meant.0; means = meant.1; ends = ends_with run.close meant.0.outcome meant.2.ends; written = written ∙ ap (λ b. option_map (λ before. before ++ b) out.content) meant.2.printed }
+done law alike name content text budget input out _ short begins told fits ended (running.failed rose) = absurd (cc)
+done law alike name content text budget input out _ short begins told fits ended (running.past_limits past) = absurd (cc)
+done law alike name content text budget input out _ short begins told fits ended running.no_memory = absurd (cc)

@@ -1,0 +1,47 @@
+-- What `check` does with a file: which bytes are a chunk that may run, and what is written of one.
+use Rattle.std.specs.Prelude.{◌≡◌, ◌≢◌, ◌⊎◌, ℕ, List, [], ◌∷◌, ◌++◌, Bool, false, nat_eq, IsSome, codes, decimal}
+use Rattle.std.specs.Option.{option_map}
+use Rattle.code_core.specs.Prototype.{Prototype, function_count, instruction_count}
+use Rattle.code_core.specs.Check.{IsChecked}
+use Rattle.chunk_format.specs.Grammar.{BeginsWith, ChunkOf}
+use Rattle.io_edge.specs.Content.{FileMap, GrowsByFront, MayEndTelling}
+use Rattle.program.specs.Devices.{Device, RoseIn, GrewIn, Lacks, Holds, OnlyGrows}
+
+-- the first byte is that of a chunk
+abbrev pub begins_chunk : List ℕ → Bool
+begins_chunk [] = false
+begins_chunk (byte ∷ bytes) = nat_eq byte 27
+
+-- the bytes begin with the chunk of a function that meets the rules on code
+pub record IsAccepted (bytes : List ℕ) (function : Prototype) : Type 0 where
+  pub taken : ℕ
+  pub begins : BeginsWith ChunkOf function taken bytes
+  pub checked : IsChecked function
+
+abbrev pub HoldsNoChunk : List ℕ → Type 0
+HoldsNoChunk content = (function : Prototype) → IsAccepted content function → ⊥
+
+-- `ok`, how many functions there are and how many instructions all of them have
+abbrev pub report_of : Prototype → List ℕ
+report_of function = codes "ok " ++ (decimal (function_count function) ++ (codes " " ++ (decimal (instruction_count function) ++ codes "\n")))
+
+-- what is written of a file's bytes
+abbrev pub Reports : (content text : List ℕ) → Type 0
+Reports content text = (function : Prototype) × IsAccepted content function × (text ≡ report_of function)
+
+-- What checking does to the files and the output, and what it answers: 0 done, 6 device fault, 8 chunk refused, 9 out of memory, 11 no such file.
+pub record IsCheck (name : List ℕ) (files : Device FileMap) (out : Device (List ℕ)) (status : ℕ) : Type 0 where
+  pub right_words : status ≢ 2
+  pub absent_only : status ≡ 11 → IsSome files.content → Lacks files.content name
+  pub absent : Lacks files.content name → ¬ (RoseIn files) → status ≡ 11
+  pub refused_only : status ≡ 8 → IsSome files.content → (content : List ℕ) × Holds files.content name content × HoldsNoChunk content
+  pub refused : (content : List ℕ) → Holds files.content name content → HoldsNoChunk content → ¬ (RoseIn files) → status ≢ 9 → status ≡ 8
+  pub fault_only : status ≡ 6 → RoseIn files ⊎ RoseIn out
+  pub fault : GrewIn files ⊎ GrewIn out → status ≡ 6
+  pub done : (content text : List ℕ) → Holds files.content name content → Reports content text → ¬ (RoseIn files) → ¬ (RoseIn out) → status ≢ 9 → (status ≡ 0) × (out.content' ≡ option_map (λ before. before ++ text) out.content)
+  pub done_only : status ≡ 0 → IsSome files.content → (content : List ℕ) × (text : List ℕ) × Holds files.content name content × Reports content text × (out.content' ≡ option_map (λ before. before ++ text) out.content)
+  pub front : (content text : List ℕ) → Holds files.content name content → Reports content text → GrowsByFront text out.content out.content'
+  pub grows : OnlyGrows out.content out.content'
+  pub unwritten : status ≢ 0 → status ≢ 6 → out.content' ≡ out.content
+  pub files_kept : MayEndTelling files.content files.content'
+  pub files_same : status ≢ 6 → files.content' ≡ files.content

@@ -1,0 +1,10 @@
+pub mod Words
+pub mod Devices
+pub mod Checking
+pub mod Compiling
+pub mod Meaning
+pub mod Running
+pub mod Program
+pub mod Report
+pub mod Faults
+pub mod Outcomes

@@ -1,0 +1,92 @@
+-- The line on standard error for each status.
+use Rattle.std.specs.Prelude.{◌≡◌, ℕ, List, [], ◌++◌, Bool, true, ◌||◌, nat_eq, Option, Some, None, codes, decimal}
+use Rattle.std.specs.Bool.{MatchBool}
+use Rattle.std.specs.Option.{option_map}
+use Rattle.io_edge.specs.Content.{FileMap}
+use Rattle.code_core.specs.Prototype.{Prototype}
+use Rattle.chunk_format.specs.Grammar.{BeginsWith, ChunkOf}
+use Rattle.chunk_format.specs.Reading.{chunk_kind}
+use Rattle.chunk_check.specs.Faults.{first_fault}
+use Rattle.compile_text.specs.Source.{IsRefused}
+use Rattle.compile_text.specs.declared.fault.TextFault.TheVariants as text
+use Rattle.compile_chunk.specs.Chunk.{script_in}
+use Rattle.program.specs.declared.fault.Fault.{Fault}
+use Rattle.program.specs.declared.fault.Fault.TheVariants as fault
+use Rattle.program.specs.Words.{Command, run, check, compile}
+use Rattle.program.specs.Devices.{Device, RoseIn, Holds}
+use Rattle.program.specs.Checking.{begins_chunk}
+
+abbrev pub status_of_fault : Fault → ℕ
+status_of_fault fault.Words = 2
+status_of_fault fault.Spent = 4
+status_of_fault (fault.Refused line) = 5
+status_of_fault (fault.Rule rule line) = 5
+status_of_fault fault.Device = 6
+status_of_fault fault.InputLimit = 7
+status_of_fault (fault.NoChunk kind) = 8
+status_of_fault (fault.BrokenRule number pc rule) = 8
+status_of_fault fault.Memory = 9
+status_of_fault fault.Absent = 11
+status_of_fault fault.Prelude = 12
+
+abbrev pub line_of_fault : Fault → List ℕ
+line_of_fault fault.Words = codes "luaris: wrong words\n"
+line_of_fault fault.Spent = codes "luaris: budget spent\n"
+line_of_fault (fault.Refused line) = codes "luaris: source refused at line " ++ (decimal line ++ codes "\n")
+line_of_fault (fault.Rule rule line) = codes "luaris: source refused by rule " ++ (decimal rule ++ (codes " at line " ++ (decimal line ++ codes "\n")))
+line_of_fault fault.Device = codes "luaris: device fault\n"
+line_of_fault fault.InputLimit = codes "luaris: input limit\n"
+line_of_fault (fault.NoChunk kind) = codes "luaris: chunk refused: kind " ++ (decimal kind ++ codes "\n")
+line_of_fault (fault.BrokenRule number pc rule) =
+    codes "luaris: chunk refused: rule " ++ (decimal rule ++ (codes " at function " ++ (decimal number ++ (codes " pc " ++ (decimal pc ++ codes "\n")))))
+line_of_fault fault.Memory = codes "luaris: out of memory\n"
+line_of_fault fault.Absent = codes "luaris: no such file\n"
+line_of_fault fault.Prelude = codes "luaris: prelude refused\n"
+
+-- a script that returned, failed or is suspended has no line, and nor has a file that was checked or compiled
+abbrev pub is_quiet : (status : ℕ) → Bool
+is_quiet status = nat_eq status 0 || nat_eq status 1 || nat_eq status 3
+
+-- bytes that begin with the chunk of a function of which this is the first rule that is broken
+pub record IsBroken (bytes : List ℕ) (number pc rule : ℕ) : Type 0 where
+  pub function : Prototype
+  pub taken : ℕ
+  pub begins : BeginsWith ChunkOf function taken bytes
+  pub first : first_fault function ≡ Some (record { function = number; pc = pc; rule = rule })
+
+-- what a fault tells of bytes: of a script, and of a chunk
+
+abbrev pub ScriptFits : List ℕ → Fault → Type 0
+ScriptFits content (fault.Refused line) = IsRefused (script_in content) (text.Source line)
+ScriptFits content (fault.Rule rule line) = IsRefused (script_in content) (text.Rule rule line)
+ScriptFits content (fault.NoChunk kind) = ⊥
+ScriptFits content (fault.BrokenRule number pc rule) = ⊥
+ScriptFits content _ = Unit {0}
+
+abbrev pub ChunkFits : List ℕ → Fault → Type 0
+ChunkFits content (fault.Refused line) = ⊥
+ChunkFits content (fault.Rule rule line) = ⊥
+ChunkFits content (fault.NoChunk kind) = chunk_kind content ≡ Some kind
+ChunkFits content (fault.BrokenRule number pc rule) = IsBroken content number pc rule
+ChunkFits content _ = Unit {0}
+
+abbrev pub CodeFits : List ℕ → Fault → Type 0
+CodeFits content reason = MatchBool (begins_chunk content) (ChunkFits content reason) (ScriptFits content reason)
+
+-- what a fault tells of the bytes that the files hold for a command
+abbrev pub FitsFor : Option Command → Option FileMap → Fault → Type 0
+FitsFor (Some (run file budget)) files reason = (content : List ℕ) → Holds files file content → CodeFits content reason
+FitsFor (Some (check file)) files reason = (content : List ℕ) → Holds files file content → ChunkFits content reason
+FitsFor (Some (compile script chunk strip)) files reason = (content : List ℕ) → Holds files script content → ScriptFits content reason
+FitsFor None files reason = Unit {0}
+
+-- the line of a status, which tells what the file's bytes give where the files tell them
+pub data IsErrorLine (command : Option Command) (files : Option FileMap) : ℕ → List ℕ → Type 0 where
+  none : (status : ℕ) → is_quiet status ≡ true → IsErrorLine command files status []
+  of_fault : (reason : Fault) → FitsFor command files reason → IsErrorLine command files (status_of_fault reason) (line_of_fault reason)
+
+-- standard error grows by exactly the line of the status where no write to it fails
+pub record IsReported (command : Option Command) (files : Option FileMap) (err : Device (List ℕ)) (status : ℕ) : Type 0 where
+  pub line : List ℕ
+  pub line_is : IsErrorLine command files status line
+  pub written : ¬ (RoseIn err) → err.content' ≡ option_map (λ text. text ++ line) err.content

@@ -1,0 +1,75 @@
+// The program over its devices.
+ghost use Rattle.std.specs.Prelude.{◌≡◌, IfErr, IfOk, map, string_bytes, true};
+ghost use Rattle.program.specs.Faults.{status_of};
+ghost use Rattle.program.specs.Program.{IsCall, IsUnread};
+ghost use Rattle.program.specs.Report.{FitsFor, IsReported, is_quiet};
+ghost use Rattle.program.specs.Words.{command_of};
+
+use crate::checking::check_file;
+use crate::compiling::compile_file;
+use crate::fault::Fault;
+use crate::reporting::report;
+use crate::running::run_file;
+use crate::words::{Command, read_words};
+use io_edge::{Files, Sink, Source};
+use std::alloc::Global;
+
+/// Does what the words ask for: runs the script or the chunk in a file on the lines of the input, checks the chunk in a file, or compiles the script in a
+/// file into the chunk of another one. Answers the status: 0 where the script returned or the work was done, 1 where the script failed, 2 for wrong words,
+/// 3 where the script waits for a line and there is none, 4 where a turn has spent its budget, 5 for a refused source, 6 for a device fault, 7 for input
+/// past the limits on lines, 8 for a refused chunk, 9 for want of memory, 11 where there is no such file, and 12 where the prelude is refused. What the
+/// script prints with a line for each turn's end, or the chunk's counts, go to `out`, and the line of a status of a fault to `err`; a failed write to
+/// `err` changes nothing. `run` alone reads input.
+pub fn luaris<F: Files, S: Source, K: Sink, E: Sink>(
+    alloc: Global,
+    words: &[String],
+    files: &mut F,
+    input: &mut S,
+    out: &mut K,
+    err: &mut E,
+) -> u8
+    ensures call { IsCall (command_of (map string_bytes words.now)) (record { faults = F.faults files.old; faults' = F.faults files.new; content = F.held files.old; content' = F.held files.new }) (record { faults = S.faults input.old; faults' = S.faults input.new; content = S.left input.old; content' = S.left input.new }) (record { faults = K.faults out.old; faults' = K.faults out.new; content = K.written out.old; content' = K.written out.new }) result }
+    ensures reports { IsReported (command_of (map string_bytes words.now)) (F.held files.old) (record { faults = E.faults err.old; faults' = E.faults err.new; content = E.written err.old; content' = E.written err.new }) result }
+    ensures unread { IsUnread (command_of (map string_bytes words.now)) input.old input.new }
+{
+    match perform(alloc, words, files, input, out) {
+        Ok(status) => status,
+        Err(fault) => {
+            let _ = report(err, &fault);
+            fault.status()
+        }
+    }
+}
+
+/// Does what the words ask for, and answers a status that has no line on standard error.
+fn perform<F: Files, S: Source, K: Sink>(
+    alloc: Global,
+    words: &[String],
+    files: &mut F,
+    input: &mut S,
+    out: &mut K,
+) -> Result<u8, Fault>
+    ensures call { IsCall (command_of (map string_bytes words.now)) (record { faults = F.faults files.old; faults' = F.faults files.new; content = F.held files.old; content' = F.held files.new }) (record { faults = S.faults input.old; faults' = S.faults input.new; content = S.left input.old; content' = S.left input.new }) (record { faults = K.faults out.old; faults' = K.faults out.new; content = K.written out.old; content' = K.written out.new }) (status_of result) }
+    ensures fits { IfErr result (λ fault. FitsFor (command_of (map string_bytes words.now)) (F.held files.old) fault) }
+    ensures quiet { IfOk result (λ status. is_quiet status ≡ true) }
+    ensures unread { IsUnread (command_of (map string_bytes words.now)) input.old input.new }
+{
+    let Some(command) = read_words(words) else {
+        return Err(Fault::Words);
+    };
+    match command {
+        Command::Run { file, budget } => run_file(alloc, file, budget, files, input, out),
+        Command::Check { file } => {
+            check_file(alloc, file, files, out)?;
+            Ok(0)
+        }
+        Command::Compile {
+            script,
+            chunk,
+            strip,
+        } => {
+            compile_file(alloc, script, chunk, strip, files)?;
+            Ok(0)
+        }
+    }
+}

@@ -1,0 +1,14 @@
+//! The program over its devices: what its words ask for, and what it answers (`lua.c` and `luac.c` of Lua's sources).
+#![tactic(auto)]
+
+mod call;
+mod checking;
+mod compiling;
+mod fault;
+mod reporting;
+mod running;
+mod words;
+
+pub use call::luaris;
+pub use fault::Fault;
+pub use reporting::report;

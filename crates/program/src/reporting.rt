@@ -1,0 +1,88 @@
+// The line of a fault.
+ghost use Rattle.std.specs.Prelude.{◌≡◌, ◌++◌, OnOk, codes, decimal, is_err};
+ghost use Rattle.std.specs.Option.{option_map};
+ghost use Rattle.io_edge.specs.Causes.{HasCause};
+ghost use Rattle.program.specs.Report.{line_of_fault};
+
+use crate::fault::Fault;
+use io_edge::{Failed, Sink, write_all};
+use itoa::Buffer;
+
+/// Writes the line of a fault, without taking memory.
+pub fn report<E: Sink>(err: &mut E, fault: &Fault) -> Result<(), Failed>
+    ensures cause { HasCause (E.faults err.old) (E.faults err.new) (is_err result) }
+    ensures written { OnOk result (E.written err.new ≡ option_map (λ text. text ++ line_of_fault fault.now) (E.written err.old)) }
+{
+    match fault {
+        Fault::Words => write_all(err, b"luaris: wrong words\n"),
+        Fault::Refused { line } => report_line(err, *line),
+        Fault::Rule { rule, line } => report_violation(err, *rule, *line),
+        Fault::Spent => write_all(err, b"luaris: budget spent\n"),
+        Fault::Device => write_all(err, b"luaris: device fault\n"),
+        Fault::InputLimit => write_all(err, b"luaris: input limit\n"),
+        Fault::NoChunk { kind } => report_kind(err, *kind),
+        Fault::BrokenRule { function, pc, rule } => report_rule(err, *function, *pc, *rule),
+        Fault::Memory => write_all(err, b"luaris: out of memory\n"),
+        Fault::Absent => write_all(err, b"luaris: no such file\n"),
+        Fault::Prelude => write_all(err, b"luaris: prelude refused\n"),
+    }
+}
+
+/// Writes that a source is refused on a line.
+fn report_line<E: Sink>(err: &mut E, line: u32) -> Result<(), Failed>
+    ensures cause { HasCause (E.faults err.old) (E.faults err.new) (is_err result) }
+    ensures written { OnOk result (E.written err.new ≡ option_map (λ text. text ++ line_of_fault (Fault.Refused line)) (E.written err.old)) }
+{
+    write_all(err, b"luaris: source refused at line ")?;
+    write_end(err, line)
+}
+
+/// Writes which static rule a source breaks.
+fn report_violation<E: Sink>(err: &mut E, rule: u8, line: u32) -> Result<(), Failed>
+    ensures cause { HasCause (E.faults err.old) (E.faults err.new) (is_err result) }
+    ensures written { OnOk result (E.written err.new ≡ option_map (λ text. text ++ line_of_fault (Fault.Rule rule line)) (E.written err.old)) }
+{
+    write_all(err, b"luaris: source refused by rule ")?;
+    write_number(err, u32::from(rule))?;
+    write_all(err, b" at line ")?;
+    write_end(err, line)
+}
+
+/// Writes that bytes are no chunk.
+fn report_kind<E: Sink>(err: &mut E, kind: u8) -> Result<(), Failed>
+    ensures cause { HasCause (E.faults err.old) (E.faults err.new) (is_err result) }
+    ensures written { OnOk result (E.written err.new ≡ option_map (λ text. text ++ line_of_fault (Fault.NoChunk kind)) (E.written err.old)) }
+{
+    write_all(err, b"luaris: chunk refused: kind ")?;
+    write_end(err, u32::from(kind))
+}
+
+/// Writes which rule a chunk breaks.
+fn report_rule<E: Sink>(err: &mut E, function: u32, pc: u32, rule: u8) -> Result<(), Failed>
+    ensures cause { HasCause (E.faults err.old) (E.faults err.new) (is_err result) }
+    ensures written { OnOk result (E.written err.new ≡ option_map (λ text. text ++ line_of_fault (Fault.BrokenRule function pc rule)) (E.written err.old)) }
+{
+    write_all(err, b"luaris: chunk refused: rule ")?;
+    write_number(err, u32::from(rule))?;
+    write_all(err, b" at function ")?;
+    write_number(err, function)?;
+    write_all(err, b" pc ")?;
+    write_end(err, pc)
+}
+
+/// Writes a number.
+fn write_number<E: Sink>(err: &mut E, number: u32) -> Result<(), Failed>
+    ensures cause { HasCause (E.faults err.old) (E.faults err.new) (is_err result) }
+    ensures written { OnOk result (E.written err.new ≡ option_map (λ text. text ++ decimal number) (E.written err.old)) }
+{
+    write_all(err, Buffer::new().format(number).as_bytes())
+}
+
+/// Writes a number and the end of the line.
+fn write_end<E: Sink>(err: &mut E, number: u32) -> Result<(), Failed>
+    ensures cause { HasCause (E.faults err.old) (E.faults err.new) (is_err result) }
+    ensures written { OnOk result (E.written err.new ≡ option_map (λ text. text ++ (decimal number ++ codes "\n")) (E.written err.old)) }
+{
+    write_number(err, number)?;
+    write_all(err, b"\n")
+}

@@ -1,0 +1,10 @@
+// Cases of the program's calls over devices in memory: words, files and input, with the status, the output and the line of the error that they give.
+// They stand in a crate of their own, so that the program is not proved once more for them.
+#![tactic(auto)]
+
+#[cfg(test)]
+mod calls;
+#[cfg(test)]
+mod prelude;
+#[cfg(test)]
+mod runs;

@@ -1,0 +1,737 @@
+// Whole scripts, run on lines of input, with the status and what is written. Expected values are worked out by hand from the manual, the costs of calls and
+// jumps and the limits on lines.
+use int_core::{Bytes, Numbers};
+use io_edge::{Files, MemFiles, MemSink, MemSource};
+use program::luaris;
+use std::alloc::{AllocError, Global};
+use std::process::Abort;
+use std::test::Fail;
+
+/// A script in `s.lua`, the options of the call, the bytes of the input, and what the call gives.
+struct Case {
+    options: &'static str,
+    script: &'static str,
+    input: &'static str,
+    status: u8,
+    out: &'static str,
+    err: &'static str,
+}
+
+/// What a call answered, and what it wrote.
+#[derive(Drop)]
+struct Outcome {
+    status: u8,
+    out: MemSink,
+    err: MemSink,
+}
+
+/// The devices of a call: a file, the bytes of the input, and the calls that fail, of each device.
+#[derive(Drop)]
+struct Setting<'a> {
+    name: &'a str,
+    content: &'a [u8],
+    input: &'a [u8],
+    failing_input: &'a [u64],
+    failing_out: &'a [u64],
+}
+
+fn numbers(alloc: Global, calls: &[u64]) -> Result<Numbers, AllocError> {
+    Ok(Numbers::of(calls.to_vec(alloc)?))
+}
+
+/// The words that a line has, with spaces between.
+fn words(alloc: Global, line: &str) -> Result<Vec<String>, Fail> {
+    let mut words = Vec::new(alloc);
+    for word in line.split_whitespace() {
+        words.push(String::from_str(alloc, word)?)?;
+    }
+    Ok(words)
+}
+
+fn call(alloc: Global, line: &str, setting: &Setting) -> Result<Outcome, Fail> {
+    let mut files = MemFiles::new(alloc, numbers(alloc, &[])?);
+    files.put(setting.name, setting.content)?;
+    let bytes = Bytes::of(setting.input.to_vec(alloc)?);
+    let mut input = MemSource::new(bytes, numbers(alloc, setting.failing_input)?);
+    let mut out = MemSink::new(alloc, numbers(alloc, setting.failing_out)?);
+    let mut err = MemSink::new(alloc, numbers(alloc, &[])?);
+    let words = words(alloc, line)?;
+    let status = luaris(
+        alloc,
+        words.as_slice(),
+        &mut files,
+        &mut input,
+        &mut out,
+        &mut err,
+    );
+    Ok(Outcome { status, out, err })
+}
+
+fn check(rt: &impl Abort, outcome: &Outcome, status: u8, out: &[u8], err: &str) {
+    assert_eq!(rt; outcome.status, status);
+    assert!(rt; outcome.out.written() == out);
+    assert!(rt; outcome.err.written() == err.as_bytes());
+}
+
+/// Expressions and statements.
+static SIMPLE: [Case; 6] = [
+    Case {
+        options: "",
+        script: "",
+        input: "",
+        status: 0,
+        out: "return\n",
+        err: "",
+    },
+    Case {
+        options: "",
+        script: "-- nothing\n",
+        input: "",
+        status: 0,
+        out: "return\n",
+        err: "",
+    },
+    Case {
+        options: "",
+        script: "print(7//-2, 7%-2, -7//2)",
+        input: "",
+        status: 0,
+        out: "-4\t-1\t-4\nreturn\n",
+        err: "",
+    },
+    Case {
+        options: "",
+        script: "print(9223372036854775807+1)",
+        input: "",
+        status: 0,
+        out: "-9223372036854775808\nreturn\n",
+        err: "",
+    },
+    Case {
+        options: "",
+        script: "local s=0 for i=1,4 do if i%2==0 then s=s+i end end return s",
+        input: "",
+        status: 0,
+        out: "return\t6\n",
+        err: "",
+    },
+    Case {
+        options: "",
+        script: "print(\"10\"+5,3 ..\"x\",#\"abc\",({4,5,6})[2])",
+        input: "",
+        status: 0,
+        out: "15\t3x\t3\t5\nreturn\n",
+        err: "",
+    },
+];
+
+/// Calls and jumps back that a budget allows, and one more.
+static BUDGETS: [Case; 11] = [
+    Case {
+        options: "--budget 3",
+        script: "while true do end",
+        input: "",
+        status: 4,
+        out: "",
+        err: "luaris: budget spent\n",
+    },
+    Case {
+        options: "--budget 3",
+        script: "for i=1,4 do end",
+        input: "",
+        status: 0,
+        out: "return\n",
+        err: "",
+    },
+    Case {
+        options: "--budget=3",
+        script: "for i=1,5 do end",
+        input: "",
+        status: 4,
+        out: "",
+        err: "luaris: budget spent\n",
+    },
+    Case {
+        options: "--budget 5",
+        script: "for k in pairs({a=1}) do end",
+        input: "",
+        status: 0,
+        out: "return\n",
+        err: "",
+    },
+    Case {
+        options: "--budget 4",
+        script: "for k in pairs({a=1}) do end",
+        input: "",
+        status: 4,
+        out: "",
+        err: "luaris: budget spent\n",
+    },
+    Case {
+        options: "--budget 2",
+        script: "local function f() end f() f()",
+        input: "",
+        status: 0,
+        out: "return\n",
+        err: "",
+    },
+    Case {
+        options: "--budget 1",
+        script: "local function f() end f() f()",
+        input: "",
+        status: 4,
+        out: "",
+        err: "luaris: budget spent\n",
+    },
+    Case {
+        options: "--budget 2",
+        script: "local n=0 ::top:: n=n+1 if n<3 then goto top end return n",
+        input: "",
+        status: 0,
+        out: "return\t3\n",
+        err: "",
+    },
+    Case {
+        options: "--budget 1",
+        script: "local n=0 ::top:: n=n+1 if n<3 then goto top end return n",
+        input: "",
+        status: 4,
+        out: "",
+        err: "luaris: budget spent\n",
+    },
+    Case {
+        options: "--budget 4",
+        script: "while true do coroutine.yield() for i=1,3 do end end",
+        input: "a\nb\n",
+        status: 3,
+        out: "yield\nyield\nyield\n",
+        err: "",
+    },
+    Case {
+        options: "--budget 3",
+        script: "while true do coroutine.yield() for i=1,3 do end end",
+        input: "a\nb\n",
+        status: 4,
+        out: "yield\n",
+        err: "luaris: budget spent\n",
+    },
+];
+
+/// Sources that are refused.
+static REFUSALS: [Case; 3] = [
+    Case {
+        options: "",
+        script: "print(1/2)",
+        input: "",
+        status: 5,
+        out: "",
+        err: "luaris: source refused at line 1\n",
+    },
+    Case {
+        options: "",
+        script: "do goto x local a ::x:: print(a) end",
+        input: "",
+        status: 5,
+        out: "",
+        err: "luaris: source refused by rule 4 at line 1\n",
+    },
+    Case {
+        options: "",
+        script: "local x <const> = 1 x = 2",
+        input: "",
+        status: 5,
+        out: "",
+        err: "luaris: source refused by rule 1 at line 1\n",
+    },
+];
+
+/// Functions, their variables, arguments and results.
+static FUNCTIONS: [Case; 6] = [
+    Case {
+        options: "",
+        script: "local f={} for i=1,3 do if i==2 then goto continue end f[#f+1]=function() i=i+1 return i end ::continue:: end print(f[1](),f[1](),f[2]())",
+        input: "",
+        status: 0,
+        out: "2\t3\t4\nreturn\n",
+        err: "",
+    },
+    Case {
+        options: "",
+        script: "local function fact(n) if n<2 then return 1 end return n*fact(n-1) end print(fact(20))",
+        input: "",
+        status: 0,
+        out: "2432902008176640000\nreturn\n",
+        err: "",
+    },
+    Case {
+        options: "",
+        script: "local function two(...) return ... end print((two(1,2)),two(3,4))",
+        input: "",
+        status: 0,
+        out: "1\t3\t4\nreturn\n",
+        err: "",
+    },
+    Case {
+        options: "",
+        script: "local function mk() local n=0 return function() n=n+1 return n end,function() return n end end local a,b=mk() a() a() print(b())",
+        input: "",
+        status: 0,
+        out: "2\nreturn\n",
+        err: "",
+    },
+    Case {
+        options: "",
+        script: "local a=1 local function f() a=10 return 1 end print(a+f())",
+        input: "",
+        status: 0,
+        out: "2\nreturn\n",
+        err: "",
+    },
+    Case {
+        options: "",
+        script: "local function it(s,c) if c<s then return c+1 end end for i in it,3,0 do print(i) end",
+        input: "",
+        status: 0,
+        out: "1\n2\n3\nreturn\n",
+        err: "",
+    },
+];
+
+/// Tables and metatables.
+static TABLES: [Case; 5] = [
+    Case {
+        options: "",
+        script: "local t={1,2,nil,4} print(#t,next({}))",
+        input: "",
+        status: 0,
+        out: "2\tnil\nreturn\n",
+        err: "",
+    },
+    Case {
+        options: "",
+        script: "print(pcall(function() local a <close> = setmetatable({},{__close=function(v,e) print(\"a\",e) end}) local b <close> = setmetatable({},{__close=function() error(\"two\",0) end}) error(\"one\",0) end))",
+        input: "",
+        status: 0,
+        out: "a\ttwo\nfalse\ttwo\nreturn\n",
+        err: "",
+    },
+    Case {
+        options: "",
+        script: "local v=setmetatable({x=1},{__add=function(a,b) return a.x+b.x end,__index=function(t,k) return k..\"!\" end,__call=function(s,n) return n*2 end}) print(v+v,v.y,v(21))",
+        input: "",
+        status: 0,
+        out: "2\ty!\t42\nreturn\n",
+        err: "",
+    },
+    Case {
+        options: "",
+        script: "print(tostring(setmetatable({},{__name=\"room\"})),select(-1,1,2,3),tonumber(\"ff\",16))",
+        input: "",
+        status: 0,
+        out: "room: object\t3\t255\nreturn\n",
+        err: "",
+    },
+    Case {
+        options: "",
+        script: "local t={3,1,2} table.sort(t) print(table.concat(t,\",\"),math.abs(-4),math.tointeger(\"x\"))",
+        input: "",
+        status: 0,
+        out: "1,2,3\t4\tnil\nreturn\n",
+        err: "",
+    },
+];
+
+/// Errors, and functions that catch them.
+static ERRORS: [Case; 5] = [
+    Case {
+        options: "",
+        script: "local x = nil + 1",
+        input: "",
+        status: 1,
+        out: "error\ts.lua:1: attempt to perform arithmetic on a nil value\n",
+        err: "",
+    },
+    Case {
+        options: "",
+        script: "print(xpcall(function() error(\"a\",0) end,function(m) return m..\"b\" end))",
+        input: "",
+        status: 0,
+        out: "false\tab\nreturn\n",
+        err: "",
+    },
+    Case {
+        options: "",
+        script: "print(1//0)",
+        input: "",
+        status: 1,
+        out: "error\ts.lua:1: attempt to perform 'n//0'\n",
+        err: "",
+    },
+    Case {
+        options: "",
+        script: "print(pcall(error,\"x\",0))",
+        input: "",
+        status: 0,
+        out: "false\tx\nreturn\n",
+        err: "",
+    },
+    Case {
+        options: "",
+        script: "#!/usr/bin/env luaris\nlocal x = nil + 1",
+        input: "",
+        status: 1,
+        out: "error\ts.lua:2: attempt to perform arithmetic on a nil value\n",
+        err: "",
+    },
+];
+
+/// Coroutines within the script.
+static COROUTINES: [Case; 2] = [
+    Case {
+        options: "",
+        script: "local co=coroutine.create(function() local c <close> = setmetatable({},{__close=function() print(\"c\") end}) coroutine.yield() end) coroutine.resume(co) print(coroutine.close(co),coroutine.status(co))",
+        input: "",
+        status: 0,
+        out: "c\ntrue\tdead\nreturn\n",
+        err: "",
+    },
+    Case {
+        options: "",
+        script: "local co=coroutine.create(function(a) local b=coroutine.yield(a+1) error(\"e\"..b,0) end) print(coroutine.resume(co,1)) print(coroutine.resume(co,2)) print(coroutine.status(co))",
+        input: "",
+        status: 0,
+        out: "true\t2\nfalse\te2\ndead\nreturn\n",
+        err: "",
+    },
+];
+
+/// Scripts that wait for lines.
+static LINES: [Case; 10] = [
+    Case {
+        options: "",
+        script: "local s=0 while true do local l=coroutine.yield(s) s=#l end",
+        input: "ab\nc\n",
+        status: 3,
+        out: "yield\t0\nyield\t2\nyield\t1\n",
+        err: "",
+    },
+    Case {
+        options: "",
+        script: "local s=0 while true do local l=coroutine.yield(s) s=#l end",
+        input: "x\ny\nz\n",
+        status: 3,
+        out: "yield\t0\nyield\t1\nyield\t1\nyield\t1\n",
+        err: "",
+    },
+    Case {
+        options: "",
+        script: "local s=0 while true do local l=coroutine.yield(s) s=#l end",
+        input: "ab\n\nz",
+        status: 3,
+        out: "yield\t0\nyield\t2\nyield\t0\nyield\t1\n",
+        err: "",
+    },
+    Case {
+        options: "",
+        script: "local s=0 while true do local l=coroutine.yield(s) s=#l end",
+        input: "ab\r\n",
+        status: 3,
+        out: "yield\t0\nyield\t3\n",
+        err: "",
+    },
+    Case {
+        options: "",
+        script: "local room,bag=\"hall\",{} while true do local c=coroutine.yield(room..\": \"..#bag..\" items\") local v,o=c:match(\"^(%a+)%s*(.*)$\") if v==\"go\" then room=o elseif v==\"take\" then table.insert(bag,o) elseif v==\"quit\" then return table.concat(bag,\",\") end end",
+        input: "take lamp\ngo cellar\ntake rope\nquit\n",
+        status: 0,
+        out: "yield\thall: 0 items\nyield\thall: 1 items\nyield\tcellar: 1 items\nyield\tcellar: 2 items\nreturn\tlamp,rope\n",
+        err: "",
+    },
+    Case {
+        options: "",
+        script: "local n=0 local function bump() n=n+1 return n end local a=coroutine.wrap(function() while true do coroutine.yield(bump()) end end) while true do coroutine.yield(a(),n) end",
+        input: "x\ny\n",
+        status: 3,
+        out: "yield\t1\t1\nyield\t2\t2\nyield\t3\t3\n",
+        err: "",
+    },
+    Case {
+        options: "",
+        script: "local t={} t[t]=t coroutine.yield() print(t[t]==t)",
+        input: "x\n",
+        status: 0,
+        out: "yield\ntrue\nreturn\n",
+        err: "",
+    },
+    Case {
+        options: "",
+        script: "local t={a=1,b=2,c=3} for k in pairs(t) do t[k]=nil coroutine.yield(k) end",
+        input: "x\nx\nx\n",
+        status: 0,
+        out: "yield\ta\nyield\tb\nyield\tc\nreturn\n",
+        err: "",
+    },
+    Case {
+        options: "",
+        script: "print(pcall(function() local c <close> = setmetatable({},{__close=function(v,e) print(\"closed\",e) end}) coroutine.yield(\"in\") error(\"stop\",0) end))",
+        input: "x\n",
+        status: 0,
+        out: "yield\tin\nclosed\tstop\nfalse\tstop\nreturn\n",
+        err: "",
+    },
+    Case {
+        options: "",
+        script: "local t=setmetatable({},{__index=function(t,k) return coroutine.yield(k) end}) print(t.color)",
+        input: "red\n",
+        status: 0,
+        out: "yield\tcolor\nred\nreturn\n",
+        err: "",
+    },
+];
+
+/// Functions of the libraries.
+static LIBRARIES: [Case; 3] = [
+    Case {
+        options: "",
+        script: "print((\"hello\"):gsub(\"l\",\"L\"),string.format(\"%05d|%-4s|%x\",42,\"ab\",255),utf8.len(\"\\u{E9}a\"),select(\"#\",nil,nil))",
+        input: "",
+        status: 0,
+        out: "heLLo\t00042|ab  |ff\t2\t2\nreturn\n",
+        err: "",
+    },
+    Case {
+        options: "",
+        script: "print((\"THE (quick) fox\"):find(\"%((%a+)%)\"))",
+        input: "",
+        status: 0,
+        out: "5\t11\tquick\nreturn\n",
+        err: "",
+    },
+    Case {
+        options: "",
+        script: "for k,v in (\"a=1,b=2\"):gmatch(\"(%w)=(%w)\") do print(k,v) end",
+        input: "",
+        status: 0,
+        out: "a\t1\nb\t2\nreturn\n",
+        err: "",
+    },
+];
+
+/// Limits on calls, chains of handlers and strings.
+static LIMITS: [Case; 3] = [
+    Case {
+        options: "",
+        script: "local function f(n) return 1+f(n) end f(1)",
+        input: "",
+        status: 1,
+        out: "error\ts.lua:1: stack overflow\n",
+        err: "",
+    },
+    Case {
+        options: "",
+        script: "local t={} setmetatable(t,{__index=t}) print(t.k)",
+        input: "",
+        status: 1,
+        out: "error\ts.lua:1: '__index' chain too long; possibly a loop\n",
+        err: "",
+    },
+    Case {
+        options: "",
+        script: "print(pcall(string.rep,\"x\",16777217))",
+        input: "",
+        status: 0,
+        out: "false\ts.lua:1: resulting string too large\nreturn\n",
+        err: "",
+    },
+];
+
+/// Runs each script, and looks at what the call gives.
+fn run_cases(rt: &impl Abort, alloc: Global, cases: &[Case]) -> Result<(), Fail> {
+    for case in cases.iter() {
+        let line = format!(in alloc; "run s.lua {}", case.options)?;
+        let setting = Setting {
+            name: "s.lua",
+            content: case.script.as_bytes(),
+            input: case.input.as_bytes(),
+            failing_input: &[],
+            failing_out: &[],
+        };
+        let outcome = call(alloc, line.as_str(), &setting)?;
+        check(rt, &outcome, case.status, case.out.as_bytes(), case.err);
+    }
+    Ok(())
+}
+
+#[test]
+fn expressions_and_statements_run(rt: HostRuntime) -> Result<(), Fail> {
+    run_cases(&rt, rt.alloc(), &SIMPLE)
+}
+
+#[test]
+fn budgets_are_spent(rt: HostRuntime) -> Result<(), Fail> {
+    run_cases(&rt, rt.alloc(), &BUDGETS)
+}
+
+#[test]
+fn sources_are_refused(rt: HostRuntime) -> Result<(), Fail> {
+    run_cases(&rt, rt.alloc(), &REFUSALS)
+}
+
+#[test]
+fn functions_run(rt: HostRuntime) -> Result<(), Fail> {
+    run_cases(&rt, rt.alloc(), &FUNCTIONS)
+}
+
+#[test]
+fn tables_and_metatables_run(rt: HostRuntime) -> Result<(), Fail> {
+    run_cases(&rt, rt.alloc(), &TABLES)
+}
+
+#[test]
+fn errors_are_caught_or_end_the_run(rt: HostRuntime) -> Result<(), Fail> {
+    run_cases(&rt, rt.alloc(), &ERRORS)
+}
+
+#[test]
+fn coroutines_run(rt: HostRuntime) -> Result<(), Fail> {
+    run_cases(&rt, rt.alloc(), &COROUTINES)
+}
+
+#[test]
+fn lines_are_handed_over(rt: HostRuntime) -> Result<(), Fail> {
+    run_cases(&rt, rt.alloc(), &LINES)
+}
+
+#[test]
+fn libraries_run(rt: HostRuntime) -> Result<(), Fail> {
+    run_cases(&rt, rt.alloc(), &LIBRARIES)
+}
+
+#[test]
+fn limits_end_in_errors(rt: HostRuntime) -> Result<(), Fail> {
+    run_cases(&rt, rt.alloc(), &LIMITS)
+}
+
+/// Yields the length of each line.
+const LENGTHS: &[u8] = b"local s=0 while true do local l=coroutine.yield(s) s=#l end";
+
+#[test]
+fn long_lines_are_refused(rt: HostRuntime) -> Result<(), Fail> {
+    let alloc = rt.alloc();
+    let cases: [(usize, u8, &[u8], &str); 2] = [
+        (1_048_576, 3, b"yield\t0\nyield\t1048576\n", ""),
+        (1_048_577, 7, b"yield\t0\n", "luaris: input limit\n"),
+    ];
+    for (length, status, out, err) in cases {
+        let input = vec![in alloc; b'x'; length]?;
+        let setting = Setting {
+            name: "s.lua",
+            content: LENGTHS,
+            input: input.as_slice(),
+            failing_input: &[],
+            failing_out: &[],
+        };
+        check(&rt, &call(alloc, "run s.lua", &setting)?, status, out, err);
+    }
+    Ok(())
+}
+
+#[test]
+fn failing_streams_end_the_run(rt: HostRuntime) -> Result<(), Fail> {
+    let alloc = rt.alloc();
+    let cases: [(&[u64], &[u64], &[u8]); 3] = [
+        (&[0], &[], b"yield\t0\n"),
+        (&[], &[0], b""),
+        (&[], &[1], b"yield\t0\n"),
+    ];
+    for (failing_input, failing_out, out) in cases {
+        let setting = Setting {
+            name: "s.lua",
+            content: LENGTHS,
+            input: b"ab\nc\n",
+            failing_input,
+            failing_out,
+        };
+        let outcome = call(alloc, "run s.lua", &setting)?;
+        check(&rt, &outcome, 6, out, "luaris: device fault\n");
+    }
+    Ok(())
+}
+
+/// What compiling `s.lua` puts into `o`, by the words of a line.
+fn compiled(alloc: Global, line: &str, script: &[u8]) -> Result<Vec<u8>, Fail> {
+    let mut files = MemFiles::new(alloc, numbers(alloc, &[])?);
+    files.put("s.lua", script)?;
+    let mut input = MemSource::new(Bytes::of(Vec::new(alloc)), numbers(alloc, &[])?);
+    let mut out = MemSink::new(alloc, numbers(alloc, &[])?);
+    let mut err = MemSink::new(alloc, numbers(alloc, &[])?);
+    let words = words(alloc, line)?;
+    luaris(
+        alloc,
+        words.as_slice(),
+        &mut files,
+        &mut input,
+        &mut out,
+        &mut err,
+    );
+    match files.file("o") {
+        Some(bytes) => Ok(bytes.to_vec(alloc)?),
+        None => Ok(Vec::new(alloc)),
+    }
+}
+
+#[test]
+fn chunks_run(rt: HostRuntime) -> Result<(), Fail> {
+    let alloc = rt.alloc();
+    let cases: [(&str, &[u8], u8, &[u8]); 3] = [
+        (
+            "compile s.lua o --strip",
+            b"print(\"hi\")",
+            0,
+            b"hi\nreturn\n",
+        ),
+        (
+            "compile s.lua o",
+            b"local x = nil + 1",
+            1,
+            b"error\ts.lua:1: attempt to perform arithmetic on a nil value\n",
+        ),
+        (
+            "compile s.lua o --strip",
+            b"local x = nil + 1",
+            1,
+            b"error\tattempt to perform arithmetic on a nil value\n",
+        ),
+    ];
+    for (line, script, status, out) in cases {
+        let chunk = compiled(alloc, line, script)?;
+        let setting = Setting {
+            name: "o",
+            content: chunk.as_slice(),
+            input: b"",
+            failing_input: &[],
+            failing_out: &[],
+        };
+        check(&rt, &call(alloc, "run o", &setting)?, status, out, "");
+    }
+    Ok(())
+}
+
+#[test]
+fn refused_chunks_are_not_run(rt: HostRuntime) -> Result<(), Fail> {
+    let alloc = rt.alloc();
+    let mut chunk = compiled(alloc, "compile s.lua o --strip", b"print(\"hi\")")?;
+    if let Some(version) = chunk.get_mut(4) {
+        *version = 0x53;
+    }
+    let setting = Setting {
+        name: "o",
+        content: chunk.as_slice(),
+        input: b"",
+        failing_input: &[],
+        failing_out: &[],
+    };
+    let outcome = call(alloc, "run o", &setting)?;
+    check(&rt, &outcome, 8, b"", "luaris: chunk refused: kind 2\n");
+    Ok(())
+}
