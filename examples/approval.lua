@@ -1,6 +1,7 @@
 -- A purchase goes through three hands, each on a day of its own. A turn yields whose answer is awaited and what for;
 -- the line is `yes`, `no REASON` or `ask QUESTION`, which goes back to the one who wants to buy. The last hand is the
--- payment: where it fails, the reservation is still given back, and the script ends with the error.
+-- payment, which may be tried again. Where it fails for good the reservation is still given back, by the variable that
+-- is to be closed, and the script ends with the error.
 
 local request = { what = "a printer", price = 480, by = "Ada" }
 local budget = { left = 500 }
@@ -51,11 +52,18 @@ end
 
 local function pay()
   local line = coroutine.yield("bank", request.price)
-  local receipt = line:match("^receipt (%d+)$")
-  if not receipt then
-    error("payment failed: " .. line)
-  end
+  local receipt = line:match("^receipt (%d+)$") or error("payment failed: " .. line, 0)
   return tonumber(receipt)
+end
+
+local function pay_or_try_again()
+  local paid, told = pcall(pay)
+  if paid then
+    return told
+  elseif question(told .. ". Again?") == "yes" then
+    return pay_or_try_again()
+  end
+  error(told)
 end
 
 local reservation <close> = reserve(request.price)
@@ -65,6 +73,6 @@ for _, who in ipairs { "Grace", "Edsger" } do
     return "refused", who, reason
   end
 end
-local receipt = pay()
+local receipt = pay_or_try_again()
 reservation.kept = true
 return "bought", receipt, budget.left
