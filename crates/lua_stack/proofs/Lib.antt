@@ -15,3 +15,5 @@ pub mod ClosingTop
 pub mod Listed
 pub mod PendingValues
 pub mod Told
+pub mod Viewed
+pub mod Lent

@@ -30,7 +30,7 @@ whole values w e = no_blank w.kept w.size (part w.base w.kept values) e
 pub length_whole : (values : List Kept) (w : Window) → w.kept ≡ w.size → w.base + w.size ≤ length values → length (registers_at values w) ≡ w.kept
 length_whole values w e l = ap length (whole values w e) ∙ length_part w.base w.kept values (omega (arith, e))
 
-length_map : (f : Kept → Value) (xs : List Kept) → length (map f xs) ≡ length xs
+pub length_map : (f : Kept → Value) (xs : List Kept) → length (map f xs) ≡ length xs
 length_map f [] = refl
 length_map f (x ∷ xs) = ap suc (length_map f xs)
 

@@ -20,7 +20,7 @@ Reads t u change = (f : Kept → Value) → f Nil ≡ known nil → lua_of f u �
 frames_read : (f : Kept → Value) (s : KeptStack) (fs : List KeptFrame) (t : KeptLua) → s.frames ≡ fs ++ kept_lua t ∷ [] → frames f s ≡ map (frame_of f) fs ++ lua (lua_of f t) ∷ []
 frames_read f s fs t e = ap (map (frame_of f)) e ∙ map_more (frame_of f) fs (kept_lua t ∷ [])
 
-same_lua : (t u : LuaFrame) → lua t ≡ lua u → t ≡ u
+pub same_lua : (t u : LuaFrame) → lua t ≡ lua u → t ≡ u
 same_lua t u e = some_same t u (ap lua_frame e)
 
 pub becomes : (old new : KeptStack) (fs : List KeptFrame) (t u : KeptLua) (change : (Kept → Value) → LuaFrame → LuaFrame)

@@ -1,2 +1,4 @@
 pub mod Frames
 pub mod View
+pub mod Reading
+pub mod Lending

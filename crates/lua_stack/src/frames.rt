@@ -135,7 +135,7 @@ fn whole(frame: Record) -> Record
 }
 
 /// The frame with a number.
-fn record_at(below: &[Record], top: Record, frame: usize) -> Option<Record>
+pub(crate) fn record_at(below: &[Record], top: Record, frame: usize) -> Option<Record>
     ensures { result ≡ slice_get (below.now ++ tops top) frame }
 {
     if frame < below.len() {

@@ -11,6 +11,8 @@ mod pending;
 mod registers;
 mod stack;
 mod values;
+mod views;
 
 pub use frame::{OpenCell, Shape, Top, Wait};
 pub use stack::Stack;
+pub use views::{FrameView, LuaView};

@@ -1,5 +1,6 @@
 // The registers of the Lua frame on top.
 ghost use Rattle.std.specs.Prelude.{◌≡◌, ◌+◌, ◌≤◌, Some, length, map, slice_get, take, OnErr, OnOk};
+ghost use Rattle.std.specs.Borrow.{sem};
 ghost use Rattle.int_core.specs.Value.{write, write_all};
 ghost use Rattle.machine_core.specs.Text.{nils};
 ghost use Rattle.lua_stack.specs.Frames.{HasLuaTop, HasRegisters, NoneFrom, OnTop, TopBecomes, cut_at, with_registers, with_opened};
@@ -10,6 +11,8 @@ use std::alloc::AllocError;
 use table_core::Value;
 
 impl Stack {
+    ghost use Rattle.lua_stack.specs.Lending.{lends_registers};
+
     /// The value of a register.
     #[inline]
     pub fn get(&self, register: usize) -> Value
@@ -107,5 +110,16 @@ impl Stack {
     {
         let end = place_of(self.top.window, self.top.window.size, self.values.len());
         &self.values[self.top.window.base..end]
+    }
+
+    /// The registers, for writing.
+    pub fn registers_mut(&mut self) -> &mut [Value]
+        requires { HasLuaTop self.old }
+        ensures* writes_back { sem 𝓛 (lends_registers self.entry result) }
+        ensures registers { OnTop self.old (λ f t. map f result.now ≡ t.own.registers) }
+    {
+        let base = self.top.window.base;
+        let end = place_of(self.top.window, self.top.window.size, self.values.len());
+        self.values.slice_mut(base..end)
     }
 }
