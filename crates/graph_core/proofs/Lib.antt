@@ -1,0 +1,4 @@
+pub mod Meeting
+pub mod Named
+pub mod Visiting
+pub mod Framed

@@ -1,0 +1,6 @@
+pub mod Objects
+pub mod Permanents
+pub mod Walk
+pub mod Cells
+pub mod Frames
+pub mod Numbering

@@ -1,0 +1,146 @@
+// What the records of coroutines name: their bodies, their frames from the bottom, and the error and the values left of one that failed.
+ghost use Rattle.std.specs.Prelude.{ℕ, flat_map, OnOk};
+ghost use Rattle.std.specs.Option.{option_map};
+ghost use Rattle.int_core.specs.Value.{a_coroutine};
+ghost use Rattle.image_core.specs.Records.{an_object, coroutine_fields, error_fields, fields, frame_fields, wait_fields};
+ghost use Rattle.lua_stack.specs.Frames.{frames, kept_closing, kept_lua, wait_of};
+ghost use Rattle.lua_stack.specs.Reading.{viewed, viewed_lua};
+ghost use Rattle.lua_heap.specs.Plain.{coroutine as read_coroutine, plain};
+ghost use Rattle.lua_heap.specs.Reading.{value as read};
+ghost use Rattle.graph_core.specs.Frames.{fields_at, fields_of};
+ghost use Rattle.graph_core.specs.Walk.{MeetsFields, inside_in, texts_in};
+
+use crate::object::Object;
+use crate::walk::Walk;
+use indexmap::IndexSet;
+use lua_heap::Coro;
+use lua_stack::{FrameView, LuaView, Stack, Wait};
+use std::alloc::AllocError;
+use table_core::Value;
+
+impl Walk<'_> {
+    /// What the coroutine of a number names is met, if there is one.
+    pub(crate) fn meet_coroutine_at(
+        &self,
+        seen: &mut IndexSet<Object>,
+        number: usize,
+    ) -> Result<(), AllocError>
+        ensures { OnOk result ((fuel : ℕ) → MeetsFields self.now seen.old.keys seen.new.keys (fields (plain self.now.world.now fuel) (inside_in self.now) (an_object a_coroutine number))) }
+    {
+        if number >= self.world.coros.len() {
+            return Ok(());
+        }
+        self.meet_coroutine(seen, self.world.coros.get(number))
+    }
+
+    /// What a coroutine names is met: nothing of one that runs or resumed another.
+    fn meet_coroutine(&self, seen: &mut IndexSet<Object>, coro: &Coro) -> Result<(), AllocError>
+        ensures { OnOk result (MeetsFields self.now seen.old.keys seen.new.keys (coroutine_fields (read_coroutine (texts_in self.now) coro.now))) }
+    {
+        match coro {
+            Coro::Fresh(body) => self.meet(seen, *body),
+            Coro::Suspended(stack) => self.meet_frames(seen, stack),
+            Coro::Failed { error, pending } => self.meet_error_and(seen, Some(*error), pending),
+            Coro::Running(_) => Ok(()),
+            Coro::Normal(_) => Ok(()),
+            Coro::Dead => Ok(()),
+        }
+    }
+
+    /// What frames name is met.
+    fn meet_frames(&self, seen: &mut IndexSet<Object>, stack: &Stack) -> Result<(), AllocError>
+        ensures { OnOk result (MeetsFields self.now seen.old.keys seen.new.keys (flat_map frame_fields (frames (read (texts_in self.now)) stack.now))) }
+    {
+        for at in 0..stack.len() {
+            self.meet_frame_at(seen, stack, at)?;
+        }
+        Ok(())
+    }
+
+    /// What a frame names is met, if it is there.
+    fn meet_frame_at(
+        &self,
+        seen: &mut IndexSet<Object>,
+        stack: &Stack,
+        at: usize,
+    ) -> Result<(), AllocError>
+        ensures { OnOk result (MeetsFields self.now seen.old.keys seen.new.keys (fields_at (texts_in self.now) stack.now.frames at)) }
+    {
+        match stack.frame_at(at) {
+            Some(frame) => self.meet_frame(seen, frame),
+            None => Ok(()),
+        }
+    }
+
+    /// What a frame names is met.
+    fn meet_frame(
+        &self,
+        seen: &mut IndexSet<Object>,
+        frame: FrameView<'_>,
+    ) -> Result<(), AllocError>
+        ensures { OnOk result (MeetsFields self.now seen.old.keys seen.new.keys (fields_of (texts_in self.now) (viewed frame.entry))) }
+    {
+        match frame {
+            FrameView::Lua(view) => self.meet_lua(seen, view),
+            FrameView::Closing(error, left) => self.meet_error_and(seen, error, left),
+            FrameView::Xpcall(handler) => self.meet(seen, handler),
+            FrameView::Pcall => Ok(()),
+            FrameView::Handler => Ok(()),
+        }
+    }
+
+    /// What the frame of a Lua function names is met. Registers that are nil name nothing.
+    fn meet_lua(&self, seen: &mut IndexSet<Object>, view: LuaView<'_>) -> Result<(), AllocError>
+        ensures { OnOk result (MeetsFields self.now seen.old.keys seen.new.keys (fields_of (texts_in self.now) (kept_lua (viewed_lua view.entry)))) }
+    {
+        self.meet(seen, Value::Func(view.function))?;
+        self.meet_all(seen, view.varargs)?;
+        self.meet_all(seen, view.registers)?;
+        self.meet_wait(seen, view.wait)
+    }
+
+    /// The error is met with which a frame is left.
+    fn meet_wait(&self, seen: &mut IndexSet<Object>, wait: Wait) -> Result<(), AllocError>
+        ensures { OnOk result (MeetsFields self.now seen.old.keys seen.new.keys (wait_fields (wait_of (read (texts_in self.now)) wait))) }
+    {
+        match wait {
+            Wait::Leaving(error) => self.meet(seen, error),
+            Wait::Running => Ok(()),
+            Wait::ForCall => Ok(()),
+            Wait::ForIterator => Ok(()),
+            Wait::ForValue => Ok(()),
+            Wait::ForTruth => Ok(()),
+            Wait::Dropped => Ok(()),
+            Wait::ForConcat(_) => Ok(()),
+            Wait::ForClose => Ok(()),
+            Wait::Returning(_) => Ok(()),
+        }
+    }
+
+    /// An error, if there is one, and the values that are still to be closed are met.
+    fn meet_error_and(
+        &self,
+        seen: &mut IndexSet<Object>,
+        error: Option<Value>,
+        left: &[Value],
+    ) -> Result<(), AllocError>
+        ensures { OnOk result (MeetsFields self.now seen.old.keys seen.new.keys (fields_of (texts_in self.now) (kept_closing error left.now))) }
+    {
+        self.meet_error(seen, error)?;
+        self.meet_all(seen, left)
+    }
+
+    /// An error is met, if there is one.
+    fn meet_error(
+        &self,
+        seen: &mut IndexSet<Object>,
+        error: Option<Value>,
+    ) -> Result<(), AllocError>
+        ensures { OnOk result (MeetsFields self.now seen.old.keys seen.new.keys (error_fields (option_map (read (texts_in self.now)) error))) }
+    {
+        match error {
+            Some(error) => self.meet(seen, error),
+            None => Ok(()),
+        }
+    }
+}
