@@ -1,12 +1,13 @@
 // The loop over the instructions of the frame that runs.
 ghost use Rattle.std.specs.Prelude.{◌≡◌, ◌<◌, IfSome, IfNone, Some, length, slice_get};
+ghost use Rattle.machine_arms_tables.specs.Frame.{IsReadyAt, AreOpenAlike, RunsTo, StepsOn, code, moment};
 ghost use Rattle.machine_loop.specs.Running.{Running};
-ghost use Rattle.machine_view.specs.Law.{StepsOn};
-ghost use Rattle.machine_view.specs.View.{Ready, Runs};
 
 use code_core::Instruction;
-use machine_arms_numbers::run_instruction;
-use table_core::Value;
+use lua_heap::{Cell, Strings};
+use machine_arms_tables::{Closure, run_instruction};
+use object_pool::Pool;
+use table_core::{Table, Value};
 
 /// Why the loop ends.
 #[derive(Clone, Copy, Debug, PartialEq, Eq)]
@@ -36,42 +37,49 @@ fn fetch(words: &[Instruction], pc: usize) -> Instruction
 /// Runs one instruction, and answers where the frame goes on. `None`, with all as before, where the instruction takes more than the frame.
 #[inline(always)]
 fn step_frame(
-    words: &[Instruction],
-    constants: &[Value],
+    closure: Closure,
+    strings: &Strings,
+    tables: &mut Pool<Table>,
+    cells: &mut Pool<Cell>,
     registers: &mut [Value],
     pc: usize,
     fuel: &mut u64,
 ) -> Option<usize>
     ghost g: { Running }
-    requires { Ready g.around words.now constants.now g.heap g.cells registers.old pc fuel.old }
-    ensures steps { IfSome result (λ to. StepsOn g.around words.now constants.now g.heap g.cells registers.old pc fuel.old g.heap g.cells registers.new to fuel.new) }
-    ensures kept { IfNone result (registers.new ≡ registers.old) }
+    requires { IsReadyAt g.around g.string_metatable (code closure strings.now) (moment tables.old.objects cells.old.objects registers.old pc fuel.old) }
+    ensures steps { IfSome result (λ to. StepsOn g.around g.string_metatable (code closure.entry strings.now) (moment tables.old.objects cells.old.objects registers.old pc fuel.old) (moment tables.new.objects cells.new.objects registers.new to fuel.new)) }
+    ensures tables { IfNone result (tables.new ≡ tables.old) }
+    ensures cells { IfNone result (cells.new ≡ cells.old) }
+    ensures registers { IfNone result (registers.new ≡ registers.old) }
     ensures unpaid { IfNone result (fuel.new ≡ fuel.old) }
 {
-    let i = fetch(words, pc);
+    let i = fetch(closure.words, pc);
     let op = i.opcode()?;
-    run_instruction(op, words, constants, registers, i, pc, fuel)
+    run_instruction(op, closure, strings, tables, cells, registers, i, pc, fuel)
 }
 
 /// Runs instructions of the frame on top, at most `limit`, from the place `start`. The world's frame stands where the loop ends, and is ready for a
 /// step of any kind: what the loop did is some steps of the machine.
 #[inline(never)]
 pub fn run_frame(
-    words: &[Instruction],
-    constants: &[Value],
+    closure: Closure,
+    strings: &Strings,
+    tables: &mut Pool<Table>,
+    cells: &mut Pool<Cell>,
     registers: &mut [Value],
     start: usize,
     fuel: &mut u64,
     limit: u64,
 ) -> Exit
     ghost g: { Running }
-    requires { Ready g.around words.now constants.now g.heap g.cells registers.old start fuel.old }
-    ensures runs { Runs g.around g.heap g.cells registers.old start fuel.old g.heap g.cells registers.new result.pc fuel.new }
-    ensures ready { Ready g.around words.now constants.now g.heap g.cells registers.new result.pc fuel.new }
+    requires { IsReadyAt g.around g.string_metatable (code closure strings.now) (moment tables.old.objects cells.old.objects registers.old start fuel.old) }
+    ensures runs { RunsTo g.around g.string_metatable (moment tables.old.objects cells.old.objects registers.old start fuel.old) (moment tables.new.objects cells.new.objects registers.new result.pc fuel.new) }
+    ensures opened { AreOpenAlike cells.old.objects cells.new.objects }
+    ensures ready { IsReadyAt g.around g.string_metatable (code closure.entry strings.now) (moment tables.new.objects cells.new.objects registers.new result.pc fuel.new) }
 {
     let mut pc = start;
     for _ in 0..limit {
-        let Some(next) = step_frame(words, constants, registers, pc, fuel) else {
+        let Some(next) = step_frame(closure, strings, tables, cells, registers, pc, fuel) else {
             return Exit {
                 pc,
                 out: Out::Leave,

@@ -1,4 +1,4 @@
-use Rattle.machine_view.specs.View.{Ready, Runs}
+use Rattle.machine_arms_tables.specs.Frame.{IsReadyAt, AreOpenAlike, RunsTo, code, moment}
 use Rattle.machine_loop.proofs.frame.run_frame.Given as goal
 
 abbrev pub ghost-step_frame : goal.ghost-step_frame
@@ -6,6 +6,7 @@ ghost-step_frame g a = g.g
 
 abbrev pub invariant-loop : goal.invariant-loop
 invariant-loop g l = record {
-  ready : Ready g.g.around l.words l.constants g.g.heap g.g.cells l.registers l.pc l.fuel;
-  runs : Runs g.g.around g.g.heap g.g.cells l.initial.registers l.start l.initial.fuel g.g.heap g.g.cells l.registers l.pc l.fuel;
+  ready : IsReadyAt g.g.around g.g.string_metatable (code l.closure l.strings) (moment l.tables.objects l.cells.objects l.registers l.pc l.fuel);
+  opened : AreOpenAlike l.initial.cells.objects l.cells.objects;
+  runs : RunsTo g.g.around g.g.string_metatable (moment l.initial.tables.objects l.initial.cells.objects l.initial.registers l.start l.initial.fuel) (moment l.tables.objects l.cells.objects l.registers l.pc l.fuel);
 }

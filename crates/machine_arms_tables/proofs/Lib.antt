@@ -1,0 +1,6 @@
+mod Settling
+mod Leading
+mod FieldRows
+mod SelfRow
+mod Operands
+pub mod Steps

@@ -1,0 +1,60 @@
+// The instructions of one frame, by their opcodes.
+ghost use Rattle.std.specs.Prelude.{◌≡◌, IfSome, IfNone};
+ghost use Rattle.machine_arms_tables.specs.Frame.{Leads, code, moment};
+ghost use Rattle.machine_view.specs.View.{IsAt};
+
+use crate::closure::Closure;
+use crate::lengths::get_length;
+use crate::reads::{get_element, get_field, get_integer, get_method, get_upvalue_field};
+use crate::upvalues::{get_upvalue, set_upvalue};
+use crate::writes::{set_element, set_field, set_integer, set_upvalue_field};
+use code_core::{Instruction, Opcode};
+use lua_heap::{Cell, Strings};
+use object_pool::Pool;
+use table_core::{Table, Value};
+
+/// Does an instruction on the registers of its frame, on tables and on closed cells, and answers where the frame goes on. `None`, with all as
+/// before, where it takes more than that: a call, a handler, an error, an open cell, a spent budget, memory that is wanting.
+#[inline(always)]
+pub fn run_instruction(
+    op: Opcode,
+    closure: Closure,
+    strings: &Strings,
+    tables: &mut Pool<Table>,
+    cells: &mut Pool<Cell>,
+    registers: &mut [Value],
+    i: Instruction,
+    pc: usize,
+    fuel: &mut u64,
+) -> Option<usize>
+    requires { IsAt op i closure.words.now closure.constants.now registers.old pc }
+    ensures goes { IfSome result (λ to. Leads op i (code closure.entry strings.now) (moment tables.old.objects cells.old.objects registers.old pc fuel.old) (moment tables.new.objects cells.new.objects registers.new to fuel.new)) }
+    ensures tables { IfNone result (tables.new ≡ tables.old) }
+    ensures cells { IfNone result (cells.new ≡ cells.old) }
+    ensures registers { IfNone result (registers.new ≡ registers.old) }
+    ensures unpaid { IfNone result (fuel.new ≡ fuel.old) }
+{
+    match op {
+        Opcode::GetUpval => get_upvalue(closure, cells, registers, i, pc),
+        Opcode::SetUpval => set_upvalue(closure, cells, registers, i, pc),
+        Opcode::GetTabUp => get_upvalue_field(closure, tables, cells, registers, i, pc),
+        Opcode::GetTable => get_element(closure, tables, registers, i, pc),
+        Opcode::GetI => get_integer(closure, tables, registers, i, pc),
+        Opcode::GetField => get_field(closure, tables, registers, i, pc),
+        Opcode::SetTabUp => set_upvalue_field(closure, tables, cells, registers, i, pc),
+        Opcode::SetTable => set_element(closure, tables, registers, i, pc),
+        Opcode::SetI => set_integer(closure, tables, registers, i, pc),
+        Opcode::SetField => set_field(closure, tables, registers, i, pc),
+        Opcode::OpSelf => get_method(closure, tables, registers, i, pc),
+        Opcode::Len => get_length(closure, strings, tables, registers, i, pc),
+        _ => machine_arms_numbers::run_instruction(
+            op,
+            closure.words,
+            closure.constants,
+            registers,
+            i,
+            pc,
+            fuel,
+        ),
+    }
+}
