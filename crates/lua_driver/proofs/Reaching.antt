@@ -50,13 +50,13 @@ most_within W fuel = (longest (plain W 0)).1
 abbrev pub distance : (most : ℕ) → Ending → World → ℕ
 distance most e W = cond (is_end e) 0 (suc (measure most e W))
 
-no_build_falls : PrimitiveFalls no_build
+pub no_build_falls : PrimitiveFalls no_build
 no_build_falls = (tt, λ _ _. omega arith)
 
 abbrev Nearer : (most : ℕ) → Ending → World → (bound : ℕ) → Type 0
 Nearer most d V bound = (is_end d ≡ false → Within most V) × (distance most d V < suc bound)
 
-differ : (b : Bool) → b ≡ true → b ≡ false → ⊥
+pub differ : (b : Bool) → b ≡ true → b ≡ false → ⊥
 differ true e f = absurd (cc)
 differ false e f = absurd (cc)
 

@@ -9,11 +9,20 @@ use Rattle.machine_runs.specs.Runs.{turn}
 use Rattle.lua_heap.specs.declared.world.World.{World as Memory}
 use Rattle.lua_heap.specs.Plain.{plain}
 use Rattle.move_laws.specs.Memory.{InOrder}
+use Rattle.step_laws.specs.Steps.{Does, IsReady}
 
 -- some steps lead from one world and budget to others, and end so
 pub record Reaches (rows : ℕ → Row) (from : Ending) (old : Memory) (fuel : ℕ) (new : Memory) (left : ℕ) (to : Ending) : Type 0 where
   pub count : ℕ
   pub is : steps rows count from (plain old fuel) ≡ ends to (plain new left)
+
+-- some steps that end as the one before, and one more
+pub record GoesFurther (rows : ℕ → Row) (from : Ending) (old : Memory) (fuel : ℕ) (new : Memory) (left : ℕ) (to : Ending) : Type 0 where
+  pub mid : Memory
+  pub rest : ℕ
+  pub reaches : Reaches rows from old fuel mid rest from
+  pub ready : IsReady (length all_entries) from mid
+  pub does : Does rows from mid rest new left to
 
 -- the script may be resumed: it has not begun, or has yielded
 pub record MayGoOn (W : Memory) : Type 0 where

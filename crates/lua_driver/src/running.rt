@@ -5,14 +5,15 @@ ghost use Rattle.machine_runs.specs.Runs.{is_end};
 ghost use Rattle.move_laws.specs.Memory.{InOrder};
 ghost use Rattle.machine_moves.specs.Ending.{ending_of};
 ghost use Rattle.step_laws.specs.Steps.{IsReady};
-ghost use Rattle.lua_driver.specs.Turns.{Reaches};
+ghost use Rattle.lua_driver.specs.Turns.{GoesFurther, Reaches};
 ghost use Rattle.machine_step.specs.Step.{library};
 
 use library_sound::law::library_is_safe;
 use lua_heap::World;
 use machine_ends::steps_fall;
 use machine_moves::Ending;
-use machine_step::step;
+use machine_step::{step, step_from};
+use running_frame::run_ahead;
 use std::alloc::AllocError;
 use step_laws::law::steps_stay_ready;
 
@@ -30,9 +31,23 @@ pub fn run(world: &mut World, budget: &mut u64, begun: Ending) -> Result<Ending,
     steps_stay_ready();
     let mut ending = begun;
     'turn: while !ends_turn(ending) {
-        ending = step(world, budget, ending)?;
+        ending = go_further(world, budget, ending)?;
     }
     Ok(ending)
+}
+
+/// Does the step behind an ending. Where a Lua frame goes on, it first runs as long as it does so by itself.
+fn go_further(world: &mut World, budget: &mut u64, ending: Ending) -> Result<Ending, AllocError>
+    requires { IsReady (length all_entries) (ending_of ending) world.old }
+    ensures goes { IfOk result (λ next. GoesFurther library (ending_of ending) world.old budget.old world.new budget.new (ending_of next)) }
+    ensures order { InOrder world.new }
+{
+    library_is_safe();
+    if let Ending::Go = ending {
+        let here = run_ahead(world, budget);
+        return step_from(world, budget, here);
+    }
+    step(world, budget, ending)
 }
 
 /// Whether a turn ends so.

@@ -1,4 +1,3 @@
-mod Words
 mod ByForm
 mod Awake
 mod Steps

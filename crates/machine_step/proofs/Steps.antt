@@ -25,7 +25,9 @@ use Rattle.machine_moves.specs.Ending.{ending_of}
 use Rattle.step_laws.specs.Steps.{Does, HasForm, IsReady, WaitsAt}
 use Rattle.step_laws.proofs.Ready.{running_is_at, waiting_is_at}
 use Rattle.machine_step.specs.Step.{library}
-use Rattle.machine_step.specs.Places.{HasWord, IsAtWord, RunsForm, RunsIf, RunsWord, WaitsHere, is_none}
+use Rattle.running_frame.specs.Here.{IsAtWord, RunsIf, is_none}
+use Rattle.running_frame.proofs.Places.{none_is, waits_so}
+use Rattle.machine_step.specs.Places.{RunsForm, RunsWord, WaitsHere}
 
 -- the ending is known
 
@@ -41,28 +43,9 @@ same_printed s = ap (λ (W : World). W.printed) (s.is 0)
 
 -- a frame runs, or it waits
 
-none_is : (w : Wait Value) → is_none w ≡ true → w ≡ running
-none_is running h = refl
-none_is w h = absurd (cc)
-
-waits_so : (w : Wait Value) → is_none w ≡ false → w ≡ running → ⊥
-waits_so w h e = let k : is_none w ≡ true = ap is_none e in absurd (cc)
-
 module _ {W : Memory} (s : IsSound W) where
   abbrev waits_at_place : (place : Place) → place_of (plain W 0) ≡ Some place → is_none place.top.wait ≡ false → WaitsAt W
   waits_at_place place e h = record { place = place; is = e; waits = waits_so place.top.wait h }
-
-  pub has_word : {pc : ℕ} → StandsAt W pc → HasWord W pc
-  has_word {pc} h = by (is_none h.place.top.wait) refl
-    where
-      by : (b : Bool) → is_none h.place.top.wait ≡ b → HasWord W pc
-      by true e =
-          let k = running_is_at W h.place s h.is (none_is h.place.top.wait e) in
-          let pc_is : k.place.top.own.pc ≡ pc = ap (λ (p : Place). p.top.own.pc) (some_is k.is h.is) ∙ h.at in
-          record { place = k.place; is = k.is; checked = k.checked; at_pc = pc_is; word = k.instruction; there = ap (at k.place.function.code) (sym pc_is) ∙ k.at_pc }
-      by false e =
-          let f = waiting_is_at W (waits_at_place h.place h.is e) s in
-          record { place = h.place; is = h.is; checked = f.checked; at_pc = h.at; word = f.instruction; there = ap (at h.place.function.code) (sym h.at) ∙ f.at_pc }
 
   pub runs_word : {pc : ℕ} {word : Instruction} {b : Bool} → IsAtWord W pc word → RunsIf W b → b ≡ true → RunsWord W pc word
   runs_word {pc} {word} a r e =

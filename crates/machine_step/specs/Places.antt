@@ -24,23 +24,6 @@ use Rattle.machine_operations.specs.Joining.{AreValid}
 use Rattle.machine_returns.specs.GoingOn.{told_so}
 use Rattle.step_laws.specs.Steps.{RunsAt, HasForm, WaitsAt, WaitsFor}
 
--- it is at this place of its code, and there is this word
-pub record IsAtWord (W : Memory) (pc : ℕ) (word : Instruction) : Type 0 where
-  pub place : Place
-  pub is : place_of (plain W 0) ≡ Some place
-  pub at_pc : place.top.own.pc ≡ pc
-  pub there : at place.function.code pc ≡ Some word
-  pub near : pc < 2 ^ 63
-
--- there is a word at this place of its checked code
-pub record HasWord (W : Memory) (pc : ℕ) : Type 0 where
-  pub place : Place
-  pub is : place_of (plain W 0) ≡ Some place
-  pub checked : IsChecked place.function.code
-  pub at_pc : place.top.own.pc ≡ pc
-  pub word : Instruction
-  pub there : at place.function.code pc ≡ Some word
-
 -- it runs at an instruction of this form
 pub record RunsForm (W : Memory) (pc : ℕ) (form : Form) : Type 0 where
   pub runs : RunsAt W
@@ -81,15 +64,6 @@ pub record IsAwake (W : Memory) (pc : ℕ) (word : Instruction) (wait : KeptWait
 pub record GoesOnSo (old new : Memory) (word : Instruction) (wait : KeptWait) (came : List Kept) (to : Ending) : Type 0 where
   pub leads : (place : Place) → place_of (plain old 0) ≡ Some place → (op : Opcode) → opcode_of word ≡ Some op
       → Leads (left_row old wait place op word) (told_so old wait came) old new to
-
--- whether a wait is none
-
-abbrev pub is_none : {V : Type 0} → Wait V → Bool
-is_none running = true
-is_none _ = false
-
-pub record RunsIf (W : Memory) (runs : Bool) : Type 0 where
-  pub is : (place : Place) → place_of (plain W 0) ≡ Some place → runs ≡ is_none place.top.wait
 
 -- MMBIN and its kin, whose value goes to the register of the instruction in front
 abbrev pub is_handled : Option Opcode → Bool

@@ -9,7 +9,6 @@ mod jumping;
 mod loading;
 mod objects;
 mod returning;
-mod stack;
 mod stepping;
 
-pub use stepping::step;
+pub use stepping::{step, step_from};

@@ -4,13 +4,13 @@ ghost use Rattle.library_rows.specs.Library.{all_entries};
 ghost use Rattle.machine_core.specs.Moves.{go};
 ghost use Rattle.machine_moves.specs.Ending.{ending_of};
 ghost use Rattle.move_laws.specs.Memory.{InOrder, IsSound};
+ghost use Rattle.running_frame.specs.Here.{IsHere};
 ghost use Rattle.step_laws.specs.Steps.{Does, IsReady};
 ghost use Rattle.machine_step.specs.Places.{RunsWord};
 ghost use Rattle.machine_step.specs.Step.{library};
 
 use crate::going_on::go_on;
 use crate::instructions::run_instruction;
-use crate::stack::{is_running, place_on_top, word_at};
 use code_core::Instruction;
 use instruction_forms::form_of;
 use library_sound::law::library_is_safe;
@@ -19,6 +19,7 @@ use machine_asked::call_asked;
 use machine_frame_rows::{catch_error, hand_results, unwind_top};
 use machine_moves::Ending;
 use machine_primitives::primitive;
+use running_frame::{Here, find_here};
 use std::alloc::AllocError;
 
 /// Does the step that follows an ending, and says how it ends. What ends a turn is no step. A step that costs a unit while none is left changes nothing. After
@@ -51,12 +52,22 @@ fn go_from(world: &mut World, budget: &mut u64) -> Result<Ending, AllocError>
     ensures order { InOrder world.new }
     ensures err { OnErr result (world.new.printed.items ≡ world.old.printed.items) }
 {
-    let pc = place_on_top(world);
-    let word = word_at(world, pc);
-    if is_running(world) {
-        return run_word(world, budget, pc, word);
+    let here = find_here(world);
+    step_from(world, budget, here)
+}
+
+/// Does the step behind `Ending::Go` where it is known at which word the Lua frame on top is. After a refusal all is as `step` says.
+pub fn step_from(world: &mut World, budget: &mut u64, here: Here) -> Result<Ending, AllocError>
+    requires ready { IsReady (length all_entries) go world.old }
+    requires here { IsHere world.old here }
+    ensures does { IfOk result (λ next. Does library go world.old budget.old world.new budget.new (ending_of next)) }
+    ensures order { InOrder world.new }
+    ensures err { OnErr result (world.new.printed.items ≡ world.old.printed.items) }
+{
+    if here.runs {
+        return run_word(world, budget, here.pc, here.word);
     }
-    go_on(world, pc, word)
+    go_on(world, here.pc, here.word)
 }
 
 /// The instruction that this word is.

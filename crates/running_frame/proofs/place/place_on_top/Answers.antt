@@ -1,6 +1,6 @@
 use Rattle.std.proofs.Common.{◌≡◌, sym}
 use Rattle.move_laws.proofs.Running.{has_stack, lua_top, of_top}
-use Rattle.machine_step.proofs.stack.place_on_top.Goals as goal
+use Rattle.running_frame.proofs.place.place_on_top.Goals as goal
 
 pub running_stack-requires : goal.running_stack-requires
 running_stack-requires c = has_stack c.args.world.now c.requires.place c.requires.is

@@ -1,11 +1,14 @@
-// The Lua frame on top of the running coroutine's stack.
-ghost use Rattle.std.specs.Prelude.{◌≡◌, ℕ, List};
+// The place of the Lua frame on top.
+ghost use Rattle.std.specs.Prelude.{◌≡◌, ◌<◌, ℕ, List, Some, length, slice_get};
 ghost use Rattle.lua_heap.specs.Codes.{AreCodes};
-ghost use Rattle.move_laws.specs.Memory.{HasFrame, HasStack, StandsAt};
-ghost use Rattle.machine_moves.specs.Moves.{RunsAs, RunsOn};
 ghost use Rattle.lua_heap.specs.Reading.{value};
+ghost use Rattle.library_rows.specs.Library.{all_entries};
 ghost use Rattle.lua_stack.specs.Frames.{wait_of};
-ghost use Rattle.machine_step.specs.Places.{HasWord, IsAtWord, RunsIf, is_none};
+ghost use Rattle.machine_core.specs.Moves.{go};
+ghost use Rattle.machine_moves.specs.Moves.{RunsAs, RunsOn};
+ghost use Rattle.move_laws.specs.Memory.{HasFrame, HasStack, StandsAt};
+ghost use Rattle.step_laws.specs.Steps.{IsReady};
+ghost use Rattle.running_frame.specs.Here.{HasWord, IsAtWord, IsHere, RunsIf, is_none};
 
 use code_core::Instruction;
 use lua_heap::{Coro, World};
@@ -13,8 +16,43 @@ use lua_stack::{Stack, Wait};
 use machine_moves::code_on_top;
 use table_core::CoroId;
 
-/// The place in its code.
-pub(crate) fn place_on_top(world: &World) -> usize
+/// Where a Lua frame is in its code, the word there, and whether it runs or waits.
+#[derive(Clone, Copy, Debug)]
+pub struct Here {
+    pub pc: usize,
+    pub word: Instruction,
+    pub runs: bool,
+}
+
+/// Where the Lua frame on top is.
+pub fn find_here(world: &World) -> Here
+    requires ready { IsReady (length all_entries) go world.now }
+    ensures { IsHere world.now result }
+{
+    let pc = place_on_top(world);
+    Here {
+        pc,
+        word: word_at(world, pc),
+        runs: is_running(world),
+    }
+}
+
+/// A place of some code.
+pub(crate) fn here_at(words: &[Instruction], pc: usize, runs: bool) -> Here
+    requires { pc < length words.now }
+    ensures place { result.pc ≡ pc }
+    ensures word { slice_get words.now result.pc ≡ Some result.word }
+    ensures runs { result.runs ≡ runs }
+{
+    Here {
+        pc,
+        word: words[pc],
+        runs,
+    }
+}
+
+/// Its place in its code.
+fn place_on_top(world: &World) -> usize
     requires { HasFrame world.now }
     ensures { StandsAt world.now result }
 {
@@ -22,7 +60,7 @@ pub(crate) fn place_on_top(world: &World) -> usize
 }
 
 /// The word at that place.
-pub(crate) fn word_at(world: &World, pc: usize) -> Instruction
+fn word_at(world: &World, pc: usize) -> Instruction
     requires codes { AreCodes world.now.strings world.now.codes }
     requires there { HasWord world.now pc }
     ensures { IsAtWord world.now pc result }
@@ -31,7 +69,7 @@ pub(crate) fn word_at(world: &World, pc: usize) -> Instruction
 }
 
 /// Whether it runs.
-pub(crate) fn is_running(world: &World) -> bool
+fn is_running(world: &World) -> bool
     requires { HasFrame world.now }
     ensures { RunsIf world.now result }
 {
@@ -39,7 +77,7 @@ pub(crate) fn is_running(world: &World) -> bool
 }
 
 /// Whether a wait is for nothing.
-fn is_none(wait: Wait) -> bool
+pub(crate) fn is_none(wait: Wait) -> bool
     ensures { (texts : List (List ℕ)) → result ≡ is_none (wait_of (value texts) wait) }
 {
     match wait {
@@ -57,7 +95,7 @@ fn is_none(wait: Wait) -> bool
 }
 
 /// The coroutine that runs.
-fn running(world: &World) -> CoroId
+pub(crate) fn running(world: &World) -> CoroId
     requires { HasStack world.now }
     ensures { RunsAs world.now result }
 {

@@ -1,8 +1,8 @@
 use Rattle.std.proofs.Common.{◌≡◌, ap, ◌∙◌}
 use Rattle.lua_stack.specs.Frames.{wait_of}
 use Rattle.move_laws.proofs.Running.{has_stack, lua_top, of_top}
-use Rattle.machine_step.specs.Places.{is_none}
-use Rattle.machine_step.proofs.stack.is_running.Goals as goal
+use Rattle.running_frame.specs.Here.{is_none}
+use Rattle.running_frame.proofs.place.is_running.Goals as goal
 
 pub running_stack-requires : goal.running_stack-requires
 running_stack-requires c = has_stack c.args.world.now c.requires.place c.requires.is

@@ -7,7 +7,7 @@ use Rattle.machine_sound.proofs.Lists.{get_within, some_is}
 use Rattle.lua_heap.specs.declared.codes.Code.{Code}
 use Rattle.lua_heap.specs.declared.world.World.{World as Memory}
 use Rattle.machine_moves.specs.Code.{IsCodeOnTop}
-use Rattle.machine_step.specs.Places.{HasWord}
+use Rattle.running_frame.specs.Here.{HasWord}
 
 module _ {W : Memory} {pc : ℕ} {code : Code} (h : HasWord W pc) (k : IsCodeOnTop W code) where
   pub word_kept : slice_get code.words.items pc ≡ Some h.word

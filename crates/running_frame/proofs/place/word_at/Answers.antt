@@ -1,8 +1,8 @@
 use Rattle.std.proofs.Common.{◌<◌, length, Some, ap, sym, ◌∙◌, arith, rules}
 use Rattle.machine_sound.proofs.Lists.{some_is}
 use Rattle.machine_moves.proofs.Stacks.{got_there}
-use Rattle.machine_step.proofs.Words.{word_kept, word_within, few_words}
-use Rattle.machine_step.proofs.stack.word_at.Goals as goal
+use Rattle.running_frame.proofs.Words.{word_kept, word_within, few_words}
+use Rattle.running_frame.proofs.place.word_at.Goals as goal
 
 pub code_on_top-requires-clause-frame : goal.code_on_top-requires-clause-frame
 code_on_top-requires-clause-frame c = let h = c.requires.there in record { place = h.place; is = h.is; checked = h.checked }

@@ -1,0 +1,5 @@
+mod Words
+pub mod Places
+mod Held
+mod OnStack
+mod Apart
