@@ -11,7 +11,7 @@ use Rattle.lua_heap.specs.Plain.{plain}
 use Rattle.io_edge.specs.Content.{GrowsByFront}
 use Rattle.io_edge.specs.Lines.{lines_of, TakesLine, BeginsPastLimits}
 use Rattle.lua_driver.specs.Turns.{Turns}
-use Rattle.lua_feed.specs.Feeding.{IsFed, IsFront, IsFedFront, OnlyGrows, PassLimits}
+use Rattle.lua_feed.specs.Feeding.{Does, IsFedTo, IsFront, IsFedFront, OnlyGrows, PassLimits}
 use Rattle.lua_feed.proofs.Runs.{close_at, is_last, Comes, GoesOn, PrintsFirst, comes_none, comes_on, ends_here, suspends_here, turn_prints}
 
 -- fronts
@@ -57,7 +57,7 @@ grows_twice : (xs ys : List ℕ) (before between after : Option (List ℕ)) → 
 grows_twice xs ys None between after e f = f ∙ ap (option_map (λ t. t ++ ys)) e
 grows_twice xs ys (Some b) between after e f = f ∙ ap (option_map (λ t. t ++ ys)) e ∙ ap Some (append_assoc b xs ys)
 
-grows_none : (before : Option (List ℕ)) → before ≡ option_map (λ t. t ++ []) before
+pub grows_none : (before : Option (List ℕ)) → before ≡ option_map (λ t. t ++ []) before
 grows_none None = refl
 grows_none (Some b) = ap Some (sym (append-nil b))
 
@@ -162,33 +162,39 @@ fed_on rows budget start text before first now mid new rest next after later tak
 -- it closes by a turn that no line follows
 pub fed_last : (rows : ℕ → Row) (budget : ℕ) (start : Memory) (text before : Option (List ℕ)) (first : ℕ) (now mid : Memory) (rest after later : Option (List ℕ)) (taken : ℕ) (e : Ending)
     → Feeding rows budget start text before first now rest after taken → Turns rows now mid budget e → is_last e ≡ true → later ≡ option_map (λ t. t ++ turn_text e (plain mid 0)) after
-    → IsFed rows (plain start 0) budget text before later (close_at e)
+    → IsFedTo (Does rows (plain start 0) budget) text before later (close_at e) mid
 fed_last rows budget start text before first now mid rest after later taken e f t h grown =
     let r : Run = closes e (close_at e) (plain mid t.left) in
     record {
-      lines = f.used ++ rest_lines rest;
-      are = are_lines f.used text rest f.lines;
-      run = behind f.printed r;
-      runs = f.comes.goes (rest_lines rest) r (ends_here rows budget (plain now 0) (plain mid t.left) t.count e (rest_lines rest) h t.is);
-      closes = refl;
-      grown = grows_twice f.printed (turn_text e (plain mid 0)) before after later f.grown grown;
+      fed = record {
+        lines = f.used ++ rest_lines rest;
+        are = are_lines f.used text rest f.lines;
+        run = behind f.printed r;
+        runs = f.comes.goes (rest_lines rest) r (ends_here rows budget (plain now 0) (plain mid t.left) t.count e (rest_lines rest) h t.is);
+        closes = refl;
+        grown = grows_twice f.printed (turn_text e (plain mid 0)) before after later f.grown grown;
+      };
+      leaves = record { left = t.left; is = refl };
     }
 
 -- it closes where no line is left
 pub fed_suspended : (rows : ℕ → Row) (budget : ℕ) (start : Memory) (text before : Option (List ℕ)) (first : ℕ) (now mid : Memory) (rest after later : Option (List ℕ)) (taken : ℕ)
     → Feeding rows budget start text before first now rest after taken → Turns rows now mid budget main_yielded → IfSome rest (λ t. t ≡ []) → later ≡ option_map (λ t. t ++ turn_text main_yielded (plain mid 0)) after
-    → IsFed rows (plain start 0) budget text before later is_suspended
+    → IsFedTo (Does rows (plain start 0) budget) text before later is_suspended mid
 fed_suspended rows budget start text before first now mid rest after later taken f t none grown =
     let words : List ℕ = turn_text main_yielded (plain mid 0) in
     let r : Run = behind words (record { printed = []; close = is_suspended; last = plain mid t.left }) in
     record {
-      lines = f.used ++ rest_lines rest;
-      are = are_lines f.used text rest f.lines;
-      run = behind f.printed r;
-      runs = subst (λ ls. CodeRun rows (plain start 0) (f.used ++ ls) budget (behind f.printed r)) (sym (no_lines rest none))
-          (f.comes.goes [] r (suspends_here rows budget (plain now 0) (plain mid t.left) t.count t.is));
-      closes = refl;
-      grown = grows_twice f.printed (words ++ []) before after later f.grown (grown ∙ ap (λ w. option_map (λ t. t ++ w) after) (sym (append-nil words)));
+      fed = record {
+        lines = f.used ++ rest_lines rest;
+        are = are_lines f.used text rest f.lines;
+        run = behind f.printed r;
+        runs = subst (λ ls. CodeRun rows (plain start 0) (f.used ++ ls) budget (behind f.printed r)) (sym (no_lines rest none))
+            (f.comes.goes [] r (suspends_here rows budget (plain now 0) (plain mid t.left) t.count t.is));
+        closes = refl;
+        grown = grows_twice f.printed (words ++ []) before after later f.grown (grown ∙ ap (λ w. option_map (λ t. t ++ w) after) (sym (append-nil words)));
+      };
+      leaves = record { left = t.left; is = refl };
     }
 
 -- where it stops at a fault, a front of what a run prints was written
@@ -213,7 +219,7 @@ pub front_written : (rows : ℕ → Row) (budget : ℕ) (now mid : Memory) (afte
 front_written rows budget now mid after later e t h g = front_of_turn rows budget now mid after later e t h (whole_front (turn_text e (plain mid 0)) after later g)
 
 pub fed_front : (rows : ℕ → Row) (budget : ℕ) (start : Memory) (text before : Option (List ℕ)) (first : ℕ) (now : Memory) (rest after later : Option (List ℕ)) (taken : ℕ)
-    → Feeding rows budget start text before first now rest after taken → IsFront rows (plain now 0) budget after later → IsFedFront rows (plain start 0) budget text before later
+    → Feeding rows budget start text before first now rest after taken → IsFront rows (plain now 0) budget after later → IsFedFront (Does rows (plain start 0) budget) text before later
 fed_front rows budget start None before first now rest after later taken f k = record { is = tt }
 fed_front rows budget start (Some b) before first now rest after later taken f k =
     record {
@@ -226,7 +232,7 @@ fed_front rows budget start (Some b) before first now rest after later taken f k
 
 -- a line past the limits
 
-begins_past : (taken : ℕ) (rest : List ℕ) → BeginsPastLimits taken rest → PassLimits taken (lines_of rest)
+pub begins_past : (taken : ℕ) (rest : List ℕ) → BeginsPastLimits taken rest → PassLimits taken (lines_of rest)
 begins_past taken rest (line, lines, e, past) = subst (PassLimits taken) (sym e) (inl past)
 
 pub fed_limit : (rows : ℕ → Row) (budget : ℕ) (start : Memory) (text before : Option (List ℕ)) (first : ℕ) (now : Memory) (rest after : Option (List ℕ)) (taken : ℕ)

@@ -4,3 +4,4 @@ mod Fed
 mod Runs
 mod Starting
 mod Texts
+mod Onward

@@ -14,6 +14,7 @@ use Rattle.machine_sound.proofs.Lists.{each_none, each_cons}
 use Rattle.machine_sound.proofs.Values.{le_of, both_of}
 use Rattle.machine_runs.specs.Laws.{PreludeOk, OpeningIsSound, OpeningIsIdle, BegunIsSound, BegunMayTurn, MayTurn}
 use Rattle.machine_runs.specs.Opening.{opening, begun}
+use Rattle.machine_runs.specs.Runs.{Run}
 use Rattle.lua_heap.specs.declared.world.World.{World as Memory}
 use Rattle.lua_heap.specs.Cells.{CellsAreListed}
 use Rattle.lua_heap.specs.Codes.{AreCodes}
@@ -91,6 +92,6 @@ may_go_on sound idle begins turns prelude code W V p q o e order =
     }
 
 -- where nothing was written, that is a front
-pub unfed_front : (rows : ℕ → Row) (W : World) (budget : ℕ) (text before after : Option (List ℕ)) → after ≡ before → IsFedFront rows W budget text before after
-unfed_front rows W budget None before after e = record { is = tt }
-unfed_front rows W budget (Some b) before after e = record { is = λ r x. front_none r.printed before after e }
+pub unfed_front : (Runs : List (List ℕ) → Run → Type 0) (text before after : Option (List ℕ)) → after ≡ before → IsFedFront Runs text before after
+unfed_front Runs None before after e = record { is = tt }
+unfed_front Runs (Some b) before after e = record { is = λ r x. front_none r.printed before after e }

@@ -8,7 +8,8 @@ ghost use Rattle.move_laws.specs.Memory.{InOrder};
 ghost use Rattle.lua_driver.specs.Turns.{MayGoOn};
 ghost use Rattle.lua_feed.specs.Closes.{close_of, closing};
 ghost use Rattle.lua_feed.specs.Faults.{is_input_fault, is_output_fault};
-ghost use Rattle.lua_feed.specs.Feeding.{IsFed, IsFedFront, OnlyGrows, PassLimits};
+ghost use Rattle.lua_feed.specs.Feeding.{Does, GoesOn, IsFedFront, IsFedTo, OnlyGrows, PassLimits};
+ghost use Rattle.machine_runs.specs.Runs.{is_suspended};
 ghost use Rattle.machine_step.specs.Step.{library};
 
 use crate::fault::FeedFault;
@@ -45,8 +46,9 @@ pub fn feed<S: Source, K: Sink>(
     out: &mut K,
 ) -> Result<Close, FeedFault>
     requires { MayGoOn world.old }
-    ensures fed { IfOk result (λ close. IsFed library (plain world.old 0) budget (ahead reader.old (S.left input.old)) (K.written out.old) (K.written out.new) (close_of close)) }
-    ensures front { OnErr result (IsFedFront library (plain world.old 0) budget (ahead reader.old (S.left input.old)) (K.written out.old) (K.written out.new)) }
+    ensures fed { IfOk result (λ close. IsFedTo (Does library (plain world.old 0) budget) (ahead reader.old (S.left input.old)) (K.written out.old) (K.written out.new) (close_of close) world.new) }
+    ensures waits { IfOk result (λ close. close_of close ≡ is_suspended → MayGoOn world.new) }
+    ensures front { OnErr result (IsFedFront (Does library (plain world.old 0) budget) (ahead reader.old (S.left input.old)) (K.written out.old) (K.written out.new)) }
     ensures grows { OnErr result (OnlyGrows (K.written out.old) (K.written out.new)) }
     ensures input { HasCause (S.faults input.old) (S.faults input.new) (is_input_fault result) }
     ensures output { HasCause (K.faults out.old) (K.faults out.new) (is_output_fault result) }
@@ -63,6 +65,36 @@ pub fn feed<S: Source, K: Sink>(
         };
         hand_line(world, line.as_slice())?;
     }
+}
+
+/// Goes on with a script that waits for a line: the first line of the input is handed over, and the script is fed then. Where the input has no line nothing is
+/// done.
+///
+/// # Errors
+///
+/// Those of `feed`.
+pub fn feed_on<S: Source, K: Sink>(
+    world: &mut World,
+    budget: u64,
+    reader: &mut LineReader,
+    input: &mut S,
+    out: &mut K,
+) -> Result<Close, FeedFault>
+    requires { MayGoOn world.old }
+    ensures fed { IfOk result (λ close. IsFedTo (GoesOn library (plain world.old 0) budget) (ahead reader.old (S.left input.old)) (K.written out.old) (K.written out.new) (close_of close) world.new) }
+    ensures waits { IfOk result (λ close. close_of close ≡ is_suspended → MayGoOn world.new) }
+    ensures front { OnErr result (IsFedFront (GoesOn library (plain world.old 0) budget) (ahead reader.old (S.left input.old)) (K.written out.old) (K.written out.new)) }
+    ensures grows { OnErr result (OnlyGrows (K.written out.old) (K.written out.new)) }
+    ensures input { HasCause (S.faults input.old) (S.faults input.new) (is_input_fault result) }
+    ensures output { HasCause (K.faults out.old) (K.faults out.new) (is_output_fault result) }
+    ensures limit { IsErrOf result FeedFault.Limit → IfSome (ahead reader.old (S.left input.old)) (λ text. PassLimits reader.old.taken (lines_of text)) }
+    ensures order { InOrder world.new }
+{
+    let Some(line) = reader.next_line(input)? else {
+        return Ok(Close::Suspended);
+    };
+    hand_line(world, line.as_slice())?;
+    feed(world, budget, reader, input, out)
 }
 
 /// How the end of a turn closes a run, unless it is a yield.

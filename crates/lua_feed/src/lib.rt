@@ -8,5 +8,5 @@ mod script;
 mod writing;
 
 pub use fault::FeedFault;
-pub use feeding::{Close, feed};
+pub use feeding::{Close, feed, feed_on};
 pub use script::{run_code, start};

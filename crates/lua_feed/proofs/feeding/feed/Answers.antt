@@ -9,12 +9,12 @@ use Rattle.lua_stack.proofs.Called.{on_err}
 use Rattle.machine_core.specs.Moves.{Ending, main_yielded}
 use Rattle.machine_moves.specs.Ending.{ending_of}
 use Rattle.machine_runs.specs.Opening.{handed_line}
-use Rattle.machine_runs.specs.Runs.{turn_text}
+use Rattle.machine_runs.specs.Runs.{Close, turn_text}
 use Rattle.machine_step.specs.Step.{library}
 use Rattle.lua_feed.specs.Faults.{fault_of_line, is_input_fault, is_output_fault}
-use Rattle.lua_feed.specs.Feeding.{IsFed}
+use Rattle.lua_feed.specs.Feeding.{Does, IsFedTo}
 use Rattle.lua_feed.proofs.Causes.{cause_since, line_input, line_limit, line_no_output, no_input, no_limit, same_output, unfailed, untouched}
-use Rattle.lua_feed.proofs.Closing.{yields, last}
+use Rattle.lua_feed.proofs.Closing.{yields, last, ended_otherwise}
 use Rattle.lua_feed.proofs.Fed.{fed_none, fed_on, fed_last, fed_suspended, fed_front, fed_limit, front_written, only_grown, only_twice}
 use Rattle.lua_feed.proofs.feeding.feed.Goals as goal
 
@@ -69,7 +69,7 @@ returns-in-Some-clause-fed g c =
     let before = g.K.Sink.written c.args.out.now in
     let text = ahead c.args.reader.now (g.S.Source.left c.args.input.now) in
     let l = last e c.in-Some.close (sym c.close_at.ensures ∙ c.in-Some.is) in
-    subst (IsFed library (plain c.args.world.now 0) c.args.budget text before (g.K.Sink.written c.write_turn.new.out)) l.close
+    subst (λ (k : Close). IsFedTo (Does library (plain c.args.world.now 0) c.args.budget) text before (g.K.Sink.written c.write_turn.new.out) k c.write_turn.new.world) l.close
     (fed_last library c.args.budget c.args.world.now text before c.args.reader.now.taken c.turns.world c.write_turn.new.world (ahead c.turns.reader (g.S.Source.left c.turns.input))
     (g.K.Sink.written c.turns.out) (g.K.Sink.written c.write_turn.new.out) c.turns.reader.taken e c.turns.invariant.so_far c.in_ok-ending.ensures.turns l.last c.in_ok-ending.ensures.written)
 
@@ -210,3 +210,13 @@ turns-preserved g c =
       read = unread ∙ c.turns.invariant.read;
       wrote = wrote ∙ c.turns.invariant.wrote;
     }
+
+-- what waits for a line
+
+pub returns-in-Some-clause-waits : goal.returns-in-Some-clause-waits
+returns-in-Some-clause-waits g c = λ suspended. absurd (ended_otherwise (ending_of c.in_ok-ending.ending) c.in-Some.close (sym c.close_at.ensures ∙ c.in-Some.is) suspended)
+
+pub returns-in_default-2-clause-waits : goal.returns-in_default-2-clause-waits
+returns-in_default-2-clause-waits g c = λ suspended.
+    let e = c.in_ok-ending.ensures in
+    e.waits (yields (ending_of c.in_ok-ending.ending) e.ends (sym c.close_at.ensures ∙ c.in_default.is))

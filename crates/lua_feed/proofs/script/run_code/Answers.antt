@@ -6,7 +6,7 @@ use Rattle.io_edge.specs.Lines.{ahead}
 use Rattle.lua_stack.proofs.Called.{on_err}
 use Rattle.lua_feed.specs.Closes.{close_of}
 use Rattle.lua_feed.specs.Faults.{is_input_fault, is_output_fault}
-use Rattle.lua_feed.specs.Feeding.{IsFed, IsFedFront}
+use Rattle.lua_feed.specs.Feeding.{Does, IsFed, IsFedFront}
 use Rattle.lua_feed.specs.Running.{started}
 use Rattle.lua_feed.proofs.Causes.{cause_since, same_input, same_output}
 use Rattle.lua_feed.proofs.Fed.{only_same}
@@ -16,7 +16,7 @@ use Rattle.lua_feed.proofs.script.run_code.Goals as goal
 pub returns-in_err-world-clause-front : goal.returns-in_err-world-clause-front
 returns-in_err-world-clause-front g c =
     on_err _ c.from_residual.result
-    (unfed_front library (started c.args.prelude c.args.code) c.args.budget (ahead c.args.reader.now (g.S.Source.left c.args.input.now)) (g.K.Sink.written c.args.out.now) _ refl)
+    (unfed_front (Does library (started c.args.prelude c.args.code) c.args.budget) (ahead c.args.reader.now (g.S.Source.left c.args.input.now)) (g.K.Sink.written c.args.out.now) _ refl)
 
 pub returns-in_err-world-clause-grows : goal.returns-in_err-world-clause-grows
 returns-in_err-world-clause-grows g c = on_err _ c.from_residual.result (only_same (g.K.Sink.written c.args.out.now) _ refl)
@@ -24,7 +24,7 @@ returns-in_err-world-clause-grows g c = on_err _ c.from_residual.result (only_sa
 pub returns-in_err-close-clause-front : goal.returns-in_err-close-clause-front
 returns-in_err-close-clause-front g c =
     on_err _ c.from_residual-in_err-close.result
-    (subst (λ (W : World). IsFedFront library W c.args.budget (ahead c.args.reader.now (g.S.Source.left c.args.input.now)) (g.K.Sink.written c.args.out.now) (g.K.Sink.written c.feed.new.out))
+    (subst (λ (W : World). IsFedFront (Does library W c.args.budget) (ahead c.args.reader.now (g.S.Source.left c.args.input.now)) (g.K.Sink.written c.args.out.now) (g.K.Sink.written c.feed.new.out))
     c.in_ok-world.ensures.begun c.in_err-close.ensures.front)
 
 pub returns-in_err-close-clause-grows : goal.returns-in_err-close-clause-grows
@@ -48,5 +48,5 @@ returns-in_err-close-clause-output g c =
 
 pub returns-clause-runs : goal.returns-clause-runs
 returns-clause-runs g c =
-    subst (λ (W : World). IsFed library W c.args.budget (ahead c.args.reader.now (g.S.Source.left c.args.input.now)) (g.K.Sink.written c.args.out.now) (g.K.Sink.written c.feed.new.out) (close_of c.in_ok-close.close))
-    c.in_ok-world.ensures.begun c.in_ok-close.ensures.fed
+    subst (λ (W : World). IsFed (Does library W c.args.budget) (ahead c.args.reader.now (g.S.Source.left c.args.input.now)) (g.K.Sink.written c.args.out.now) (g.K.Sink.written c.feed.new.out) (close_of c.in_ok-close.close))
+    c.in_ok-world.ensures.begun c.in_ok-close.ensures.fed.fed
