@@ -5,7 +5,7 @@ use Rattle.std.specs.Prelude.{is_err}
 use Rattle.io_edge.specs.declared.fault.Failed.{Failed}
 use Rattle.io_edge.specs.Causes.{HasCause}
 use Rattle.io_edge.specs.Content.{FileMap}
-use Rattle.program.specs.Words.{Command}
+use Rattle.command_words.specs.Words.{Command}
 use Rattle.program.specs.declared.fault.Fault.{Fault}
 use Rattle.program.specs.Report.{FitsFor, none, of_fault, is_quiet, IsReported, status_of_fault, line_of_fault}
 

@@ -1,4 +1,3 @@
-pub mod Words
 pub mod Devices
 pub mod Checking
 pub mod Compiling

@@ -1,7 +1,7 @@
 -- What the program does with its words, its files, its input and what it writes.
 use Rattle.std.specs.Prelude.{◌≡◌, ℕ, List, Option, Some, None}
 use Rattle.io_edge.specs.Content.{FileMap}
-use Rattle.program.specs.Words.{Command, run, check, compile}
+use Rattle.command_words.specs.Words.{Command, run, check, compile}
 use Rattle.program.specs.Devices.{Device, IsUntouched}
 use Rattle.program.specs.Running.{IsRun}
 use Rattle.program.specs.Checking.{IsCheck}

@@ -12,7 +12,7 @@ use Rattle.compile_text.specs.declared.fault.TextFault.TheVariants as text
 use Rattle.compile_chunk.specs.Chunk.{script_in}
 use Rattle.program.specs.declared.fault.Fault.{Fault}
 use Rattle.program.specs.declared.fault.Fault.TheVariants as fault
-use Rattle.program.specs.Words.{Command, run, check, compile}
+use Rattle.command_words.specs.Words.{Command, run, check, compile}
 use Rattle.program.specs.Devices.{Device, RoseIn, Holds}
 use Rattle.program.specs.Checking.{begins_chunk}
 

@@ -1,16 +1,17 @@
 // The program over its devices.
-ghost use Rattle.std.specs.Prelude.{◌≡◌, IfErr, IfOk, map, string_bytes, true};
+ghost use Rattle.std.specs.Prelude.{◌≡◌, Option, Some, IfErr, IfOk, map, string_bytes, true};
+ghost use Rattle.command_words.specs.Kept.{asked};
+ghost use Rattle.command_words.specs.Words.{AreShort, Command as Asked, IsAsked};
 ghost use Rattle.program.specs.Faults.{status_of};
 ghost use Rattle.program.specs.Program.{IsCall, IsUnread};
 ghost use Rattle.program.specs.Report.{FitsFor, IsReported, is_quiet};
-ghost use Rattle.program.specs.Words.{command_of};
 
 use crate::checking::check_file;
 use crate::compiling::compile_file;
 use crate::fault::Fault;
 use crate::reporting::report;
 use crate::running::run_file;
-use crate::words::{Command, read_words};
+use command_words::{Command, read_words};
 use io_edge::{Files, Sink, Source};
 use std::alloc::Global;
 
@@ -28,9 +29,9 @@ pub fn luaris<F: Files, S: Source, K: Sink, E: Sink>(
     out: &mut K,
     err: &mut E,
 ) -> u8
-    ensures call { IsCall (command_of (map string_bytes words.now)) (record { faults = F.faults files.old; faults' = F.faults files.new; content = F.held files.old; content' = F.held files.new }) (record { faults = S.faults input.old; faults' = S.faults input.new; content = S.left input.old; content' = S.left input.new }) (record { faults = K.faults out.old; faults' = K.faults out.new; content = K.written out.old; content' = K.written out.new }) result }
-    ensures reports { IsReported (command_of (map string_bytes words.now)) (F.held files.old) (record { faults = E.faults err.old; faults' = E.faults err.new; content = E.written err.old; content' = E.written err.new }) result }
-    ensures unread { IsUnread (command_of (map string_bytes words.now)) input.old input.new }
+    ensures call { (command : Option Asked) → IsAsked (map string_bytes words.now) command → IsCall command (record { faults = F.faults files.old; faults' = F.faults files.new; content = F.held files.old; content' = F.held files.new }) (record { faults = S.faults input.old; faults' = S.faults input.new; content = S.left input.old; content' = S.left input.new }) (record { faults = K.faults out.old; faults' = K.faults out.new; content = K.written out.old; content' = K.written out.new }) result }
+    ensures reports { (command : Option Asked) → IsAsked (map string_bytes words.now) command → IsReported command (F.held files.old) (record { faults = E.faults err.old; faults' = E.faults err.new; content = E.written err.old; content' = E.written err.new }) result }
+    ensures unread { (command : Option Asked) → IsAsked (map string_bytes words.now) command → IsUnread command input.old input.new }
 {
     match perform(alloc, words, files, input, out) {
         Ok(status) => status,
@@ -49,14 +50,31 @@ fn perform<F: Files, S: Source, K: Sink>(
     input: &mut S,
     out: &mut K,
 ) -> Result<u8, Fault>
-    ensures call { IsCall (command_of (map string_bytes words.now)) (record { faults = F.faults files.old; faults' = F.faults files.new; content = F.held files.old; content' = F.held files.new }) (record { faults = S.faults input.old; faults' = S.faults input.new; content = S.left input.old; content' = S.left input.new }) (record { faults = K.faults out.old; faults' = K.faults out.new; content = K.written out.old; content' = K.written out.new }) (status_of result) }
-    ensures fits { IfErr result (λ fault. FitsFor (command_of (map string_bytes words.now)) (F.held files.old) fault) }
+    ensures call { (command : Option Asked) → IsAsked (map string_bytes words.now) command → IsCall command (record { faults = F.faults files.old; faults' = F.faults files.new; content = F.held files.old; content' = F.held files.new }) (record { faults = S.faults input.old; faults' = S.faults input.new; content = S.left input.old; content' = S.left input.new }) (record { faults = K.faults out.old; faults' = K.faults out.new; content = K.written out.old; content' = K.written out.new }) (status_of result) }
+    ensures fits { (command : Option Asked) → IsAsked (map string_bytes words.now) command → IfErr result (λ fault. FitsFor command (F.held files.old) fault) }
     ensures quiet { IfOk result (λ status. is_quiet status ≡ true) }
-    ensures unread { IsUnread (command_of (map string_bytes words.now)) input.old input.new }
+    ensures unread { (command : Option Asked) → IsAsked (map string_bytes words.now) command → IsUnread command input.old input.new }
 {
     let Some(command) = read_words(words) else {
         return Err(Fault::Words);
     };
+    carry_out(alloc, command, files, input, out)
+}
+
+/// Does a command, and answers a status that has no line on standard error.
+fn carry_out<F: Files, S: Source, K: Sink>(
+    alloc: Global,
+    command: Command<'_>,
+    files: &mut F,
+    input: &mut S,
+    out: &mut K,
+) -> Result<u8, Fault>
+    requires { AreShort (asked command) }
+    ensures call { IsCall (Some (asked command.entry)) (record { faults = F.faults files.old; faults' = F.faults files.new; content = F.held files.old; content' = F.held files.new }) (record { faults = S.faults input.old; faults' = S.faults input.new; content = S.left input.old; content' = S.left input.new }) (record { faults = K.faults out.old; faults' = K.faults out.new; content = K.written out.old; content' = K.written out.new }) (status_of result) }
+    ensures fits { IfErr result (λ fault. FitsFor (Some (asked command.entry)) (F.held files.old) fault) }
+    ensures quiet { IfOk result (λ status. is_quiet status ≡ true) }
+    ensures unread { IsUnread (Some (asked command.entry)) input.old input.new }
+{
     match command {
         Command::Run { file, budget } => run_file(alloc, file, budget, files, input, out),
         Command::Check { file } => {

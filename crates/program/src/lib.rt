@@ -7,7 +7,6 @@ mod compiling;
 mod fault;
 mod reporting;
 mod running;
-mod words;
 
 pub use call::luaris;
 pub use fault::Fault;

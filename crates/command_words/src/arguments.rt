@@ -1,9 +1,10 @@
-// The words that the program is called with.
-ghost use Rattle.std.specs.Prelude.{◌≡◌, IfSome, false, map, string_bytes};
+// The files and options that stand behind the name of a command.
+ghost use Rattle.std.specs.Prelude.{◌≡◌, ◌≢◌, ◌++◌, ℕ, List, IfSome, MatchOption, false, map, string_bytes};
 ghost use Rattle.std.specs.Option.{option_map};
-ghost use Rattle.program.specs.Words.{IsShort, all_digits, arguments_of, asked, budget_in, command_of, complete, is_short, no_arguments, positive, to_check, to_compile, to_run, with_any, with_budget, with_file, with_strip, with_word, after};
+ghost use Rattle.command_words.specs.Kept.{arguments_of, asked};
+ghost use Rattle.command_words.specs.Reading.{after, all_digits, begins_option, budget_in, complete, is_short, no_arguments, to_check, to_compile, to_run, value_behind, with_any, with_budget, with_file, with_other, with_strip, with_word};
 
-use int_core::read_integer;
+use crate::command::Command;
 
 /// The greatest number of bytes in a file's name.
 const MAX_FILE_NAME: usize = 65_536;
@@ -13,32 +14,6 @@ const MAX_BUDGET_DIGITS: usize = 15;
 
 /// How many calls and jumps back a turn may do where the words do not say.
 const DEFAULT_BUDGET: u64 = 10_000_000;
-
-/// What words ask for.
-#[derive(Clone, Copy, Debug, PartialEq, Eq)]
-pub enum Command<'a> {
-    /// To run the script or the chunk in a file.
-    Run {
-        /// The file.
-        file: &'a str,
-        /// How many calls and jumps back each turn may do.
-        budget: u64,
-    },
-    /// To check the chunk in a file.
-    Check {
-        /// The file.
-        file: &'a str,
-    },
-    /// To compile a script into a chunk.
-    Compile {
-        /// The file with the script.
-        script: &'a str,
-        /// The file that the chunk is put into.
-        chunk: &'a str,
-        /// Whether lines and names are left out.
-        strip: bool,
-    },
-}
 
 /// The files that words name.
 #[derive(Clone, Copy)]
@@ -68,34 +43,20 @@ pub struct Arguments<'a> {
     next: Next,
 }
 
-/// What words ask for, unless they are wrong.
-pub fn read_words(words: &[String]) -> Option<Command<'_>>
-    ensures asks { option_map asked result ≡ command_of (map string_bytes words.now) }
-    ensures short { IfSome result (λ command. IsShort (asked command)) }
-{
-    let (word, rest) = words.split_first()?;
-    let arguments = arguments_after(Arguments::new(), rest)?;
-    match word.as_str() {
-        "run" => arguments.to_run(),
-        "check" => arguments.to_check(),
-        "compile" => arguments.to_compile(),
-        _ => None,
-    }
-}
-
-/// The files and options that words name behind those that came before.
-fn arguments_after<'a>(arguments: Arguments<'a>, words: &'a [String]) -> Option<Arguments<'a>>
-    ensures { option_map arguments_of result ≡ after (arguments_of arguments.entry) (map string_bytes words.now) }
-{
-    match words {
-        [] => arguments.complete(),
-        [word, rest @ ..] => arguments_after(arguments.with(word.as_str())?, rest),
-    }
-}
-
 impl<'a> Arguments<'a> {
-    /// Nothing is named yet.
-    fn new() -> Arguments<'a>
+    /// The files and options that all the words name, unless one is wrong.
+    pub(crate) fn read(words: &'a [String]) -> Option<Arguments<'a>>
+        ensures { option_map arguments_of result ≡ after no_arguments (map string_bytes words.now) }
+    {
+        let mut arguments = Arguments::before(words);
+        for word in words {
+            arguments = arguments.with(word.as_str())?;
+        }
+        arguments.complete()
+    }
+
+    /// Nothing of the words is named yet. They are taken for their lifetime alone.
+    fn before(_words: &'a [String]) -> Arguments<'a>
         ensures { arguments_of result ≡ no_arguments }
     {
         Arguments {
@@ -112,7 +73,7 @@ impl<'a> Arguments<'a> {
     {
         match self.next {
             Next::Any => self.with_any(word),
-            Next::Budget => self.with_budget(word.as_bytes()),
+            Next::Budget => self.with_budget(word),
             Next::File => self.with_file(word),
         }
     }
@@ -124,12 +85,21 @@ impl<'a> Arguments<'a> {
             "--" => Some(self.expecting(Next::File)),
             "--budget" => Some(self.expecting(Next::Budget)),
             "--strip" => self.with_strip(),
-            _ if word.as_bytes().starts_with(b"--budget=") => self.with_budget(
-                &word.as_bytes()[9..],
-            ),
-            _ if word.as_bytes().starts_with(b"-") => None,
-            _ => self.with_file(word),
+            _ => self.with_other(word),
         }
+    }
+
+    /// The same and what a word names that is no option of its own.
+    fn with_other(self, word: &'a str) -> Option<Arguments<'a>>
+        ensures { option_map arguments_of result ≡ with_other word.now (arguments_of self.entry) }
+    {
+        if let Some(digits) = value_behind(word, "--budget=") {
+            return self.with_budget(digits);
+        }
+        if begins_option(word.as_bytes()) {
+            return None;
+        }
+        self.with_file(word)
     }
 
     fn expecting(self, next: Next) -> Arguments<'a>
@@ -159,7 +129,7 @@ impl<'a> Arguments<'a> {
         })
     }
 
-    fn with_budget(self, digits: &[u8]) -> Option<Arguments<'a>>
+    fn with_budget(self, digits: &str) -> Option<Arguments<'a>>
         ensures { option_map arguments_of result ≡ with_budget (budget_in digits.now) (arguments_of self.entry) }
     {
         let budget = budget_in(digits)?;
@@ -198,9 +168,8 @@ impl<'a> Arguments<'a> {
         }
     }
 
-    fn to_run(self) -> Option<Command<'a>>
-        ensures asks { option_map asked result ≡ to_run (arguments_of self.entry) }
-        ensures short { IfSome result (λ command. IsShort (asked command)) }
+    pub(crate) fn to_run(self) -> Option<Command<'a>>
+        ensures { option_map asked result ≡ to_run (arguments_of self.entry) }
     {
         match self.files {
             Files::One(file) if !self.strip && is_short(file) => Some(Command::Run {
@@ -211,9 +180,8 @@ impl<'a> Arguments<'a> {
         }
     }
 
-    fn to_check(self) -> Option<Command<'a>>
-        ensures asks { option_map asked result ≡ to_check (arguments_of self.entry) }
-        ensures short { IfSome result (λ command. IsShort (asked command)) }
+    pub(crate) fn to_check(self) -> Option<Command<'a>>
+        ensures { option_map asked result ≡ to_check (arguments_of self.entry) }
     {
         match (self.files, self.budget) {
             (Files::One(file), None) if !self.strip && is_short(file) => {
@@ -223,9 +191,8 @@ impl<'a> Arguments<'a> {
         }
     }
 
-    fn to_compile(self) -> Option<Command<'a>>
-        ensures asks { option_map asked result ≡ to_compile (arguments_of self.entry) }
-        ensures short { IfSome result (λ command. IsShort (asked command)) }
+    pub(crate) fn to_compile(self) -> Option<Command<'a>>
+        ensures { option_map asked result ≡ to_compile (arguments_of self.entry) }
     {
         match (self.files, self.budget) {
             (Files::Two(script, chunk), None) if is_short(script) && is_short(chunk) => {
@@ -240,6 +207,23 @@ impl<'a> Arguments<'a> {
     }
 }
 
+/// What stands behind an option and its `=` in a word.
+fn value_behind<'a>(word: &'a str, option: &str) -> Option<&'a str>
+    ensures { option_map (λ value. value.now) result ≡ value_behind option.now word.now }
+{
+    word.strip_prefix(option)
+}
+
+/// Whether the word is an option where it stands before `--`.
+fn begins_option(word: &[u8]) -> bool
+    ensures { result ≡ begins_option word.now }
+{
+    match word {
+        [first, ..] => *first == b'-',
+        [] => false,
+    }
+}
+
 /// Whether a file's name is short enough.
 fn is_short(file: &str) -> bool
     ensures { result ≡ is_short file.now }
@@ -248,27 +232,20 @@ fn is_short(file: &str) -> bool
 }
 
 /// The budget that one to fifteen digits spell.
-fn budget_in(digits: &[u8]) -> Option<u64>
+fn budget_in(digits: &str) -> Option<u64>
     ensures { result ≡ budget_in digits.now }
 {
-    if digits.len() > MAX_BUDGET_DIGITS || !all_digits(digits) {
+    if digits.len() > MAX_BUDGET_DIGITS || !all_digits(digits.as_bytes()) {
         return None;
     }
-    positive(read_integer(digits)?)
+    match digits.parse::<u64>() {
+        Ok(budget) if budget > 0 => Some(budget),
+        _ => None,
+    }
 }
 
 fn all_digits(text: &[u8]) -> bool
     ensures { result ≡ all_digits text.now }
 {
     text.iter().all(|byte| byte.is_ascii_digit())
-}
-
-fn positive(number: i64) -> Option<u64>
-    ensures { result ≡ positive number }
-{
-    if number > 0 {
-        Some(number.unsigned_abs())
-    } else {
-        None
-    }
 }

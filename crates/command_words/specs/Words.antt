@@ -1,0 +1,69 @@
+-- What the words behind the program's name ask for. Options stand before or after the files, each once at most, and behind `--` every word is a file (POSIX, Utility Syntax Guidelines).
+use Rattle.std.specs.Prelude.{◌≡◌, ◌≢◌, ℕ, ◌^◌, ◌<◌, ◌≤◌, List, [], ◌∷◌, ◌++◌, length, Bool, true, false, Option, Some, None, codes}
+use Rattle.std.proofs.Common.{zero, suc}
+use Rattle.std.specs.Str.Parse.{IsNumeral, digits_value}
+
+-- To run the script or the chunk in a file, each turn with a budget; to check the chunk in a file; to compile the script in a file into a chunk in
+-- another one, with lines and names or without.
+pub data Command : Type 0 where
+  run : (file : List ℕ) (budget : ℕ) → Command
+  check : (file : List ℕ) → Command
+  compile : (script chunk : List ℕ) (strip : Bool) → Command
+
+-- the word is a file where it stands before `--`
+abbrev pub IsPlain : List ℕ → Type 0
+IsPlain word = (rest : List ℕ) → word ≢ 45 ∷ rest
+
+-- the words name these files in this order, these budgets, and `--strip` so often
+pub data Names : (words files budgets : List (List ℕ)) (strips : ℕ) → Type 0 where
+  nothing : Names [] [] [] zero
+  only_files : (files : List (List ℕ)) → Names (codes "--" ∷ files) files [] zero
+  a_file : (word : List ℕ) {words files budgets : List (List ℕ)} {strips : ℕ} → IsPlain word → Names words files budgets strips → Names (word ∷ words) (word ∷ files) budgets strips
+  a_budget : (digits : List ℕ) {words files budgets : List (List ℕ)} {strips : ℕ} → Names words files budgets strips → Names (codes "--budget" ∷ digits ∷ words) files (digits ∷ budgets) strips
+  joined_budget : (digits : List ℕ) {words files budgets : List (List ℕ)} {strips : ℕ} → Names words files budgets strips
+      → Names ((codes "--budget=" ++ digits) ∷ words) files (digits ∷ budgets) strips
+  a_strip : {words files budgets : List (List ℕ)} {strips : ℕ} → Names words files budgets strips → Names (codes "--strip" ∷ words) files budgets (suc strips)
+
+-- one to fifteen digits of a number from 1 on
+pub record IsBudget (text : List ℕ) (budget : ℕ) : Type 0 where
+  pub short : length text ≤ 15
+  pub digits : IsNumeral 10 text
+  pub value : budget ≡ digits_value 10 text
+  pub positive : 0 < budget
+
+-- the budget that is named, or where none is 10,000,000
+pub data BudgetOf : List (List ℕ) → ℕ → Type 0 where
+  default_budget : BudgetOf [] 10000000
+  named_budget : (digits : List ℕ) (budget : ℕ) → IsBudget digits budget → BudgetOf (digits ∷ []) budget
+
+-- whether it is named that lines and names are left out
+pub data StripOf : ℕ → Bool → Type 0 where
+  kept : StripOf zero false
+  stripped : StripOf (suc zero) true
+
+-- a file's name has at most 65,536 bytes
+abbrev pub IsShortName : List ℕ → Type 0
+IsShortName file = length file ≤ 2 ^ 16
+
+-- the words ask for the command
+pub data IsCommand : (words : List (List ℕ)) → Command → Type 0 where
+  runs : (words budgets : List (List ℕ)) (file : List ℕ) (budget : ℕ) → Names words (file ∷ []) budgets zero → IsShortName file → BudgetOf budgets budget
+      → IsCommand (codes "run" ∷ words) (run file budget)
+  checks : (words : List (List ℕ)) (file : List ℕ) → Names words (file ∷ []) [] zero → IsShortName file → IsCommand (codes "check" ∷ words) (check file)
+  compiles : (words : List (List ℕ)) (script chunk : List ℕ) (strips : ℕ) (strip : Bool) → Names words (script ∷ chunk ∷ []) [] strips → IsShortName script → IsShortName chunk → StripOf strips strip
+      → IsCommand (codes "compile" ∷ words) (compile script chunk strip)
+
+-- a command's files have short names
+abbrev pub AreShort : Command → Type 0
+AreShort (run file budget) = IsShortName file
+AreShort (check file) = IsShortName file
+AreShort (compile script chunk strip) = IsShortName script × IsShortName chunk
+
+-- the words ask for no command
+abbrev pub AreWrong : List (List ℕ) → Type 0
+AreWrong words = (command : Command) → IsCommand words command → ⊥
+
+-- what the words ask for; None for wrong words
+abbrev pub IsAsked : (words : List (List ℕ)) → Option Command → Type 0
+IsAsked words (Some command) = IsCommand words command
+IsAsked words None = AreWrong words

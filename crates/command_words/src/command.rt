@@ -1,0 +1,57 @@
+// The commands, and the words that ask for each.
+ghost use Rattle.std.specs.Prelude.{◌≡◌, IfSome, None, map, string_bytes};
+ghost use Rattle.std.specs.Option.{option_map};
+ghost use Rattle.command_words.specs.Kept.{asked};
+ghost use Rattle.command_words.specs.Reading.{command_of};
+ghost use Rattle.command_words.specs.Words.{AreShort, AreWrong, IsCommand};
+
+use crate::arguments::Arguments;
+
+/// What words ask for. Each file's name has at most 65,536 bytes.
+#[derive(Clone, Copy, Debug, PartialEq, Eq)]
+pub enum Command<'a> {
+    /// To run the script or the chunk in a file.
+    Run {
+        /// The file.
+        file: &'a str,
+        /// How many calls and jumps back each turn may do.
+        budget: u64,
+    },
+    /// To check the chunk in a file.
+    Check {
+        /// The file.
+        file: &'a str,
+    },
+    /// To compile a script into a chunk.
+    Compile {
+        /// The file with the script.
+        script: &'a str,
+        /// The file that the chunk is put into.
+        chunk: &'a str,
+        /// Whether lines and names are left out.
+        strip: bool,
+    },
+}
+
+/// What words ask for, unless they are wrong. The first word names the command: `run FILE [--budget N]`, `check FILE` or `compile FILE OUT [--strip]`.
+/// Options stand before or after the files, each once at most; behind `--` every word is a file.
+pub fn read_words(words: &[String]) -> Option<Command<'_>>
+    ensures command { IfSome result (λ command. IsCommand (map string_bytes words.now) (asked command)) }
+    ensures wrong { result ≡ None → AreWrong (map string_bytes words.now) }
+    ensures short { IfSome result (λ command. AreShort (asked command)) }
+{
+    command_in(words)
+}
+
+fn command_in(words: &[String]) -> Option<Command<'_>>
+    ensures { option_map asked result ≡ command_of (map string_bytes words.now) }
+{
+    let (name, rest) = words.split_first()?;
+    let arguments = Arguments::read(rest)?;
+    match name.as_str() {
+        "run" => arguments.to_run(),
+        "check" => arguments.to_check(),
+        "compile" => arguments.to_compile(),
+        _ => None,
+    }
+}
