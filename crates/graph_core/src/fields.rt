@@ -109,8 +109,8 @@ impl Walk<'_> {
     }
 }
 
-/// A metatable as a value.
-fn metatable_of(metatable: Option<TableId>) -> Value
+/// A metatable as a value: nil where there is none.
+pub fn metatable_of(metatable: Option<TableId>) -> Value
     ensures { (texts : List (List ℕ)) → read texts result ≡ metatable_value (option_map (λ id. id.0) metatable) }
 {
     match metatable {

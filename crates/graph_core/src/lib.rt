@@ -9,6 +9,7 @@ mod object;
 mod permanents;
 mod walk;
 
+pub use fields::metatable_of;
 pub use numbering::{Numbering, reach};
 pub use object::{Object, Sort};
 pub use permanents::{Permanent, PermanentKey, PermanentSort, Permanents};

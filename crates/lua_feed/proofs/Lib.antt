@@ -2,6 +2,6 @@ mod Causes
 mod Closing
 mod Fed
 mod Runs
-mod Starting
+pub mod Starting
 mod Texts
 mod Onward

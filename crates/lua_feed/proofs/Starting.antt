@@ -50,7 +50,7 @@ codes_checked (f ∷ fs) (more own inner rest) h =
 short_names : IsTrue (list_all is_short prelude_functions)
 short_names = refl
 
-prelude_ok : (p : Prototype) → IsChecked p → PreludeOk (prelude_of (list_of p.inner))
+pub prelude_ok : (p : Prototype) → IsChecked p → PreludeOk (prelude_of (list_of p.inner))
 prelude_ok p h = record { names = names_fit prelude_functions (list_of p.inner) short_names; codes = codes_checked prelude_functions p.inner h.inner }
 
 -- worlds
@@ -68,10 +68,10 @@ pub record IsOpened (prelude : Prototype) (W : Memory) : Type 0 where
 pub opened : (prelude : Prototype) (W : Memory) → ((fuel : ℕ) → plain W fuel ≡ record (opening (prelude_of (list_of prelude.inner))) { fuel = fuel }) → AreCodes W.strings W.codes → CellsAreListed W → IsOpened prelude W
 opened prelude W e codes listed = record { is = e 0 ∙ no_budget (prelude_of (list_of prelude.inner)); codes = codes; listed = listed }
 
-opened_sound : OpeningIsSound → (prelude : Prototype) (W : Memory) → IsChecked prelude → IsOpened prelude W → Sound (length all_entries) (plain W 0)
+pub opened_sound : OpeningIsSound → (prelude : Prototype) (W : Memory) → IsChecked prelude → IsOpened prelude W → Sound (length all_entries) (plain W 0)
 opened_sound law prelude W h o = subst (Sound (length all_entries)) (sym o.is) (law (prelude_of (list_of prelude.inner)) (prelude_ok prelude h))
 
-opened_idle : OpeningIsIdle → (prelude : Prototype) (W : Memory) → IsOpened prelude W → (plain W 0).chain ≡ []
+pub opened_idle : OpeningIsIdle → (prelude : Prototype) (W : Memory) → IsOpened prelude W → (plain W 0).chain ≡ []
 opened_idle law prelude W o = ap (λ (V : World). V.chain) o.is ∙ law (prelude_of (list_of prelude.inner))
 
 pub is_sound : OpeningIsSound → (prelude : Prototype) (W : Memory) → IsChecked prelude → IsOpened prelude W → IsSound W

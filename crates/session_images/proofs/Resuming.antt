@@ -174,7 +174,7 @@ module _ (prelude : List (Entry Prototype)) (library : IsLibrary prelude) (W : W
   new_objects a_coroutine n k = refl
 
 -- no coroutine runs or resumed another where the chain is empty
-idle_apart : (primitives : ℕ) (W : World) → Solid primitives W → W.chain ≡ [] → (co : ℕ) (c : Coroutine) → slice_get W.coroutines co ≡ Some c → standing c ≡ apart
+pub idle_apart : (primitives : ℕ) (W : World) → Solid primitives W → W.chain ≡ [] → (co : ℕ) (c : Coroutine) → slice_get W.coroutines co ≡ Some c → standing c ≡ apart
 idle_apart primitives W s idle co c e = by (standing c) (get_map standing W.coroutines co c e)
   where
     none : (i : ℕ) → slice_get W.chain i ≡ Some co → ⊥
@@ -185,7 +185,7 @@ idle_apart primitives W s idle co c e = by (standing c) (get_map standing W.coro
     by resumed_another k = let i = s.chain.normal_in co k in absurd (none i.0 i.1)
     by apart k = refl
 
-roots_valid : (primitives : ℕ) (W : World) → Solid primitives W → Each (Valid (sizes primitives W)) (session_roots W)
+pub roots_valid : (primitives : ℕ) (W : World) → Solid primitives W → Each (Valid (sizes primitives W)) (session_roots W)
 roots_valid primitives W s zero v e = by W.main s.roots.main e
   where
     by : (m : Option ℕ) → OptionOk (λ co. co < length W.coroutines) m → Some (main_value m) ≡ Some v → Valid (sizes primitives W) v
