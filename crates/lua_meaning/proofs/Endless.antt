@@ -14,7 +14,7 @@ use Rattle.lua_meaning.specs.World.{Function, Asker, Frame, talking, waiting, ra
 use Rattle.lua_meaning.specs.Calls.{raised_to, text, truth}
 use Rattle.lua_meaning.specs.Step.{ticks}
 use Rattle.lua_meaning.specs.Meaning.{begun}
-use Rattle.lua_meaning.specs.Libraries.{primitive_values, constant_values, library_table, environment, environment_table, globals_table}
+use Rattle.lua_meaning.specs.Libraries.{primitive_values, constant_values, library_table, environment_table, globals_table}
 use Rattle.lua_meaning.specs.Opening.{prelude_function, primitives}
 use Rattle.lua_meaning.specs.TreeMeaning.{trees, outer_of, tree_opening}
 use Rattle.tree_terms.proofs.Forms.{of_local, loc, outer, global, int, bin, call, block, returning, does, fun}

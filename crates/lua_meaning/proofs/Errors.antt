@@ -8,7 +8,7 @@ use Rattle.std.specs.Prelude.{codes, option_map}
 use Rattle.int_core.specs.Heap.{raw_set}
 use Rattle.tree_core.specs.declared.operator.BinOp.TheVariants.{Add, Concat, Idiv, Lt, Eq}
 use Rattle.tree_core.specs.declared.name.Place.TheVariants.{Local as LocalPlace}
-use Rattle.tree_core.specs.Tree.{Body, Stat, Exp, Nil, True, False, Call, Table, Unary, Index, Do, While, Repeat, GenFor, Label, Goto, Break, Keyed, exps, fields}
+use Rattle.tree_core.specs.Tree.{Body, Stat, Exp, Nil, True, False, Call, Table, Do, While, Repeat, GenFor, Label, Goto, Break, Keyed, exps, fields}
 use Rattle.tree_activation.specs.Work.{when_captured}
 use Rattle.library_rows.specs.Look.{put_metatable}
 use Rattle.lua_meaning.specs.TreeMeaning.{tree_meaning}

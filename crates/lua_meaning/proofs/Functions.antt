@@ -5,8 +5,8 @@ use Rattle.std.specs.Fmt.{digits}
 use Rattle.int_core.specs.Heap.{raw_set}
 use Rattle.tree_core.specs.declared.operator.BinOp.TheVariants.{Add, Sub, Mul, Mod, Idiv, Band, Bor, Bxor, Shl, Shr, Concat, Lt, Le, Gt, Ge, Eq, Ne}
 use Rattle.tree_core.specs.declared.operator.UnOp.TheVariants.{Neg, BitNot, Not, Len}
-use Rattle.tree_core.specs.Tree.{Body, Stat, Exp, Nil, True, False, Table, Unary, And, Or, Paren, Index, Do, If, Item, Keyed, exps, fields, arms}
-use Rattle.tree_terms.proofs.Forms.{declared, closed, of_local, loc, outer, global, int, str, bin, call, field, function, block, returning, locals, loc_is, assigns, does, when, fun, vararg_fun}
+use Rattle.tree_core.specs.Tree.{Body, Stat, Exp, Nil, True, False, Table, Unary, And, Or, Paren, Index, If, Item, Keyed, fields, arms}
+use Rattle.tree_terms.proofs.Forms.{declared, of_local, loc, outer, global, int, str, bin, call, field, function, block, returning, locals, loc_is, assigns, does, fun, vararg_fun}
 use Rattle.lua_meaning.specs.Libraries.{primitive_values, constant_values, library_table, environment}
 use Rattle.lua_meaning.specs.Step.{row}
 use Rattle.lua_meaning.proofs.Scripts.{dots, method, assign, local_function, chunk, run, ran, prints, usual}

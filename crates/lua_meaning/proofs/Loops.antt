@@ -5,7 +5,7 @@ use Rattle.std.specs.Fmt.{digits}
 use Rattle.int_core.specs.Heap.{raw_set}
 use Rattle.tree_core.specs.declared.operator.BinOp.TheVariants.{Add, Mul, Mod, Lt, Ge, Eq}
 use Rattle.tree_core.specs.declared.operator.UnOp.TheVariants.{Neg, Len}
-use Rattle.tree_core.specs.Tree.{Body, Stat, Nil, True, Table, Unary, Index, Do, While, Repeat, If, IfElse, NumFor, NumForStep, GenFor, Label, Goto, Break, Item, Keyed, exps, fields, arms}
+use Rattle.tree_core.specs.Tree.{Body, Nil, True, Table, Unary, Index, Do, While, Repeat, If, IfElse, NumFor, NumForStep, GenFor, Label, Goto, Break, Keyed, exps, fields, arms}
 use Rattle.tree_core.specs.declared.name.Place.TheVariants.{Local as LocalPlace}
 use Rattle.tree_terms.proofs.Forms.{name, no_variable, declared, of_local, loc, outer, global, int, str, bin, call, function, block, returning, locals, loc_is, does, when, fun}
 use Rattle.lua_meaning.specs.Libraries.{primitive_values, constant_values, library_table, environment}

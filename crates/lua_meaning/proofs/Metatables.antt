@@ -1,7 +1,6 @@
 -- Handlers in metatables and the primitives on tables, by runs of scripts. What is expected is what the Lua 5.4 manual says.
 use Rattle.std.proofs.Common.{◌≡◌, List, [], ◌∷◌, refl}
 use Prim.Native.String.{String}
-use Rattle.std.specs.Prelude.{codes}
 use Rattle.std.specs.Int.{int_wrap}
 use Rattle.std.specs.Fmt.{digits}
 use Rattle.int_core.specs.Heap.{raw_set}

@@ -3,7 +3,6 @@ use Rattle.std.proofs.Common.{◌≡◌, ℕ, ◌+◌, ◌<◌, List, [], ◌∷
 use Rattle.std.specs.Prelude.{pos, cond, slice_get, slice_set}
 use Rattle.code_core.specs.Instruction.{a_of, b_of, c_of, k_of}
 use Rattle.code_core.specs.declared.instruction.Instruction.{Instruction}
-use Rattle.code_core.specs.declared.opcode.Opcode.{Opcode}
 use Rattle.code_core.specs.declared.opcode.Opcode.TheVariants.{GetUpval, SetUpval, GetTabUp, GetTable, GetI, GetField, SetTabUp, SetTable, SetI, SetField, Len}
 use Rattle.int_core.specs.Operations.{Operation, index, store, length', does, found, ask, fault, cannot_arise}
 use Rattle.int_core.specs.Value.{Value}
@@ -14,15 +13,15 @@ use Rattle.machine_core.specs.World.{Wait}
 use Rattle.machine_core.specs.Text.{Arg, read, args_of, operate, Text}
 use Rattle.machine_core.specs.InstructionRows.{to_register, next}
 use Rattle.machine_focus.specs.Focus.{Held, local}
-use Rattle.machine_view.specs.View.{Around, held, IsAt}
-use Rattle.machine_view.proofs.Places.{register_there, next_there}
+use Rattle.machine_view.specs.View.{Around, IsAt}
+use Rattle.machine_view.proofs.Places.{register_there}
 use Rattle.machine_view.proofs.Rows.{Comes, comes, reads, reads_constant}
 use Rattle.machine_view.proofs.Going.{at_next, goes_by, puts}
 use Rattle.table_core.specs.Table.{Contents}
 use Rattle.table_core.specs.declared.value.Value.{Value as Kept}
 use Rattle.table_core.specs.declared.value.Value.TheVariants.{Int}
 use Rattle.machine_arms_tables.specs.Fields.{Settles, upvalue_in, with_upvalue}
-use Rattle.machine_arms_tables.specs.Frame.{Code, Moment, moment, IsOf, Leads}
+use Rattle.machine_arms_tables.specs.Frame.{Code, moment, IsOf, Leads}
 use Rattle.machine_arms_tables.proofs.Leading.{held_at, leading, leading_to, open_alike, reads_either, reads_upvalue, writes_upvalue}
 
 -- texts that a contract sees are those of the world

@@ -1,8 +1,8 @@
 -- From what a row comes to on the frame that is held apart, to what its instruction does to the world.
-use Rattle.std.proofs.Common.{◌≡◌, ℕ, zero, suc, ◌+◌, ◌<◌, List, [], ◌∷◌, ◌++◌, length, map, Option, Some, None, refl, ap, sym, ◌∙◌, subst, arith, Bool, true, false}
-use Rattle.std.specs.Prelude.{pos, cond, slice_get, slice_set, IfSome, IfNone}
+use Rattle.std.proofs.Common.{◌≡◌, ℕ, zero, suc, ◌<◌, List, [], ◌∷◌, ◌++◌, length, map, Option, Some, None, refl, ap, sym, ◌∙◌, subst, Bool, true, false}
+use Rattle.std.specs.Prelude.{cond, slice_get, slice_set, IfSome, IfNone}
 use Rattle.std.proofs.lemmas.List.{map-set}
-use Rattle.code_core.specs.Instruction.{a_of, b_of, c_of, k_of}
+use Rattle.code_core.specs.Instruction.{c_of, k_of}
 use Rattle.code_core.specs.declared.instruction.Instruction.{Instruction}
 use Rattle.code_core.specs.declared.opcode.Opcode.{Opcode}
 use Rattle.int_core.specs.Value.{Value, Shape, shape, bind}

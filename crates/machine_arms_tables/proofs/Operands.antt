@@ -1,5 +1,5 @@
 -- The operand C of an instruction that takes a register or a constant is there.
-use Rattle.std.proofs.Common.{◌≡◌, ℕ, ◌<◌, List, length, ap, ◌∙◌, Option, Some, Bool, true, false}
+use Rattle.std.proofs.Common.{◌≡◌, ℕ, ◌<◌, List, length, ap, ◌∙◌, Some, Bool, true, false}
 use Rattle.std.specs.Prelude.{slice_get}
 use Rattle.code_core.specs.Check.{extra_at}
 use Rattle.code_core.specs.Fields.{registers, constants, Wanted}

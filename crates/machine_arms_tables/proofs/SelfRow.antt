@@ -1,5 +1,5 @@
 -- The row of SELF: the receiver goes to a register before the field does.
-use Rattle.std.proofs.Common.{◌≡◌, ℕ, ◌+◌, ◌<◌, List, [], ◌∷◌, ◌++◌, length, map, Option, Some, None, refl, ap, sym, ◌∙◌, subst, arith, Bool, true, false}
+use Rattle.std.proofs.Common.{◌≡◌, ℕ, ◌+◌, ◌<◌, List, [], ◌∷◌, ◌++◌, length, map, Option, Some, None, refl, ap, ◌∙◌, arith, Bool, true, false}
 use Rattle.std.specs.Prelude.{pos, cond, slice_get, slice_set, nat_lt}
 use Rattle.std.proofs.lemmas.List.{length-map}
 use Rattle.code_core.specs.Instruction.{a_of, b_of, c_of, k_of}
@@ -7,28 +7,28 @@ use Rattle.code_core.specs.declared.instruction.Instruction.{Instruction}
 use Rattle.code_core.specs.declared.opcode.Opcode.TheVariants.{OpSelf}
 use Rattle.code_core.specs.declared.proto.Const.{Const}
 use Rattle.int_core.specs.Operations.{index, does, found}
-use Rattle.int_core.specs.Value.{Value, Shape, known, nil, is_known, nth, shape}
+use Rattle.int_core.specs.Value.{Value, Shape, known, nil, is_known}
 use Rattle.lua_heap.specs.Plain.{heap, cell}
 use Rattle.lua_heap.specs.Reading.{value}
 use Rattle.lua_heap.specs.declared.world.Cell.{Cell as KeptCell}
 use Rattle.machine_core.specs.World.{for_value}
 use Rattle.machine_core.specs.FrameRows.{at_once, expand, expand_by, prepares, raises, calls_row}
 use Rattle.machine_core.specs.InstructionRows.{row_of, register_or_constant, gets, to_register}
-use Rattle.machine_core.specs.Moves.{SettledShape, is_found, is_asked, is_fault, only, on_own, settle, settled, made, Row, Outcome, go, ends, run}
-use Rattle.machine_core.specs.Text.{Arg, read, Own, read_register, read_constant, write_register, reads, tells, fits, Text, own, constant}
+use Rattle.machine_core.specs.Moves.{SettledShape, is_found, is_asked, is_fault, only, on_own, settle, settled, made, Row, go, ends, run}
+use Rattle.machine_core.specs.Text.{read, Own, read_register, read_constant, write_register, reads, tells, fits, Text, own, constant}
 use Rattle.machine_focus.specs.Focus.{Context, Held, Stands, world, place, held_own}
 use Rattle.machine_focus.proofs.Local.{made_is, local_is}
 use Rattle.machine_focus.proofs.Places.{own_move, settle_move}
 use Rattle.machine_sound.proofs.Lists.{get_map, map_get, get_within, length_set}
 use Rattle.machine_sound.proofs.Values.{lt_true}
-use Rattle.machine_view.specs.View.{Around, held, IsAt, IsCode}
+use Rattle.machine_view.specs.View.{Around, IsAt}
 use Rattle.machine_view.proofs.Places.{register_there}
 use Rattle.machine_view.proofs.Rows.{nth_map, write_map}
 use Rattle.machine_view.proofs.Going.{at_next, puts}
 use Rattle.table_core.specs.Table.{Contents}
 use Rattle.table_core.specs.declared.value.Value.{Value as Kept}
 use Rattle.machine_arms_tables.specs.Fields.{Settles}
-use Rattle.machine_arms_tables.specs.Frame.{Code, moment, IsOf, Leads, world_at}
+use Rattle.machine_arms_tables.specs.Frame.{Code, moment, IsOf, Leads}
 use Rattle.machine_arms_tables.proofs.Leading.{held_at}
 use Rattle.machine_arms_tables.proofs.FieldRows.{IsOperand, settled_here}
 

@@ -4,8 +4,8 @@ use Rattle.std.specs.Prelude.{ℤ, pos, cond, not, slice_get, slice_set, codes, 
 use Rattle.std.specs.Prelude.{IfSome, IfNone, IsTrue}
 use Rattle.std.proofs.lemmas.List.{map-set, set-get_or}
 use Rattle.std.proofs.lemmas.Option.{get_or_from_slice_get}
-use Rattle.int_core.specs.Heap.{Heap, Table as Rows, raw_get, raw_set, metatable_of}
-use Rattle.int_core.specs.Operations.{Event, Settled, found, ask, fault, cannot_arise, asked, index, store, length', does, indexed, index_of, greatest_chain, handler_in, of_index, of_newindex, of_len, raw_length, event_name, is_function, stored, store_of, set_raw}
+use Rattle.int_core.specs.Heap.{Heap, Table as Rows, raw_get, raw_set}
+use Rattle.int_core.specs.Operations.{Event, Settled, found, ask, fault, cannot_arise, asked, index, store, length', indexed, index_of, greatest_chain, handler_in, of_index, of_newindex, of_len, raw_length, event_name, is_function, stored, store_of, set_raw}
 use Rattle.int_core.specs.Rows.{get, set, border}
 use Rattle.int_core.specs.Value.{Value, known, string, integer, nil, object, a_table, is_nil, table_values, bind}
 use Rattle.lua_heap.specs.Law.{TablesAreRead}

@@ -1,5 +1,5 @@
 -- What an instruction does is a step, and the world is sound after it.
-use Rattle.std.proofs.Common.{◌≡◌, ℕ, zero, suc, ◌<◌, [], length, Option, Some, None, refl, ap, sym, ◌∙◌, subst}
+use Rattle.std.proofs.Common.{◌≡◌, ℕ, zero, suc, ◌<◌, [], length, Option, Some, None, refl, ap, ◌∙◌, subst}
 use Rattle.std.specs.Prelude.{slice_get}
 use Rattle.code_core.specs.Check.{at}
 use Rattle.code_core.specs.Instruction.{opcode_of}
@@ -16,7 +16,7 @@ use Rattle.machine_sound.specs.Laws.{StepGood}
 use Rattle.machine_sound.proofs.Steps.{steps_good}
 use Rattle.machine_view.specs.View.{Around, IsAt}
 use Rattle.machine_view.proofs.Here.{ready_is_at}
-use Rattle.machine_arms_tables.specs.Frame.{Code, Moment, IsOf, world_at, Leads, IsReadyAt, RunsTo, StepsOn}
+use Rattle.machine_arms_tables.specs.Frame.{Code, Moment, IsOf, world_at, Leads, IsReadyAt, StepsOn}
 use Rattle.machine_arms_tables.proofs.Leading.{held_at}
 
 -- one step more

@@ -12,7 +12,7 @@ use Rattle.table_core.specs.Table.{Contents}
 use Rattle.table_core.specs.Value.{is_nil, lua_values}
 use Rattle.table_core.specs.declared.value.CellId.{CellId}
 use Rattle.table_core.specs.declared.value.Value.{Value}
-use Rattle.table_core.specs.declared.value.Value.TheVariants.{Nil, Table}
+use Rattle.table_core.specs.declared.value.Value.TheVariants.{Table}
 
 -- no handler decides at a key that has a value, nor in a table without a metatable
 abbrev pub is_raw : Contents → Value → Bool

@@ -13,7 +13,7 @@ use Rattle.int_core.specs.Heap.{Heap, Table as Rows, filled, filled_table}
 use Rattle.int_core.specs.Operations.{of_type}
 use Rattle.int_core.specs.Rows.{set}
 use Rattle.instruction_forms.specs.Forms.{fills_behind, fills_registers}
-use Rattle.int_core.specs.Value.{Value, Shape, shape, object, a_table, bind, known, integer, nil, is_known}
+use Rattle.int_core.specs.Value.{Value, Shape, shape, object, a_table, bind, integer, nil, is_known}
 use Rattle.machine_core.specs.World.{running, World, Place, place_of}
 use Rattle.machine_core.specs.Text.{Arg, arg, read, read_list, read_registers, fill_table, end_list, own, Text, go_by, raise}
 use Rattle.machine_core.specs.InstructionRows.{read_values, then, with_extra}
@@ -24,17 +24,16 @@ use Rattle.machine_sound.proofs.OpcodesCalls.{not_zero}
 use Rattle.table_core.specs.Table.{Contents}
 use Rattle.table_core.specs.Value.{lua_values}
 use Rattle.table_core.specs.declared.value.TableId.{TableId}
-use Rattle.table_core.specs.declared.value.CoroId.{CoroId}
 use Rattle.table_core.specs.declared.value.Value.{Value as Kept}
 use Rattle.table_core.specs.declared.value.Value.TheVariants.{Nil, Bool as Boolean, Int, Str, Prim, Table, Func, Coro}
-use Rattle.lua_stack.specs.Frames.{KeptStack, NoneFrom}
+use Rattle.lua_stack.specs.Frames.{NoneFrom}
 use Rattle.lua_heap.specs.declared.codes.Code.{Code}
 use Rattle.lua_heap.specs.declared.world.World.{World as Memory}
 use Rattle.lua_heap.specs.Law.{TablesAreRead, IsReadAs}
 use Rattle.lua_heap.specs.Strings.{AreApart, AreShort}
 use Rattle.lua_heap.specs.Plain.{plain, table, heap}
 use Rattle.lua_heap.specs.Reading.{value, row}
-use Rattle.move_laws.specs.Memory.{HasFrame, IsSafe, IsSound, Leads, Makes, Runs, StandsAt}
+use Rattle.move_laws.specs.Memory.{HasFrame, IsSafe, IsSound, Leads, Makes, StandsAt}
 use Rattle.move_laws.proofs.Rows.{act_is, safe_after}
 use Rattle.move_laws.proofs.Sounds.{sound_top}
 use Rattle.machine_moves.specs.Code.{IsCodeOnTop}

@@ -1,8 +1,7 @@
 -- The cells of the function on top that are found in memory.
-use Rattle.std.proofs.Common.{◌≡◌, ℕ, ◌<◌, ◌-◌, List, length, Option, Some, None, refl, ap, sym, subst, ◌∙◌}
-use Rattle.std.specs.Prelude.{map, slice_get}
-use Rattle.int_core.specs.Value.{last}
-use Rattle.machine_core.specs.World.{Place, place_of, find_open}
+use Rattle.std.proofs.Common.{◌≡◌, ℕ, ◌-◌, length, Option, Some, None, refl, ap, sym, ◌∙◌}
+use Rattle.std.specs.Prelude.{map}
+use Rattle.machine_core.specs.World.{find_open}
 use Rattle.machine_sound.proofs.Lists.{get_map, some_is}
 use Rattle.table_core.specs.declared.value.CellId.{CellId}
 use Rattle.table_core.specs.declared.value.CoroId.{CoroId}

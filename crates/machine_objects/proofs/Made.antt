@@ -1,5 +1,5 @@
 -- Functions that are made, and the lists of cells that they capture.
-use Rattle.std.proofs.Common.{◌≡◌, ℕ, zero, suc, ◌+◌, ◌-◌, List, [], ◌∷◌, ◌++◌, length, Option, Some, None, refl, ap, sym, ◌∙◌, Bool, true, take, arith}
+use Rattle.std.proofs.Common.{◌≡◌, ℕ, zero, suc, ◌+◌, ◌-◌, List, [], ◌∷◌, ◌++◌, length, Option, Some, refl, ap, sym, ◌∙◌, Bool, true, take, arith}
 use Rattle.std.specs.Prelude.{cond, map, slice_get}
 use Rattle.std.proofs.lemmas.List.{length-map, map-append, take_all}
 use Rattle.code_core.specs.declared.proto.UpDesc.{UpDesc}

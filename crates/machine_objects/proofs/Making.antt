@@ -1,24 +1,20 @@
 -- The row of an instruction that makes a function.
-use Rattle.std.proofs.Common.{◌≡◌, ℕ, suc, ◌+◌, List, [], ◌∷◌, ◌++◌, Some, refl, ap, sym, subst, ◌∙◌, true}
-use Rattle.std.specs.Prelude.{IsSome, slice_get}
-use Rattle.code_core.specs.declared.proto.UpDesc.{UpDesc}
-use Rattle.code_core.specs.Prototype.{list_of}
+use Rattle.std.proofs.Common.{◌≡◌, ℕ, List, [], ◌∷◌, Some, ap, sym, subst, ◌∙◌, true}
 use Rattle.int_core.specs.Value.{Value, object, a_function}
 use Rattle.machine_core.specs.World.{Place, place_of}
-use Rattle.machine_core.specs.Text.{read, make_function, write_register, Text, quick}
-use Rattle.machine_core.specs.InstructionRows.{next, opens, to_register}
+use Rattle.machine_core.specs.Text.{read, make_function, Text, quick}
+use Rattle.machine_core.specs.InstructionRows.{opens, to_register}
 use Rattle.machine_core.specs.FrameRows.{expand}
-use Rattle.machine_core.specs.Moves.{Ending, go, outside, run}
+use Rattle.machine_core.specs.Moves.{Ending, outside, run}
 use Rattle.table_core.specs.declared.value.ProtoId.{ProtoId}
 use Rattle.lua_heap.specs.declared.world.World.{World as Memory}
 use Rattle.lua_heap.specs.Plain.{plain}
-use Rattle.move_laws.specs.Memory.{CanDo, IsSafe, IsSound, Leads, Makes}
-use Rattle.move_laws.proofs.Rows.{can_do, safe_after}
+use Rattle.move_laws.specs.Memory.{IsSafe, IsSound, Leads, Makes}
+use Rattle.move_laws.proofs.Rows.{safe_after}
 use Rattle.move_laws.proofs.Sounds.{sound_top}
-use Rattle.machine_rows.proofs.Going.{any_value}
 use Rattle.machine_objects.specs.Objects.{CanMake, HasInner, IsInner}
 use Rattle.machine_objects.specs.Opening.{MayOpen, Opens, upvalues_at}
-use Rattle.machine_objects.proofs.Opened.{closes_over, has_inner, inner_within, upvalues_kept, may_go_on, can_make}
+use Rattle.machine_objects.proofs.Opened.{closes_over, has_inner, upvalues_kept, may_go_on, can_make}
 
 -- what follows the function
 abbrev pub keeps_it : ℕ → ℕ → Text

@@ -1,11 +1,11 @@
 -- Cells that are opened one after another, and what a function needs that is made of the code that captures them.
 use Rattle.std.proofs.Common.{◌≡◌, ℕ, zero, suc, ◌+◌, ◌≤◌, ◌<◌, List, [], ◌∷◌, ◌++◌, length, drop, Option, Some, None, refl, ap, sym, subst, ◌∙◌, Bool, true, false, arith}
-use Rattle.std.specs.Prelude.{IsSome, cond, map, nat_lt, slice_get}
+use Rattle.std.specs.Prelude.{IsSome, cond, nat_lt, slice_get}
 use Rattle.code_core.specs.declared.proto.UpDesc.{UpDesc}
 use Rattle.code_core.specs.Prototype.{Prototype, list_of}
 use Rattle.code_core.specs.Check.{IsChecked}
 use Rattle.int_core.specs.Limits.{greatest_depth}
-use Rattle.int_core.specs.Value.{Value, bind}
+use Rattle.int_core.specs.Value.{bind}
 use Rattle.machine_core.specs.World.{World, Place, place_of, find_open}
 use Rattle.machine_core.specs.Text.{make_function, Text, open_cell, quick}
 use Rattle.machine_core.specs.InstructionRows.{opens, upvalues_of_inner}

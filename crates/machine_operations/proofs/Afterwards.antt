@@ -1,15 +1,15 @@
 -- What becomes of the value of an operation.
-use Rattle.std.proofs.Common.{◌≡◌, ℕ, zero, suc, ◌+◌, ◌-◌, ◌<◌, ◌≤◌, List, [], ◌∷◌, ◌++◌, length, Option, Some, None, refl, ap, sym, subst, ◌∙◌, arith, Bool, true, false}
-use Rattle.std.specs.Prelude.{cond, pos, slice_get}
+use Rattle.std.proofs.Common.{◌≡◌, ℕ, ◌+◌, List, [], ◌++◌, Option, Some, None, refl, ap, sym, subst, ◌∙◌, Bool}
+use Rattle.std.specs.Prelude.{pos}
 use Rattle.code_core.specs.declared.instruction.Instruction.{Instruction}
 use Rattle.code_core.specs.Check.{in_front}
 use Rattle.code_core.specs.Instruction.{a_of}
 use Rattle.code_core.specs.Prototype.{Prototype}
 use Rattle.int_core.specs.Value.{Value, holds, shape}
 use Rattle.machine_core.specs.World.{Place, place_of}
-use Rattle.machine_core.specs.Text.{Arg, arg, read, see, go_by, write_register, Text, trap}
-use Rattle.machine_core.specs.InstructionRows.{next, tested, to_register, to_register_before}
-use Rattle.machine_core.specs.FrameRows.{When, at_once, expand, expand_by}
+use Rattle.machine_core.specs.Text.{Arg, arg, read, see, go_by, Text, trap}
+use Rattle.machine_core.specs.InstructionRows.{tested, to_register, to_register_before}
+use Rattle.machine_core.specs.FrameRows.{When, expand, expand_by}
 use Rattle.machine_core.specs.Moves.{on_own, go, run}
 use Rattle.machine_sound.proofs.Lists.{some_is}
 use Rattle.table_core.specs.declared.value.Value.{Value as Kept}

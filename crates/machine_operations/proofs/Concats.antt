@@ -2,11 +2,11 @@
 use Rattle.std.proofs.Common.{◌≡◌, ℕ, ◌≤◌, List, [], ◌∷◌, ◌++◌, length, Option, Some, None, refl, ap, sym, subst, ◌∙◌, Bool, true, false, Result, Ok, Err, IfOk, OnOk, OnErr}
 use Rattle.std.specs.Prelude.{cond, codes, nat_le}
 use Rattle.int_core.specs.Heap.{Heap}
-use Rattle.int_core.specs.Operations.{Settled, found, ask, fault, cannot_arise, asked, joined, concat, concat_on, does, text_of}
+use Rattle.int_core.specs.Operations.{found, ask, fault, asked, joined, concat, concat_on, does, text_of}
 use Rattle.int_core.specs.Value.{greatest_string, string, Value, known, nth}
 use Rattle.machine_core.specs.World.{World, Place, place_of}
-use Rattle.machine_core.specs.Text.{Arg, args_of}
-use Rattle.machine_core.specs.Moves.{settled as settled_in, made, settle}
+use Rattle.machine_core.specs.Text.{args_of}
+use Rattle.machine_core.specs.Moves.{settled as settled_in, made}
 use Rattle.machine_sound.specs.Sound.{Sizes, Valid, Sound}
 use Rattle.machine_sound.proofs.Lists.{bind_at}
 use Rattle.machine_sound.proofs.Values.{le_of}
@@ -25,7 +25,7 @@ use Rattle.meta_ops.specs.Concat.{with_joined}
 use Rattle.meta_ops.specs.Heap.{heap_in, IsIn}
 use Rattle.meta_ops.specs.Law.{OperandsAreThere}
 use Rattle.meta_ops.specs.Outcome.{settled, is_done}
-use Rattle.move_laws.specs.Memory.{HasFrame, IsSound, Makes, ReadsSame}
+use Rattle.move_laws.specs.Memory.{HasFrame, IsSound, ReadsSame}
 use Rattle.machine_moves.specs.Operations.{values_of, told_of}
 use Rattle.machine_operations.specs.Joining.{Concats}
 

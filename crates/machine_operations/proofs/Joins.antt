@@ -1,16 +1,15 @@
 -- Operands that are joined one after another.
-use Rattle.std.proofs.Common.{◌≡◌, ℕ, zero, suc, ◌+◌, ◌-◌, ◌<◌, ◌≤◌, List, [], ◌∷◌, ◌++◌, length, refl, ap, sym, subst, ◌∙◌, arith}
+use Rattle.std.proofs.Common.{◌≡◌, ℕ, zero, suc, ◌+◌, ◌-◌, ◌≤◌, List, [], ◌∷◌, ◌++◌, length, refl, ap, sym, subst, ◌∙◌, arith}
 use Rattle.std.specs.Prelude.{drop}
 use Rattle.std.proofs.lemmas.List.{length-map}
 use Rattle.int_core.specs.Operations.{concat}
-use Rattle.int_core.specs.Value.{Value, Shape, shape, nth}
-use Rattle.machine_core.specs.World.{World, for_concat, place_of}
+use Rattle.int_core.specs.Value.{Value, shape, nth}
+use Rattle.machine_core.specs.World.{for_concat, place_of}
 use Rattle.machine_core.specs.Text.{Arg, args_of, read, read_register, operate}
 use Rattle.machine_core.specs.InstructionRows.{joins}
 use Rattle.machine_core.specs.FrameRows.{When, expand_by, calls_row, prepares, raises}
 use Rattle.machine_core.specs.Moves.{on_own, settle, SettledShape, is_found, is_asked, is_fault, Row, only, run}
 use Rattle.machine_sound.specs.Sound.{sizes}
-use Rattle.machine_sound.proofs.Lists.{get_push_new}
 use Rattle.table_core.specs.declared.value.Value.{Value as Kept}
 use Rattle.lua_heap.specs.declared.world.World.{World as Memory}
 use Rattle.lua_heap.specs.Plain.{plain, table}
@@ -20,14 +19,12 @@ use Rattle.meta_ops.specs.declared.outcome.Outcome.{Outcome}
 use Rattle.meta_ops.specs.declared.outcome.Outcome.TheVariants.{Found, Ask, Fault}
 use Rattle.meta_ops.specs.Heap.{IsIn}
 use Rattle.meta_ops.specs.Law.{OperandsAreThere}
-use Rattle.move_laws.specs.Memory.{CanDo, HasFrame, IsSafe, IsSound, Makes, ReadsSame}
+use Rattle.move_laws.specs.Memory.{CanDo, HasFrame, IsSound, Makes, ReadsSame}
 use Rattle.move_laws.proofs.Rows.{act_is, can_do}
-use Rattle.move_laws.proofs.Running.{nth_is}
 use Rattle.move_laws.proofs.Valid.{register_valid}
 use Rattle.machine_moves.specs.Operations.{values_of, told_of}
-use Rattle.machine_operations.specs.declared.joining.Joined.{Joined}
 use Rattle.machine_operations.specs.declared.joining.Joined.TheVariants.{Whole, Asks, Fails}
-use Rattle.machine_operations.specs.Joining.{Concats, JoinsOne, Names, MayJoin, row_of, ComesTo, Joins}
+use Rattle.machine_operations.specs.Joining.{JoinsOne, Names, MayJoin, ComesTo, Joins}
 
 -- a register's value is there
 pub operand_there : (W : Memory) (r : ℕ) (v : Kept) → IsSound W → OperandsAreThere → ((env : List Value) → Makes W W (on_own (read_register r)) env (value W.strings v ∷ []) (shape (value W.strings v)))

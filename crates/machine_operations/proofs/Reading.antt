@@ -1,11 +1,10 @@
 -- Operands that are read one after another.
-use Rattle.std.proofs.Common.{◌≡◌, ℕ, List, [], ◌∷◌, ◌++◌, length, refl, ap, ap₂, sym, ◌∙◌, append_assoc, Bool, true, false}
+use Rattle.std.proofs.Common.{◌≡◌, List, [], ◌∷◌, ◌++◌, length, ap, ap₂, ◌∙◌, append_assoc, Bool, true, false}
 use Rattle.std.specs.Prelude.{map}
 use Rattle.int_core.specs.Value.{Value}
 use Rattle.machine_core.specs.Text.{Arg, arg, args_of, Text}
 use Rattle.machine_core.specs.InstructionRows.{swapped as in_order}
 use Rattle.machine_core.specs.FrameRows.{expand}
-use Rattle.machine_core.specs.Moves.{run}
 use Rattle.machine_sound.specs.Sound.{Each, sizes, Valid}
 use Rattle.machine_sound.proofs.Lists.{each_none, each_cons}
 use Rattle.table_core.specs.declared.value.Value.{Value as Kept}
@@ -14,7 +13,7 @@ use Rattle.lua_heap.specs.Plain.{plain}
 use Rattle.lua_heap.specs.Reading.{value}
 use Rattle.instruction_forms.specs.declared.operand.Operand.{Operand}
 use Rattle.instruction_forms.specs.declared.operand.Operands.TheVariants.{One as OneOperand, Twice, Two as TwoOperands, Three as ThreeOperands}
-use Rattle.instruction_forms.specs.Forms.{with_operand, with_operands}
+use Rattle.instruction_forms.specs.Forms.{with_operand}
 use Rattle.move_laws.specs.Memory.{IsSafe}
 use Rattle.machine_rows.specs.Rows.{IsRead, Reads}
 use Rattle.machine_rows.proofs.Going.{safe_as}

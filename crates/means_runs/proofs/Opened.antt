@@ -1,10 +1,9 @@
 -- Both worlds of the libraries.
-use Rattle.std.proofs.Common.{ℕ, zero, suc, ◌≡◌, List, [], ◌∷◌, length, refl, ap}
+use Rattle.std.proofs.Common.{zero, suc, ◌≡◌, List, [], ◌∷◌, length, refl, ap}
 use Rattle.std.specs.Prelude.{map}
 use Rattle.code_core.specs.declared.proto.UpDesc.{UpDesc}
 use Rattle.code_core.specs.Prototype.{Prototype}
 use Rattle.library_rows.specs.Library.{Entry}
-use Rattle.machine_core.specs.World.{Function}
 use Rattle.lua_meaning.specs.Opening as meaning
 use Rattle.lua_meaning.specs.Opening.{environment_cells}
 use Rattle.code_means.specs.Runs.{outer_in}

@@ -2,7 +2,6 @@
 use Rattle.std.proofs.Common.{ℕ, ◌+◌, ◌≡◌, sym, subst, ◌∙◌, arith}
 use Rattle.list_laws.proofs.Items.{some_same}
 use Rattle.lua_meaning.specs.Meaning as meaning
-use Rattle.lua_meaning.specs.Meaning.{Meaning}
 use Rattle.lua_meaning.proofs.Runs.{given_within as meaning_within}
 use Rattle.code_means.specs.Runs.{codes_run}
 use Rattle.machine_runs.specs.Opening.{begun}

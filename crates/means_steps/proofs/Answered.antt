@@ -20,7 +20,7 @@ use Rattle.means_steps.proofs.Alike.{Fixed, Alike}
 use Rattle.means_steps.proofs.Local.{effect_alike, done_alike}
 use Rattle.means_steps.proofs.Texts.{Good}
 use Rattle.lua_meaning.specs.World as talk
-use Rattle.lua_meaning.specs.World.{Asker, talking, waiting, raising, talks, as_known, without_name, shared_in, shared_out, second, raises_error, now_in, on_frames}
+use Rattle.lua_meaning.specs.World.{Asker, talking, waiting, raising, talks, as_known, without_name, shared_in, shared_out, second, raises_error, now_in}
 use Rattle.lua_meaning.specs.Asks.{turns, handle}
 use Rattle.library_rows.specs.Library.{Primitive}
 use Rattle.code_means.specs.Runs.{codes_run}

@@ -7,10 +7,10 @@ use Rattle.int_core.specs.Operations.{is_function}
 use Rattle.list_laws.specs.Held.{Held}
 use Rattle.list_laws.proofs.Items.{append_nil, get_old}
 use Rattle.machine_core.specs.World as machine
-use Rattle.machine_core.specs.World.{Cell, open_at, Frame, Coroutine, fresh, in_progress, World, Stack, stack_of}
+use Rattle.machine_core.specs.World.{Frame, Coroutine, fresh, in_progress, World, stack_of}
 use Rattle.machine_core.specs.Text.{read}
 use Rattle.machine_core.specs.Moves as moves
-use Rattle.machine_core.specs.Moves.{made, create, add_coroutine, place_text, Row, act, stop, raised, Outcome, trapped, ends, run}
+use Rattle.machine_core.specs.Moves.{made, create, add_coroutine, Row, act, raised, Outcome, trapped, ends, run}
 use Rattle.machine_core.specs.FrameRows.{hand_over, blames}
 use Rattle.machine_core.specs.MachineStep as rows
 use Rattle.machine_core.specs.MachineStep.{can_call, create_row, error_row, errs_at}

@@ -11,14 +11,14 @@ use Rattle.list_laws.proofs.Items.{append_nil}
 use Rattle.machine_core.specs.World.{Function, open_at, Wait, running, Activation, Frame, lua, World, find_open}
 use Rattle.machine_core.specs.Text.{Own, reads, tells, effect, fits, Text, go_by, own as then_own, open_cell}
 use Rattle.machine_core.specs.Moves as moves
-use Rattle.machine_core.specs.Moves.{Made, made, on_own, move_pc, open_register, settle, enter, enter_tail, await, find_close, is_closable, leave_frame, opened_cells, place_from, cells_after, cells_done, named, enters_paid, called_tail, settled, top_shape, is_found, is_asked, is_fault, SettledShape, CallShape, not_entered, go, asks, unwinding, spent, Row, stop, only, act, Outcome, trapped, ends, run}
+use Rattle.machine_core.specs.Moves.{made, on_own, move_pc, open_register, opened_cells, place_from, cells_after, go, stop, ends, run}
 use Rattle.machine_core.specs.FrameRows.{When, expand_by}
 use Rattle.machine_core.specs.Talk.{State, before, amid, talk, says_so, captured_after}
 use Rattle.means_steps.proofs.Alike.{Alike}
 use Rattle.means_steps.proofs.Texts.{least_read}
 use Rattle.means_steps.proofs.Local.{fits_alike, reads_alike, tells_alike, effect_alike, effect_pc}
 use Rattle.lua_meaning.specs.World as talk
-use Rattle.lua_meaning.specs.World.{Asker, talking, waiting, talks, gives_back, unwinds, ends as ends_turn, breaks, now_in, on_frames, as_known, without_name, shared_in, shared_out, second, answered, answered_at_once}
+use Rattle.lua_meaning.specs.World.{talking, talks, as_known, shared_in, second}
 use Rattle.lua_meaning.specs.Asks.{turns}
 use Rattle.library_rows.specs.Library.{Primitive}
 use Rattle.code_means.specs.Runs.{codes_run}

@@ -16,7 +16,7 @@ use Rattle.machine_core.specs.Talk.{State, amid}
 use Rattle.means_steps.proofs.Texts.{Good}
 use Rattle.means_steps.proofs.RowsGood.{rest_at_good, fails_good}
 use Rattle.lua_meaning.specs.World as talk
-use Rattle.lua_meaning.specs.World.{Asker, talking, waiting, raising, talks, gives_back, unwinds, shared_in, shared_out, answered}
+use Rattle.lua_meaning.specs.World.{Asker, talking, waiting, raising, talks, gives_back, unwinds, shared_out, answered}
 use Rattle.lua_meaning.specs.Calls as calls_in
 use Rattle.library_rows.specs.Library.{Primitive}
 use Rattle.lua_meaning.specs.Step.{tick, tick_by}

@@ -5,7 +5,7 @@ use Rattle.std.proofs.lemmas.Bool.{cases_eq}
 use Rattle.std.proofs.lemmas.Bool.Decides.{nat_tests}
 use Rattle.code_core.specs.Prototype.{Prototype}
 use Rattle.code_core.specs.Check.{mark, fixed, open_from}
-use Rattle.int_core.specs.Value.{Value, Shape, is_known, integer, known, nil, nth, range, write, write_all, shape}
+use Rattle.int_core.specs.Value.{Value, is_known, integer, known, nil, nth, range, write, write_all, shape}
 use Rattle.machine_core.specs.World.{Activation}
 use Rattle.machine_core.specs.Text.{arg, Own, read_register, read_registers, read_list, read_constant, read_varargs, see, write_register, write_registers, write_list, write_nils, end_list, cut_from, close_cells, mark_pending, see_pending, take_pending, drop_pending, keep_results, keep_pending, reads, tells, effect, fits, done, blanked, nils, is_pending, is_there, list_end, list_values, last_pending, without_pending, value_if, behind}
 use Rattle.list_laws.proofs.Values.{nth_write_same, nth_write_other}

@@ -7,7 +7,7 @@ use Rattle.list_laws.proofs.Ends.{without_last_is}
 use Rattle.list_laws.proofs.Items.{get_set_same, some_same}
 use Rattle.list_laws.proofs.Tests.{eq_true}
 use Rattle.machine_core.specs.World as machine
-use Rattle.machine_core.specs.World.{Cell, Frame, Coroutine, suspended, in_progress, dead, failed, Stack, stack_of}
+use Rattle.machine_core.specs.World.{Cell, Frame, Coroutine, suspended, in_progress, dead, failed, stack_of}
 use Rattle.machine_core.specs.Text.{read}
 use Rattle.machine_core.specs.Moves.{made, runs_main, no_top, put_coroutine, back_to_resumer, awake, suspend_running, bury, all_closed_from, ends_as, pending_values, fail_coroutine, take_moving, give_with, main_yielded, main_returned, main_failed, Outcome, trapped, ends, stop, act, run}
 use Rattle.machine_core.specs.Text.{written}

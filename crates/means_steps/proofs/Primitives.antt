@@ -11,10 +11,10 @@ use Rattle.list_laws.proofs.Values.{drop_front}
 use Rattle.machine_core.specs.World.{Frame, Coroutine, fresh, suspended, in_progress, normal, dead, failed, World, Stack, stack_of}
 use Rattle.machine_core.specs.Text.{read, written}
 use Rattle.machine_core.specs.Moves as moves
-use Rattle.machine_core.specs.Moves.{made, Status, runs_main, consulted, LookShape, create, see_status, see_running, print, consult, place_text, bytes_in, add_coroutine, add_printed, Row, act, stop, raised, Outcome, trapped, ends, run}
+use Rattle.machine_core.specs.Moves.{made, Status, runs_main, consulted, bytes_in, add_printed, raised, Outcome, trapped, ends, run}
 use Rattle.machine_core.specs.FrameRows.{hand_over, blames}
 use Rattle.machine_core.specs.MachineStep as rows
-use Rattle.machine_core.specs.MachineStep.{pcall_row, xpcall_row, error_row, errs_at, resume_row, yield_row, close_row, look_row, after_look, can_call, create_row, status_row, status_word, running_row, yieldable_row, print_row}
+use Rattle.machine_core.specs.MachineStep.{pcall_row, xpcall_row, resume_row, yield_row, close_row, look_row, after_look, status_row, status_word, running_row, yieldable_row, print_row}
 use Rattle.machine_core.specs.Talk.{State}
 use Rattle.lua_meaning.specs.World as talk
 use Rattle.lua_meaning.specs.World.{gives_back, raises_error, raises_text, now_in, breaks}

@@ -4,7 +4,7 @@ use Rattle.std.specs.Prelude.{slice_get, slice_set, cond, option_map}
 use Rattle.code_core.specs.Prototype.{Prototype, Prototypes, none, more, list_of}
 use Rattle.int_core.specs.Value.{Value, object, a_table, a_function, bind, nth}
 use Rattle.int_core.specs.Heap.{Heap, add_table, filled_table}
-use Rattle.int_core.specs.Ask.{Captured, Ask, reads_upvalue, writes_upvalue, makes_table, makes_function, fills_table, pays, Reply, values, values_in, brought, stuck}
+use Rattle.int_core.specs.Ask.{Captured, Ask, reads_upvalue, writes_upvalue, makes_table, makes_function, fills_table, pays, values, values_in, brought, stuck}
 use Rattle.list_laws.proofs.Items.{get_old}
 use Rattle.machine_core.specs.World.{Function, Cell, Wait, Activation, Frame, World, read_cell, write_cell}
 use Rattle.machine_core.specs.Text.{Arg, arg, Quick, read_upvalue, write_upvalue, make_table, make_function, fill_table, pay, Text, quick}
@@ -14,7 +14,7 @@ use Rattle.machine_core.specs.Talk.{State, amid, talk, says_so, names_of}
 use Rattle.means_steps.proofs.Alike.{Alike}
 use Rattle.means_steps.proofs.Texts.{Good}
 use Rattle.lua_meaning.specs.World as talk
-use Rattle.lua_meaning.specs.World.{Asker, talking, talks, ends, breaks, now_in, as_known, shared_in, second, cell_of, without_name, answered_at_once}
+use Rattle.lua_meaning.specs.World.{Asker, talks, breaks, as_known, shared_in, second, cell_of, without_name, answered_at_once}
 use Rattle.lua_meaning.specs.Asks.{turns, handle, made_in, of_maker, cells_named, gets_function, pays_unit, one}
 use Rattle.library_rows.specs.Library.{Primitive}
 use Rattle.code_means.specs.Runs.{codes_run}

@@ -8,7 +8,7 @@ use Rattle.list_laws.specs.Held.{Held}
 use Rattle.list_laws.proofs.Ends.{upward}
 use Rattle.list_laws.proofs.Items.{get_set_same}
 use Rattle.machine_core.specs.World as machine
-use Rattle.machine_core.specs.World.{Function, Cell, Wait, Activation, Frame, lua, in_progress, Coroutine}
+use Rattle.machine_core.specs.World.{Function, Wait, Activation, Frame, lua, in_progress}
 use Rattle.lua_meaning.specs.World as talk
 use Rattle.machine_means.specs.Joined.{TalkFrame, TalkWorld, Pair, Stacks, Joined}
 use Rattle.machine_means.proofs.Held.{reverse_is}

@@ -10,20 +10,20 @@ use Rattle.list_laws.proofs.Ends.{upward, length_upward}
 use Rattle.list_laws.proofs.Items.{append_nil, get_set_same}
 use Rattle.list_laws.proofs.Values.{drop_front}
 use Rattle.list_laws.proofs.Tests.{le_off}
-use Rattle.machine_core.specs.World.{Function, Cell, open_at, Wait, running, Activation, Frame, lua, Coroutine, in_progress, World, find_open}
+use Rattle.machine_core.specs.World.{Function, Wait, Activation, Frame, lua, Coroutine, in_progress, World}
 use Rattle.machine_core.specs.Text.{Arg, arg, args_of, read, Own, reads, tells, effect, fits, done, Given, results, thrown, Text, go_by, own as then_own, open_cell, quick, operate, call, tail_call, close, closable, raise, leave, trap}
 use Rattle.machine_core.specs.InstructionRows.{rest_at, told_values}
 use Rattle.machine_core.specs.Moves as moves
-use Rattle.machine_core.specs.Moves.{Made, made, on_own, move_pc, open_register, settle, enter, enter_tail, await, find_close, is_closable, leave_frame, opened_cells, place_from, cells_after, cells_done, named, enters_paid, called_tail, settled, top_shape, is_found, is_asked, is_fault, SettledShape, CallShape, not_entered, go, asks, unwinding, spent, Row, stop, only, act, Outcome, trapped, ends, run}
+use Rattle.machine_core.specs.Moves.{Made, made, on_own, settle, enter_tail, leave_frame, cells_after, cells_done, named, called_tail, settled, top_shape, is_found, is_asked, is_fault, SettledShape, CallShape, Row, only, Outcome, trapped, run}
 use Rattle.machine_core.specs.FrameRows.{When, expand_by, calls_row, prepares, raises, after_call, after_leaving}
 use Rattle.machine_core.specs.Talk.{State, amid, heard, captured_done, marked}
 use Rattle.means_steps.proofs.Alike.{Alike}
 use Rattle.means_steps.proofs.Texts.{Reaches, GivesOne, effect_front, reads_nothing, plain_waits, plain_reach, plain_told, join_gives_one, rest_named}
 use Rattle.means_steps.proofs.Local.{done_alike, done_pc}
 use Rattle.lua_meaning.specs.World as talk
-use Rattle.lua_meaning.specs.World.{Asker, talking, waiting, talks, gives_back, unwinds, ends as ends_turn, breaks, now_in, on_frames, as_known, without_name, shared_in, shared_out, second, answered, answered_at_once}
+use Rattle.lua_meaning.specs.World.{Asker, talking, talks, gives_back, unwinds, now_in, shared_in, shared_out, second, answered_at_once}
 use Rattle.lua_meaning.specs.Calls as calls_in
-use Rattle.lua_meaning.specs.Calls.{calls_value, pays_for}
+use Rattle.lua_meaning.specs.Calls.{pays_for}
 use Rattle.lua_meaning.specs.Asks.{settled as talk_settled}
 use Rattle.library_rows.specs.Library.{Primitive}
 use Rattle.code_means.specs.Runs.{codes_run}

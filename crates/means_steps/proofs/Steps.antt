@@ -16,13 +16,13 @@ use Rattle.machine_core.specs.Talk.{State, before}
 use Rattle.means_steps.proofs.Alike.{Alike}
 use Rattle.means_steps.proofs.RowsGood.{Knows, text_good}
 use Rattle.lua_meaning.specs.World as talk
-use Rattle.lua_meaning.specs.World.{Asker, talking, waiting, raising, talks, gives_back, unwinds, shared_in, shared_out, answered}
+use Rattle.lua_meaning.specs.World.{talking, talks, shared_in}
 use Rattle.library_rows.specs.Library.{Primitive}
 use Rattle.lua_meaning.specs.Step.{tick}
 use Rattle.code_means.specs.Runs.{codes_run}
 use Rattle.machine_sound.specs.Sound.{Solid}
 use Rattle.machine_sound.proofs.Frames.{stack_is}
-use Rattle.machine_means.specs.Joined.{TalkFrame, TalkWorld, Dressed, FunctionsPair, IsHeard, Asleep, RegistersPair, LuaPair, Pair, Stacks, Joined, CoroutinesPair}
+use Rattle.machine_means.specs.Joined.{TalkWorld, Dressed, Joined}
 use Rattle.machine_means.specs.Works.{RunsOver, Works}
 use Rattle.machine_means.proofs.Held.{reverse_is}
 use Rattle.machine_means.proofs.CellWrites.{all3_first}

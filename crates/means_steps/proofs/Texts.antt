@@ -3,13 +3,13 @@
 use Rattle.std.proofs.Common.{ℕ, zero, suc, ◌+◌, ◌<◌, ◌≤◌, ◌≡◌, Bool, true, false, cond, List, [], ◌∷◌, ◌++◌, Option, Some, None, length, refl, sym, subst, ap, ◌∙◌, arith}
 use Rattle.std.specs.Prelude.{codes, nat_le}
 use Rattle.code_core.specs.Prototype.{Prototype}
-use Rattle.int_core.specs.Value.{string, Value, known, nth, bind, Shape, range, greatest_string}
+use Rattle.int_core.specs.Value.{string, Value, known, nth, Shape, greatest_string}
 use Rattle.machine_core.specs.World.{Cell, Wait, running, for_call, for_iterator, for_value, for_truth, dropped, for_concat, for_close, returning, leaving, Activation}
 use Rattle.machine_core.specs.Text.{Arg, read, written, arg, Own, read_register, read_registers, read_list, read_constant, read_varargs, see, write_register, write_registers, write_list, write_nils, end_list, cut_from, close_cells, mark_pending, see_pending, take_pending, drop_pending, keep_results, keep_pending, reads, effect, done, Text, go_by, own, open_cell, quick, operate, call, tail_call, close, closable, raise, leave, trap}
 use Rattle.machine_core.specs.InstructionRows.{rest_at, told_values}
 use Rattle.int_core.specs.Ask.{values}
 use Rattle.int_core.specs.Heap.{Heap}
-use Rattle.int_core.specs.Operations.{of_concat, handler_of, asked, of_type, at_fault, is_text, Operation, concat, Settled, found, ask, fault, concat_on, does, text_of}
+use Rattle.int_core.specs.Operations.{of_concat, handler_of, asked, of_type, at_fault, is_text, Operation, concat, Settled, found, fault, concat_on, does, text_of}
 use Rattle.machine_core.specs.RowFits.{IsWaiting}
 use Rattle.machine_core.specs.Moves.{named, cells_after, cells_done}
 use Rattle.list_laws.proofs.Values.{nth_old}

@@ -19,7 +19,7 @@ use Rattle.means_steps.proofs.Texts.{Reaches, WaitReach, named_front, done_front
 use Rattle.machine_means.proofs.Lists.{nth_mid, drop_mid}
 use Rattle.means_steps.proofs.Local.{done_alike, done_pc}
 use Rattle.lua_meaning.specs.World as talk
-use Rattle.lua_meaning.specs.World.{Asker, talking, waiting, talks, gives_back, unwinds, ends as ends_turn, breaks, now_in, on_frames, as_known, without_name, shared_in, shared_out, second, answered, answered_at_once}
+use Rattle.lua_meaning.specs.World.{Asker, talking, waiting, talks, on_frames, shared_in, shared_out, second, answered, answered_at_once}
 use Rattle.lua_meaning.specs.Calls.{calls_value, pays_for}
 use Rattle.lua_meaning.specs.Asks.{turns}
 use Rattle.library_rows.specs.Library.{Primitive}

@@ -1,5 +1,5 @@
 -- The code of the prelude's text (Lua 5.4 manual, 6).
-use Rattle.std.specs.Prelude.{◌≡◌, ℕ, false, List, [], length}
+use Rattle.std.specs.Prelude.{◌≡◌, false, [], length}
 use Rattle.code_core.specs.Prototype.{Prototype, list_of}
 use Rattle.compile_text.specs.declared.fault.TextFault.{TextFault}
 use Rattle.compile_text.specs.declared.fault.TextFault.TheVariants.{Source, Rule, Memory}

@@ -1,4 +1,3 @@
-use Rattle.machine_arms_tables.specs.Fields.{takes}
 use Rattle.machine_arms_tables.proofs.Settling.{put_settles, object_kept}
 use Rattle.machine_arms_tables.proofs.fields.put_field.Goals as goal
 

@@ -1,6 +1,5 @@
-use Rattle.std.proofs.Common.{[], ◌∷◌, ap, refl, ◌∙◌}
+use Rattle.std.proofs.Common.{[], ◌∷◌, refl}
 use Rattle.int_core.specs.Value.{object, a_function}
-use Rattle.lua_heap.specs.declared.world.World.{World as Memory}
 use Rattle.machine_core.specs.Text.{read, write_register}
 use Rattle.machine_core.specs.InstructionRows.{next}
 use Rattle.machine_core.specs.FrameRows.{expand}

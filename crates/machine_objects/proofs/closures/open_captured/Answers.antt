@@ -1,6 +1,6 @@
-use Rattle.std.proofs.Common.{◌≡◌, ◌<◌, ◌≤◌, length, drop, ap, sym, subst, ◌∙◌, rules, arith}
+use Rattle.std.proofs.Common.{drop, sym, subst}
 use Rattle.move_laws.proofs.Kept.{order_with_cells}
-use Rattle.machine_objects.specs.Opening.{MayOpen, Opens, upvalues_at}
+use Rattle.machine_objects.specs.Opening.{MayOpen}
 use Rattle.machine_objects.proofs.Opened.{none_so_far, one_more, may_go_on, upvalues_same}
 use Rattle.machine_objects.proofs.closures.open_captured.Goals as goal
 

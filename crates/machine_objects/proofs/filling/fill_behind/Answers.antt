@@ -1,4 +1,4 @@
-use Rattle.std.proofs.Common.{◌≡◌, [], ◌∷◌, Some, None, ap, sym, subst, ◌∙◌, rules}
+use Rattle.std.proofs.Common.{◌≡◌, [], ◌∷◌, Some, None, ap, sym, subst, rules}
 use Rattle.std.specs.Prelude.{pos}
 use Rattle.int_core.specs.Value.{shape}
 use Rattle.instruction_forms.specs.Forms.{fills_registers}

@@ -1,4 +1,4 @@
-use Rattle.std.proofs.Common.{◌≡◌, [], ◌∷◌, ◌++◌, map, ap, refl, sym, ◌∙◌, rules}
+use Rattle.std.proofs.Common.{◌≡◌, [], ◌∷◌, ◌++◌, map, ap, refl, sym, rules}
 use Rattle.std.specs.Prelude.{pos}
 use Rattle.int_core.specs.Value.{object, a_table}
 use Rattle.lua_heap.specs.Reading.{value as meant}

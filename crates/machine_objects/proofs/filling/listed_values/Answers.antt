@@ -1,4 +1,4 @@
-use Rattle.std.proofs.Common.{◌≡◌, subst}
+use Rattle.std.proofs.Common.{subst}
 use Rattle.machine_core.specs.Text.{read_list, read_registers}
 use Rattle.machine_core.specs.FrameRows.{expand}
 use Rattle.move_laws.specs.Memory.{IsSafe}

@@ -1,7 +1,5 @@
-use Rattle.std.proofs.Common.{◌≡◌, ◌∷◌, ◌++◌, [], List, Some, length, map, take, ap, refl, sym, rules, ◌∙◌}
-use Rattle.std.proofs.lemmas.List.{take_all}
+use Rattle.std.proofs.Common.{◌≡◌, ◌∷◌, ◌++◌, [], List, Some, length, map, ap, refl, sym, rules, ◌∙◌}
 use Rattle.table_core.specs.declared.value.CellId.{CellId}
-use Rattle.machine_objects.specs.Objects.{cells_for}
 use Rattle.machine_objects.specs.Opening.{upvalues_at}
 use Rattle.machine_objects.proofs.Made.{has_cell, one_cell, all_captured}
 use Rattle.machine_objects.proofs.functions.captured_cells.Goals as goal

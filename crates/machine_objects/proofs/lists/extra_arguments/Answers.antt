@@ -1,12 +1,10 @@
-use Rattle.std.proofs.Common.{◌≡◌, ℕ, List, [], ap, sym, rules}
+use Rattle.std.proofs.Common.{◌≡◌, [], ap, sym, rules}
 use Rattle.std.specs.Prelude.{map}
-use Rattle.int_core.specs.Value.{Value as Meant}
 use Rattle.lua_heap.specs.Reading.{value as meant}
 use Rattle.machine_core.specs.Text.{read_varargs}
 use Rattle.machine_core.specs.InstructionRows.{write_values}
 use Rattle.machine_core.specs.FrameRows.{at_once, expand}
 use Rattle.move_laws.proofs.Rows.{first, safe_after}
-use Rattle.table_core.specs.declared.value.Value.{Value as Kept}
 use Rattle.machine_moves.proofs.OnTop.{if_ok}
 use Rattle.machine_objects.proofs.lists.extra_arguments.Goals as goal
 

@@ -3,7 +3,6 @@ use Rattle.std.proofs.lemmas.Result.{IfOk-weaker}
 use Rattle.int_core.specs.Operations.{text_of}
 use Rattle.lua_heap.specs.Reading.{value}
 use Rattle.meta_ops.specs.Heap.{heap_in}
-use Rattle.meta_ops.specs.Outcome.{is_done}
 use Rattle.machine_operations.proofs.Concats.{with_strings, ok_both, concat_same, concats, found_there, not_done}
 use Rattle.machine_operations.proofs.concatenation.settle_concatenation.Goals as goal
 

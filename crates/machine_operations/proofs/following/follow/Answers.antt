@@ -1,6 +1,6 @@
-use Rattle.std.proofs.Common.{rules, ◌≡◌, sym, subst}
+use Rattle.std.proofs.Common.{sym, subst}
 use Rattle.machine_operations.specs.Following.{Follows, MayFollow}
-use Rattle.machine_operations.proofs.Afterwards.{goes_ahead, has_front, may_keep_before, keeps_before, may_test, test_follows}
+use Rattle.machine_operations.proofs.Afterwards.{has_front, may_keep_before, keeps_before, may_test, test_follows}
 use Rattle.machine_operations.proofs.following.follow.Goals as goal
 
 pub register_before-to-requires-clause-there : goal.register_before-to-requires-clause-there

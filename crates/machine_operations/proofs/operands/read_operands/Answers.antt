@@ -1,4 +1,4 @@
-use Rattle.std.proofs.Common.{sym, subst, ◌∙◌}
+use Rattle.std.proofs.Common.{sym, subst}
 use Rattle.machine_operations.specs.Operands.{AreRead, ReadsAll}
 use Rattle.machine_operations.specs.declared.operands.Values.TheVariants.{One, Two, Three}
 use Rattle.machine_operations.proofs.Reading.{second_is_read, key_is_read, given_is_read, reads_one, reads_twice, reads_two, reads_three}

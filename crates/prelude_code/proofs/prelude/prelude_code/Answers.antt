@@ -1,6 +1,6 @@
 use Rattle.std.proofs.Common.{◌≡◌, false, [], length, refl, sym, subst, ◌∙◌}
 use Rattle.code_core.specs.Prototype.{list_of}
-use Rattle.library_rows.specs.PreludeText.{prelude_functions, prelude_text}
+use Rattle.library_rows.specs.PreludeText.{prelude_text}
 use Rattle.compile_chunk.specs.Chunk.{IsCodeOf}
 use Rattle.prelude_code.proofs.Preludes.{counted, named, no_prelude}
 use Rattle.prelude_code.proofs.prelude.prelude_code.Goals as goal
