@@ -293,6 +293,8 @@ adds_code old new t h rest b trees first a =
     let functions_now : functions new.codes ≡ functions old.codes ++ ps = ap functions_in trees ∙ trees_more old.codes.trees.items t in
     record {
       functions = functions_now;
+      trees = record { more = t ∷ []; is = trees };
+      list = record { more = a.added; is = a.list };
       strings = b;
       rest = rest;
       plain = λ primitives fuel sound.

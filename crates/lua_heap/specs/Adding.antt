@@ -5,6 +5,7 @@ use Rattle.code_core.specs.Prototype.{Prototype}
 use Rattle.machine_core.specs.Text.{constant}
 use Rattle.machine_sound.specs.Sound.{Sound}
 use Rattle.lua_heap.specs.declared.codes.Code.{Code}
+use Rattle.lua_heap.specs.declared.codes.Tree.{Tree}
 use Rattle.lua_heap.specs.declared.world.World.{World as Memory}
 use Rattle.lua_heap.specs.Reading.{value}
 use Rattle.lua_heap.specs.Codes.{preorder, functions, IsCode, AreCodes}
@@ -40,6 +41,8 @@ pub record AddsFunctions (texts : List (List ℕ)) (old new : List Code) (ps : L
 -- a prototype's function goes last, then those that are defined in it; a sound world reads the same
 pub record AddsCode (old new : Memory) (p : Prototype) : Type 0 where
   pub functions : functions new.codes ≡ functions old.codes ++ (p ∷ preorder p.inner)
+  pub trees : Begins Tree old.codes.trees.items new.codes.trees.items
+  pub list : Begins Code old.codes.list.items new.codes.list.items
   pub strings : Begins (List ℕ) old.strings new.strings
   pub rest : new ≡ record old { strings = new.strings; codes = new.codes }
   pub plain : (primitives fuel : ℕ) → Sound primitives (plain old fuel) → plain new fuel ≡ plain old fuel
