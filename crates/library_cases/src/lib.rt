@@ -1,4 +1,4 @@
-// Cases of the libraries' functions: what no clause of their crates says.
+// Cases of the libraries' functions by their arguments and results: what no clause of their crates says.
 // They stand in a crate of their own, so that these crates are not proved once more for them.
 #![tactic(auto)]
 
@@ -9,16 +9,6 @@ mod arguments;
 #[cfg(test)]
 mod base;
 #[cfg(test)]
-mod characters;
-#[cfg(test)]
-mod formats;
-#[cfg(test)]
-mod integers;
-#[cfg(test)]
-mod matches;
-#[cfg(test)]
 mod strings;
-#[cfg(test)]
-mod texts;
 #[cfg(test)]
 mod utf8;

@@ -1,4 +1,4 @@
-// Cases of integers, devices, pools, tables and patterns: what no clause of their crates says.
+// Cases of integers, devices, pools and tables: what no clause of their crates says.
 // They stand in a crate of their own, so that these crates are not proved once more for them.
 #![tactic(auto)]
 
@@ -6,8 +6,6 @@
 mod devices;
 #[cfg(test)]
 mod integers;
-#[cfg(test)]
-mod patterns;
 #[cfg(test)]
 mod pools;
 #[cfg(test)]

@@ -1,0 +1,14 @@
+// Cases of functions on texts, characters and integers that the libraries are made of: what no clause of their crates says.
+// They stand in a crate of their own, so that these crates are not proved once more for them.
+#![tactic(auto)]
+
+#[cfg(test)]
+mod characters;
+#[cfg(test)]
+mod formats;
+#[cfg(test)]
+mod integers;
+#[cfg(test)]
+mod matches;
+#[cfg(test)]
+mod texts;
