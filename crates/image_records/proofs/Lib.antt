@@ -1,0 +1,4 @@
+pub mod Counts
+pub mod Fitted
+pub mod FrameFits
+pub mod Keys
