@@ -1,0 +1,6 @@
+pub mod Faults
+pub mod Reader
+pub mod Says
+pub mod Code
+pub mod Rows
+pub mod Reads
