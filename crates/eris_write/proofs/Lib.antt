@@ -1,0 +1,10 @@
+pub mod Putting
+pub mod Spelled
+pub mod Readable
+pub mod Numbered
+pub mod Written
+pub mod Recorded
+pub mod Equal
+pub mod Allowed
+pub mod Imaged
+pub mod Persisted

@@ -1,0 +1,7 @@
+use Rattle.lua_stack.specs.View.{blank}
+use Rattle.eris_write.specs.Writing.{Writes}
+use Rattle.eris_write.proofs.Written.{value_fields, value_bytes}
+use Rattle.eris_write.proofs.writer.Writer.write_nils.Given as goal
+
+abbrev pub invariant-loop-at : goal.invariant-loop-at
+invariant-loop-at l = Writes l.self l.initial.out l.out (value_fields l.self (blank l.at)) (value_bytes l.self (blank l.at))

@@ -1,0 +1,9 @@
+pub mod Refusals
+pub mod Persisting
+pub mod Output
+pub mod Writing
+pub mod Frames
+pub mod Cells
+pub mod Images
+pub mod Keys
+pub mod Law
