@@ -1,1 +1,3 @@
 mod Stepping
+pub mod Alike
+mod Closing

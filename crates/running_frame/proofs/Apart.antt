@@ -4,10 +4,10 @@ use Rattle.std.specs.Prelude.{slice_get}
 use Rattle.code_core.specs.Prototype.{Prototype}
 use Rattle.code_core.specs.Check.{IsChecked}
 use Rattle.int_core.specs.Value.{Value, without_last}
-use Rattle.machine_core.specs.World.{Function, LuaFrame, lua, Place, place_of, put_frames, put_top}
+use Rattle.machine_core.specs.World.{Function, lua, Place, place_of, put_frames, put_top}
 use Rattle.machine_core.specs.Moves.{go, Row}
 use Rattle.machine_sound.specs.Laws.{SoundAfter, PrimitivesSafe, StepGood}
-use Rattle.machine_sound.proofs.Lists.{get_map, get_there, get_within, last_splits, map_get, some_is}
+use Rattle.machine_sound.proofs.Lists.{get_map, get_there, get_within, last_splits, some_is}
 use Rattle.machine_sound.proofs.Steps.{runs_good}
 use Rattle.machine_focus.specs.Focus.{stacked, Reaches}
 use Rattle.object_pool.specs.Pool.{Pool}
@@ -18,7 +18,7 @@ use Rattle.lua_stack.specs.Frames.{KeptStack, frames}
 use Rattle.lua_heap.specs.declared.codes.Code.{Code}
 use Rattle.lua_heap.specs.declared.world.World.{World as Memory}
 use Rattle.lua_heap.specs.declared.world.Cell.{Cell}
-use Rattle.lua_heap.specs.declared.world.Cell.TheVariants.{Closed, Open}
+use Rattle.lua_heap.specs.declared.world.Coro.TheVariants.{Running as CoroRuns}
 use Rattle.lua_heap.specs.declared.world.Func.{Func}
 use Rattle.lua_heap.specs.Cells.{AreListed, CellsAreListed, open_cells_in}
 use Rattle.lua_heap.specs.Codes.{functions, code_or_none, prototype_at, IsCode as IsCodeKept}
@@ -26,8 +26,9 @@ use Rattle.lua_heap.specs.Law.{CheckedCodeIsThere}
 use Rattle.lua_heap.specs.Plain.{plain}
 use Rattle.lua_heap.specs.Reading.{value}
 use Rattle.lua_heap.specs.Strings.{AreApart, AreShort}
-use Rattle.machine_arms_tables.specs.Frame.{Code as LoopCode, AreOpenAlike, open_place}
+use Rattle.machine_arms_tables.specs.Frame.{Code as LoopCode, AreOpenAlike}
 use Rattle.machine_loop.specs.Running.{Running}
+use Rattle.machine_loop.proofs.Alike.{still_open}
 use Rattle.move_laws.specs.Memory.{Runs, ChangesStack, InOrder}
 use Rattle.move_laws.proofs.Places.{place_is}
 use Rattle.move_laws.proofs.Running.{shown, changed_stack_is_put, place_put, with_top as at_with}
@@ -86,6 +87,11 @@ module _ (primitives : ℕ) (rows : ℕ → Row) (W : Memory) (at : Place) (e : 
         upvalues_are = cells_are;
         texts_are = refl;
       };
+      listed = λ id k frame register own there.
+          order.listed.listed id k frame register s.open_cells (
+          ap (slice_get (map open_cells_in W.coros.objects)) (own ∙ (shown W co s at r e).coroutine)
+          ∙ get_map open_cells_in W.coros.objects co.0 (CoroRuns s) r.there)
+          there;
       ready = λ w. record {
         stands = stands_at (plain W 0) at e;
         safe = safe;
@@ -139,15 +145,6 @@ module _ (primitives : ℕ) (rows : ℕ → Row) (W : Memory) (at : Place) (e : 
             ∙ sym (changed_stack_is_put (with_parts W tables cells) V co u left c)
 
 -- stacks list what is open where the same cells are open
-
-open_is : (c : Cell) (x : CoroId × ℕ × ℕ) → open_place c ≡ Some x → c ≡ Open x.0 x.1 x.2
-open_is (Closed v) x e = absurd (cc)
-open_is (Open co frame register) x e = ap (λ (x : CoroId × ℕ × ℕ). Open x.0 x.1 x.2) (some_is {o = Some (co, frame, register)} refl e)
-
-still_open : (cells cells' : List Cell) → AreOpenAlike cells cells' → (n : ℕ) (co : CoroId) (frame register : ℕ) → slice_get cells n ≡ Some (Open co frame register) → slice_get cells' n ≡ Some (Open co frame register)
-still_open cells cells' a n co frame register e =
-    let x = map_get open_place cells' n (Some (co, frame, register)) (ap (λ l. slice_get l n) (sym a) ∙ get_map open_place cells n (Open co frame register) e) in
-    x.1 ∙ ap (λ c. Some c) (open_is x.0 (co, frame, register) x.2)
 
 pub listed_alike : (old new : Memory) → AreOpenAlike old.cells.objects new.cells.objects → map open_cells_in new.coros.objects ≡ map open_cells_in old.coros.objects → CellsAreListed old → CellsAreListed new
 listed_alike old new a l h = subst (AreListed new.cells.objects) (sym l) (record {

@@ -1,11 +1,11 @@
 -- A world in which nothing moves is its frame on top put together with what stays while that runs.
-use Rattle.std.proofs.Common.{◌≡◌, ℕ, ◌<◌, List, [], ◌∷◌, ◌++◌, length, Some, refl, ap, sym, ◌∙◌}
+use Rattle.std.proofs.Common.{◌≡◌, ℕ, List, [], ◌∷◌, ◌++◌, Some, ap, sym, ◌∙◌}
 use Rattle.int_core.specs.Value.{Value, without_last}
 use Rattle.machine_core.specs.World.{Wait, running, Activation, LuaFrame, Frame, lua, in_progress, World, Place, place_of}
 use Rattle.machine_core.specs.Moves.{go, Row, ends}
 use Rattle.machine_core.specs.MachineStep.{steps}
 use Rattle.machine_sound.proofs.Lists.{get_within, last_splits}
-use Rattle.machine_focus.specs.Focus.{Context, Held, Stands, world, stacked, Reaches}
+use Rattle.machine_focus.specs.Focus.{Context, Stands, world, stacked, Reaches}
 use Rattle.move_laws.proofs.Places.{place_is, stack_is}
 use Rattle.move_laws.proofs.Running.{set_same}
 

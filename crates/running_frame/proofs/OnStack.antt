@@ -2,7 +2,7 @@
 use Rattle.std.proofs.Common.{◌≡◌, ℕ, List, [], ◌∷◌, ◌++◌, length, map, refl, ap, sym, subst, ◌∙◌}
 use Rattle.std.proofs.lemmas.List.{length-map}
 use Rattle.int_core.specs.Value.{Value}
-use Rattle.machine_core.specs.World.{running, Activation, LuaFrame, Frame, lua, World}
+use Rattle.machine_core.specs.World.{running, Activation, LuaFrame, Frame, lua}
 use Rattle.machine_focus.specs.Focus.{stacked, Reaches}
 use Rattle.machine_focus.specs.Law.{IsReady as IsHeldReady}
 use Rattle.table_core.specs.Table.{Contents}

@@ -1,10 +1,10 @@
-use Rattle.std.proofs.Common.{◌≡◌, map, refl, sym, ap, ◌∙◌, arith}
-use Rattle.machine_core.specs.World.{running}
+use Rattle.std.proofs.Common.{sym, ap, subst, ◌∙◌, arith}
+use Rattle.machine_focus.specs.Focus.{Reaches}
+use Rattle.machine_arms_tables.specs.Frame.{code}
 use Rattle.lua_heap.specs.Reading.{value}
-use Rattle.lua_stack.specs.Frames.{with_pc, with_registers}
-use Rattle.machine_view.proofs.Here.{ready_is_at}
+use Rattle.lua_stack.specs.Frames.{KeptStack, frames}
 use Rattle.running_frame.specs.Here.{is_none}
-use Rattle.running_frame.proofs.OnStack.{loop_ready, loop_reaches, rewritten, stays_on_top}
+use Rattle.running_frame.specs.Standing.{MayRun, standing}
 use Rattle.running_frame.proofs.Places.{none_is}
 use Rattle.running_frame.proofs.stack.run_stack.Goals as goal
 
@@ -31,54 +31,23 @@ returns-then-not-runs-clause-here g c =
       runs = c.here_at.ensures.runs ∙ sym c.if-not-runs.true ∙ c.is_none-runs.ensures g.g.around.texts ∙ ap is_none (c.wait.ensures v below m.top m.is);
     }
 
-pub run_frame-exit-requires : goal.run_frame-exit-requires
-run_frame-exit-requires g c =
-    let m = c.requires in
-    let v = value g.g.around.texts in
-    let below = g.g.around.context.below in
-    let waits : m.top.wait ≡ running = none_is m.top.wait (sym (c.is_none-runs.ensures g.g.around.texts ∙ ap is_none (c.wait.ensures v below m.top m.is)) ∙ c.if-not-runs.false) in
-    loop_ready g.g _ _ _ _ _ m c.registers_mut-registers.result.now c.pc-start.result waits (c.pc-start.ensures v below m.top m.is) (c.registers_mut-registers.ensures.registers v below m.top m.is)
+pub closed_from-closed-requires : goal.closed_from-closed-requires
+closed_from-closed-requires g c = let m = c.requires in record { value = value g.g.around.texts; below = g.g.around.context.below; top = m.top; is = m.is }
 
-pub set_pc-requires : goal.set_pc-requires
-set_pc-requires g c =
-    let m = c.requires in
-    let v = value g.g.around.texts in
-    let below = g.g.around.context.below in
-    let waits : m.top.wait ≡ running = none_is m.top.wait (sym (c.is_none-runs.ensures g.g.around.texts ∙ ap is_none (c.wait.ensures v below m.top m.is)) ∙ c.if-not-runs.false) in
-    stays_on_top g.g _ _ _ _ _ m c.registers_mut-registers.result.now c.pc-start.result waits (c.pc-start.ensures v below m.top m.is) (c.registers_mut-registers.ensures.registers v below m.top m.is)
-    c.run_frame-exit.new.registers c.registers_mut-registers.ensures.registers c.run_frame-exit.auto.registers
-
-pub here_at-requires-2 : goal.here_at-requires-2
-here_at-requires-2 g c = (ready_is_at g.g.around _ _ _ _ _ _ _ c.run_frame-exit.ensures.ready.ready).there
+pub run_on_top-requires : goal.run_on_top-requires
+run_on_top-requires g c = (
+  subst (λ (s : KeptStack). MayRun g.g (code c.args.closure c.args.strings.now) s c.args.tables.now.objects c.args.cells.now.objects c.args.budget.now) (sym c.closed_from-closed.ensures.kept) c.requires,
+  (
+    λ below t e.
+        let f = ap (frames (value g.g.around.texts)) (sym c.closed_from-closed.ensures.kept) ∙ e in
+        none_is t.wait (sym (c.is_none-runs.ensures g.g.around.texts ∙ ap is_none (c.wait.ensures (value g.g.around.texts) below t f)) ∙ c.if-not-runs.false),
+    c.closed_from-closed.ensures.closed,
+  ),
+)
 
 pub returns-clause-reaches : goal.returns-clause-reaches
 returns-clause-reaches g c =
-    let m = c.requires in
-    let v = value g.g.around.texts in
-    let below = g.g.around.context.below in
-    let waits : m.top.wait ≡ running = none_is m.top.wait (sym (c.is_none-runs.ensures g.g.around.texts ∙ ap is_none (c.wait.ensures v below m.top m.is)) ∙ c.if-not-runs.false) in
-    let w = c.run_frame-exit.new.registers in
-    let frames_are =
-    rewritten g.g _ _ _ _ _ m c.registers_mut-registers.result.now c.pc-start.result waits (c.pc-start.ensures v below m.top m.is) (c.registers_mut-registers.ensures.registers v below m.top m.is)
-    w c.registers_mut-registers.ensures.registers c.run_frame-exit.auto.registers in
-    loop_reaches g.g _ _ _ _ _ m c.registers_mut-registers.result.now c.pc-start.result waits (c.pc-start.ensures v below m.top m.is) (c.registers_mut-registers.ensures.registers v below m.top m.is)
-    c.set_pc.new.self c.run_frame-exit.new.tables.objects c.run_frame-exit.new.cells.objects w c.run_frame-exit.result.pc c.run_frame-exit.new.fuel c.run_frame-exit.ensures.runs (c.set_pc.ensures.top v refl below (with_registers (map v w) m.top) frames_are)
+    subst (λ (s : KeptStack). Reaches g.g.around.rows (standing g.g s c.args.tables.now.objects c.args.cells.now.objects c.args.budget.now) (standing g.g c.run_on_top.new.stack c.run_on_top.new.tables.objects c.run_on_top.new.cells.objects c.run_on_top.new.budget)) c.closed_from-closed.ensures.kept c.run_on_top.ensures.reaches
 
-pub returns-clause-here : goal.returns-clause-here
-returns-clause-here g c =
-    let m = c.requires in
-    let v = value g.g.around.texts in
-    let below = g.g.around.context.below in
-    let waits : m.top.wait ≡ running = none_is m.top.wait (sym (c.is_none-runs.ensures g.g.around.texts ∙ ap is_none (c.wait.ensures v below m.top m.is)) ∙ c.if-not-runs.false) in
-    let w = c.run_frame-exit.new.registers in
-    let frames_are =
-    rewritten g.g _ _ _ _ _ m c.registers_mut-registers.result.now c.pc-start.result waits (c.pc-start.ensures v below m.top m.is) (c.registers_mut-registers.ensures.registers v below m.top m.is)
-    w c.registers_mut-registers.ensures.registers c.run_frame-exit.auto.registers in
-    record {
-      top = with_pc c.run_frame-exit.result.pc (with_registers (map v w) m.top);
-      is = c.set_pc.ensures.top v refl below (with_registers (map v w) m.top) frames_are;
-      function = m.function;
-      at_pc = sym c.here_at-2.ensures.place;
-      word = c.here_at-2.ensures.word;
-      runs = c.here_at-2.ensures.runs ∙ sym c.if-not-runs.false ∙ c.is_none-runs.ensures g.g.around.texts ∙ ap is_none (c.wait.ensures v below m.top m.is);
-    }
+pub returns-clause-listed : goal.returns-clause-listed
+returns-clause-listed g c = c.run_on_top.ensures.listed ∙ ap (λ (s : KeptStack). s.open_cells) c.closed_from-closed.ensures.kept

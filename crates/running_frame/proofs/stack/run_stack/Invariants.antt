@@ -1,4 +1,4 @@
 use Rattle.running_frame.proofs.stack.run_stack.Given as goal
 
-abbrev pub ghost-run_frame : goal.ghost-run_frame
-ghost-run_frame g a = g.g
+abbrev pub ghost-run_on_top : goal.ghost-run_on_top
+ghost-run_on_top g a = g.g
