@@ -1,4 +1,4 @@
-// Cases of the program's calls over devices in memory: words, files and input, with the status, the output and the line of the error that they give.
+// Cases of the program's calls over devices in memory: words, files, sources and chunks that are refused, compiled or checked, and devices that fail.
 // They stand in a crate of their own, so that the program is not proved once more for them.
 #![tactic(auto)]
 
@@ -6,5 +6,3 @@
 mod calls;
 #[cfg(test)]
 mod prelude;
-#[cfg(test)]
-mod runs;
