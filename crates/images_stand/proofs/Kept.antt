@@ -183,13 +183,13 @@ module _ (W : World) (perms : List Perm) (roots : List Value) (R : Reader) (prim
       pub met : Every Met (field_parts Name (of_value v))
 
     -- the record of what is met
-    record HasRecord (o : Part) : Type 0 where
-      at : ℕ
-      there : slice_get Order at ≡ Some o
-      number : N.number o ≡ at
-      small : at < 2 ^ 32
+    pub record HasRecord (o : Part) : Type 0 where
+      pub at : ℕ
+      pub there : slice_get Order at ≡ Some o
+      pub number : N.number o ≡ at
+      pub small : at < 2 ^ 32
 
-    has_record : (o : Part) → Met o → HasRecord o
+    pub has_record : (o : Part) → Met o → HasRecord o
     has_record o m =
         let p = place_met same_part part_tells Order o m in
         let g = place_get same_part part_tells Order o p.0 p.1 in
@@ -325,7 +325,7 @@ module _ (W : World) (perms : List Perm) (roots : List Value) (R : Reader) (prim
         by (Some i) e k = named v i e (named_so W.prelude_environment perms v i e)
 
     -- different values stand as different items
-    parts_are : (o q : Part) → Met o → Met q → N.number o ≡ N.number q → o ≡ q
+    pub parts_are : (o q : Part) → Met o → Met q → N.number o ≡ N.number q → o ≡ q
     parts_are o q m k e =
         let a = has_record o m in
         let b = has_record q k in

@@ -2,8 +2,9 @@ mod Walks
 mod Items
 mod Records
 mod Whole
-mod Same
+pub mod Same
 mod Kept
+mod Fits
 mod Stand
 mod Reading
 pub mod Session

@@ -1,5 +1,5 @@
 -- The image of what is held whole may stand.
-use Rattle.std.proofs.Common.{arith, ℕ, ◌≤◌, ◌≡◌, List, length, Option, Some, subst}
+use Rattle.std.proofs.Common.{arith, ℕ, ◌≤◌, ◌≡◌, List, length, Option, Some, subst, ap, ◌∙◌, cond, []}
 use Rattle.std.proofs.lemmas.List.{length-map}
 use Rattle.int_core.specs.Value.{Value}
 use Rattle.machine_core.specs.World.{World}
@@ -7,10 +7,14 @@ use Rattle.image_core.specs.Image.{Perm, Image}
 use Rattle.image_core.specs.Visit.{IsMet}
 use Rattle.image_core.specs.Records.{Part, same_part, parts_in_order, naming, item, image_of}
 use Rattle.image_load.specs.Loads.{IsWritten}
-use Rattle.image_bytes.specs.Bytes.{Reader, image_format}
+use Rattle.image_bytes.specs.Format.{of_kind, read, refused}
+use Rattle.image_bytes.specs.Bytes.{Reader, image_format, read_image}
+use Rattle.image_bytes.specs.ReadBack.{ImagesReadBack}
+use Rattle.image_sound.specs.Fitting.{with_fits}
 use Rattle.image_same.specs.Same.{ImagesInOrder, InOrder}
 use Rattle.image_sound.proofs.Savable.{savable_is_written}
-use Rattle.images_stand.specs.Standing.{ArePermanents, IsHeldWhole, Knows, name, WrittenImagesStand}
+use Rattle.images_stand.specs.Standing.{ArePermanents, IsHeldWhole, Knows, name, WrittenImagesStand, WrittenImagesAccepted}
+use Rattle.images_stand.proofs.Fits.{written_fits}
 use Rattle.images_stand.proofs.Whole.{AreSmall, parts_small, image_after}
 use Rattle.images_stand.proofs.Kept.{records_stand, roots_stand, named_plainly}
 
@@ -41,3 +45,19 @@ module _ (ordered : ImagesInOrder) (primitives : ℕ) (W : World) (perms : List 
 pub written_images_stand : ImagesInOrder → WrittenImagesStand
 written_images_stand ordered primitives W perms roots R are held knows size =
     (length (image_of W roots perms).records, stands ordered primitives W perms roots R are held knows (length roots) (as_long ordered primitives W perms roots R are held knows) size)
+
+-- and it is accepted
+pub written_images_accepted : ImagesInOrder → ImagesReadBack → WrittenImagesAccepted
+written_images_accepted ordered back primitives W perms roots R code_named are held knows codes size =
+    let s = written_images_stand ordered primitives W perms roots R are held knows size in
+    let I = image_of W roots perms in (
+      s.0,
+      ap (with_fits code_named) (read_whole (length roots) (as_long ordered primitives W perms roots R are held knows) s.0 s.1)
+          ∙ ap (λ b. cond b (read I s.0 []) (refused (of_kind 9)))
+          (written_fits W perms roots R primitives are knows held.few (savable_is_written primitives W (name W perms roots) roots held.savable) held.savable.solid code_named codes),
+    )
+  where
+    read_whole : (n : ℕ) → length (image_of W roots perms).roots ≡ n → (met : ℕ) → (image_format R n).after 0 (image_of W roots perms) ≡ Some met
+        → read_image R n ((image_format R n).spell (image_of W roots perms)) ≡ read (image_of W roots perms) met []
+    read_whole n e = subst (λ n. (met : ℕ) → (image_format R n).after 0 (image_of W roots perms) ≡ Some met → read_image R n ((image_format R n).spell (image_of W roots perms)) ≡ read (image_of W roots perms) met []) e
+        (λ met h. back R (image_of W roots perms) met h)

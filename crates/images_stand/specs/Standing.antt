@@ -4,13 +4,15 @@ use Rattle.code_core.specs.Check.{IsChecked}
 use Rattle.code_core.specs.Prototype.{Prototype}
 use Rattle.code_core.specs.Writable.{signed_fits}
 use Rattle.int_core.specs.Rows.{AreRows}
-use Rattle.int_core.specs.Value.{integer, primitive, Plain, Value, known, object, greatest_string, table_values}
-use Rattle.machine_core.specs.World.{World}
+use Rattle.int_core.specs.Value.{integer, primitive, a_function, Plain, Value, known, object, greatest_string, table_values}
+use Rattle.machine_core.specs.World.{Function, World}
 use Rattle.machine_sound.specs.Sound.{Each}
 use Rattle.image_core.specs.Visit.{greatest_count}
 use Rattle.image_core.specs.Image.{PermKey, number_key, text_key, Perm, Item, plain, numbered, permanent, environment}
 use Rattle.image_core.specs.Records.{Field, of_value, fields, is_reached, parts_in_order, image_of, named, sort_of}
+use Rattle.image_bytes.specs.Format.{read}
 use Rattle.image_bytes.specs.Bytes.{Reader, image_format}
+use Rattle.image_sound.specs.Fitting.{reads}
 use Rattle.image_sound.specs.Savable.{Savable}
 
 -- permanents: functions of the libraries and objects, with keys that can be written, no two with one key
@@ -78,3 +80,14 @@ abbrev pub WrittenImagesStand : Type 0
 WrittenImagesStand =
     (primitives : ℕ) (W : World) (perms : List Perm) (roots : List Value) (R : Reader) → ArePermanents perms → IsHeldWhole W perms roots primitives → Knows W.prelude_environment perms R
     → length ((image_format R (length roots)).spell (image_of W roots perms)) ≤ 2147483647 → (met : ℕ) × ((image_format R (length roots)).after 0 (image_of W roots perms) ≡ Some met)
+
+-- whoever reads has the code of each permanent that is a Lua function
+pub record KnowsCode (W : World) (perms : List Perm) (code_named : PermKey → Option Prototype) : Type 0 where
+  pub codes : (n : ℕ) (f : Function) (key : PermKey) → named W.prelude_environment perms (object a_function n) ≡ Some (permanent a_function key) → slice_get W.functions n ≡ Some f → code_named key ≡ Some f.code
+
+-- and is accepted as that image then
+abbrev pub WrittenImagesAccepted : Type 0
+WrittenImagesAccepted =
+    (primitives : ℕ) (W : World) (perms : List Perm) (roots : List Value) (R : Reader) (code_named : PermKey → Option Prototype) → ArePermanents perms → IsHeldWhole W perms roots primitives → Knows W.prelude_environment perms R
+    → KnowsCode W perms code_named → length ((image_format R (length roots)).spell (image_of W roots perms)) ≤ 2147483647
+    → (met : ℕ) × (reads R code_named (length roots) ((image_format R (length roots)).spell (image_of W roots perms)) ≡ read (image_of W roots perms) met [])
