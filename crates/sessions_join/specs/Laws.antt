@@ -17,6 +17,7 @@ use Rattle.machine_runs.specs.Runs.{Close, Run, CodeRun}
 use Rattle.image_core.specs.Image.{PermKey}
 use Rattle.image_bytes.specs.Bytes.{Reader}
 use Rattle.session_images.specs.Laws.{IsLibrary}
+use Rattle.images_stand.specs.Sessions.{KnowsLibraries}
 use Rattle.sessions_join.specs.Sessions.{Sessions}
 
 -- what is known of the row of `build`, the function of the libraries on which the others do not hang
@@ -43,6 +44,6 @@ pub record IsOneRun (build : Row) (prelude : List (Entry Prototype)) (code : Pro
 
 abbrev pub SessionsAreOneRun : Type 0
 SessionsAreOneRun =
-    (build : Row) → IsFit build → (R : Reader) (code_named : PermKey → Option Prototype) (prelude : List (Entry Prototype)) → IsLibrary prelude → (code : Prototype) → IsChecked code
+    (build : Row) → IsFit build → (R : Reader) → KnowsLibraries R → (code_named : PermKey → Option Prototype) (prelude : List (Entry Prototype)) → IsLibrary prelude → (code : Prototype) → IsChecked code
     → (budget : ℕ) (inputs : List (List (List ℕ))) (printed : List ℕ) (close : Close) → AreShort inputs
     → Sessions R code_named prelude (row_numbered build) budget code inputs printed close → IsOneRun build prelude code (all_lines inputs) budget printed close

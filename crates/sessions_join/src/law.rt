@@ -2,6 +2,7 @@
 ghost use Rattle.sessions_join.specs.Laws.{SessionsAreOneRun};
 
 use image_bytes::images_are_read_back;
+use images_stand::sessions_stand;
 use session_images::sessions_can_resume;
 use sessions_resume::saved_sessions_go_on;
 
@@ -11,6 +12,7 @@ pub fn sessions_are_one_run()
     ensures { SessionsAreOneRun }
 {
     images_are_read_back();
+    sessions_stand();
     sessions_can_resume();
     saved_sessions_go_on();
 }

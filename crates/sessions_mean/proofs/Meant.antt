@@ -41,7 +41,7 @@ module _
     checked = source_checked source s.read.tokens tree s.read.limited s.read.lexed s.read.derived s.read.lawful given s.name
 
     run : IsOneRun no_build compiled (code_of given (placed tree)) (all_lines inputs) budget printed close
-    run = joins no_build (no_build_fits safe) s.reader s.code_named compiled (record { ok = s.libraries.ok; count = s.all_there }) (code_of given (placed tree)) checked budget inputs printed close s.lines s.sessions
+    run = joins no_build (no_build_fits safe) s.reader s.knows s.code_named compiled (record { ok = s.libraries.ok; count = s.all_there }) (code_of given (placed tree)) checked budget inputs printed close s.lines s.sessions
 
     begins : Begins source tree prelude compiled given (all_lines inputs)
     begins = record { read = s.read; libraries = s.libraries; name = s.name; lines = all_short inputs s.lines }

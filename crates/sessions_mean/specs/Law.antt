@@ -14,6 +14,7 @@ use Rattle.machine_primitives.specs.Primitives.{no_build}
 use Rattle.machine_runs.specs.Runs.{Close}
 use Rattle.image_core.specs.Image.{PermKey}
 use Rattle.image_bytes.specs.Bytes.{Reader}
+use Rattle.images_stand.specs.Sessions.{KnowsLibraries}
 use Rattle.scripts_mean.specs.Scripts.{IsRead, IsPrelude, EndsAs, MeansSo}
 use Rattle.sessions_join.specs.Sessions.{Sessions}
 use Rattle.sessions_join.specs.Laws.{AreShort, all_lines}
@@ -26,6 +27,7 @@ pub record AreSessions (source : List ℕ) (tree : Block) (prelude : List (Entry
   pub name : IsTrue (name_fits given)
   pub lines : AreShort inputs
   pub reader : Reader
+  pub knows : KnowsLibraries reader
   pub code_named : PermKey → Option Prototype
   pub sessions : Sessions reader code_named compiled (row_numbered no_build) budget (code_of given (placed tree)) inputs printed close
 
