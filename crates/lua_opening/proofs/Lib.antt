@@ -4,3 +4,4 @@ pub mod Surroundings
 pub mod Preludes
 pub mod Worlds
 pub mod Constants
+mod RowByRow

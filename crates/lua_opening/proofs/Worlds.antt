@@ -52,7 +52,7 @@ none_of : {A B : Type 0} (f : A → B) (xs : List A) → map f xs ≡ [] → xs 
 none_of f [] e = refl
 none_of f (x ∷ xs) e = absurd (cc)
 
-entries_length : (fs : List (List ℕ × Library)) (ps : List Prototype) → length ps ≡ length fs → length (entries_of fs ps) ≡ length ps
+pub entries_length : (fs : List (List ℕ × Library)) (ps : List Prototype) → length ps ≡ length fs → length (entries_of fs ps) ≡ length ps
 entries_length [] [] h = refl
 entries_length [] (p ∷ ps) h = absurd (omega (arith, h))
 entries_length (f ∷ fs) [] h = absurd (omega (arith, h))
@@ -68,7 +68,7 @@ zeros_length : (n : ℕ) → length (zeros n) ≡ n
 zeros_length zero = refl
 zeros_length (suc n) = ap suc (zeros_length n)
 
-too_long_is : (n : ℕ) (text : List ℕ) → length text ≤ greatest_string → too_long n ≡ text → ⊥
+pub too_long_is : (n : ℕ) (text : List ℕ) → length text ≤ greatest_string → too_long n ≡ text → ⊥
 unfolding too_long
 too_long_is n text short q = let a = ap length q in let b = zeros_length (suc greatest_string + n) in omega (arith, a, b, short)
 

@@ -1,5 +1,5 @@
 // The tables of the libraries, row by row in the order of the names (luaL_Reg of Lua's sources).
-ghost use Rattle.std.specs.Prelude.{◌≡◌, ℕ, List, map, length, IfOk};
+ghost use Rattle.std.specs.Prelude.{◌≡◌, ◌↔◌, ℕ, List, map, length, IfOk, IsTrue};
 ghost use Rattle.code_core.specs.Prototype.{Prototype};
 ghost use Rattle.library_rows.specs.Library.{of_coroutine, of_globals, of_math, of_string, of_table, of_utf8};
 ghost use Rattle.library_rows.specs.PreludeText.{prelude_functions};
@@ -9,6 +9,7 @@ ghost use Rattle.lua_meaning.specs.Libraries.{environment, library_table, string
 ghost use Rattle.lua_meaning.specs.Opening.{prelude_of};
 ghost use Rattle.lua_opening.specs.Opened.{IsTable, tables_of};
 
+use crate::comparing::has_rows;
 use crate::rows::{Item, filled};
 use lua_heap::{Strings, law};
 use object_pool::Pool;
@@ -281,4 +282,14 @@ pub(crate) fn library_tables(
     strings.len();
     law::tables_are_read();
     Ok(tables)
+}
+
+/// Whether a table is the prelude's environment as it is made.
+pub fn is_environment(strings: &Strings, held: &Table) -> bool
+    ensures { (codes : List Prototype) → length codes ≡ length prelude_functions → (IsTrue result ↔ (table strings.now held.now ≡ environment (prelude_of codes))) }
+{
+    match held.metatable() {
+        Some(_) => false,
+        None => has_rows(strings, held, &ENVIRONMENT),
+    }
 }
