@@ -1,0 +1,5 @@
+pub mod Opened
+pub mod Ranks
+pub mod Steps
+pub mod Tops
+pub mod Values
