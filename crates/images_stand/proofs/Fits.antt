@@ -1,24 +1,23 @@
 -- What is written fits: frames fit the instructions at which they wait, and open cells name registers that are there, each another one.
-use Rattle.std.proofs.Common.{arith, ℕ, zero, suc, ◌+◌, ◌<◌, ◌≤◌, ◌≡◌, List, [], ◌∷◌, ◌++◌, Option, Some, None, refl, subst, sym, ap, ◌∙◌, length, map, Bool, true, false, cond}
-use Rattle.std.specs.Prelude.{slice_get, flat_map, nat_eq, nat_lt, not, ◌&&◌, ◌||◌, IsTrue}
+use Rattle.std.proofs.Common.{arith, ℕ, suc, ◌<◌, ◌≡◌, List, [], ◌∷◌, Option, Some, None, refl, subst, sym, ap, ◌∙◌, length, map, Bool, true, false, cond}
+use Rattle.std.specs.Prelude.{slice_get, flat_map, nat_eq, nat_lt, not, ◌&&◌, ◌||◌}
 use Rattle.std.specs.List.{list_all, list_any}
 use Rattle.std.proofs.lemmas.List.{length-map}
 use Rattle.std.proofs.lemmas.Bool.{and_parts}
 use Rattle.code_core.specs.declared.instruction.Instruction.{Instruction}
 use Rattle.code_core.specs.declared.opcode.Opcode.{Opcode}
 use Rattle.code_core.specs.Check.{at}
-use Rattle.code_core.specs.Instruction.{opcode_of}
 use Rattle.code_core.specs.Prototype.{Prototype}
 use Rattle.int_core.specs.Heap.{Table}
-use Rattle.int_core.specs.Value.{Kind, a_table, a_function, a_coroutine, Value, known, object, bind}
+use Rattle.int_core.specs.Value.{a_table, a_function, a_coroutine, Value, object, bind}
 use Rattle.machine_core.specs.World.{Function, Cell, closed, open_at, Wait, running, for_call, for_iterator, for_value, for_truth, dropped, for_concat, for_close, returning, leaving, LuaFrame, Frame, lua, pcall, xpcall, handler, closing, Coroutine, fresh, suspended, in_progress, normal, dead, failed, World, frames_of, lua_frame}
-use Rattle.machine_sound.specs.Sound.{Each, sizes, FrameOk, LuaOk, waits_at, waiting_size, kept_below, LuaWaits, FrameWaits, AllWait, CoroutineOk, registers_in, registers_of, CellOk, OneEach, Solid}
+use Rattle.machine_sound.specs.Sound.{Each, sizes, FrameOk, LuaOk, waits_at, waiting_size, kept_below, LuaWaits, FrameWaits, CoroutineOk, registers_in, registers_of, CellOk, Solid}
 use Rattle.machine_sound.proofs.Lists.{get_map}
 use Rattle.image_core.specs.Visit.{IsMet, greatest_count}
-use Rattle.image_core.specs.Image.{PermKey, Perm, Item, numbered, permanent, LuaFrameItem, FrameItem, lua_item, Record, table_record, function_record, closed_record, open_record, fresh_record, suspended_record, dead_record, failed_record, no_record}
-use Rattle.image_core.specs.Records.{Part, an_object, a_cell, same_part, Field, of_value, of_cell, of_coroutine, frame_fields, coroutine_fields, present, cell_fields, if_there, fields, value_parts, unless_named, field_parts, parts, is_reached, parts_in_order, Naming, naming, named, unnamed_item, or_item, item, wait_item, lua_frame_item, frame_item, record_of_table, record_of_function, record_of_coroutine, record_of_cell, or_none, record_of}
+use Rattle.image_core.specs.Image.{PermKey, Perm, Item, numbered, LuaFrameItem, Record, table_record, function_record, closed_record, open_record, fresh_record, suspended_record, dead_record, failed_record, no_record}
+use Rattle.image_core.specs.Records.{Part, an_object, a_cell, same_part, Field, of_value, of_coroutine, frame_fields, coroutine_fields, present, cell_fields, if_there, fields, value_parts, unless_named, field_parts, parts, is_reached, parts_in_order, Naming, naming, or_item, item, wait_item, lua_frame_item, frame_item, record_of_table, record_of_function, record_of_coroutine, record_of_cell, or_none, record_of}
 use Rattle.image_core.specs.Loading.{kind_in}
-use Rattle.image_core.proofs.Lists.{Every, every_at, every_get, every_front, every_flat, none_some, get_met, order_once}
+use Rattle.image_core.proofs.Lists.{Every, every_at, every_front, every_flat, none_some, get_met, order_once}
 use Rattle.image_core.proofs.Parts.{part_tells, part_self}
 use Rattle.image_core.proofs.Visits.{order_closed}
 use Rattle.image_bytes.specs.Bytes.{Reader}

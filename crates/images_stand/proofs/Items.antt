@@ -1,15 +1,15 @@
 -- Values as they stand in an image.
-use Rattle.std.proofs.Common.{arith, ℕ, zero, suc, ◌<◌, ◌≤◌, ◌^◌, ◌≡◌, List, [], ◌∷◌, ◌++◌, Option, Some, None, refl, subst, sym, ap, ◌∙◌, length, Bool, true, false, cond}
+use Rattle.std.proofs.Common.{arith, ℕ, ◌<◌, ◌≤◌, ◌^◌, ◌≡◌, List, [], ◌∷◌, Option, Some, None, refl, sym, ap, ◌∙◌, length, Bool, true, false, cond}
 use Rattle.std.specs.Prelude.{nat_eq, nat_le}
 use Rattle.std.specs.List.{list_any}
 use Rattle.code_core.specs.Writable.{signed_fits}
 use Rattle.int_core.specs.Value.{nil, boolean, integer, string, primitive, Plain, Kind, a_table, a_function, a_coroutine, greatest_string, bind}
 use Rattle.image_core.specs.Image.{PermKey, number_key, text_key, Item, plain, numbered, permanent, environment}
-use Rattle.image_core.specs.Numbers.{meeting, walk, item_numbers}
-use Rattle.image_bytes.specs.Format.{Format, allowed, word, raw, case, tested, tagged, when}
-use Rattle.image_bytes.specs.Bytes.{Reader, text, key, sort_at, reference, is_sort, named_key, item_tag, item_body, item_format, only}
+use Rattle.image_core.specs.Numbers.{meeting, item_numbers}
+use Rattle.image_bytes.specs.Format.{allowed, word, raw, when}
+use Rattle.image_bytes.specs.Bytes.{Reader, text, key, sort_at, reference, is_sort, named_key, item_body, item_format, only}
 use Rattle.images_stand.specs.Standing.{KeyFits}
-use Rattle.images_stand.proofs.Walks.{Walks, Costs, before_is, word_walks, integer_walks, raw_walks, nothing_walks, followed_walks, tested_walks, case_walks, tagged_walks, tested_costs, tagged_costs}
+use Rattle.images_stand.proofs.Walks.{Walks, Costs, before_is, word_walks, integer_walks, raw_walks, nothing_walks, followed_walks, tested_walks, case_walks, tagged_walks, tagged_costs}
 
 text_below : (n : ℕ) → n ≤ greatest_string → n < 2 ^ 32
 text_below n h = omega (arith, h)

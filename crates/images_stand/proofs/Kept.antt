@@ -13,14 +13,14 @@ use Rattle.code_core.specs.Prototype.{Prototype}
 use Rattle.code_core.specs.Writable.{byte_fits, is_writable, list_fits, lists_fit, name_fits, number_fits, parts_fit}
 use Rattle.code_core.proofs.CheckedLemmas.{described_is_writable, first_of_two, rest_of}
 use Rattle.int_core.specs.Heap.{Table}
-use Rattle.int_core.specs.Rows.{AreRows, has_row}
+use Rattle.int_core.specs.Rows.{AreRows}
 use Rattle.int_core.specs.Value.{nil, boolean, integer, string, primitive, Plain, Kind, a_table, a_function, a_coroutine, Value, known, object, same, table_values, bind}
 use Rattle.int_core.specs.Operations.{is_function}
 use Rattle.machine_core.specs.Text.{behind}
 use Rattle.machine_core.specs.World.{Function, Cell, closed, open_at, Wait, running, for_call, for_iterator, for_value, for_truth, dropped, for_concat, for_close, returning, leaving, LuaFrame, Frame, lua, pcall, xpcall, handler, closing, Coroutine, fresh, suspended, in_progress, normal, dead, failed, World, frames_of, lua_frame}
 use Rattle.machine_sound.specs.Sound.{Each, Sizes, sizes, Valid, OptionOk, TableOk, FunctionOk, WaitOk, LuaOk, FrameOk, waits_at, waiting_size, LuaWaits, FrameWaits, AllWait, CoroutineOk, registers_in, registers_of, CellOk, Solid}
 use Rattle.machine_sound.proofs.Lists.{get_map, map_get}
-use Rattle.image_core.specs.Visit.{IsMet, place, greatest_count}
+use Rattle.image_core.specs.Visit.{IsMet, greatest_count}
 use Rattle.image_core.specs.Image.{PermKey, Perm, Item, plain, numbered, permanent, environment, Record, table_record, function_record, closed_record, open_record, fresh_record, suspended_record, dead_record, failed_record, no_record}
 use Rattle.image_core.specs.Numbers.{item_numbers}
 use Rattle.image_core.specs.Records.{Part, an_object, a_cell, same_part, Field, of_value, of_cell, of_coroutine, row_fields, metatable_value, table_fields, wait_fields, error_fields, frame_fields, coroutine_fields, present, cell_fields, if_there, fields, key_of, sort_of, value_parts, unless_named, field_parts, parts, is_reached, parts_in_order, Naming, naming, unnamed_item, or_item, item, wait_item, lua_frame_item, frame_item, row_item, record_of_table, record_of_function, record_of_coroutine, record_of_cell, or_none, record_of}
@@ -28,7 +28,7 @@ use Rattle.image_core.specs.Loading.{kind_in, is_cell}
 use Rattle.image_core.proofs.Lists.{Every, every_at, every_get, every_front, every_flat, map_some, none_some, place_met, place_get, get_met}
 use Rattle.image_core.proofs.Visits.{none_past, order_closed, order_roots}
 use Rattle.image_core.proofs.Parts.{part_tells, part_self, kind_self}
-use Rattle.image_bytes.specs.Bytes.{Reader, sort_at, is_sort, is_nil_item, is_table_or_nil, is_function_item, is_new_key, sort_byte, spell_records, with_sorts}
+use Rattle.image_bytes.specs.Bytes.{Reader, sort_at, is_sort, is_nil_item, is_table_or_nil, is_function_item, sort_byte, spell_records, with_sorts}
 use Rattle.image_load.specs.Loads.{IsWritten}
 use Rattle.image_sound.proofs.Savable.{open_cells_there}
 use Rattle.images_stand.specs.Standing.{IsObject, KeyFits, ArePermanents, PlainIsHeld, FieldIsHeld, IsItem, Knows, name, all_fields}

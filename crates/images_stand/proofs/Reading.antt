@@ -1,15 +1,14 @@
 -- A reader that goes by the objects of keys knows the permanents.
-use Rattle.std.proofs.Common.{ℕ, zero, suc, ◌≡◌, Bool, true, false, cond, List, [], ◌∷◌, Option, Some, None, refl, subst, sym, ap, ◌∙◌}
+use Rattle.std.proofs.Common.{ℕ, zero, suc, ◌≡◌, Bool, true, false, cond, List, [], ◌∷◌, Some, refl, subst, sym, ap, ◌∙◌}
 use Rattle.std.specs.Prelude.{slice_get, option_map}
-use Rattle.int_core.specs.Value.{nil, boolean, integer, string, primitive, Plain, Kind, a_table, a_function, a_coroutine, Value, known, object, same}
+use Rattle.int_core.specs.Value.{nil, boolean, integer, string, primitive, Plain, Kind, a_table, Value, known, object}
 use Rattle.image_core.specs.Image.{PermKey, Perm, Item, plain, numbered, permanent, environment}
 use Rattle.image_core.specs.Records.{key_of, sort_of, named}
 use Rattle.image_core.proofs.Lists.{none_some}
-use Rattle.image_bytes.specs.Bytes.{Reader}
 use Rattle.image_saved.specs.Permanents.{same_key, object_named}
-use Rattle.images_stand.specs.Standing.{IsObject, ArePermanents, PlainIsHeld, IsItem, Knows}
-use Rattle.images_stand.specs.Readers.{object_sort, a_value, a_record, becomes, GoesBy, ReadersKnow}
-use Rattle.images_stand.proofs.Kept.{KeyFrom, Named, by_environment, by_key, named_so}
+use Rattle.images_stand.specs.Standing.{IsObject, ArePermanents, PlainIsHeld, IsItem}
+use Rattle.images_stand.specs.Readers.{object_sort, a_value, a_record, becomes, ReadersKnow}
+use Rattle.images_stand.proofs.Kept.{Named, by_environment, by_key, named_so}
 use Rattle.images_stand.proofs.Same.{value_self, key_is, key_self}
 
 some_so : {A : Type 0} {a b : A} → Some a ≡ Some b → a ≡ b

@@ -2,7 +2,6 @@
 use Rattle.std.proofs.Common.{arith, ℕ, zero, suc, ◌+◌, ◌<◌, ◌≤◌, ◌^◌, ◌≡◌, List, [], ◌∷◌, ◌++◌, Option, Some, None, refl, subst, sym, ap, ◌∙◌, length, map, Bool, true, false, cond, length-append}
 use Rattle.std.specs.Prelude.{nat_eq, nat_le, nat_lt, flat_map, slice_get, ◌&&◌}
 use Rattle.byteorder.specs.Endian.{little_bytes}
-use Rattle.byteorder.specs.Numbers.{length-bytes_low_first}
 use Rattle.code_core.specs.Prototype.{Prototype}
 use Rattle.code_core.specs.Writable.{is_writable}
 use Rattle.chunk_format.specs.Spelling as spelled
@@ -11,10 +10,10 @@ use Rattle.machine_core.specs.World.{Wait, running, for_call, for_iterator, for_
 use Rattle.image_core.specs.Image.{Item, LuaFrameItem, FrameItem, lua_item, pcall_item, xpcall_item, handler_item, closing_item, Record, table_record, function_record, closed_record, open_record, fresh_record, suspended_record, dead_record, failed_record, no_record}
 use Rattle.image_core.specs.Numbers.{walk, walk_records, item_numbers, items_numbers, wait_numbers, error_numbers, frame_numbers, record_numbers}
 use Rattle.image_core.proofs.Lists.{Every, every_on}
-use Rattle.image_bytes.specs.Format.{Format, byte, word, raw, followed, tested, spell_case, case, tagged, when, spell_all, times, second, list_by, list}
-use Rattle.image_bytes.specs.Bytes.{Reader, reference, item_format, is_table_or_nil, is_function_item, only, is_new_key, row_after, spell_rows, after_rows, rows_format, of_table, table_format, blob, code_format, of_function, function_format, cell_tag, cell_format, wait_number, wait_rest, plain_wait, LuaParts, lua_parts, parts_where, lua_format, frame_tag, error_format, frame_format, coroutine_tag, coroutine_format, record_format, spell_records, after_records, sort_byte}
+use Rattle.image_bytes.specs.Format.{byte, word, raw, followed, tested, case, tagged, when, spell_all, times, list_by, list}
+use Rattle.image_bytes.specs.Bytes.{Reader, reference, item_format, is_table_or_nil, is_function_item, only, is_new_key, row_after, spell_rows, after_rows, rows_format, table_format, blob, code_format, function_format, cell_format, wait_number, wait_rest, plain_wait, LuaParts, lua_parts, parts_where, lua_format, error_format, frame_format, coroutine_format, record_format, spell_records, after_records, sort_byte}
 use Rattle.images_stand.proofs.Items.{Refers, reference_walks, ItemStands, item_walks, item_costs, only_walks}
-use Rattle.images_stand.proofs.Walks.{bind_same, walk_append, before_is, self_is, Walks, byte_walks, word_walks, raw_walks, nothing_walks, followed_walks, tested_walks, case_walks, tagged_walks, Costs, word_costs, tagged_costs, fewer, times_walks, spelled_list, list_by_walks, list_walks, quiet, walks_as}
+use Rattle.images_stand.proofs.Walks.{bind_same, walk_append, self_is, Walks, byte_walks, word_walks, raw_walks, nothing_walks, followed_walks, tested_walks, case_walks, tagged_walks, word_costs, fewer, times_walks, spelled_list, list_by_walks, list_walks, quiet, walks_as}
 
 pub sooner : (n : ℕ) (xs ys : List ℕ) → n ≤ length xs → n ≤ length (xs ++ ys)
 sooner n xs ys h = let l = length-append xs ys in omega (arith, l, h)

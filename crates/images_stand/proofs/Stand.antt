@@ -1,5 +1,5 @@
 -- The image of what is held whole may stand.
-use Rattle.std.proofs.Common.{arith, ℕ, ◌≤◌, ◌≡◌, List, length, Option, Some, subst, ap, ◌∙◌, cond, []}
+use Rattle.std.proofs.Common.{arith, ℕ, ◌≤◌, ◌≡◌, List, length, Some, subst, ap, ◌∙◌, cond, []}
 use Rattle.std.proofs.lemmas.List.{length-map}
 use Rattle.int_core.specs.Value.{Value}
 use Rattle.machine_core.specs.World.{World}

@@ -1,5 +1,5 @@
 -- Where values stand as they should, how many records are met after them is told by the numbers that they name; if their bytes are not too many.
-use Rattle.std.proofs.Common.{arith, ℕ, zero, suc, ◌+◌, ◌<◌, ◌≤◌, ◌^◌, ◌≡◌, ℤ, List, [], ◌∷◌, ◌++◌, Option, Some, None, refl, subst, sym, ap, ◌∙◌, length, Bool, true, false, cond, length-append}
+use Rattle.std.proofs.Common.{arith, ℕ, ◌+◌, ◌<◌, ◌≤◌, ◌^◌, ◌≡◌, ℤ, List, [], ◌∷◌, ◌++◌, Option, Some, None, refl, subst, sym, ap, ◌∙◌, length, Bool, true, cond, length-append}
 use Rattle.std.specs.Prelude.{flat_map, nat_eq, nat_lt}
 use Rattle.byteorder.specs.Endian.{little_bytes}
 use Rattle.byteorder.specs.Numbers.{length-bytes_low_first}
@@ -7,7 +7,7 @@ use Rattle.code_core.specs.Writable.{signed_fits}
 use Rattle.int_core.specs.Value.{bind}
 use Rattle.image_core.specs.Numbers.{meeting, walk}
 use Rattle.image_core.proofs.Lists.{Every}
-use Rattle.image_bytes.specs.Format.{Fault, Format, allowed, byte, word, integer_of, raw, nothing, followed, tested, spell_case, case, tagged, spell_all, after_times, times, second, list_by, list}
+use Rattle.image_bytes.specs.Format.{Fault, Format, allowed, byte, word, integer_of, raw, nothing, followed, tested, spell_case, case, tagged, spell_all, after_times, times, list_by, list}
 
 pub bind_same : {A B : Type 0} (o : Option A) (f g : A → Option B) → ((a : A) → f a ≡ g a) → bind o f ≡ bind o g
 bind_same None f g h = refl

@@ -1,16 +1,16 @@
 -- Whole images.
-use Rattle.std.proofs.Common.{arith, ℕ, zero, suc, ◌+◌, ◌<◌, ◌≤◌, ◌^◌, ◌≡◌, List, [], ◌∷◌, ◌++◌, Option, Some, None, refl, subst, sym, ap, ◌∙◌, length, map, Bool, true, false, cond, length-append}
-use Rattle.std.specs.Prelude.{nat_eq, nat_le, nat_lt, flat_map, ◌&&◌}
+use Rattle.std.proofs.Common.{arith, ℕ, ◌+◌, ◌<◌, ◌≤◌, ◌^◌, ◌≡◌, List, [], ◌∷◌, ◌++◌, Option, Some, None, refl, ap, ◌∙◌, length, map, Bool, true, cond, length-append}
+use Rattle.std.specs.Prelude.{nat_le, nat_lt, ◌&&◌}
 use Rattle.std.proofs.lemmas.List.{length-map}
 use Rattle.int_core.specs.Value.{bind}
-use Rattle.image_core.specs.Image.{Item, Record, table_record, function_record, closed_record, open_record, fresh_record, suspended_record, dead_record, failed_record, no_record, Image}
+use Rattle.image_core.specs.Image.{Record, table_record, function_record, closed_record, open_record, fresh_record, suspended_record, dead_record, failed_record, no_record, Image}
 use Rattle.image_core.specs.Numbers.{walk, walk_records, item_numbers, items_numbers, record_numbers}
 use Rattle.image_core.proofs.Lists.{Every}
 use Rattle.image_bytes.specs.Format.{Format, of_kind, byte, word, followed, tested, case, spell_all, times, list_by}
-use Rattle.image_bytes.specs.Bytes.{Reader, item_format, spell_records, records_format, sort_byte, exactly, sorts_format, with_sorts, image_parts, image_format}
+use Rattle.image_bytes.specs.Bytes.{Reader, item_format, spell_records, records_format, sort_byte, exactly, sorts_format, with_sorts, image_format}
 use Rattle.image_same.specs.Same.{InOrder}
-use Rattle.images_stand.proofs.Records.{sooner, later, Stand, items_walk, RecordStands, records_after}
-use Rattle.images_stand.proofs.Walks.{self_is, Walks, byte_walks, word_walks, tested_walks, Costs, byte_costs, tested_costs, fewer, times_walks, spelled_list, list_by_walks, quiet, walks_as}
+use Rattle.images_stand.proofs.Records.{later, Stand, items_walk, RecordStands, records_after}
+use Rattle.images_stand.proofs.Walks.{self_is, Walks, byte_walks, word_walks, tested_walks, byte_costs, tested_costs, fewer, times_walks, list_by_walks, quiet, walks_as}
 
 case_after : {A B : Type 0} (made : B → A) (of : A → Option B) (F : Format B) (x : A) (y : B) (met n : ℕ) → of x ≡ Some y → F.after met y ≡ Some n → (case made of F).after met x ≡ Some n
 unfolding case

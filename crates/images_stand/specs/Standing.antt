@@ -1,5 +1,5 @@
 -- That what is written as an image is read back: what is to hold of a world whose image is written, of its permanents, and of whoever reads it.
-use Rattle.std.specs.Prelude.{ℕ, ◌<◌, ◌≤◌, ◌≡◌, true, List, [], ◌++◌, flat_map, length, map, Option, Some, None, slice_get}
+use Rattle.std.specs.Prelude.{ℕ, ◌≤◌, ◌≡◌, true, List, [], ◌++◌, flat_map, length, map, Option, Some, None, slice_get}
 use Rattle.code_core.specs.Check.{IsChecked}
 use Rattle.code_core.specs.Prototype.{Prototype}
 use Rattle.code_core.specs.Writable.{signed_fits}

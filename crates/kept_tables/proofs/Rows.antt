@@ -1,5 +1,5 @@
 -- Rows that are kept are rows of what they stand for.
-use Rattle.std.proofs.Common.{arith, ℕ, zero, suc, ◌+◌, ◌<◌, ◌≤◌, ◌≡◌, List, [], ◌∷◌, Some, refl, subst, sym, ap, ◌∙◌, length, map, Bool, true, false, ⊎_elim}
+use Rattle.std.proofs.Common.{arith, ℕ, ◌+◌, ◌<◌, ◌≤◌, ◌≡◌, List, [], ◌∷◌, Some, refl, subst, sym, ◌∙◌, length, map, false, ⊎_elim}
 use Rattle.std.specs.Prelude.{slice_get}
 use Rattle.std.proofs.lemmas.Option.{slice_get_within}
 use Rattle.std.specs.List.{list_any, AllByRecursion, IsDistinct}
