@@ -1,0 +1,3 @@
+mod Goes
+mod Held
+mod Joined
