@@ -1,0 +1,5 @@
+pub mod MoreAdded
+pub mod ObjectsAdded
+mod OpenListed
+mod ObjectsPlaced
+mod CoroutinesMade
