@@ -1,0 +1,5 @@
+mod Knowing
+mod CameBack
+mod Given
+mod Composed
+mod Whole

@@ -1,0 +1,3 @@
+pub mod Unpersist
+pub mod Known
+pub mod Loaded
