@@ -5,3 +5,4 @@ pub mod Preludes
 pub mod Worlds
 pub mod Constants
 mod RowByRow
+mod Told

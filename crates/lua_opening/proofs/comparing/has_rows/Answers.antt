@@ -1,4 +1,4 @@
-use Rattle.std.proofs.Common.{rules, arith, ◌≡◌, ◌<◌, ◌∙◌, ℕ, List, [], Bor, Some, true, false, length, get_or, refl, sym, subst, true≢false}
+use Rattle.std.proofs.Common.{rules, arith, ◌≡◌, ◌<◌, ◌∙◌, ℕ, List, [], Bor, Some, true, false, length, refl, sym, subst, true≢false}
 use Rattle.std.specs.Prelude.{slice_get}
 use Rattle.table_core.specs.declared.value.Value.{Value as Kept}
 use Rattle.lua_opening.specs.declared.rows.Item.{Item}

@@ -1,6 +1,5 @@
-use Rattle.std.proofs.Common.{ℕ, refl, List, [], ◌∷◌, ◌++◌, map, length, replicate, ap, ◌∙◌}
+use Rattle.std.proofs.Common.{refl, [], ◌∷◌, ◌++◌, map, length, replicate, ap, ◌∙◌}
 use Rattle.std.proofs.lemmas.List.{map_push}
-use Rattle.code_core.specs.declared.proto.UpDesc.{UpDesc}
 use Rattle.table_core.specs.declared.value.CellId.{CellId}
 use Rattle.table_core.specs.declared.value.FuncId.{FuncId}
 use Rattle.lua_heap.specs.declared.world.Func.{Func}

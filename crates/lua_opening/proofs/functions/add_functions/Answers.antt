@@ -1,5 +1,5 @@
-use Rattle.std.proofs.Common.{◌≡◌, ◌<◌, ◌≤◌, ℕ, suc, List, [], ◌∷◌, ◌++◌, length, ◌+◌, refl, ap, sym, subst, ◌∙◌, arith, take}
-use Rattle.std.specs.Prelude.{slice_get, Some, IsSome, is_some}
+use Rattle.std.proofs.Common.{◌≡◌, suc, ◌+◌, refl, ap, sym, subst, ◌∙◌, arith, take}
+use Rattle.std.specs.Prelude.{slice_get, IsSome, is_some}
 use Rattle.std.proofs.lemmas.Option.{slice_get_within}
 use Rattle.std.proofs.lemmas.List.{take_all}
 use Rattle.code_core.specs.Prototype.{Prototype, list_of}

@@ -1,6 +1,5 @@
-use Rattle.std.proofs.Common.{length, refl, ap, sym, subst, ◌∙◌, arith}
+use Rattle.std.proofs.Common.{refl, ap, sym, subst, ◌∙◌, arith}
 use Rattle.code_core.specs.Prototype.{list_of}
-use Rattle.library_rows.specs.PreludeText.{prelude_functions}
 use Rattle.lua_heap.specs.declared.world.World.{World as Memory}
 use Rattle.lua_heap.specs.Codes.{AreCodes}
 use Rattle.lua_opening.specs.Functions.{AddsFunctions}
