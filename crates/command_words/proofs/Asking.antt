@@ -1,15 +1,15 @@
 -- Which command words ask for.
 use Rattle.std.proofs.Common.{◌≡◌, ℕ, zero, length, true, false, Bool, List, [], ◌∷◌, Option, Some, None, cond, refl, sym, ◌∙◌, ap, subst, arith, codes, ◌&&◌}
-use Rattle.std.specs.Prelude.{option_and_then, option_map, unwrap_or, IfSome}
+use Rattle.std.specs.Prelude.{◌<◌, nat_lt, option_and_then, option_map, unwrap_or, IfSome}
 use Rattle.std.specs.Str.{bytes_eq}
 use Rattle.std.proofs.lemmas.Bool.{leb-true, le-leb}
 use Rattle.std.proofs.lemmas.Slice.Eq.{bytes_eq-Decides}
 use Rattle.command_words.specs.declared.arguments.Next.{Next}
 use Rattle.command_words.specs.declared.arguments.Next.TheVariants.{Any}
-use Rattle.command_words.specs.Words.{Command, run, check, compile, Names, BudgetOf, default_budget, named_budget, StripOf, kept, stripped, IsShortName, IsCommand, runs, checks, compiles, AreShort, AreWrong, IsAsked}
-use Rattle.command_words.specs.Reading.{Arguments, after, command_of, command_with, is_short, no_arguments, to_run, to_check, to_compile}
+use Rattle.command_words.specs.Words.{Command, run, resume, check, compile, Names, BudgetOf, default_budget, named_budget, SaveOf, unsaved, saved, StripOf, kept, stripped, IsShortName, IsCommand, runs, resumes, checks, compiles, AreShort, AreWrong, IsAsked}
+use Rattle.command_words.specs.Reading.{Arguments, after, command_of, command_with, is_short, may_be_saved, no_arguments, to_feed, to_run, to_resume, to_check, to_compile}
 use Rattle.command_words.proofs.Budgets.{budget_is, is_budget}
-use Rattle.command_words.proofs.Completing.{state, BudgetStep, budget_stays, budget_set, StripStep, strip_stays, strip_set, read_to_end}
+use Rattle.command_words.proofs.Completing.{state, BudgetStep, budget_stays, budget_set, SaveStep, save_stays, save_set, StripStep, strip_stays, strip_set, read_to_end}
 use Rattle.command_words.proofs.Naming.{Named, named}
 
 -- a command from what its words name
@@ -34,71 +34,113 @@ no_strip strip_stays = refl
 no_budget : {budgets : List (List ℕ)} → BudgetStep None budgets None → budgets ≡ []
 no_budget budget_stays = refl
 
-module _ (words budgets : List (List ℕ)) (strips : ℕ) (next : Next) (command : Command) where
-  run_short : (t : Bool) (file : List ℕ) (budget : Option ℕ) → is_short file ≡ t → Names words (file ∷ []) budgets strips → BudgetStep None budgets budget → strips ≡ zero
-      → cond t (Some (run file (unwrap_or budget 10000000))) None ≡ Some command → IsCommand (codes "run" ∷ words) command
-  run_short true file budget t n b s e =
-      let is : run file (unwrap_or budget 10000000) ≡ command = cc in
-      subst (IsCommand (codes "run" ∷ words)) is
-      (runs words budgets file (unwrap_or budget 10000000) (subst (Names words (file ∷ []) budgets) s n) (short file t) (budget_of b))
-  run_short false file budget t n b s e = absurd (cc)
+no_save : {saves : List (List ℕ)} → SaveStep None saves None → saves ≡ []
+no_save save_stays = refl
 
-  run_asked : (files : List (List ℕ)) (budget : Option ℕ) (strip : Bool) → Names words files budgets strips → BudgetStep None budgets budget → StripStep false strips strip
-      → to_run (state files budget strip next) ≡ Some command → IsCommand (codes "run" ∷ words) command
-  run_asked files budget true n b s e = absurd (cc)
-  run_asked [] budget false n b s e = absurd (cc)
-  run_asked (file ∷ []) budget false n b s e = run_short (is_short file) file budget refl n b (no_strip s) e
-  run_asked (file ∷ other ∷ files) budget false n b s e = absurd (cc)
+not_empty : (image : List ℕ) → nat_lt 0 (length image) ≡ true → 0 < length image
+not_empty image e = leb-true 1 (length image) e
 
-  check_short : (t : Bool) (file : List ℕ) → is_short file ≡ t → Names words (file ∷ []) budgets strips → budgets ≡ [] → strips ≡ zero → cond t (Some (check file)) None ≡ Some command → IsCommand (codes "check" ∷ words) command
-  check_short true file t n b s e =
+not_empty' : (image : List ℕ) → 0 < length image → nat_lt 0 (length image) ≡ true
+not_empty' image h = le-leb 1 (length image) h
+
+both : (a b : Bool) → (a && b) ≡ true → (a ≡ true) × (b ≡ true)
+both true b e = (refl, e)
+both false b e = absurd (cc)
+
+save_of : {saves : List (List ℕ)} {save : Option (List ℕ)} → SaveStep None saves save → may_be_saved save ≡ true → SaveOf saves save
+save_of save_stays e = unsaved
+save_of (save_set {image = image}) e = let h = both (is_short image) (nat_lt 0 (length image)) e in saved image (short image h.0) (not_empty image h.1)
+
+-- what the words behind a command's name name
+module _ (words budgets saves : List (List ℕ)) (strips : ℕ) (next : Next) (command : Command) where
+  -- of `run` and `resume`, made by `made`
+  module _ (name : List ℕ) (made : List ℕ → ℕ → Option (List ℕ) → Command)
+      (is_made : (file : List ℕ) (budget : ℕ) (save : Option (List ℕ)) → Names words (file ∷ []) budgets saves zero → IsShortName file → BudgetOf budgets budget → SaveOf saves save → IsCommand (name ∷ words) (made file budget save)) where
+    feed_short : (t u : Bool) (file : List ℕ) (budget : Option ℕ) (save : Option (List ℕ)) → is_short file ≡ t → may_be_saved save ≡ u → Names words (file ∷ []) budgets saves strips → BudgetStep None budgets budget → SaveStep None saves save → strips ≡ zero
+        → cond (t && u) (Some (made file (unwrap_or budget 10000000) save)) None ≡ Some command → IsCommand (name ∷ words) command
+    feed_short true true file budget save t u n b v s e =
+        let is : made file (unwrap_or budget 10000000) save ≡ command = cc in
+        subst (IsCommand (name ∷ words)) is (is_made file (unwrap_or budget 10000000) save (subst (Names words (file ∷ []) budgets saves) s n) (short file t) (budget_of b) (save_of v u))
+    feed_short true false file budget save t u n b v s e = absurd (cc)
+    feed_short false u file budget save t u' n b v s e = absurd (cc)
+
+    feed_asked : (files : List (List ℕ)) (budget : Option ℕ) (save : Option (List ℕ)) (strip : Bool) → Names words files budgets saves strips → BudgetStep None budgets budget → SaveStep None saves save → StripStep false strips strip
+        → to_feed made (state files budget save strip next) ≡ Some command → IsCommand (name ∷ words) command
+    feed_asked files budget save true n b v s e = absurd (cc)
+    feed_asked [] budget save false n b v s e = absurd (cc)
+    feed_asked (file ∷ []) budget save false n b v s e = feed_short (is_short file) (may_be_saved save) file budget save refl refl n b v (no_strip s) e
+    feed_asked (file ∷ other ∷ files) budget save false n b v s e = absurd (cc)
+
+  check_short : (t : Bool) (file : List ℕ) → is_short file ≡ t → Names words (file ∷ []) budgets saves strips → budgets ≡ [] → saves ≡ [] → strips ≡ zero → cond t (Some (check file)) None ≡ Some command → IsCommand (codes "check" ∷ words) command
+  check_short true file t n b v s e =
       let is : check file ≡ command = cc in
-      subst (IsCommand (codes "check" ∷ words)) is (checks words file (subst (λ bs. Names words (file ∷ []) bs zero) b (subst (Names words (file ∷ []) budgets) s n)) (short file t))
-  check_short false file t n b s e = absurd (cc)
+      subst (IsCommand (codes "check" ∷ words)) is
+      (checks words file (subst (λ vs. Names words (file ∷ []) [] vs zero) v (subst (λ bs. Names words (file ∷ []) bs saves zero) b (subst (Names words (file ∷ []) budgets saves) s n))) (short file t))
+  check_short false file t n b v s e = absurd (cc)
 
-  check_asked : (files : List (List ℕ)) (budget : Option ℕ) (strip : Bool) → Names words files budgets strips → BudgetStep None budgets budget → StripStep false strips strip
-      → to_check (state files budget strip next) ≡ Some command → IsCommand (codes "check" ∷ words) command
-  check_asked files budget true n b s e = absurd (cc)
-  check_asked files (Some budget) false n b s e = absurd (cc)
-  check_asked [] None false n b s e = absurd (cc)
-  check_asked (file ∷ []) None false n b s e = check_short (is_short file) file refl n (no_budget b) (no_strip s) e
-  check_asked (file ∷ other ∷ files) None false n b s e = absurd (cc)
+  check_asked : (files : List (List ℕ)) (budget : Option ℕ) (save : Option (List ℕ)) (strip : Bool) → Names words files budgets saves strips → BudgetStep None budgets budget → SaveStep None saves save → StripStep false strips strip
+      → to_check (state files budget save strip next) ≡ Some command → IsCommand (codes "check" ∷ words) command
+  check_asked files budget save true n b v s e = absurd (cc)
+  check_asked files (Some budget) save false n b v s e = absurd (cc)
+  check_asked files None (Some save) false n b v s e = absurd (cc)
+  check_asked [] None None false n b v s e = absurd (cc)
+  check_asked (file ∷ []) None None false n b v s e = check_short (is_short file) file refl n (no_budget b) (no_save v) (no_strip s) e
+  check_asked (file ∷ other ∷ files) None None false n b v s e = absurd (cc)
 
-  compile_short : (t u : Bool) (script chunk : List ℕ) (strip : Bool) → is_short script ≡ t → is_short chunk ≡ u → Names words (script ∷ chunk ∷ []) budgets strips → budgets ≡ [] → StripStep false strips strip
+  compile_short : (t u : Bool) (script chunk : List ℕ) (strip : Bool) → is_short script ≡ t → is_short chunk ≡ u → Names words (script ∷ chunk ∷ []) budgets saves strips → budgets ≡ [] → saves ≡ [] → StripStep false strips strip
       → cond (t && u) (Some (compile script chunk strip)) None ≡ Some command → IsCommand (codes "compile" ∷ words) command
-  compile_short true true script chunk strip t u n b s e =
+  compile_short true true script chunk strip t u n b v s e =
       let is : compile script chunk strip ≡ command = cc in
       subst (IsCommand (codes "compile" ∷ words)) is
-      (compiles words script chunk strips strip (subst (λ bs. Names words (script ∷ chunk ∷ []) bs strips) b n) (short script t) (short chunk u) (strip_of s))
-  compile_short true false script chunk strip t u n b s e = absurd (cc)
-  compile_short false u script chunk strip t u' n b s e = absurd (cc)
+      (compiles words script chunk strips strip (subst (λ vs. Names words (script ∷ chunk ∷ []) [] vs strips) v (subst (λ bs. Names words (script ∷ chunk ∷ []) bs saves strips) b n)) (short script t) (short chunk u) (strip_of s))
+  compile_short true false script chunk strip t u n b v s e = absurd (cc)
+  compile_short false u script chunk strip t u' n b v s e = absurd (cc)
 
-  compile_asked : (files : List (List ℕ)) (budget : Option ℕ) (strip : Bool) → Names words files budgets strips → BudgetStep None budgets budget → StripStep false strips strip
-      → to_compile (state files budget strip next) ≡ Some command → IsCommand (codes "compile" ∷ words) command
-  compile_asked files (Some budget) strip n b s e = absurd (cc)
-  compile_asked [] None strip n b s e = absurd (cc)
-  compile_asked (script ∷ []) None strip n b s e = absurd (cc)
-  compile_asked (script ∷ chunk ∷ []) None strip n b s e = compile_short (is_short script) (is_short chunk) script chunk strip refl refl n (no_budget b) s e
-  compile_asked (script ∷ chunk ∷ other ∷ files) None strip n b s e = absurd (cc)
+  compile_asked : (files : List (List ℕ)) (budget : Option ℕ) (save : Option (List ℕ)) (strip : Bool) → Names words files budgets saves strips → BudgetStep None budgets budget → SaveStep None saves save → StripStep false strips strip
+      → to_compile (state files budget save strip next) ≡ Some command → IsCommand (codes "compile" ∷ words) command
+  compile_asked files (Some budget) save strip n b v s e = absurd (cc)
+  compile_asked files None (Some save) strip n b v s e = absurd (cc)
+  compile_asked [] None None strip n b v s e = absurd (cc)
+  compile_asked (script ∷ []) None None strip n b v s e = absurd (cc)
+  compile_asked (script ∷ chunk ∷ []) None None strip n b v s e = compile_short (is_short script) (is_short chunk) script chunk strip refl refl n (no_budget b) (no_save v) s e
+  compile_asked (script ∷ chunk ∷ other ∷ files) None None strip n b v s e = absurd (cc)
+
+module _ (words : List (List ℕ)) (command : Command) (end : Arguments) (n : Named [] None None false words end) where
+  all_named : Names words end.files n.budgets n.saves n.strips
+  all_named = subst (λ fs. Names words fs n.budgets n.saves n.strips) (sym n.comes.all_files) n.names
+
+  asked_run : to_run end ≡ Some command → IsCommand (codes "run" ∷ words) command
+  asked_run e =
+      feed_asked words n.budgets n.saves n.strips end.next command (codes "run") run (λ file budget save k f b v. runs words n.budgets n.saves file budget save k f b v)
+      end.files end.budget end.save end.strip all_named n.comes.has_budget n.comes.has_save n.comes.has_strip e
+
+  asked_resume : to_resume end ≡ Some command → IsCommand (codes "resume" ∷ words) command
+  asked_resume e =
+      feed_asked words n.budgets n.saves n.strips end.next command (codes "resume") resume (λ file budget save k f b v. resumes words n.budgets n.saves file budget save k f b v)
+      end.files end.budget end.save end.strip all_named n.comes.has_budget n.comes.has_save n.comes.has_strip e
+
+  asked_check : to_check end ≡ Some command → IsCommand (codes "check" ∷ words) command
+  asked_check e = check_asked words n.budgets n.saves n.strips end.next command end.files end.budget end.save end.strip all_named n.comes.has_budget n.comes.has_save n.comes.has_strip e
+
+  asked_compile : to_compile end ≡ Some command → IsCommand (codes "compile" ∷ words) command
+  asked_compile e = compile_asked words n.budgets n.saves n.strips end.next command end.files end.budget end.save end.strip all_named n.comes.has_budget n.comes.has_save n.comes.has_strip e
 
 module _ (name : List ℕ) (words : List (List ℕ)) (command : Command) where
-  by_name : (end : Arguments) → Named [] None false words end → (r c o : Bool) → bytes_eq name (codes "run") ≡ r → bytes_eq name (codes "check") ≡ c → bytes_eq name (codes "compile") ≡ o
-      → cond r (to_run end) (cond c (to_check end) (cond o (to_compile end) None)) ≡ Some command → IsCommand (name ∷ words) command
-  by_name end n true c o r c' o' e =
-      subst (λ w. IsCommand (w ∷ words) command) (sym ((bytes_eq-Decides name (codes "run")).0 r))
-      (run_asked words n.budgets n.strips end.next command end.files end.budget end.strip (subst (λ fs. Names words fs n.budgets n.strips) (sym n.comes.all_files) n.names) n.comes.has_budget n.comes.has_strip e)
-  by_name end n false true o r c o' e =
-      subst (λ w. IsCommand (w ∷ words) command) (sym ((bytes_eq-Decides name (codes "check")).0 c))
-      (check_asked words n.budgets n.strips end.next command end.files end.budget end.strip (subst (λ fs. Names words fs n.budgets n.strips) (sym n.comes.all_files) n.names) n.comes.has_budget n.comes.has_strip e)
-  by_name end n false false true r c o e =
-      subst (λ w. IsCommand (w ∷ words) command) (sym ((bytes_eq-Decides name (codes "compile")).0 o))
-      (compile_asked words n.budgets n.strips end.next command end.files end.budget end.strip (subst (λ fs. Names words fs n.budgets n.strips) (sym n.comes.all_files) n.names) n.comes.has_budget n.comes.has_strip e)
-  by_name end n false false false r c o e = absurd (cc)
+  named_so : (text : List ℕ) → bytes_eq name text ≡ true → IsCommand (text ∷ words) command → IsCommand (name ∷ words) command
+  named_so text e h = subst (λ w. IsCommand (w ∷ words) command) (sym ((bytes_eq-Decides name text).0 e)) h
+
+  by_name : (end : Arguments) → Named [] None None false words end → (r m c o : Bool) → bytes_eq name (codes "run") ≡ r → bytes_eq name (codes "resume") ≡ m → bytes_eq name (codes "check") ≡ c → bytes_eq name (codes "compile") ≡ o
+      → cond r (to_run end) (cond m (to_resume end) (cond c (to_check end) (cond o (to_compile end) None))) ≡ Some command → IsCommand (name ∷ words) command
+  by_name end n true m c o r m' c' o' e = named_so (codes "run") r (asked_run words command end n e)
+  by_name end n false true c o r m c' o' e = named_so (codes "resume") m (asked_resume words command end n e)
+  by_name end n false false true o r m c o' e = named_so (codes "check") c (asked_check words command end n e)
+  by_name end n false false false true r m c o e = named_so (codes "compile") o (asked_compile words command end n e)
+  by_name end n false false false false r m c o e = absurd (cc)
 
   by_end : (end : Option Arguments) → after no_arguments words ≡ end → option_and_then (command_with name) end ≡ Some command → IsCommand (name ∷ words) command
   by_end None is e = absurd (cc)
   by_end (Some end) is e =
-      by_name end (named words end Any [] None false (omega arith) is) (bytes_eq name (codes "run")) (bytes_eq name (codes "check")) (bytes_eq name (codes "compile")) refl refl refl e
+      by_name end (named words end Any [] None None false (omega arith) is) (bytes_eq name (codes "run")) (bytes_eq name (codes "resume")) (bytes_eq name (codes "check")) (bytes_eq name (codes "compile")) refl refl refl refl e
 
 pub is_command : (words : List (List ℕ)) (command : Command) → command_of words ≡ Some command → IsCommand words command
 is_command [] command e = absurd (cc)
@@ -115,20 +157,36 @@ budgeted : {budgets : List (List ℕ)} {n : ℕ} → BudgetOf budgets n → Budg
 budgeted default_budget = record { budget = None; step = budget_stays; is = refl }
 budgeted (named_budget digits n h) = record { budget = Some n; step = budget_set (budget_is digits n h); is = refl }
 
+record Saved (saves : List (List ℕ)) (save : Option (List ℕ)) : Type 0 where
+  pub step : SaveStep None saves save
+  pub fits : may_be_saved save ≡ true
+
+saves_to : {saves : List (List ℕ)} {save : Option (List ℕ)} → SaveOf saves save → Saved saves save
+saves_to unsaved = record { step = save_stays; fits = refl }
+saves_to (saved image h k) = record { step = save_set; fits = rw (is_short' image h) (not_empty' image k) }
+
 strip_step : {strips : ℕ} {strip : Bool} → StripOf strips strip → StripStep false strips strip
 strip_step kept = strip_stays
 strip_step stripped = strip_set
 
 pub asks : {words : List (List ℕ)} {command : Command} → IsCommand words command → command_of words ≡ Some command
-asks (runs words budgets file n names fits b) =
+asks (runs words budgets saves file n save names fits b v) =
     let c = budgeted b in
-    let r = read_to_end names [] None false (file ∷ []) c.budget false (record { all_files = refl; few = omega arith; has_budget = c.step; has_strip = strip_stays }) in
-    ap (option_and_then (command_with (codes "run"))) r.reached ∙ rw (is_short' file fits) (ap (λ k. Some (run file k)) c.is)
+    let d = saves_to v in
+    let fits_too = d.fits in
+    let r = read_to_end names [] None None false (file ∷ []) c.budget save false (record { all_files = refl; few = omega arith; has_budget = c.step; has_save = d.step; has_strip = strip_stays }) in
+    ap (option_and_then (command_with (codes "run"))) r.reached ∙ rw (is_short' file fits, fits_too) (ap (λ k. Some (run file k save)) c.is)
+asks (resumes words budgets saves image n save names fits b v) =
+    let c = budgeted b in
+    let d = saves_to v in
+    let fits_too = d.fits in
+    let r = read_to_end names [] None None false (image ∷ []) c.budget save false (record { all_files = refl; few = omega arith; has_budget = c.step; has_save = d.step; has_strip = strip_stays }) in
+    ap (option_and_then (command_with (codes "resume"))) r.reached ∙ rw (is_short' image fits, fits_too) (ap (λ k. Some (resume image k save)) c.is)
 asks (checks words file names fits) =
-    let r = read_to_end names [] None false (file ∷ []) None false (record { all_files = refl; few = omega arith; has_budget = budget_stays; has_strip = strip_stays }) in
+    let r = read_to_end names [] None None false (file ∷ []) None None false (record { all_files = refl; few = omega arith; has_budget = budget_stays; has_save = save_stays; has_strip = strip_stays }) in
     ap (option_and_then (command_with (codes "check"))) r.reached ∙ rw (is_short' file fits) refl
 asks (compiles words script chunk strips strip names fits fits' s) =
-    let r = read_to_end names [] None false (script ∷ chunk ∷ []) None strip (record { all_files = refl; few = omega arith; has_budget = budget_stays; has_strip = strip_step s }) in
+    let r = read_to_end names [] None None false (script ∷ chunk ∷ []) None None strip (record { all_files = refl; few = omega arith; has_budget = budget_stays; has_save = save_stays; has_strip = strip_step s }) in
     ap (option_and_then (command_with (codes "compile"))) r.reached ∙ rw (is_short' script fits, is_short' chunk fits') refl
 
 pub is_wrong : (words : List (List ℕ)) → command_of words ≡ None → AreWrong words
@@ -141,8 +199,13 @@ asked_is_one words (Some a) None h k = absurd (k a h)
 asked_is_one words None (Some b) h k = absurd (h b k)
 asked_is_one words None None h k = refl
 
+short_save : {saves : List (List ℕ)} {save : Option (List ℕ)} → SaveOf saves save → IfSome save IsShortName
+short_save unsaved = tt
+short_save (saved image h k) = h
+
 pub are_short : {words : List (List ℕ)} {command : Command} → IsCommand words command → AreShort command
-are_short (runs words budgets file n names fits b) = fits
+are_short (runs words budgets saves file n save names fits b v) = (fits, short_save v)
+are_short (resumes words budgets saves image n save names fits b v) = (fits, short_save v)
 are_short (checks words file names fits) = fits
 are_short (compiles words script chunk strips strip names fits fits' s) = (fits, fits')
 

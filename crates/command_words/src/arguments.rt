@@ -2,7 +2,7 @@
 ghost use Rattle.std.specs.Prelude.{◌≡◌, ◌≢◌, ◌++◌, ℕ, List, IfSome, MatchOption, false, map, string_bytes};
 ghost use Rattle.std.specs.Option.{option_map};
 ghost use Rattle.command_words.specs.Kept.{arguments_of, asked};
-ghost use Rattle.command_words.specs.Reading.{after, all_digits, begins_option, budget_in, complete, is_short, no_arguments, to_check, to_compile, to_run, value_behind, with_any, with_budget, with_file, with_other, with_strip, with_word};
+ghost use Rattle.command_words.specs.Reading.{after, all_digits, begins_option, budget_in, complete, is_short, may_be_saved, no_arguments, to_check, to_compile, to_resume, to_run, unset, value_behind, with_any, with_budget, with_file, with_other, with_save, with_strip, with_word};
 
 use crate::command::Command;
 
@@ -30,6 +30,8 @@ pub enum Next {
     Any,
     /// The value of `--budget`.
     Budget,
+    /// The value of `--save`.
+    Save,
     /// A file, since `--` came before.
     File,
 }
@@ -39,6 +41,7 @@ pub enum Next {
 pub struct Arguments<'a> {
     files: Files<'a>,
     budget: Option<u64>,
+    save: Option<&'a str>,
     strip: bool,
     next: Next,
 }
@@ -62,6 +65,7 @@ impl<'a> Arguments<'a> {
         Arguments {
             files: Files::Unnamed,
             budget: None,
+            save: None,
             strip: false,
             next: Next::Any,
         }
@@ -74,6 +78,7 @@ impl<'a> Arguments<'a> {
         match self.next {
             Next::Any => self.with_any(word),
             Next::Budget => self.with_budget(word),
+            Next::Save => self.with_save(word),
             Next::File => self.with_file(word),
         }
     }
@@ -84,6 +89,7 @@ impl<'a> Arguments<'a> {
         match word {
             "--" => Some(self.expecting(Next::File)),
             "--budget" => Some(self.expecting(Next::Budget)),
+            "--save" => Some(self.expecting(Next::Save)),
             "--strip" => self.with_strip(),
             _ => self.with_other(word),
         }
@@ -95,6 +101,9 @@ impl<'a> Arguments<'a> {
     {
         if let Some(digits) = value_behind(word, "--budget=") {
             return self.with_budget(digits);
+        }
+        if let Some(image) = value_behind(word, "--save=") {
+            return self.with_save(image);
         }
         if begins_option(word.as_bytes()) {
             return None;
@@ -108,6 +117,7 @@ impl<'a> Arguments<'a> {
         Arguments {
             files: self.files,
             budget: self.budget,
+            save: self.save,
             strip: self.strip,
             next,
         }
@@ -124,6 +134,7 @@ impl<'a> Arguments<'a> {
         Some(Arguments {
             files,
             budget: self.budget,
+            save: self.save,
             strip: self.strip,
             next: self.next,
         })
@@ -137,6 +148,22 @@ impl<'a> Arguments<'a> {
             None => Some(Arguments {
                 files: self.files,
                 budget: Some(budget),
+                save: self.save,
+                strip: self.strip,
+                next: Next::Any,
+            }),
+            Some(_) => None,
+        }
+    }
+
+    fn with_save(self, image: &'a str) -> Option<Arguments<'a>>
+        ensures { option_map arguments_of result ≡ with_save image.now (arguments_of self.entry) }
+    {
+        match self.save {
+            None => Some(Arguments {
+                files: self.files,
+                budget: self.budget,
+                save: Some(image),
                 strip: self.strip,
                 next: Next::Any,
             }),
@@ -153,17 +180,18 @@ impl<'a> Arguments<'a> {
         Some(Arguments {
             files: self.files,
             budget: self.budget,
+            save: self.save,
             strip: true,
             next: self.next,
         })
     }
 
-    /// The same, unless the last word was `--budget`.
+    /// The same, unless the last word wants a value.
     fn complete(self) -> Option<Arguments<'a>>
         ensures { option_map arguments_of result ≡ complete (arguments_of self.entry) }
     {
         match self.next {
-            Next::Budget => None,
+            Next::Budget | Next::Save => None,
             Next::Any | Next::File => Some(self),
         }
     }
@@ -172,19 +200,44 @@ impl<'a> Arguments<'a> {
         ensures { option_map asked result ≡ to_run (arguments_of self.entry) }
     {
         match self.files {
-            Files::One(file) if !self.strip && is_short(file) => Some(Command::Run {
-                file,
-                budget: self.budget.unwrap_or(DEFAULT_BUDGET),
-            }),
+            Files::One(file) if !self.strip && is_short(file) && may_be_saved(self.save) => {
+                Some(Command::Run {
+                    file,
+                    budget: self.budget.unwrap_or(DEFAULT_BUDGET),
+                    save: self.save,
+                })
+            }
             _ => None,
         }
+    }
+
+    pub(crate) fn to_resume(self) -> Option<Command<'a>>
+        ensures { option_map asked result ≡ to_resume (arguments_of self.entry) }
+    {
+        match self.files {
+            Files::One(image) if !self.strip && is_short(image) && may_be_saved(self.save) => {
+                Some(Command::Resume {
+                    image,
+                    budget: self.budget.unwrap_or(DEFAULT_BUDGET),
+                    save: self.save,
+                })
+            }
+            _ => None,
+        }
+    }
+
+    /// Neither a budget nor an image to save is named.
+    fn has_no_value(&self) -> bool
+        ensures { result ≡ unset self.now.budget self.now.save }
+    {
+        self.budget.is_none() && self.save.is_none()
     }
 
     pub(crate) fn to_check(self) -> Option<Command<'a>>
         ensures { option_map asked result ≡ to_check (arguments_of self.entry) }
     {
-        match (self.files, self.budget) {
-            (Files::One(file), None) if !self.strip && is_short(file) => {
+        match self.files {
+            Files::One(file) if !self.strip && self.has_no_value() && is_short(file) => {
                 Some(Command::Check { file })
             }
             _ => None,
@@ -194,8 +247,9 @@ impl<'a> Arguments<'a> {
     pub(crate) fn to_compile(self) -> Option<Command<'a>>
         ensures { option_map asked result ≡ to_compile (arguments_of self.entry) }
     {
-        match (self.files, self.budget) {
-            (Files::Two(script, chunk), None) if is_short(script) && is_short(chunk) => {
+        match self.files {
+            Files::Two(script, chunk)
+                if self.has_no_value() && is_short(script) && is_short(chunk) => {
                 Some(Command::Compile {
                     script,
                     chunk,
@@ -204,6 +258,16 @@ impl<'a> Arguments<'a> {
             }
             _ => None,
         }
+    }
+}
+
+/// Whether the image to save has a name that is short enough and not empty, where there is one.
+fn may_be_saved(save: Option<&str>) -> bool
+    ensures { result ≡ may_be_saved (option_map (λ image. image.now) save.entry) }
+{
+    match save {
+        None => true,
+        Some(image) => is_short(image) && !image.is_empty(),
     }
 }
 

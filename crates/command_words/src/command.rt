@@ -16,6 +16,17 @@ pub enum Command<'a> {
         file: &'a str,
         /// How many calls and jumps back each turn may do.
         budget: u64,
+        /// The file that the session is saved in where it waits at the end of the input.
+        save: Option<&'a str>,
+    },
+    /// To go on with the session in an image.
+    Resume {
+        /// The file with the image.
+        image: &'a str,
+        /// How many calls and jumps back each turn may do.
+        budget: u64,
+        /// The file that the session is saved in where it waits at the end of the input.
+        save: Option<&'a str>,
     },
     /// To check the chunk in a file.
     Check {
@@ -33,7 +44,8 @@ pub enum Command<'a> {
     },
 }
 
-/// What words ask for, unless they are wrong. The first word names the command: `run FILE [--budget N]`, `check FILE` or `compile FILE OUT [--strip]`.
+/// What words ask for, unless they are wrong. The first word names the command: `run FILE [--budget N] [--save IMG]`,
+/// `resume IMG [--budget N] [--save IMG2]`, `check FILE` or `compile FILE OUT [--strip]`.
 /// Options stand before or after the files, each once at most; behind `--` every word is a file.
 pub fn read_words(words: &[String]) -> Option<Command<'_>>
     ensures command { IfSome result (λ command. IsCommand (map string_bytes words.now) (asked command)) }
@@ -50,6 +62,7 @@ fn command_in(words: &[String]) -> Option<Command<'_>>
     let arguments = Arguments::read(rest)?;
     match name.as_str() {
         "run" => arguments.to_run(),
+        "resume" => arguments.to_resume(),
         "check" => arguments.to_check(),
         "compile" => arguments.to_compile(),
         _ => None,
