@@ -42,7 +42,7 @@ of_script : (A B : Type 0) (b : Bool) → b ≡ false → MatchBool b A B → B
 of_script A B true is given = absurd (cc)
 of_script A B false is given = given
 
-either : {A B : Type 0} (b : Bool) → A → B → MatchBool b A B
+pub either : {A B : Type 0} (b : Bool) → A → B → MatchBool b A B
 either true first second = first
 either false first second = second
 

@@ -20,23 +20,12 @@ use Rattle.program.specs.Outcomes.{IsChunk, IsNoScriptFor}
 use Rattle.program.specs.Devices.{Holds}
 use Rattle.program.specs.Compiling.{Compiles, HoldsNoScript, IsCompilation}
 use Rattle.program.specs.Report.{ScriptFits, status_of_fault}
-use Rattle.program.proofs.DeviceLemmas.{keeps_telling, same_content, not_lacking, holds_read, no_content, lacks_name, stays, told_lacking}
+use Rattle.program.proofs.DeviceLemmas.{keeps_others, replaces_others, keeps_telling, same_content, not_lacking, holds_read, no_content, lacks_name, stays, told_lacking}
 
 pub text_refused : (content : List ℕ) (reason : TextFault) → IsRefused (script_in content) reason → IsNoScriptFor content (fault_of_text reason) ⊎ (fault_of_text reason ≡ fault.Memory)
 text_refused content (text.Source line) refused = inl (record { status = refl; holds_none = refused.none; fits = refused })
 text_refused content (text.Rule rule line) refused = inl (record { status = refl; holds_none = refused.none; fits = refused })
 text_refused content text.Memory refused = inr refl
-
--- a device of which the telling may have ended keeps its other files
-keeps_others : (name : List ℕ) (before now : Option FileMap) → MayEndTelling before now → KeepsOtherFiles name before now
-keeps_others name before (Some after) h = (after, h, λ other differ. refl)
-keeps_others name before None h = tt
-
-replaces_others : (name bytes : List ℕ) (before now : Option FileMap) → now ≡ option_map (λ held. with_file held name bytes) before → KeepsOtherFiles name before now
-replaces_others name bytes (Some files) (Some after) is = (files, refl, λ other differ. let same : after ≡ with_file files name bytes = cc in search rules)
-replaces_others name bytes (Some files) None is = tt
-replaces_others name bytes None (Some after) is = absurd (cc)
-replaces_others name bytes None None is = tt
 
 -- the file of the script is not read
 pub unread_compilation : (script chunk : List ℕ) (strip : Bool) (f f' : ℕ) (held held' : Option FileMap) (reason : FileFault) → HasCause f f' (is_failed {T = Vec ℕ Global} (Err reason)) → (IsErrOf {T = Vec ℕ Global} (Err reason) Absent → IfSome held (λ files. files script ≡ None)) → IfSome held (λ files. files script ≡ None → IsErrOf {T = Vec ℕ Global} (Err reason) Absent ⊎ IsErrOf {T = Vec ℕ Global} (Err reason) Failed) → OnFalse (is_failed {T = Vec ℕ Global} (Err reason)) (held' ≡ held) → OnTrue (is_failed {T = Vec ℕ Global} (Err reason)) (MayEndTelling held held')

@@ -1,9 +1,15 @@
 -- What devices tell before a call and after it.
-use Rattle.std.proofs.Common.{◌≡◌, ℕ, List, [], ◌++◌, length, take, Option, Some, None, IsSome, IfSome, refl, sym, ap, ◌∙◌, arith, append-nil}
+use Rattle.std.proofs.Common.{◌≡◌, ℕ, List, [], ◌++◌, length, take, Option, Some, None, IsSome, IfSome, refl, sym, ap, subst, ◌∙◌, arith, rules, append-nil}
 use Rattle.std.specs.Option.{option_map}
 use Rattle.std.proofs.Math.Seq.{take-length}
-use Rattle.io_edge.specs.Content.{FileMap, GrowsByFront, MayEndTelling}
-use Rattle.program.specs.Devices.{GrewIn, Lacks, Holds, OnlyGrows}
+use Rattle.io_edge.specs.Content.{FileMap, GrowsByFront, MayEndTelling, KeepsOtherFiles, with_file}
+use Rattle.program.specs.Devices.{Device, GrewIn, Lacks, Holds, OnlyGrows, KeepsOthers}
+
+abbrev pub files_of : (faults faults' : ℕ) (held held' : Option FileMap) → Device FileMap
+files_of faults faults' held held' = record { faults = faults; faults' = faults'; content = held; content' = held' }
+
+abbrev pub stream_of : (faults faults' : ℕ) (content content' : Option (List ℕ)) → Device (List ℕ)
+stream_of faults faults' content content' = record { faults = faults; faults' = faults'; content = content; content' = content' }
 
 pub grows_by_none : (bytes : List ℕ) (written : Option (List ℕ)) → GrowsByFront bytes written written
 grows_by_none bytes (Some text) = (text, 0, refl, sym (append-nil text))
@@ -56,3 +62,22 @@ stays faults content content' grew = omega arith
 pub told_lacking : {A : Type 0} (name : List ℕ) (held : Option FileMap) → IfSome held (λ files. files name ≡ None → A) → Lacks held name → A
 told_lacking name (Some files) lacking lacks = lacking lacks
 told_lacking name None lacking lacks = absurd lacks
+
+-- a device of which the telling may have ended keeps its other files
+pub keeps_others : (name : List ℕ) (before now : Option FileMap) → MayEndTelling before now → KeepsOtherFiles name before now
+keeps_others name before (Some after) h = (after, h, λ other differ. refl)
+keeps_others name before None h = tt
+
+pub replaces_others : (name bytes : List ℕ) (before now : Option FileMap) → now ≡ option_map (λ held. with_file held name bytes) before → KeepsOtherFiles name before now
+replaces_others name bytes (Some files) (Some after) is = (files, refl, λ other differ. let same : after ≡ with_file files name bytes = cc in search rules)
+replaces_others name bytes (Some files) None is = tt
+replaces_others name bytes None (Some after) is = absurd (cc)
+replaces_others name bytes None None is = tt
+
+-- where the files may have ended to tell, whatever file is named
+pub kept_others : (save : Option (List ℕ)) (files : Device FileMap) → MayEndTelling files.content files.content' → KeepsOthers save files
+kept_others (Some name) files h = keeps_others name files.content files.content' h
+kept_others None files h = h
+
+pub same_telling : {T : Type 0} (before now : Option T) → now ≡ before → MayEndTelling before now
+same_telling before now e = subst (MayEndTelling before) (sym e) (keeps_telling before)

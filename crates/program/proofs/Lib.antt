@@ -4,6 +4,10 @@ pub mod CheckLemmas
 pub mod CompileLemmas
 pub mod CodeLemmas
 pub mod MeaningLemmas
+pub mod Endings
+pub mod Leaving
+pub mod ImageLemmas
 pub mod RunLemmas
+pub mod ResumeLemmas
 pub mod ReportLemmas
 pub mod Meant

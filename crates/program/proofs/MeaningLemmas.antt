@@ -22,7 +22,8 @@ use Rattle.lua_feed.specs.Running.{started}
 use Rattle.program.specs.Checking.{begins_chunk, IsAccepted}
 use Rattle.program.specs.Compiling.{source_name}
 use Rattle.program.specs.Meaning.{MeansOn, EndsWith, AreShort}
-use Rattle.program.specs.Running.{HoldsCode, status_of_close}
+use Rattle.program.specs.Running.{HoldsCode}
+use Rattle.program.specs.Sessions.{status_of_close}
 
 pub read_of : (source : List ℕ) (tree : Block) → IsSource source tree → IsRead source tree
 read_of source tree s = record {

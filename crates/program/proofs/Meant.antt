@@ -1,10 +1,10 @@
 -- What a script does that was run to an end, its source means.
-use Rattle.std.proofs.Common.{◌≡◌, ℕ, ◌≤◌, true, false, List, ◌++◌, length, Option, Some, None, IfSome, ap, subst, ◌∙◌}
+use Rattle.std.proofs.Common.{◌≡◌, ℕ, ◌≤◌, true, false, List, ◌++◌, length, Option, Some, None, refl, ap, sym, subst, ◌∙◌}
 use Rattle.std.specs.Option.{option_map}
 use Rattle.tree_core.specs.Tree.{Body}
 use Rattle.tree_activation.specs.Work.{State}
 use Rattle.scope_core.specs.Places.{placed}
-use Rattle.code_core.specs.Prototype.{list_of}
+use Rattle.code_core.specs.Prototype.{Prototype, list_of}
 use Rattle.code_of.specs.CodeOf.{code_of}
 use Rattle.compile_chunk.specs.Chunk.{IsCodeOf, script_in}
 use Rattle.library_rows.specs.PreludeText.{prelude_text}
@@ -16,14 +16,19 @@ use Rattle.machine_step.specs.Step.{library}
 use Rattle.scripts_mean.specs.Scripts.{IsRead, functions_in, RunsAs, ScriptsDo, PreludeIsAlike}
 use Rattle.io_edge.specs.Content.{FileMap}
 use Rattle.io_edge.specs.Lines.{lines_of}
+use Rattle.prelude_code.specs.Prelude.{IsPreludeCode}
+use Rattle.lua_feed.specs.Feeding.{Does}
 use Rattle.lua_feed.specs.Running.{started}
 use Rattle.program.specs.Devices.{Device}
 use Rattle.program.specs.Checking.{begins_chunk, IsAccepted}
 use Rattle.program.specs.Compiling.{source_name}
 use Rattle.program.specs.Running as running
-use Rattle.program.specs.Meaning.{MeansOn, AreShort, has_ended, IsDoneAsMeant}
-use Rattle.program.specs.Running.{RunsOn, IsNotRun, Ends}
+use Rattle.program.specs.Meaning.{MeansOn, EndsWith, AreShort, has_ended, IsDoneAsMeant}
+use Rattle.program.specs.Running.{HoldsCode, RunsOn, IsNotRun}
+use Rattle.program.specs.Sessions as session
+use Rattle.program.specs.Sessions.{status_of_close, IsLeft, Ends}
 use Rattle.program.proofs.MeaningLemmas.{read_of, by_script, name_is_short, ends_with}
+use Rattle.program.proofs.Endings.{told_lines}
 
 -- a file that is not run has another status
 pub not_run_ends : (name : List ℕ) (files : Device FileMap) (status : ℕ) → IsNotRun name files status → has_ended status ≡ true → ⊥
@@ -51,18 +56,32 @@ run_meant law alike name content lines budget run short fits begins goes =
     run (subst (λ W. CodeRun library W lines budget run) starts goes.runs) in
     (meant.0, record { is_script = begins; tree = made.tree; is_source = made.is_source; prelude = own.tree; is_prelude = read; means = meant.1 }, meant.2)
 
-pub told_lines : (left : Option (List ℕ)) (text : List ℕ) (lines : List (List ℕ)) → IfSome left (λ bytes. lines ≡ lines_of bytes) → left ≡ Some text → lines ≡ lines_of text
-told_lines (Some bytes) text lines are told = let same : bytes ≡ text = cc in are ∙ ap lines_of same
-told_lines None text lines are told = absurd (cc)
+-- what is left of a run that came to an end tells how it closed
+ended_so : (prelude : Prototype) (run : Run) (save : Option (List ℕ)) (files : Device FileMap) (status : ℕ) → IsLeft prelude run save files status → has_ended status ≡ true → status ≡ status_of_close run.close
+ended_so prelude run save files _ (session.kept kept) ended = refl
+ended_so prelude run save files _ (session.too_large named waits large) ended = absurd (cc)
+ended_so prelude run save files _ (session.changed named waits other) ended = absurd (cc)
+ended_so prelude run save files _ (session.unwritten named waits rose) ended = absurd (cc)
+ended_so prelude run save files _ (session.no_memory named waits) ended = absurd (cc)
+
+not_ended : (status other : ℕ) → status ≡ other → has_ended other ≡ false → has_ended status ≡ true → ⊥
+not_ended status other is goes ended = let same : has_ended status ≡ has_ended other = ap has_ended is in cc
 
 -- a run that came to an end
-pub done : ScriptsDo → PreludeIsAlike → (name content text : List ℕ) (budget : ℕ) (input out : Device (List ℕ)) (status : ℕ) → length name ≤ 65536
-    → begins_chunk content ≡ false → input.content ≡ Some text → AreShort (lines_of text) → has_ended status ≡ true → Ends name content budget input out status
+pub done : ScriptsDo → PreludeIsAlike → (name content text : List ℕ) (budget : ℕ) (prelude code : Prototype) (save : Option (List ℕ)) (files : Device FileMap) (input out : Device (List ℕ)) (status : ℕ) → length name ≤ 65536
+    → IsPreludeCode prelude → HoldsCode name content code → begins_chunk content ≡ false → input.content ≡ Some text → AreShort (lines_of text) → has_ended status ≡ true → Ends prelude (Does library (started prelude code) budget) save files input out status
     → IsDoneAsMeant name content (lines_of text) budget out status
-done law alike name content text budget input out _ short begins told fits ended (running.closed lines are run goes written) =
+done law alike name content text budget prelude code save files input out status short is_prelude holds begins told fits ended (session.closed lines are run goes written left) =
     let same : lines ≡ lines_of text = told_lines input.content text lines are told in
-    let meant = run_meant law alike name content (lines_of text) budget run short fits begins (subst (λ l. RunsOn name content l budget run) same goes) in
-    record { m = meant.0; means = meant.1; ends = ends_with run.close meant.0.outcome meant.2.ends; written = written ∙ ap (λ b. option_map (λ before. before ++ b) out.content) meant.2.printed }
-done law alike name content text budget input out _ short begins told fits ended (running.failed rose) = absurd (cc)
-done law alike name content text budget input out _ short begins told fits ended (running.past_limits past) = absurd (cc)
-done law alike name content text budget input out _ short begins told fits ended running.no_memory = absurd (cc)
+    let does : RunsOn name content (lines_of text) budget run
+    = record { prelude = prelude; is_prelude = is_prelude; code = code; holds = holds; runs = subst (λ l. CodeRun library (started prelude code) l budget run) same goes } in
+    let meant = run_meant law alike name content (lines_of text) budget run short fits begins does in
+    record {
+      m = meant.0;
+      means = meant.1;
+      ends = subst (EndsWith meant.0.outcome) (sym (ended_so prelude run save files status left ended)) (ends_with run.close meant.0.outcome meant.2.ends);
+      written = written ∙ ap (λ b. option_map (λ before. before ++ b) out.content) meant.2.printed;
+    }
+done law alike name content text budget prelude code save files input out status short is_prelude holds begins told fits ended (session.failed rose is) = absurd (not_ended status 6 is refl ended)
+done law alike name content text budget prelude code save files input out status short is_prelude holds begins told fits ended (session.past_limits past is) = absurd (not_ended status 7 is refl ended)
+done law alike name content text budget prelude code save files input out status short is_prelude holds begins told fits ended (session.no_memory is) = absurd (not_ended status 9 is refl ended)

@@ -12,6 +12,8 @@ use Rattle.prelude_code.specs.declared.fault.PreludeFault.{PreludeFault}
 use Rattle.prelude_code.specs.declared.fault.PreludeFault.TheVariants as prelude
 use Rattle.lua_feed.specs.declared.fault.FeedFault.{FeedFault}
 use Rattle.lua_feed.specs.declared.fault.FeedFault.TheVariants as feeding
+use Rattle.lua_saving.specs.declared.fault.SaveFault.{SaveFault}
+use Rattle.lua_saving.specs.declared.fault.SaveFault.TheVariants as saving
 use Rattle.program.specs.declared.fault.Fault.{Fault}
 use Rattle.program.specs.declared.fault.Fault.TheVariants as fault
 use Rattle.program.specs.Report.{status_of_fault}
@@ -43,6 +45,11 @@ fault_of_feeding feeding.Input = fault.Device
 fault_of_feeding feeding.Output = fault.Device
 fault_of_feeding feeding.Limit = fault.InputLimit
 fault_of_feeding feeding.Memory = fault.Memory
+
+abbrev pub fault_of_saving : SaveFault → Fault
+fault_of_saving saving.TooLarge = fault.TooLarge
+fault_of_saving saving.Prelude = fault.Prelude
+fault_of_saving saving.Memory = fault.Memory
 
 -- of a call that ends with a status of its own, and of one that does its work or does not
 

@@ -2,7 +2,9 @@ pub mod Devices
 pub mod Checking
 pub mod Compiling
 pub mod Meaning
+pub mod Sessions
 pub mod Running
+pub mod Resuming
 pub mod Program
 pub mod Report
 pub mod Faults

@@ -4,17 +4,27 @@ use Rattle.std.specs.Bool.{MatchBool}
 use Rattle.std.specs.Option.{option_map}
 use Rattle.io_edge.specs.Content.{FileMap}
 use Rattle.code_core.specs.Prototype.{Prototype}
+use Rattle.std.specs.Fmt.{signed_decimal}
 use Rattle.chunk_format.specs.Grammar.{BeginsWith, ChunkOf}
 use Rattle.chunk_format.specs.Reading.{chunk_kind}
 use Rattle.chunk_check.specs.Faults.{first_fault}
 use Rattle.compile_text.specs.Source.{IsRefused}
 use Rattle.compile_text.specs.declared.fault.TextFault.TheVariants as text
 use Rattle.compile_chunk.specs.Chunk.{script_in}
+use Rattle.prelude_code.specs.Prelude.{IsPreludeCode}
+use Rattle.graph_core.specs.Permanents.{key_read}
+use Rattle.graph_core.specs.declared.permanents.PermanentKey.{PermanentKey}
+use Rattle.graph_core.specs.declared.permanents.PermanentKey.TheVariants.{Number, Text}
+use Rattle.image_bytes.specs.Format.{Fault as Refusal, of_kind, refused as refused_for}
+use Rattle.image_sound.specs.Fitting.{reads}
+use Rattle.session_images.specs.Stored.{root_count}
+use Rattle.lua_saving.specs.Saving.{session_reader, session_codes, HasNoSession}
 use Rattle.program.specs.declared.fault.Fault.{Fault}
 use Rattle.program.specs.declared.fault.Fault.TheVariants as fault
-use Rattle.command_words.specs.Words.{Command, run, check, compile}
+use Rattle.command_words.specs.Words.{Command, run, resume, check, compile}
 use Rattle.program.specs.Devices.{Device, RoseIn, Holds}
 use Rattle.program.specs.Checking.{begins_chunk}
+use Rattle.program.specs.Sessions.{functions_of}
 
 abbrev pub status_of_fault : Fault → ℕ
 status_of_fault fault.Words = 2
@@ -23,11 +33,18 @@ status_of_fault (fault.Refused line) = 5
 status_of_fault (fault.Rule rule line) = 5
 status_of_fault fault.Device = 6
 status_of_fault fault.InputLimit = 7
+status_of_fault fault.TooLarge = 7
 status_of_fault (fault.NoChunk kind) = 8
 status_of_fault (fault.BrokenRule number pc rule) = 8
+status_of_fault (fault.NoImage kind) = 8
+status_of_fault (fault.NoPermanent kind key) = 8
 status_of_fault fault.Memory = 9
 status_of_fault fault.Absent = 11
 status_of_fault fault.Prelude = 12
+
+abbrev pub key_text : PermanentKey → List ℕ
+key_text (Number n) = signed_decimal n
+key_text (Text text) = text.items
 
 abbrev pub line_of_fault : Fault → List ℕ
 line_of_fault fault.Words = codes "luaris: wrong words\n"
@@ -36,9 +53,12 @@ line_of_fault (fault.Refused line) = codes "luaris: source refused at line " ++ 
 line_of_fault (fault.Rule rule line) = codes "luaris: source refused by rule " ++ (decimal rule ++ (codes " at line " ++ (decimal line ++ codes "\n")))
 line_of_fault fault.Device = codes "luaris: device fault\n"
 line_of_fault fault.InputLimit = codes "luaris: input limit\n"
+line_of_fault fault.TooLarge = codes "luaris: image too large\n"
 line_of_fault (fault.NoChunk kind) = codes "luaris: chunk refused: kind " ++ (decimal kind ++ codes "\n")
 line_of_fault (fault.BrokenRule number pc rule) =
     codes "luaris: chunk refused: rule " ++ (decimal rule ++ (codes " at function " ++ (decimal number ++ (codes " pc " ++ (decimal pc ++ codes "\n")))))
+line_of_fault (fault.NoImage kind) = codes "luaris: image refused: kind " ++ (decimal kind ++ codes "\n")
+line_of_fault (fault.NoPermanent kind key) = codes "luaris: image refused: kind " ++ (decimal kind ++ (codes " key " ++ (key_text key ++ codes "\n")))
 line_of_fault fault.Memory = codes "luaris: out of memory\n"
 line_of_fault fault.Absent = codes "luaris: no such file\n"
 line_of_fault fault.Prelude = codes "luaris: prelude refused\n"
@@ -54,13 +74,26 @@ pub record IsBroken (bytes : List ℕ) (number pc rule : ℕ) : Type 0 where
   pub begins : BeginsWith ChunkOf function taken bytes
   pub first : first_fault function ≡ Some (record { function = number; pc = pc; rule = rule })
 
--- what a fault tells of bytes: of a script, and of a chunk
+-- Bytes that are refused as an image, whose first fault is this one. Where nothing else is refused, roots that are no session's that waits for a line are of
+-- the kind of a value that may not stand in its place
+pub data IsRefusedFor (prelude : Prototype) (bytes : List ℕ) : Refusal → Type 0 where
+  by_bytes : (why : Refusal) → reads session_reader (session_codes (functions_of prelude)) root_count bytes ≡ refused_for why → IsRefusedFor prelude bytes why
+  by_roots : HasNoSession (functions_of prelude) bytes → IsRefusedFor prelude bytes (of_kind 5)
+
+pub record IsNoImage (bytes : List ℕ) (why : Refusal) : Type 0 where
+  pub prelude : Prototype
+  pub is_prelude : IsPreludeCode prelude
+  pub refused : IsRefusedFor prelude bytes why
+
+-- what a fault tells of bytes: of a script, of a chunk, and of an image
 
 abbrev pub ScriptFits : List ℕ → Fault → Type 0
 ScriptFits content (fault.Refused line) = IsRefused (script_in content) (text.Source line)
 ScriptFits content (fault.Rule rule line) = IsRefused (script_in content) (text.Rule rule line)
 ScriptFits content (fault.NoChunk kind) = ⊥
 ScriptFits content (fault.BrokenRule number pc rule) = ⊥
+ScriptFits content (fault.NoImage kind) = ⊥
+ScriptFits content (fault.NoPermanent kind key) = ⊥
 ScriptFits content _ = Unit {0}
 
 abbrev pub ChunkFits : List ℕ → Fault → Type 0
@@ -68,14 +101,26 @@ ChunkFits content (fault.Refused line) = ⊥
 ChunkFits content (fault.Rule rule line) = ⊥
 ChunkFits content (fault.NoChunk kind) = chunk_kind content ≡ Some kind
 ChunkFits content (fault.BrokenRule number pc rule) = IsBroken content number pc rule
+ChunkFits content (fault.NoImage kind) = ⊥
+ChunkFits content (fault.NoPermanent kind key) = ⊥
 ChunkFits content _ = Unit {0}
+
+abbrev pub ImageFits : List ℕ → Fault → Type 0
+ImageFits content (fault.Refused line) = ⊥
+ImageFits content (fault.Rule rule line) = ⊥
+ImageFits content (fault.NoChunk kind) = ⊥
+ImageFits content (fault.BrokenRule number pc rule) = ⊥
+ImageFits content (fault.NoImage kind) = IsNoImage content (of_kind kind)
+ImageFits content (fault.NoPermanent kind key) = IsNoImage content (record { kind = kind; key = Some (key_read key) })
+ImageFits content _ = Unit {0}
 
 abbrev pub CodeFits : List ℕ → Fault → Type 0
 CodeFits content reason = MatchBool (begins_chunk content) (ChunkFits content reason) (ScriptFits content reason)
 
 -- what a fault tells of the bytes that the files hold for a command
 abbrev pub FitsFor : Option Command → Option FileMap → Fault → Type 0
-FitsFor (Some (run file budget)) files reason = (content : List ℕ) → Holds files file content → CodeFits content reason
+FitsFor (Some (run file budget save)) files reason = (content : List ℕ) → Holds files file content → CodeFits content reason
+FitsFor (Some (resume image budget save)) files reason = (content : List ℕ) → Holds files image content → ImageFits content reason
 FitsFor (Some (check file)) files reason = (content : List ℕ) → Holds files file content → ChunkFits content reason
 FitsFor (Some (compile script chunk strip)) files reason = (content : List ℕ) → Holds files script content → ScriptFits content reason
 FitsFor None files reason = Unit {0}

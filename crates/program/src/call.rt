@@ -10,17 +10,20 @@ use crate::checking::check_file;
 use crate::compiling::compile_file;
 use crate::fault::Fault;
 use crate::reporting::report;
+use crate::resuming::resume_file;
 use crate::running::run_file;
 use command_words::{Command, read_words};
 use io_edge::{Files, Sink, Source};
 use std::alloc::Global;
 
-/// Does what the words ask for: runs the script or the chunk in a file on the lines of the input, checks the chunk in a file, or compiles the script in a
-/// file into the chunk of another one. Answers the status: 0 where the script returned or the work was done, 1 where the script failed, 2 for wrong words,
+/// Does what the words ask for: runs the script or the chunk in a file on the lines of the input, goes on with the session whose image is in a file, checks
+/// the chunk in a file, or compiles the script in a file into the chunk of another one. A session that waits for a line at the end of the input is saved in
+/// the file that is named for that. Answers the status: 0 where the script returned or the work was done, 1 where the script failed, 2 for wrong words,
 /// 3 where the script waits for a line and there is none, 4 where a turn has spent its budget, 5 for a refused source, 6 for a device fault, 7 for input
-/// past the limits on lines, 8 for a refused chunk, 9 for want of memory, 11 where there is no such file, and 12 where the prelude is refused. What the
+/// past the limits on lines or an image that would be too large, 8 for a refused chunk or image, 9 for want of memory, 11 where there is no such file, and
+/// 12 where the prelude is refused, or was changed by the script whose session is to be saved. What the
 /// script prints with a line for each turn's end, or the chunk's counts, go to `out`, and the line of a status of a fault to `err`; a failed write to
-/// `err` changes nothing. `run` alone reads input.
+/// `err` changes nothing. `run` and `resume` alone read input.
 pub fn luaris<F: Files, S: Source, K: Sink, E: Sink>(
     alloc: Global,
     words: &[String],
@@ -76,7 +79,14 @@ fn carry_out<F: Files, S: Source, K: Sink>(
     ensures unread { IsUnread (Some (asked command.entry)) input.old input.new }
 {
     match command {
-        Command::Run { file, budget } => run_file(alloc, file, budget, files, input, out),
+        Command::Run { file, budget, save } => {
+            run_file(alloc, file, budget, save, files, input, out)
+        }
+        Command::Resume {
+            image,
+            budget,
+            save,
+        } => resume_file(alloc, image, budget, save, files, input, out),
         Command::Check { file } => {
             check_file(alloc, file, files, out)?;
             Ok(0)

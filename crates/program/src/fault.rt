@@ -1,13 +1,15 @@
 // Why a call has a line on standard error.
 ghost use Rattle.std.specs.Prelude.{◌≡◌};
-ghost use Rattle.program.specs.Faults.{fault_of_check, fault_of_chunk, fault_of_feeding, fault_of_file, fault_of_prelude, fault_of_text};
+ghost use Rattle.program.specs.Faults.{fault_of_check, fault_of_chunk, fault_of_feeding, fault_of_file, fault_of_prelude, fault_of_saving, fault_of_text};
 ghost use Rattle.program.specs.Report.{status_of_fault};
 
 use chunk_check::CheckFault;
 use chunk_format::ChunkFault;
 use compile_text::TextFault;
+use graph_core::PermanentKey;
 use io_edge::{Failed, FileFault};
 use lua_feed::FeedFault;
+use lua_saving::SaveFault;
 use prelude_code::PreludeFault;
 use std::alloc::{AllocError, AllocFailed};
 use thiserror::Error;
@@ -21,7 +23,7 @@ pub enum Fault {
     /// There is no file of that name.
     #[error("no such file")]
     Absent,
-    /// The text of the prelude is no source; a test shows that it is one.
+    /// The text of the prelude is no source; a test shows that it is one. Or a session is to be saved whose script changed the prelude.
     #[error("prelude refused")]
     Prelude,
     /// A place of the source begins no token, or a token cannot stand where it does.
@@ -45,6 +47,15 @@ pub enum Fault {
     /// A line of the input, or the input up to its end, is too long.
     #[error("input limit")]
     InputLimit,
+    /// The image of the session that waits has too many bytes.
+    #[error("image too large")]
+    TooLarge,
+    /// The bytes are no session's image: the kind of their first fault.
+    #[error("image refused: kind {kind}")]
+    NoImage { kind: u8 },
+    /// The image names a permanent by this key that is not there, or is of another kind.
+    #[error("image refused: kind {kind}")]
+    NoPermanent { kind: u8, key: PermanentKey },
     /// Memory ran out.
     #[error("out of memory")]
     Memory,
@@ -60,8 +71,9 @@ impl Fault {
             Fault::Spent => 4,
             Fault::Refused { line: _ } | Fault::Rule { rule: _, line: _ } => 5,
             Fault::Device => 6,
-            Fault::InputLimit => 7,
-            Fault::NoChunk { kind: _ } => 8,
+            Fault::InputLimit | Fault::TooLarge => 7,
+            Fault::NoChunk { kind: _ } | Fault::NoImage { kind: _ } => 8,
+            Fault::NoPermanent { kind: _, key: _ } => 8,
             Fault::BrokenRule {
                 function: _,
                 pc: _,
@@ -169,6 +181,18 @@ impl From<FeedFault> for Fault {
             FeedFault::Input | FeedFault::Output => Fault::Device,
             FeedFault::Limit => Fault::InputLimit,
             FeedFault::Memory => Fault::Memory,
+        }
+    }
+}
+
+impl From<SaveFault> for Fault {
+    ghost from_gives = { λ fault made. made ≡ fault_of_saving fault };
+
+    fn from(fault: SaveFault) -> Fault {
+        match fault {
+            SaveFault::TooLarge => Fault::TooLarge,
+            SaveFault::Prelude => Fault::Prelude,
+            SaveFault::Memory => Fault::Memory,
         }
     }
 }

@@ -5,8 +5,11 @@ mod call;
 mod checking;
 mod compiling;
 mod fault;
+mod refusing;
 mod reporting;
+mod resuming;
 mod running;
+mod saving;
 
 pub use call::luaris;
 pub use fault::Fault;

@@ -2,9 +2,10 @@
 ghost use Rattle.std.specs.Prelude.{◌≡◌, ◌++◌, OnOk, codes, decimal, is_err};
 ghost use Rattle.std.specs.Option.{option_map};
 ghost use Rattle.io_edge.specs.Causes.{HasCause};
-ghost use Rattle.program.specs.Report.{line_of_fault};
+ghost use Rattle.program.specs.Report.{key_text, line_of_fault};
 
 use crate::fault::Fault;
+use graph_core::PermanentKey;
 use io_edge::{Failed, Sink, write_all};
 use itoa::Buffer;
 
@@ -20,8 +21,11 @@ pub fn report<E: Sink>(err: &mut E, fault: &Fault) -> Result<(), Failed>
         Fault::Spent => write_all(err, b"luaris: budget spent\n"),
         Fault::Device => write_all(err, b"luaris: device fault\n"),
         Fault::InputLimit => write_all(err, b"luaris: input limit\n"),
+        Fault::TooLarge => write_all(err, b"luaris: image too large\n"),
         Fault::NoChunk { kind } => report_kind(err, *kind),
         Fault::BrokenRule { function, pc, rule } => report_rule(err, *function, *pc, *rule),
+        Fault::NoImage { kind } => report_image(err, *kind),
+        Fault::NoPermanent { kind, key } => report_permanent(err, *kind, key),
         Fault::Memory => write_all(err, b"luaris: out of memory\n"),
         Fault::Absent => write_all(err, b"luaris: no such file\n"),
         Fault::Prelude => write_all(err, b"luaris: prelude refused\n"),
@@ -68,6 +72,38 @@ fn report_rule<E: Sink>(err: &mut E, function: u32, pc: u32, rule: u8) -> Result
     write_number(err, function)?;
     write_all(err, b" pc ")?;
     write_end(err, pc)
+}
+
+/// Writes that bytes are no session's image.
+fn report_image<E: Sink>(err: &mut E, kind: u8) -> Result<(), Failed>
+    ensures cause { HasCause (E.faults err.old) (E.faults err.new) (is_err result) }
+    ensures written { OnOk result (E.written err.new ≡ option_map (λ text. text ++ line_of_fault (Fault.NoImage kind)) (E.written err.old)) }
+{
+    write_all(err, b"luaris: image refused: kind ")?;
+    write_end(err, u32::from(kind))
+}
+
+/// Writes which permanent of an image is refused.
+fn report_permanent<E: Sink>(err: &mut E, kind: u8, key: &PermanentKey) -> Result<(), Failed>
+    ensures cause { HasCause (E.faults err.old) (E.faults err.new) (is_err result) }
+    ensures written { OnOk result (E.written err.new ≡ option_map (λ text. text ++ line_of_fault (Fault.NoPermanent kind key.now)) (E.written err.old)) }
+{
+    write_all(err, b"luaris: image refused: kind ")?;
+    write_number(err, u32::from(kind))?;
+    write_all(err, b" key ")?;
+    write_key(err, key)?;
+    write_all(err, b"\n")
+}
+
+/// Writes a permanent's key.
+fn write_key<E: Sink>(err: &mut E, key: &PermanentKey) -> Result<(), Failed>
+    ensures cause { HasCause (E.faults err.old) (E.faults err.new) (is_err result) }
+    ensures written { OnOk result (E.written err.new ≡ option_map (λ text. text ++ key_text key.now) (E.written err.old)) }
+{
+    match key {
+        PermanentKey::Number(number) => write_all(err, Buffer::new().format(*number).as_bytes()),
+        PermanentKey::Text(text) => write_all(err, text.as_slice()),
+    }
 }
 
 /// Writes a number.

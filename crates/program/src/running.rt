@@ -1,37 +1,38 @@
 // The code in a file runs on the lines of the input.
-ghost use Rattle.std.specs.Prelude.{◌≡◌, ◌≤◌, ◌⊎◌, List, ℕ, IfErr, IfOk, length, true};
-ghost use Rattle.lua_feed.specs.Closes.{close_of};
+ghost use Rattle.std.specs.Prelude.{◌≡◌, ◌≤◌, ◌⊎◌, List, ℕ, IfErr, IfOk, length, option_map, true};
 ghost use Rattle.program.specs.Checking.{begins_chunk};
 ghost use Rattle.program.specs.Devices.{Holds};
 ghost use Rattle.program.specs.Faults.{status_of};
 ghost use Rattle.program.specs.Outcomes.{IsCodeIn, IsNoCodeFor};
 ghost use Rattle.program.specs.Report.{CodeFits, is_quiet};
-ghost use Rattle.program.specs.Running.{IsRun, status_of_close};
+ghost use Rattle.program.specs.Running.{IsRun};
 
 use crate::checking::checked_chunk;
 use crate::compiling::source_name;
 use crate::fault::Fault;
+use crate::saving::leave_session;
 use code_core::Checked;
 use compile_chunk::{code_of, script_in};
 use io_edge::{Files, LineReader, Sink, Source};
-use lua_feed::{Close, run_code};
+use lua_feed::{feed, start};
 use machine_runs::runs_are_one;
 use prelude_code::prelude_code;
 use scripts_mean::{prelude_is_alike, scripts_do_as_they_mean};
 use std::alloc::Global;
 
-/// Runs the script or the chunk in a file on the lines of the input, each turn with the whole budget, and answers a status that has no line on standard
-/// error.
+/// Runs the script or the chunk in a file on the lines of the input, each turn with the whole budget, saves its session in the file that is named for that where it
+/// waits for a line then, and answers a status that has no line on standard error.
 pub fn run_file<F: Files, S: Source, K: Sink>(
     alloc: Global,
     name: &str,
     budget: u64,
+    save: Option<&str>,
     files: &mut F,
     input: &mut S,
     out: &mut K,
 ) -> Result<u8, Fault>
     requires short { length name.now ≤ 65536 }
-    ensures run { IsRun name.now budget (record { faults = F.faults files.old; faults' = F.faults files.new; content = F.held files.old; content' = F.held files.new }) (record { faults = S.faults input.old; faults' = S.faults input.new; content = S.left input.old; content' = S.left input.new }) (record { faults = K.faults out.old; faults' = K.faults out.new; content = K.written out.old; content' = K.written out.new }) (status_of result) }
+    ensures run { IsRun name.now budget (option_map (λ image. image.now) save.entry) (record { faults = F.faults files.old; faults' = F.faults files.new; content = F.held files.old; content' = F.held files.new }) (record { faults = S.faults input.old; faults' = S.faults input.new; content = S.left input.old; content' = S.left input.new }) (record { faults = K.faults out.old; faults' = K.faults out.new; content = K.written out.old; content' = K.written out.new }) (status_of result) }
     ensures fits { (content : List ℕ) → Holds (F.held files.old) name.now content → IfErr result (λ fault. CodeFits content fault) }
     ensures quiet { IfOk result (λ status. is_quiet status ≡ true) }
 {
@@ -42,8 +43,9 @@ pub fn run_file<F: Files, S: Source, K: Sink>(
     let prelude = prelude_code(alloc)?;
     let code = code_in(alloc, name, content.as_slice())?;
     let mut reader = LineReader::new(alloc)?;
-    let close = run_code(alloc, prelude, code, budget, &mut reader, input, out)?;
-    closed(close)
+    let mut world = start(alloc, prelude, code)?;
+    let close = feed(&mut world, budget, &mut reader, input, out)?;
+    leave_session(&world, close, save, files)
 }
 
 /// The code in a file: that of the chunk with which its bytes begin, where the first of them is that of a chunk, and else that of the script in it, under
@@ -67,19 +69,5 @@ fn begins_chunk(content: &[u8]) -> bool
     match content {
         [first, ..] => *first == 0x1b,
         [] => false,
-    }
-}
-
-/// The status of a run that closed, where it has no line on standard error.
-fn closed(close: Close) -> Result<u8, Fault>
-    ensures status { status_of result ≡ status_of_close (close_of close) }
-    ensures quiet { IfOk result (λ status. is_quiet status ≡ true) }
-    ensures spent { IfErr result (λ fault. fault ≡ Fault.Spent) }
-{
-    match close {
-        Close::Returned => Ok(0),
-        Close::Failed => Ok(1),
-        Close::Suspended => Ok(3),
-        Close::Spent => Err(Fault::Spent),
     }
 }

@@ -17,3 +17,12 @@ returns-in-Device-clause-written g c = rw c.in-Device.is c.write_all-in-Device.e
 
 pub returns-in-NoChunk-clause-written : goal.returns-in-NoChunk-clause-written
 returns-in-NoChunk-clause-written g c = rw c.in-NoChunk.is c.report_kind.ensures.written
+
+pub returns-in-TooLarge-clause-written : goal.returns-in-TooLarge-clause-written
+returns-in-TooLarge-clause-written g c = rw c.in-TooLarge.is c.write_all-in-TooLarge.ensures.written
+
+pub returns-in-NoImage-clause-written : goal.returns-in-NoImage-clause-written
+returns-in-NoImage-clause-written g c = rw c.in-NoImage.is c.report_image.ensures.written
+
+pub returns-in-NoPermanent-clause-written : goal.returns-in-NoPermanent-clause-written
+returns-in-NoPermanent-clause-written g c = rw c.in-NoPermanent.is c.report_permanent.ensures.written

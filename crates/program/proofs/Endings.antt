@@ -1,0 +1,212 @@
+-- How a session ends that was fed and left.
+use Rattle.std.proofs.Common.{Err, ◌≡◌, ◌≢◌, ◌⊎◌, inl, inr, ℕ, ◌<◌, List, [], ◌∷◌, ◌++◌, length, true, Option, Some, None, IfSome, IsSome, is_some, refl, sym, ap, subst, ◌∙◌, arith}
+use Rattle.std.specs.Prelude.{IsErrOf}
+use Rattle.std.specs.Option.{option_map}
+use Rattle.code_core.specs.Prototype.{Prototype, list_of}
+use Rattle.io_edge.specs.Causes.{HasCause}
+use Rattle.io_edge.specs.Content.{FileMap, GrowsByFront}
+use Rattle.io_edge.specs.Lines.{Unread, ahead, lines_of}
+use Rattle.prelude_code.specs.Prelude.{IsPreludeCode}
+use Rattle.machine_core.specs.World.{World}
+use Rattle.machine_core.specs.Moves.{Row}
+use Rattle.machine_runs.specs.Opening.{handed_line}
+use Rattle.machine_runs.specs.Runs.{Close, is_suspended, Run, CodeRun, CodeOnward, suspends}
+use Rattle.machine_runs.specs.Laws.{RunIsOne}
+use Rattle.images_stand.specs.Sessions.{IsKept as IsHeldWhole}
+use Rattle.lua_heap.specs.declared.world.World.{World as Memory}
+use Rattle.lua_heap.specs.Plain.{plain}
+use Rattle.image_bytes.specs.Bytes.{image_format}
+use Rattle.session_images.specs.Prelude.{HasPrelude}
+use Rattle.session_images.specs.Saved.{session_image}
+use Rattle.session_images.specs.Stored.{root_count, IsWrittenAs}
+use Rattle.lua_feed.specs.Faults.{is_input_fault, is_output_fault}
+use Rattle.lua_feed.specs.Feeding.{IsLast, IsFed, IsFedTo, IsFedFront, PassLimits}
+use Rattle.lua_feed.specs.declared.fault.FeedFault.{FeedFault}
+use Rattle.lua_feed.specs.declared.fault.FeedFault.TheVariants as feeding
+use Rattle.lua_feed.specs.declared.feeding.Close.{Close as Kept}
+use Rattle.program.specs.Devices.{Device, RoseIn, GrewIn, OnlyGrows, IsUntouched, KeepsOthers}
+use Rattle.program.specs.Faults.{fault_of_feeding}
+use Rattle.program.specs.Outcomes as by
+use Rattle.program.specs.Outcomes.{IsLeftBy}
+use Rattle.program.specs.Report.{status_of_fault}
+use Rattle.program.specs.Sessions as session
+use Rattle.program.specs.Sessions.{functions_of, status_of_close, IsTooLarge, HasChanged, IsKept, IsLeft, Ends}
+use Rattle.program.proofs.DeviceLemmas.{grows_by_all, only_front, same_telling, kept_others, replaces_others}
+
+-- what is known of a session that was fed, whatever its end is
+pub record Ran (prelude : Prototype) (Runs : List (List ℕ) → Run → Type 0) (save : Option (List ℕ)) (files : Device FileMap) (input out : Device (List ℕ)) (status : ℕ) : Type 0 where
+  pub ends : Ends prelude Runs save files input out status
+  pub does : (text : List ℕ) (run : Run) → input.content ≡ Some text → Runs (lines_of text) run → ¬ (RoseIn files) → ¬ (RoseIn input) → ¬ (RoseIn out) → status ≢ 7 → status ≢ 9 → (IsSome save → status ≢ 12)
+      → (status ≡ status_of_close run.close) × (out.content' ≡ option_map (λ before. before ++ run.printed) out.content) × IsKept prelude run files save
+  pub fault : GrewIn files ⊎ (GrewIn input ⊎ GrewIn out) → status ≡ 6
+  pub front : (text : List ℕ) (run : Run) → input.content ≡ Some text → Runs (lines_of text) run → GrowsByFront run.printed out.content out.content'
+  pub grows : OnlyGrows out.content out.content'
+  pub others : KeepsOthers save files
+  pub same : (status ≡ 6 → ¬ (RoseIn files)) → (status ≡ 3 → save ≡ None) → files.content' ≡ files.content
+
+-- what is left of a run that closed
+
+pub record Leaves (prelude : Prototype) (run : Run) (save : Option (List ℕ)) (files : Device FileMap) (status : ℕ) : Type 0 where
+  pub left : IsLeft prelude run save files status
+  pub keeps : ¬ (RoseIn files) → status ≢ 7 → status ≢ 9 → (IsSome save → status ≢ 12) → (status ≡ status_of_close run.close) × IsKept prelude run files save
+  pub fault : GrewIn files → status ≡ 6
+  pub others : KeepsOthers save files
+  pub same : (status ≡ 6 → ¬ (RoseIn files)) → (status ≡ 3 → save ≡ None) → files.content' ≡ files.content
+
+-- the prelude is the same whatever is left of the budget
+prelude_there : (prelude : Prototype) (W : Memory) (left : ℕ) → HasPrelude (functions_of prelude) (plain W left) → HasPrelude (functions_of prelude) (plain W 0)
+prelude_there prelude W left h = record {
+  known = record { number = h.known.number; names = h.known.names; functions = h.known.functions };
+  untouched = record { table = h.untouched.table; cell = h.untouched.cell; apart = h.untouched.apart };
+}
+
+module _ (prelude : Prototype) (is_prelude : IsPreludeCode prelude) (save : Option (List ℕ)) (files : Device FileMap) (W : Memory) (run : Run) (last : IsLast run.last W) where
+  ended_kept : (save : Option (List ℕ)) → run.close ≢ is_suspended → files.content' ≡ files.content → IsKept prelude run files save
+  ended_kept None ends same = session.unnamed same
+  ended_kept (Some image) ends same = session.ended image ends same
+
+  leaves : (close : Close) (status : ℕ) → run.close ≡ close → IsLeftBy W close save files status → Leaves prelude run save files status
+  leaves close _ closes (by.ended ends still) =
+      let kept : IsKept prelude run files save = ended_kept save (λ e. ends (sym closes ∙ e)) still.unwritten in
+      record {
+        left = subst (λ c. IsLeft prelude run save files (status_of_close c)) closes (session.kept kept);
+        keeps = λ calm within ample unchanged. (ap status_of_close (sym closes), kept);
+        fault = λ grew. absurd (omega (arith, still.no_fault, grew));
+        others = kept_others save files (same_telling files.content files.content' still.unwritten);
+        same = λ calm unnamed. still.unwritten;
+      }
+  leaves close _ closes (by.unnamed waits none still) =
+      let is : run.close ≡ is_suspended = closes ∙ waits in
+      let kept : IsKept prelude run files save = subst (IsKept prelude run files) (sym none) (session.unnamed still.unwritten) in
+      record {
+        left = subst (IsLeft prelude run save files) (ap status_of_close is) (session.kept kept);
+        keeps = λ calm within ample unchanged. (ap status_of_close (sym is), kept);
+        fault = λ grew. absurd (omega (arith, still.no_fault, grew));
+        others = kept_others save files (same_telling files.content files.content' still.unwritten);
+        same = λ calm unnamed. still.unwritten;
+      }
+  leaves close _ closes (by.saved image bytes waits named image_of still put) =
+      let is : run.close ≡ is_suspended = closes ∙ waits in
+      let written : IsWrittenAs (functions_of prelude) run.last bytes = subst (λ V. IsWrittenAs (functions_of prelude) V bytes) (sym last.is) (image_of.written last.left (list_of prelude.inner) is_prelude.functions) in
+      let kept : IsKept prelude run files save = subst (IsKept prelude run files) (sym named) (session.saved image bytes is written image_of.size (subst IsHeldWhole (sym last.is) (image_of.kept last.left)) put) in
+      record {
+        left = subst (IsLeft prelude run save files) (ap status_of_close is) (session.kept kept);
+        keeps = λ calm within ample unchanged. (ap status_of_close (sym is), kept);
+        fault = λ grew. absurd (omega (arith, still, grew));
+        others = subst (λ s. KeepsOthers s files) (sym named) (replaces_others image bytes files.content files.content' put);
+        same = λ calm unnamed. absurd (let bad : None ≡ Some image = sym (unnamed refl) ∙ named in cc);
+      }
+  leaves close _ closes (by.too_large image waits named large still) =
+      record {
+        left = session.too_large (ap is_some named) (closes ∙ waits) (record { more = λ R. subst (λ V. 2147483647 < length ((image_format R root_count).spell (session_image V))) (sym last.is) (large.more last.left R) });
+        keeps = λ calm within ample unchanged. absurd (within refl);
+        fault = λ grew. absurd (omega (arith, still.no_fault, grew));
+        others = kept_others save files (same_telling files.content files.content' still.unwritten);
+        same = λ calm unnamed. still.unwritten;
+      }
+  leaves close _ closes (by.touched image waits named other still) =
+      record {
+        left = session.changed (ap is_some named) (closes ∙ waits)
+            (record { is = λ h. other.none (list_of prelude.inner) is_prelude.functions (prelude_there prelude W last.left (subst (HasPrelude (functions_of prelude)) last.is h)) });
+        keeps = λ calm within ample unchanged. absurd (unchanged (ap is_some named) refl);
+        fault = λ grew. absurd (omega (arith, still.no_fault, grew));
+        others = kept_others save files (same_telling files.content files.content' still.unwritten);
+        same = λ calm unnamed. still.unwritten;
+      }
+  leaves close _ closes (by.unput image waits named rose others) =
+      record {
+        left = session.unwritten (ap is_some named) (closes ∙ waits) rose;
+        keeps = λ calm within ample unchanged. absurd (calm rose);
+        fault = λ grew. refl;
+        others = subst (λ s. KeepsOthers s files) (sym named) others;
+        same = λ calm unnamed. absurd (calm refl rose);
+      }
+  leaves close _ closes (by.no_memory image waits named still) =
+      record {
+        left = session.no_memory (ap is_some named) (closes ∙ waits);
+        keeps = λ calm within ample unchanged. absurd (ample refl);
+        fault = λ grew. absurd (omega (arith, still.no_fault, grew));
+        others = kept_others save files (same_telling files.content files.content' still.unwritten);
+        same = λ calm unnamed. still.unwritten;
+      }
+
+pub told_lines : (left : Option (List ℕ)) (text : List ℕ) (lines : List (List ℕ)) → IfSome left (λ bytes. lines ≡ lines_of bytes) → left ≡ Some text → lines ≡ lines_of text
+told_lines (Some bytes) text lines are told = let same : bytes ≡ text = cc in are ∙ ap lines_of same
+told_lines None text lines are told = absurd (cc)
+
+-- a session that is fed
+
+module _ (prelude : Prototype) (is_prelude : IsPreludeCode prelude) (Runs : List (List ℕ) → Run → Type 0) (once : (lines : List (List ℕ)) (x y : Run) → Runs lines x → Runs lines y → x ≡ y)
+    (save : Option (List ℕ)) (files : Device FileMap) (input out : Device (List ℕ)) where
+  -- it closes, and all that it prints is written
+  pub closed_ran : (W : Memory) (close : Close) (status : ℕ) → input.faults' ≡ input.faults → out.faults' ≡ out.faults → IsFedTo Runs input.content out.content out.content' close W → IsLeftBy W close save files status
+      → Ran prelude Runs save files input out status
+  closed_ran W close status same_input same_output to left =
+      let l = leaves prelude is_prelude save files W to.fed.run to.leaves close status to.fed.closes left in
+      record {
+        ends = session.closed to.fed.lines to.fed.are to.fed.run to.fed.runs to.fed.grown l.left;
+        does = λ text run told goes calm calm' calm'' within ample unchanged.
+            let same : to.fed.run ≡ run = the_same to.fed text run told goes in
+            let kept = l.keeps calm within ample unchanged in
+            (kept.0 ∙ ap (λ (r : Run). status_of_close r.close) same, to.fed.grown ∙ ap (λ (r : Run). option_map (λ before. before ++ r.printed) out.content) same, subst (λ (r : Run). IsKept prelude r files save) same kept.1);
+        fault = λ grew. elim grew [ inl less ↦ l.fault less | inr more ↦ absurd (elim more [ inl less ↦ omega (arith, same_input, less) | inr less ↦ omega (arith, same_output, less) ]) ];
+        front = λ text run told goes.
+            subst (λ (r : Run). GrowsByFront r.printed out.content out.content') (the_same to.fed text run told goes) (grows_by_all to.fed.run.printed out.content out.content' to.fed.grown);
+        grows = only_front to.fed.run.printed out.content out.content' (grows_by_all to.fed.run.printed out.content out.content' to.fed.grown);
+        others = l.others;
+        same = l.same;
+      }
+    where
+      the_same : (fed : IsFed Runs input.content out.content out.content' close) (text : List ℕ) (run : Run) → input.content ≡ Some text → Runs (lines_of text) run → fed.run ≡ run
+      the_same fed text run told goes = once (lines_of text) fed.run run (subst (λ ls. Runs ls fed.run) (told_lines input.content text fed.lines fed.are told) fed.runs) goes
+
+  told_front : (left : Option (List ℕ)) (text : List ℕ) (run : Run) → IfSome left (λ bytes. (run : Run) → Runs (lines_of bytes) run → GrowsByFront run.printed out.content out.content') → left ≡ Some text → Runs (lines_of text) run
+      → GrowsByFront run.printed out.content out.content'
+  told_front (Some bytes) text run is told goes = let same : bytes ≡ text = cc in is run (subst (λ b. Runs (lines_of b) run) (sym same) goes)
+  told_front None text run is told goes = absurd (cc)
+
+  -- what is known of a session that does not close
+  cut_by : (status : ℕ) → IsUntouched files → IsFedFront Runs input.content out.content out.content' → OnlyGrows out.content out.content' → Ends prelude Runs save files input out status
+      → (¬ (RoseIn input) → ¬ (RoseIn out) → status ≢ 7 → status ≢ 9 → ⊥) → (GrewIn input ⊎ GrewIn out → status ≡ 6) → Ran prelude Runs save files input out status
+  cut_by status still front grows ends never fault = record {
+    ends = ends;
+    does = λ text run told goes calm calm' calm'' within ample unchanged. absurd (never calm' calm'' within ample);
+    fault = λ grew. elim grew [ inl less ↦ absurd (omega (arith, still.no_fault, less)) | inr more ↦ fault more ];
+    front = λ text run told goes. told_front input.content text run front.is told goes;
+    grows = grows;
+    others = kept_others save files (same_telling files.content files.content' still.unwritten);
+    same = λ calm unnamed. still.unwritten;
+  }
+
+  still_by : {A : Type 0} → input.faults' ≡ input.faults → out.faults' ≡ out.faults → GrewIn input ⊎ GrewIn out → A
+  still_by same_input same_output grew = absurd (elim grew [ inl less ↦ omega (arith, same_input, less) | inr less ↦ omega (arith, same_output, less) ])
+
+  pub cut_ran : (reason : FeedFault) → IsUntouched files → HasCause input.faults input.faults' (is_input_fault {T = Kept} (Err reason)) → HasCause out.faults out.faults' (is_output_fault {T = Kept} (Err reason))
+      → (IsErrOf {T = Kept} (Err reason) feeding.Limit → IfSome input.content (λ text. PassLimits 0 (lines_of text))) → IsFedFront Runs input.content out.content out.content' → OnlyGrows out.content out.content'
+      → Ran prelude Runs save files input out (status_of_fault (fault_of_feeding reason))
+  cut_ran feeding.Input still cause cause' limit front grows = cut_by 6 still front grows (session.failed (inl cause.rose) refl) (λ calm calm' within ample. calm cause.rose) (λ grew. refl)
+  cut_ran feeding.Output still cause cause' limit front grows = cut_by 6 still front grows (session.failed (inr cause'.rose) refl) (λ calm calm' within ample. calm' cause'.rose) (λ grew. refl)
+  cut_ran feeding.Limit still cause cause' limit front grows =
+      cut_by 7 still front grows (session.past_limits (limit refl) refl) (λ calm calm' within ample. within refl) (λ grew. still_by cause.only cause'.only grew)
+  cut_ran feeding.Memory still cause cause' limit front grows =
+      cut_by 9 still front grows (session.no_memory refl) (λ calm calm' within ample. ample refl) (λ grew. still_by cause.only cause'.only grew)
+
+-- a session does one thing alone from where it waits for a line
+pub onward_once : RunIsOne → (rows : ℕ → Row) (W : World) (budget : ℕ) (lines : List (List ℕ)) (x y : Run) → CodeOnward rows W lines budget x → CodeOnward rows W lines budget y → x ≡ y
+onward_once one rows W budget [] x y h k = let both : Some x ≡ Some y = sym h.gives ∙ k.gives in cc
+onward_once one rows W budget (line ∷ more) x y h k = one rows (handed_line W line) more budget x y (record { count = h.count; gives = h.gives }) (record { count = k.count; gives = k.gives })
+
+-- a new reader has all of the input before it
+
+ahead_new : (reader : Unread) (left : Option (List ℕ)) → reader ≡ record { pending = []; taken = 0 } → ahead reader left ≡ left
+ahead_new reader (Some text) new = ap (λ (r : Unread). ahead r (Some text)) new
+ahead_new reader None new = refl
+
+pub limit_new : (reader : Unread) (left : Option (List ℕ)) → reader ≡ record { pending = []; taken = 0 } → IfSome (ahead reader left) (λ text. PassLimits reader.taken (lines_of text)) → IfSome left (λ text. PassLimits 0 (lines_of text))
+limit_new reader left new limit = subst (λ (t : Option (List ℕ)). IfSome t (λ text. PassLimits 0 (lines_of text))) (ahead_new reader left new) (subst (λ n. IfSome (ahead reader left) (λ text. PassLimits n (lines_of text))) (ap (λ (r : Unread). r.taken) new) limit)
+
+pub front_new : (reader : Unread) (Runs : List (List ℕ) → Run → Type 0) (left written written' : Option (List ℕ)) → reader ≡ record { pending = []; taken = 0 } → IsFedFront Runs (ahead reader left) written written' → IsFedFront Runs left written written'
+front_new reader Runs left written written' new front = subst (λ (text : Option (List ℕ)). IsFedFront Runs text written written') (ahead_new reader left new) front
+
+pub fed_new : (reader : Unread) (Runs : List (List ℕ) → Run → Type 0) (left written written' : Option (List ℕ)) (close : Close) (W : Memory) → reader ≡ record { pending = []; taken = 0 } → IsFedTo Runs (ahead reader left) written written' close W → IsFedTo Runs left written written' close W
+fed_new reader Runs left written written' close W new fed = subst (λ (text : Option (List ℕ)). IsFedTo Runs text written written' close W) (ahead_new reader left new) fed

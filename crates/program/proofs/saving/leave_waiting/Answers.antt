@@ -1,0 +1,29 @@
+use Rattle.std.proofs.Common.{◌≡◌, ℕ, List, Err, refl, ap, sym, subst, Bor}
+use Rattle.std.specs.Option.{option_map}
+use Rattle.std.proofs.lemmas.Result.{err_from_is_err_and}
+use Rattle.program.specs.declared.fault.Fault.TheVariants.{Device}
+use Rattle.program.specs.Faults.{fault_of_saving, status_of}
+use Rattle.program.specs.Outcomes.{unnamed, saved, unput}
+use Rattle.lua_saving.specs.Saving.{IsImage}
+use Rattle.program.proofs.Leaving.{not_saved}
+use Rattle.program.proofs.saving.leave_waiting.Goals as goal
+
+pub returns-in_default-clause-left : goal.returns-in_default-clause-left
+returns-in_default-clause-left g c = unnamed refl (ap (option_map (λ (name : Bor (List ℕ)). name.now)) c.in_default.is) (record { no_fault = refl; unwritten = refl })
+
+pub returns-in_err-image-clause-left : goal.returns-in_err-image-clause-left
+returns-in_err-image-clause-left g c =
+    let p = err_from_is_err_and c.from_residual.result c.from_residual.ensures.1 in
+    let is : c.from_residual.result ≡ Err (fault_of_saving c.in_err-image.field-0.0) = rw (p.1, p.2) refl in
+    rw (ap status_of is) (not_saved c.args.world.now _ c.in-Some.name.now _ _ c.in_err-image.field-0.0 (ap (option_map (λ (name : Bor (List ℕ)). name.now)) c.in-Some.is) c.in_err-image.ensures.large c.in_err-image.ensures.touched)
+
+pub returns-in_err-put-clause-left : goal.returns-in_err-put-clause-left
+returns-in_err-put-clause-left g c =
+    let p = err_from_is_err_and c.from_residual-in_err-put.result c.from_residual-in_err-put.ensures.1 in
+    let is : c.from_residual-in_err-put.result ≡ Err Device = rw (p.1, p.2) refl in
+    rw (ap status_of is) (unput c.in-Some.name.now refl (ap (option_map (λ (name : Bor (List ℕ)). name.now)) c.in-Some.is) c.in_err-put.ensures.cause.rose c.in_err-put.ensures.failed)
+
+pub returns-clause-left : goal.returns-clause-left
+returns-clause-left g c =
+    let image : IsImage c.args.world.now c.as_slice.result.now = subst (IsImage c.args.world.now) (sym c.as_slice.ensures.value) c.in_ok-image.ensures.image in
+    saved c.in-Some.name.now c.as_slice.result.now refl (ap (option_map (λ (name : Bor (List ℕ)). name.now)) c.in-Some.is) image c.in_ok-put.ensures.cause.only c.in_ok-put.ensures.replaced

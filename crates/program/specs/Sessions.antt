@@ -1,0 +1,60 @@
+-- How a session ends that is fed with lines, and what is left of it: where it waits for a line, it is saved in the file that is named for that.
+use Rattle.std.specs.Prelude.{◌≡◌, ◌≢◌, ◌<◌, ◌≤◌, ◌⊎◌, ℕ, List, ◌++◌, length, Option, Some, None, IsSome, IfSome}
+use Rattle.std.specs.Option.{option_map}
+use Rattle.code_core.specs.Prototype.{Prototype, list_of}
+use Rattle.library_rows.specs.Library.{Entry}
+use Rattle.io_edge.specs.Content.{FileMap, with_file}
+use Rattle.io_edge.specs.Lines.{lines_of}
+use Rattle.lua_meaning.specs.Opening.{prelude_of}
+use Rattle.machine_core.specs.World.{World}
+use Rattle.machine_runs.specs.Runs.{Close, has_returned, has_failed, has_spent, is_suspended, Run}
+use Rattle.image_bytes.specs.Bytes.{Reader, image_format}
+use Rattle.session_images.specs.Prelude.{HasPrelude}
+use Rattle.session_images.specs.Saved.{session_image}
+use Rattle.session_images.specs.Stored.{root_count, IsWrittenAs}
+use Rattle.images_stand.specs.Sessions.{IsKept as IsHeldWhole}
+use Rattle.lua_feed.specs.Feeding.{PassLimits}
+use Rattle.program.specs.Devices.{Device, RoseIn}
+
+abbrev pub status_of_close : Close → ℕ
+status_of_close has_returned = 0
+status_of_close has_failed = 1
+status_of_close is_suspended = 3
+status_of_close has_spent = 4
+
+-- the functions of the prelude with this code, by their names
+abbrev pub functions_of : Prototype → List (Entry Prototype)
+functions_of prelude = prelude_of (list_of prelude.inner)
+
+-- the session's image would have more bytes than an image may have
+pub record IsTooLarge (W : World) : Type 0 where
+  pub more : (R : Reader) → 2147483647 < length ((image_format R root_count).spell (session_image W))
+
+-- the script has changed the functions of the prelude or its environment, which no image holds
+pub record HasChanged (prelude : Prototype) (W : World) : Type 0 where
+  pub is : HasPrelude (functions_of prelude) W → ⊥
+
+-- Where a run waits for a line and a file is named to save it in, that file holds the image of its session, which is as worlds in memory are, and the other
+-- files are as before. Else all are
+pub data IsKept (prelude : Prototype) (run : Run) (files : Device FileMap) : Option (List ℕ) → Type 0 where
+  unnamed : files.content' ≡ files.content → IsKept prelude run files None
+  ended : (image : List ℕ) → run.close ≢ is_suspended → files.content' ≡ files.content → IsKept prelude run files (Some image)
+  saved : (image bytes : List ℕ) → run.close ≡ is_suspended → IsWrittenAs (functions_of prelude) run.last bytes → length bytes ≤ 2147483647 → IsHeldWhole run.last
+      → files.content' ≡ option_map (λ held. with_file held image bytes) files.content → IsKept prelude run files (Some image)
+
+-- what is left of a run: it is kept, or it waits for a line and is not saved, and why
+pub data IsLeft (prelude : Prototype) (run : Run) (save : Option (List ℕ)) (files : Device FileMap) : (status : ℕ) → Type 0 where
+  kept : IsKept prelude run files save → IsLeft prelude run save files (status_of_close run.close)
+  too_large : IsSome save → run.close ≡ is_suspended → IsTooLarge run.last → IsLeft prelude run save files 7
+  changed : IsSome save → run.close ≡ is_suspended → HasChanged prelude run.last → IsLeft prelude run save files 12
+  unwritten : IsSome save → run.close ≡ is_suspended → RoseIn files → IsLeft prelude run save files 6
+  no_memory : IsSome save → run.close ≡ is_suspended → IsLeft prelude run save files 9
+
+-- How a session ends, where `Runs` tells what it does on lines: it closes, all that it prints is written, and so much is left of it; or a device failed, the
+-- input is past the limits on lines, or there is no memory. Where the input tells its bytes the lines are its lines
+pub data Ends (prelude : Prototype) (Runs : List (List ℕ) → Run → Type 0) (save : Option (List ℕ)) (files : Device FileMap) (input out : Device (List ℕ)) (status : ℕ) : Type 0 where
+  closed : (lines : List (List ℕ)) → IfSome input.content (λ text. lines ≡ lines_of text) → (run : Run) → Runs lines run
+      → out.content' ≡ option_map (λ before. before ++ run.printed) out.content → IsLeft prelude run save files status → Ends prelude Runs save files input out status
+  failed : RoseIn input ⊎ RoseIn out → status ≡ 6 → Ends prelude Runs save files input out status
+  past_limits : IfSome input.content (λ text. PassLimits 0 (lines_of text)) → status ≡ 7 → Ends prelude Runs save files input out status
+  no_memory : status ≡ 9 → Ends prelude Runs save files input out status
