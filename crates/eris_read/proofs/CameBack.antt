@@ -1,7 +1,6 @@
 -- A world that is brought back to its mark is as before.
-use Rattle.std.proofs.Common.{◌≡◌, ℕ, ◌≤◌, List, ◌++◌, Option, map, take, length, refl, ap, sym, subst, ◌∙◌, arith, length-append}
+use Rattle.std.proofs.Common.{◌≡◌, ℕ, ◌≤◌, List, map, length, refl, ap, sym, subst, ◌∙◌, arith, length-append}
 use Rattle.std.specs.Option.{option_map}
-use Rattle.std.proofs.lemmas.List.{take_at}
 use Rattle.code_core.specs.Prototype.{Prototype}
 use Rattle.machine_core.specs.World.{World}
 use Rattle.table_core.specs.Table.{Contents}
@@ -12,8 +11,8 @@ use Rattle.lua_heap.specs.declared.world.Coro.{Coro}
 use Rattle.lua_heap.specs.declared.world.Func.{Func}
 use Rattle.lua_heap.specs.declared.world.World.{World as Memory}
 use Rattle.lua_heap.specs.Adding.{Begins}
-use Rattle.lua_heap.specs.Cells.{AreListed, CellsAreListed, open_cells_in}
-use Rattle.lua_heap.specs.Codes.{functions, functions_in, AreFirsts, IsCode, AreCodes}
+use Rattle.lua_heap.specs.Cells.{AreListed, open_cells_in}
+use Rattle.lua_heap.specs.Codes.{functions, functions_in, AreFirsts, AreCodes}
 use Rattle.lua_heap.specs.Opening.{mark_of, IsMark, Releases}
 use Rattle.lua_heap.specs.Plain.{heap, function, cell, coroutine, plain}
 use Rattle.lua_heap.proofs.Added.{begins_more, begins_taken}

@@ -1,7 +1,5 @@
 -- What the parts of loading come to together.
-use Rattle.std.proofs.Common.{◌≡◌, ℕ, suc, ◌+◌, ◌<◌, ◌≤◌, List, [], ◌∷◌, ◌++◌, Option, map, length, refl, ap, sym, subst, ◌∙◌, arith}
-use Rattle.std.specs.Option.{option_map}
-use Rattle.std.specs.List.{AllZip}
+use Rattle.std.proofs.Common.{◌≡◌, ℕ, suc, List, [], ◌∷◌, ◌++◌, map, length, refl, ap, sym, subst, ◌∙◌}
 use Rattle.std.specs.Prelude.{Result, IfOk}
 use Rattle.std.specs.declared.alloc.AllocError.{AllocError}
 use Rattle.std.specs.declared.alloc.Global.{Global}
@@ -11,10 +9,8 @@ use Rattle.code_core.specs.Prototype.{Prototype}
 use Rattle.int_core.specs.Heap.{Table}
 use Rattle.machine_core.specs.World.{World, Function, Cell as CellShown, Coroutine}
 use Rattle.machine_sound.specs.Sound.{Sound, Solid, Rests, idle, on_top, all_wait}
-use Rattle.image_core.specs.Image.{PermKey, Perm, Item, Record, Image}
-use Rattle.image_core.specs.Loading.{Target, value_made, table_made, function_made, cell_made, coroutine_made, chosen, loaded}
-use Rattle.image_saved.specs.Permanents.{object_named}
-use Rattle.image_records.specs.Names.{perms_of}
+use Rattle.image_core.specs.Image.{Perm, Item, Record}
+use Rattle.image_core.specs.Loading.{Target, table_made, function_made, cell_made, coroutine_made, chosen, loaded}
 use Rattle.image_records.specs.Views.{record_read, item, image_read}
 use Rattle.image_records.specs.declared.known.Known.{Known}
 use Rattle.image_records.specs.declared.record.Image.{Image as KeptImage}
@@ -25,11 +21,11 @@ use Rattle.image_made.specs.declared.place.Place.{Place}
 use Rattle.image_made.specs.Places.{Starts, ArePlaces}
 use Rattle.image_made.specs.Making.{IsMaker, MakesAll}
 use Rattle.image_placed.specs.declared.texts.Part.{Part}
-use Rattle.image_placed.specs.Placing.{AddsMore, AddsObjects, ArePartsOf, IsPart, PlacesAll, part_read}
+use Rattle.image_placed.specs.Placing.{AddsMore, AddsObjects, ArePartsOf, PlacesAll, part_read}
 use Rattle.table_core.specs.declared.value.Value.{Value as Kept}
 use Rattle.lua_heap.specs.declared.codes.Codes.{Codes}
 use Rattle.lua_heap.specs.declared.world.World.{World as Memory}
-use Rattle.lua_heap.specs.Cells.{AreListed, CellsAreListed, open_cells_in}
+use Rattle.lua_heap.specs.Cells.{CellsAreListed}
 use Rattle.lua_heap.specs.Codes.{functions, AreCodes}
 use Rattle.lua_heap.specs.Plain.{table, function, cell, coroutine, plain}
 use Rattle.lua_heap.specs.Reading.{value}

@@ -1,5 +1,5 @@
 -- What is read by what permanents stand for: the reader, the code, and that what is accepted leaves a sound world.
-use Rattle.std.proofs.Common.{◌≡◌, ℕ, zero, suc, length-append, ◌+◌, ◌<◌, ◌≤◌, List, [], ◌∷◌, Option, Some, None, Bool, true, false, cond, map, length, refl, ap, ap₂, sym, subst, ◌∙◌, arith}
+use Rattle.std.proofs.Common.{◌≡◌, ℕ, zero, suc, length-append, List, [], ◌∷◌, Option, Some, None, Bool, true, false, cond, map, refl, ap, ap₂, sym, subst, ◌∙◌, arith}
 use Rattle.std.specs.Prelude.{slice_get, Result, Ok, Err, IsTrue, nat_eq}
 use Rattle.std.specs.Option.{option_map}
 use Rattle.std.specs.List.{list_any}
@@ -7,7 +7,6 @@ use Rattle.std.proofs.Math.Path.{fun_ext}
 use Rattle.chunk_check.specs.Faults.{first_fault}
 use Rattle.chunk_check.proofs.Exact.{checked_without_faults}
 use Rattle.code_core.specs.Prototype.{Prototype}
-use Rattle.code_core.specs.Check.{IsChecked}
 use Rattle.int_core.specs.Value.{Kind, a_table, a_function, a_coroutine, Value, known, object, primitive, string, integer, boolean, nil, bind}
 use Rattle.int_core.specs.Operations.{is_function}
 use Rattle.int_core.specs.Heap.{Table}
@@ -27,12 +26,11 @@ use Rattle.image_sound.specs.SoundImage.{Host, IsSoundImage, IsTarget}
 use Rattle.image_sound.proofs.Deciding.{accepted_is_sound}
 use Rattle.image_sound.proofs.Loads.{loaded_sound}
 use Rattle.image_saved.specs.Permanents.{same_key, object_named}
-use Rattle.image_records.specs.Names.{sort_of_object, perms_of, environment_of, code_of as code_kept}
-use Rattle.image_records.specs.Views.{image_read}
+use Rattle.image_records.specs.Names.{sort_of_object, perms_of, code_of as code_kept}
 use Rattle.image_records.specs.declared.known.Known.{Known}
 use Rattle.image_records.specs.declared.record.Image.{Image as KeptImage}
 use Rattle.image_reading.specs.Faults.{fault}
-use Rattle.image_reading.specs.Reader.{RowKey, of_value, of_record, same_row_key, no_fault, row_key, reader, reader_of}
+use Rattle.image_reading.specs.Reader.{of_value, same_row_key, no_fault, row_key, reader, reader_of}
 use Rattle.image_reading.specs.Reads.{Reads as ReadsKnown}
 use Rattle.image_reading.specs.declared.fault.ReadFault.{ReadFault}
 use Rattle.image_reading.specs.declared.fault.ReadFault.TheVariants.{Refused, Memory as NoMemory}

@@ -1,5 +1,5 @@
 -- Permanents by their keys: of several with one key the first counts.
-use Rattle.std.proofs.Common.{◌≡◌, ℕ, ℤ, pos, negsuc, zero, suc, ◌+◌, ◌<◌, ◌≤◌, ◌^◌, List, [], ◌∷◌, ◌++◌, Option, Some, None, map, take, length, Bool, true, false, cond, refl, sym, ap, subst, ◌∙◌, append_assoc, append-nil, arith}
+use Rattle.std.proofs.Common.{◌≡◌, ℕ, ℤ, pos, negsuc, zero, suc, ◌+◌, ◌<◌, ◌≤◌, List, [], ◌∷◌, ◌++◌, Some, map, take, length, Bool, true, false, cond, refl, sym, ap, ◌∙◌, append_assoc, append-nil, arith}
 use Rattle.std.specs.Prelude.{nat_eq, slice_get}
 use Rattle.std.specs.Option.{option_map}
 use Rattle.std.proofs.lemmas.Bool.Decides.{nat_tests}
@@ -7,7 +7,7 @@ use Rattle.std.proofs.lemmas.Slice.Eq.{bytes_eq-Decides}
 use Rattle.code_core.specs.Prototype.{Prototype}
 use Rattle.std.proofs.lemmas.List.{length-map}
 use Rattle.code_core.specs.Check.{IsChecked}
-use Rattle.int_core.specs.Value.{same_integer, Value, a_function, object}
+use Rattle.int_core.specs.Value.{same_integer, a_function, object}
 use Rattle.machine_core.specs.World.{World}
 use Rattle.machine_sound.specs.Sound.{Valid, sizes}
 use Rattle.lua_heap.specs.declared.world.World.{World as Memory}

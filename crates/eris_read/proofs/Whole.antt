@@ -1,5 +1,5 @@
 -- What is read and then loaded.
-use Rattle.std.proofs.Common.{◌≡◌, ℕ, List, map, ap, sym, subst}
+use Rattle.std.proofs.Common.{◌≡◌, ℕ, List, map, sym, subst}
 use Rattle.std.specs.Prelude.{Ok}
 use Rattle.machine_core.specs.World.{World}
 use Rattle.machine_sound.specs.Sound.{Each, sizes, Valid, Solid}

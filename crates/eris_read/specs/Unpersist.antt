@@ -1,9 +1,9 @@
 -- What reading an image into a world in memory does (Eris's manual, `eris.unpersist`): all that was written is made anew, and permanent values are put in by
 -- their keys; where it is refused, the world is as before.
-use Rattle.std.specs.Prelude.{ℕ, ◌≡◌, ◌≤◌, ◌^◌, List, [], map, Option, Some, None, Result, Ok, Err, length, slice_get}
+use Rattle.std.specs.Prelude.{ℕ, ◌≡◌, ◌≤◌, ◌^◌, List, [], map, Option, None, Result, Ok, Err, length, slice_get}
 use Rattle.std.specs.Option.{option_map}
 use Rattle.code_core.specs.Prototype.{Prototype}
-use Rattle.int_core.specs.Value.{Kind, a_function, Value, object}
+use Rattle.int_core.specs.Value.{a_function, Value, object}
 use Rattle.machine_core.specs.World.{World}
 use Rattle.machine_sound.specs.Sound.{Each, sizes, Valid, Solid, Sound}
 use Rattle.table_core.specs.declared.value.Value.{Value as Kept}
@@ -14,7 +14,6 @@ use Rattle.move_laws.specs.Memory.{InOrder}
 use Rattle.image_core.specs.Image.{PermKey, Perm, Image}
 use Rattle.image_core.specs.Loading.{Target, value_made, loaded}
 use Rattle.image_bytes.specs.Format.{Got, read, refused}
-use Rattle.image_bytes.specs.Bytes.{Reader}
 use Rattle.image_sound.specs.Fitting.{reads}
 use Rattle.image_saved.specs.Permanents.{object_named}
 use Rattle.image_records.specs.declared.record.Image.{Image as KeptImage}

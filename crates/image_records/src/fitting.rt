@@ -53,10 +53,10 @@ fn each_fits(records: &[Record<'_>], known: &Known<'_>) -> bool
 }
 
 /// Whether the frames of a coroutine fit, or the register of an open cell is there.
-fn record_fits(record: &Record<'_>, records: &[Record<'_>], known: &Known<'_>) -> bool
-    ensures { result ≡ record_fits (code_named known.now) (map record_read records.now) (record_read record.now) }
+fn record_fits(read: &Record<'_>, records: &[Record<'_>], known: &Known<'_>) -> bool
+    ensures { result ≡ record_fits (code_named known.now) (map record_read records.now) (record_read read.now) }
 {
-    match record {
+    match read {
         Record::Suspended(frames) => frames_fit(frames, records, known),
         Record::Open {
             coroutine,
@@ -405,10 +405,10 @@ fn record_at<'s, 'a>(records: &'s [Record<'a>], at: usize) -> &'s Record<'a>
 }
 
 /// Whether a cell is open where none of those is whose places are given, if it is one. Its place is added.
-fn opens_anew(places: &mut IndexSet<OpenPlace>, record: &Record<'_>) -> Result<bool, AllocError>
-    ensures { (rs : List RecordShown) → HoldsPlaces places.old.keys rs → IfOk result (λ new. OpensAnew places.new.keys (record_read record.now) rs new) }
+fn opens_anew(places: &mut IndexSet<OpenPlace>, read: &Record<'_>) -> Result<bool, AllocError>
+    ensures { (rs : List RecordShown) → HoldsPlaces places.old.keys rs → IfOk result (λ new. OpensAnew places.new.keys (record_read read.now) rs new) }
 {
-    match place_of(record) {
+    match place_of(read) {
         Some(place) => {
             let new = places.insert(place)?;
             Ok(new)
@@ -418,10 +418,10 @@ fn opens_anew(places: &mut IndexSet<OpenPlace>, record: &Record<'_>) -> Result<b
 }
 
 /// Where a cell is open, if it is one that is.
-fn place_of(record: &Record<'_>) -> Option<OpenPlace>
-    ensures { IsPlaceOf (record_read record.now) result }
+fn place_of(read: &Record<'_>) -> Option<OpenPlace>
+    ensures { IsPlaceOf (record_read read.now) result }
 {
-    match record {
+    match read {
         Record::Open {
             coroutine,
             frame,

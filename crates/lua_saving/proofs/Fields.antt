@@ -6,12 +6,11 @@ use Rattle.std.specs.List.{list_any}
 use Rattle.int_core.specs.Value.{nil, boolean, integer, string, primitive, a_table, a_function, a_coroutine, Value, known, object}
 use Rattle.int_core.specs.Heap.{Table}
 use Rattle.code_core.specs.Writable.{signed_fits}
-use Rattle.list_laws.proofs.Items.{some_same}
 use Rattle.list_laws.proofs.Tests.{eq_refl, eq_true}
 use Rattle.library_rows.specs.Library.{all_entries, key_of as key_of_entry}
 use Rattle.library_rows.specs.PreludeText.{function_keys}
 use Rattle.machine_core.specs.World.{Cell, closed, open_at, Wait, running, for_call, for_iterator, for_value, for_truth, dropped, for_concat, for_close, returning, leaving, Frame, lua, pcall, xpcall, handler, closing, Coroutine, fresh, suspended, in_progress, normal, dead, failed, World}
-use Rattle.machine_sound.specs.Sound.{Each, Sizes, sizes, Valid, OptionOk, TableOk, WaitOk, FrameOk, CoroutineOk, CellOk, Solid, Standing, apart, runs, resumed_another, standing}
+use Rattle.machine_sound.specs.Sound.{Each, Sizes, sizes, Valid, OptionOk, TableOk, WaitOk, FrameOk, CoroutineOk, CellOk, Solid, apart, standing}
 use Rattle.machine_runs.specs.Opening.{numbers}
 use Rattle.image_core.specs.Image.{PermKey, Item, permanent, text_key}
 use Rattle.image_core.specs.Records.{Part, an_object, a_cell, Field, of_value, of_cell, of_coroutine, row_fields, metatable_value, table_fields, wait_fields, error_fields, frame_fields, coroutine_fields, present, cell_fields, if_there, fields, is_reached, parts_in_order, key_of}

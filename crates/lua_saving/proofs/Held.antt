@@ -1,6 +1,5 @@
 -- Where nothing is refused, each field without a name is held.
-use Rattle.std.proofs.Common.{◌≡◌, ℕ, zero, suc, List, [], ◌∷◌, Option, Some, None, refl, sym, ap, ◌∙◌, Bool, true, false, cond}
-use Rattle.std.specs.Prelude.{slice_get}
+use Rattle.std.proofs.Common.{◌≡◌, List, [], ◌∷◌, Option, Some, None, refl, sym, ap, ◌∙◌, Bool, true, false, cond}
 use Rattle.code_core.specs.Writable.{signed_fits}
 use Rattle.int_core.specs.Value.{nil, boolean, integer, string, primitive, Value, known, object}
 use Rattle.machine_core.specs.World.{World}

@@ -1,13 +1,11 @@
 -- What `persist` gives of a session's roots under the permanents of every session.
-use Rattle.std.proofs.Common.{ℕ, suc, [], ◌∷◌, ◌≡◌, ◌<◌, ◌≤◌, Bool, true, false, List, Option, Some, None, refl, sym, subst, ap, ◌∙◌, length, map, arith}
+use Rattle.std.proofs.Common.{ℕ, suc, [], ◌∷◌, ◌≡◌, ◌<◌, false, List, Some, None, refl, sym, subst, ap, ◌∙◌, length, map, arith}
 use Rattle.std.specs.Prelude.{slice_get}
 use Rattle.int_core.specs.Heap.{Table}
 use Rattle.int_core.specs.Rows.{AreRows}
 use Rattle.int_core.specs.Value.{Value, table_values}
-use Rattle.code_core.specs.Prototype.{Prototype}
 use Rattle.library_rows.specs.Library.{all_entries}
 use Rattle.library_rows.specs.PreludeText.{prelude_functions, function_keys}
-use Rattle.lua_meaning.specs.Opening.{prelude_of}
 use Rattle.machine_sound.specs.Sound.{Each, sizes, Valid}
 use Rattle.machine_runs.specs.Opening.{numbers}
 use Rattle.table_core.specs.declared.value.Value.{Value as Kept}
@@ -20,7 +18,6 @@ use Rattle.image_core.specs.Records.{named, image_of, visited, parts_in_order}
 use Rattle.image_core.specs.Visit.{greatest_count}
 use Rattle.image_bytes.specs.Bytes.{Reader, image_format}
 use Rattle.image_load.specs.Session.{session_roots}
-use Rattle.image_saved.specs.Permanents.{AreInverse}
 use Rattle.graph_core.specs.declared.permanents.Permanents.{Permanents}
 use Rattle.graph_core.specs.Permanents.{permanents}
 use Rattle.eris_write.specs.declared.fault.Refusal.{Refusal}
@@ -30,7 +27,7 @@ use Rattle.eris_write.specs.Keys.{HaveEqualKeys}
 use Rattle.eris_write.specs.Persisting.{CanPersist, IsWritten, IsTooLarge, IsRefused, Causes}
 use Rattle.eris_write.specs.Refusals.{refused, first_refusal, all_fields}
 use Rattle.session_images.specs.Permanents.{base_permanents}
-use Rattle.session_images.specs.Saved.{session_name, session_image}
+use Rattle.session_images.specs.Saved.{session_name}
 use Rattle.session_images.specs.Stored.{root_count}
 use Rattle.session_images.proofs.Keys.{base_inverse}
 use Rattle.session_images.proofs.Resuming.{roots_valid}

@@ -1,6 +1,6 @@
 -- Permanents that are added one after another, each with its key.
-use Rattle.std.proofs.Common.{arith, ℕ, zero, suc, ◌+◌, ◌≡◌, ◌<◌, ◌≤◌, Bool, true, false, cond, List, [], ◌∷◌, ◌++◌, Option, Some, None, refl, subst, sym, ◌∙◌, ap, length, map, take, get_or, Bor, append_assoc}
-use Rattle.std.specs.Prelude.{is_some, nat_eq, ◌&&◌, slice_get}
+use Rattle.std.proofs.Common.{arith, ℕ, zero, suc, ◌+◌, ◌≡◌, ◌<◌, ◌≤◌, false, cond, List, [], ◌∷◌, ◌++◌, Some, None, refl, sym, ◌∙◌, ap, length, map, take, get_or, Bor, append_assoc}
+use Rattle.std.specs.Prelude.{is_some, slice_get}
 use Rattle.int_core.specs.Value.{same}
 use Rattle.list_laws.proofs.Tests.{eq_not}
 use Rattle.image_core.specs.Image.{Perm, text_key}

@@ -11,21 +11,20 @@ use Rattle.list_laws.proofs.Items.{some_same}
 use Rattle.list_laws.proofs.Tests.{both_true, or_left, or_right}
 use Rattle.lua_meaning.specs.Libraries.{environment, environment_table}
 use Rattle.lua_meaning.specs.Opening.{entries_of, prelude_of}
-use Rattle.machine_core.specs.World.{Function, Cell, closed, open_at}
+use Rattle.machine_core.specs.World.{Function, closed}
 use Rattle.machine_sound.proofs.Lists.{map_get, get_map}
 use Rattle.machine_runs.specs.Opening.{numbers}
 use Rattle.table_core.specs.declared.value.CellId.{CellId}
 use Rattle.table_core.specs.declared.value.FuncId.{FuncId}
-use Rattle.table_core.specs.declared.value.Value.{Value as Kept}
 use Rattle.table_core.specs.declared.value.Value.TheVariants.{Nil, Bool as Boolean, Int, Str, Prim, Table, Func as AFunction, Coro}
 use Rattle.lua_heap.specs.declared.world.Cell.{Cell as Kept_cell}
 use Rattle.lua_heap.specs.declared.world.Cell.TheVariants.{Closed, Open}
 use Rattle.lua_heap.specs.declared.world.Func.{Func}
 use Rattle.lua_heap.specs.declared.world.World.{World as Memory}
 use Rattle.lua_heap.specs.Codes.{functions}
-use Rattle.lua_heap.specs.Plain.{plain, cell, table, function}
+use Rattle.lua_heap.specs.Plain.{cell, table, function}
 use Rattle.lua_stack.proofs.Parts.{take_next, take_whole}
-use Rattle.session_images.specs.Prelude.{environment_cell, HasPrelude}
+use Rattle.session_images.specs.Prelude.{environment_cell}
 use Rattle.lua_saving.specs.Made.{holds_environment, is_environment_cell, is_apart}
 use Rattle.lua_saving.specs.Saving.{IsAsMade, IsTouched}
 

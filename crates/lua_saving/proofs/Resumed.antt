@@ -1,15 +1,13 @@
 -- A session that is loaded into the world of the libraries.
-use Rattle.std.proofs.Common.{ℕ, zero, suc, ◌+◌, ◌≡◌, ◌<◌, ◌≤◌, ◌^◌, List, [], ◌∷◌, ◌++◌, Option, Some, None, refl, sym, subst, ap, ◌∙◌, ⊎_elim, length, map, arith}
-use Rattle.std.specs.Prelude.{slice_get}
-use Rattle.int_core.specs.Value.{primitive, a_function, Value, known, object}
+use Rattle.std.proofs.Common.{ℕ, suc, ◌+◌, ◌≡◌, ◌≤◌, List, [], ◌∷◌, refl, sym, subst, ap, ◌∙◌, length, map, arith}
 use Rattle.code_core.specs.Prototype.{Prototype, list_of}
 use Rattle.code_core.specs.Check.{IsChecked}
 use Rattle.library_rows.specs.Library.{Library, Entry, all_entries, key_of as key_of_entry}
 use Rattle.library_rows.specs.PreludeText.{prelude_functions, function_keys}
 use Rattle.lua_meaning.specs.Libraries.{environment_table}
 use Rattle.lua_meaning.specs.Opening.{entries_of, prelude_of}
-use Rattle.machine_core.specs.World.{Function, suspended, World}
-use Rattle.machine_sound.specs.Sound.{Each, Sizes, sizes, Valid, Solid, Sound}
+use Rattle.machine_core.specs.World.{suspended, World}
+use Rattle.machine_sound.specs.Sound.{Sizes, sizes, Valid, Sound}
 use Rattle.machine_runs.specs.Laws.{MayTurn, OpeningIsSound, OpeningIsIdle}
 use Rattle.machine_runs.specs.Opening.{opening, prelude_function}
 use Rattle.table_core.specs.declared.value.Value.{Value as Kept}
@@ -19,22 +17,21 @@ use Rattle.lua_heap.specs.Reading.{value}
 use Rattle.move_laws.specs.Memory.{InOrder}
 use Rattle.lua_driver.specs.Turns.{MayGoOn}
 use Rattle.lua_feed.proofs.Starting.{IsOpened, opened_sound, opened_idle}
-use Rattle.image_core.specs.Image.{Perm, Image}
+use Rattle.image_core.specs.Image.{Perm}
 use Rattle.image_core.specs.Loading.{value_made, loaded}
 use Rattle.image_core.proofs.Lists.{Every, every_get, every_both}
-use Rattle.image_bytes.specs.Format.{read, refused}
+use Rattle.image_bytes.specs.Format.{read}
 use Rattle.image_sound.specs.Fitting.{reads}
 use Rattle.image_load.specs.Session.{with_roots}
 use Rattle.image_reading.specs.Reader.{reader}
-use Rattle.image_reading.specs.Faults.{fault}
 use Rattle.image_reading.specs.declared.fault.ReadFault.{ReadFault}
 use Rattle.image_reading.specs.declared.fault.ReadFault.TheVariants.{Refused, Memory as NoMemory}
 use Rattle.image_reading.specs.declared.fault.Refusal.TheVariants.{OutOfPlace}
-use Rattle.eris_read.specs.Unpersist.{target, code_named, reads_for, CanRead, AreThere as PermanentsAreThere, Loads, IsCause}
+use Rattle.eris_read.specs.Unpersist.{target, reads_for, CanRead, AreThere as PermanentsAreThere, Loads, IsCause}
 use Rattle.session_images.specs.Permanents.{by_keys, primitive_value, function_value, base_permanents}
-use Rattle.session_images.specs.Saved.{session_of, session_target}
+use Rattle.session_images.specs.Saved.{session_of}
 use Rattle.session_images.specs.Stored.{root_count}
-use Rattle.lua_saving.specs.Saving.{session_reader, session_codes, IsSession, HasYielded, HasNoSession, IsRefused, by_bytes, by_roots, no_memory, AreThere, TakesRoots, IsNoSession}
+use Rattle.lua_saving.specs.Saving.{session_reader, session_codes, IsSession, IsRefused, by_bytes, by_roots, no_memory, AreThere, TakesRoots, IsNoSession}
 use Rattle.lua_saving.proofs.Rooted.{rooted_sound}
 
 pub memory_refused : (prelude : List (Entry Prototype)) (bytes : List ℕ) (f : ReadFault) → f ≡ NoMemory → IsRefused prelude bytes f

@@ -1,5 +1,5 @@
 -- A world with other roots is sound where these are valid.
-use Rattle.std.proofs.Common.{ℕ, ◌≡◌, ◌<◌, List, [], ◌∷◌, Option, Some, None, refl, subst, sym, ◌∙◌, ap, map, length}
+use Rattle.std.proofs.Common.{ℕ, ◌≡◌, ◌<◌, List, [], ◌∷◌, Option, Some, None, refl, subst, map, length}
 use Rattle.std.specs.Prelude.{ℤ, slice_get}
 use Rattle.int_core.specs.Value.{nil, integer, string, a_table, a_coroutine, Value, known, object}
 use Rattle.machine_core.specs.World.{World}

@@ -1,12 +1,9 @@
 -- Values that are the roots of a session.
-use Rattle.std.proofs.Common.{arith, ℕ, zero, suc, ◌≡◌, ◌<◌, Bool, true, false, List, [], ◌∷◌, Option, Some, None, refl, subst, sym, ◌∙◌, ap, map, length, get_or}
+use Rattle.std.proofs.Common.{arith, ℕ, suc, ◌≡◌, ◌<◌, true, false, List, [], ◌∷◌, Option, Some, None, refl, subst, sym, ◌∙◌, ap, map, length, get_or}
 use Rattle.std.specs.Prelude.{ℤ, slice_get, option_map}
-use Rattle.std.proofs.lemmas.Option.{slice_get-map}
-use Rattle.int_core.specs.Value.{Value, known, object, integer, string, a_table, a_coroutine, bind}
-use Rattle.library_rows.specs.Library.{all_entries}
+use Rattle.int_core.specs.Value.{known, object, integer, string, a_table, a_coroutine}
 use Rattle.list_laws.proofs.Items.{some_same}
-use Rattle.machine_core.specs.World.{Frame, suspended, Coroutine, World}
-use Rattle.machine_sound.specs.Sound.{Valid, sizes}
+use Rattle.machine_core.specs.World.{Frame, suspended, World}
 use Rattle.machine_sound.proofs.Lists.{bind_some, get_map}
 use Rattle.table_core.specs.declared.value.TableId.{TableId}
 use Rattle.table_core.specs.declared.value.Value.{Value as Kept}
@@ -16,7 +13,7 @@ use Rattle.lua_heap.specs.declared.world.Coro.TheVariants.{Fresh, Suspended, Run
 use Rattle.lua_heap.specs.declared.world.World.{World as Memory}
 use Rattle.lua_heap.specs.Plain.{plain, coroutine}
 use Rattle.lua_heap.specs.Reading.{text_of, value}
-use Rattle.lua_stack.specs.Frames.{KeptStack, frames}
+use Rattle.lua_stack.specs.Frames.{frames}
 use Rattle.image_load.specs.Session.{with_roots}
 use Rattle.lua_saving.specs.declared.roots.Roots.{Roots}
 use Rattle.lua_saving.specs.Roots.{coroutine_of, table_of, string_of, integer_of, metatable_of, roots_of_five, has_yielded}

@@ -1,4 +1,4 @@
-use Rattle.std.proofs.Common.{◌≡◌, ◌≤◌, ◌∙◌, Some, length, ap, ap₂, sym, subst, arith}
+use Rattle.std.proofs.Common.{◌≤◌, ◌∙◌, Some, length, ap₂, arith}
 use Rattle.graph_core.specs.Permanents.{permanents}
 use Rattle.image_records.specs.Names.{entries_of}
 use Rattle.eris_read.proofs.Knowing.{alike_none, alike_more, alike_all, small_there}

@@ -1,4 +1,4 @@
-use Rattle.std.proofs.Common.{◌≡◌, take}
+use Rattle.std.proofs.Common.{take}
 use Rattle.graph_core.specs.Permanents.{permanents}
 use Rattle.image_records.specs.Names.{entries_of}
 use Rattle.eris_read.proofs.Knowing.{Alike}
