@@ -7,6 +7,7 @@ use Rattle.int_core.specs.Value.{Value, object, a_table, nth}
 use Rattle.tree_core.specs.Tree.{Body}
 use Rattle.tree_activation.specs.Work.{when_declared, when_captured, State}
 use Rattle.tree_activation.specs.Activation.{start}
+use Rattle.load_rows.specs.Loading.{Builds}
 use Rattle.lua_meaning.specs.World.{Function, Coroutine, fresh, suspended, running, normal, dead, failed, World}
 use Rattle.lua_meaning.specs.Calls.{frames_in}
 use Rattle.lua_meaning.specs.Meaning.{Script, Meaning, begun, run_from, IsMeaning}
@@ -20,7 +21,8 @@ use Rattle.cells_alike.specs.Alike.{AreThere, IsReady, Ends}
 use Rattle.cells_alike.proofs.Joint.{Made, Thread, is_fresh, is_suspended, is_running, is_normal, is_dead, has_failed, Place, Store, Joint, function_one, function_two, coroutine_one, coroutine_two, one, two, cells_for, IsStore, LayersAt, layers_in, ArePaired, head, Base, talking_in, Stands, busy}
 use Rattle.cells_alike.proofs.Moving.{more_map, get_more}
 use Rattle.cells_alike.proofs.Answering.{first_form, second_form}
-use Rattle.cells_alike.proofs.Runs.{first_runs, second_runs}
+use Rattle.runs_alike.proofs.Endings.{WaitAlike}
+use Rattle.cells_alike.proofs.Runs.{AreWaiting, first_runs, second_runs}
 
 -- each cell is a pair with itself
 
@@ -106,7 +108,7 @@ there_paired : (cells : List ℕ) (size n : ℕ) → size < n → AreThere cells
 there_paired [] size n l a = tt
 there_paired (c ∷ cells) size n l a = let m = a.0 in (itself_has n c (omega (arith, m, l)), there_paired cells size n l a.1)
 
-module _ (W : World Body State) (ready : IsReady W) (s : Script Body) (budget : ℕ) where
+module _ (builds : Builds Body) (W : World Body State) (ready : IsReady W) (s : Script Body) (budget : ℕ) where
   abbrev cells_there : List Value
   cells_there = W.cells ++ object a_table W.globals ∷ []
 
@@ -182,32 +184,40 @@ module _ (W : World Body State) (ready : IsReady W) (s : Script Body) (budget : 
     layers = tt;
   })
 
-  begun_one : one joint ≡ begun first_form primitives W s budget
+  begun_one : one joint ≡ begun first_form (primitives builds) W s budget
   begun_one =
       ap (λ fs. record (one joint) { functions = fs }) (sym (more_map function_one (map made_of W.functions) main_there) ∙ ap (λ fs. fs ++ function_one main_there ∷ []) (made_one W.functions))
       ∙ ap (λ cs. record (one joint) { functions = W.functions ++ function_one main_there ∷ []; coroutines = cs }) (threads_one W.coroutines ready.coroutines)
 
-  begun_two : two joint ≡ begun second_form primitives W s budget
+  begun_two : two joint ≡ begun second_form (primitives builds) W s budget
   begun_two =
       ap (λ fs. record (two joint) { functions = fs }) (sym (more_map function_two (map made_of W.functions) main_there) ∙ ap (λ fs. fs ++ function_two main_there ∷ []) (made_two W.functions))
       ∙ ap (λ cs. record (two joint) { functions = W.functions ++ function_two main_there ∷ []; coroutines = cs }) (threads_two W.coroutines ready.coroutines)
 
-  pub second_ends : (input : List (List ℕ)) (m : Meaning Body State) → IsMeaning first_form primitives W s input budget m → Ends when_captured W s input budget m
+  pub second_ends : (input : List (List ℕ)) (m : Meaning Body State) → IsMeaning first_form (primitives builds) W s input budget m → Ends when_captured builds W s input budget m
   second_ends input m is =
-      let l = first_runs budget is.steps input joint stands m (ap (λ V. run_from first_form primitives is.steps V input budget) begun_one ∙ is.gives) in
+      let l = first_runs builds budget is.steps input joint stands m (ap (λ V. run_from first_form (primitives builds) is.steps V input budget) begun_one ∙ is.gives) in
       record {
         meaning = l.other;
-        is_meant = record { steps = l.count; gives = sym (ap (λ V. run_from second_form primitives l.count V input budget) begun_two) ∙ l.gives l.count (omega arith) };
+        is_meant = record { steps = l.count; gives = sym (ap (λ V. run_from second_form (primitives builds) l.count V input budget) begun_two) ∙ l.gives l.count (omega arith) };
         alike = l.alike;
       }
 
-  pub first_ends : (input : List (List ℕ)) (m : Meaning Body State) → IsMeaning second_form primitives W s input budget m → Ends when_declared W s input budget m
+  -- and where both are suspended their worlds wait alike
+  pub record FirstEnds (input : List (List ℕ)) (m : Meaning Body State) : Type 0 where
+    pub ends : Ends when_declared builds W s input budget m
+    pub waits : WaitAlike (AreWaiting two one) m.outcome ends.meaning.outcome
+
+  pub first_ends : (input : List (List ℕ)) (m : Meaning Body State) → IsMeaning second_form (primitives builds) W s input budget m → FirstEnds input m
   first_ends input m is =
-      let l = second_runs budget is.steps input joint stands m (ap (λ V. run_from second_form primitives is.steps V input budget) begun_two ∙ is.gives) in
+      let l = second_runs builds budget is.steps input joint stands m (ap (λ V. run_from second_form (primitives builds) is.steps V input budget) begun_two ∙ is.gives) in
       record {
-        meaning = l.other;
-        is_meant = record { steps = l.count; gives = sym (ap (λ V. run_from first_form primitives l.count V input budget) begun_one) ∙ l.gives l.count (omega arith) };
-        alike = l.alike;
+        ends = record {
+          meaning = l.other;
+          is_meant = record { steps = l.count; gives = sym (ap (λ V. run_from first_form (primitives builds) l.count V input budget) begun_one) ∙ l.gives l.count (omega arith) };
+          alike = l.alike;
+        };
+        waits = l.waits;
       }
 
 -- worlds of the libraries

@@ -3,6 +3,7 @@ mod Moving
 mod Answering
 mod Storing
 mod Turning
+mod Loading
 mod Ticking
 mod Runs
 pub mod Begun

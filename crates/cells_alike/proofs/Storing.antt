@@ -173,7 +173,7 @@ rel_cells cs _ _ (early v k line ns control h d scope r l) = h.cells
 without_own : (cs : Cells) → AreCells cs → AreCells (record cs { own = [] })
 without_own cs a = record { one_way = a.one_way; other_way = a.other_way; there = a.there; there_too = a.there_too; own_there = λ c m. absurd m }
 
-get_before : {A : Type 0} → (xs : List A) (x : A) (n : ℕ) (y : A) → slice_get xs n ≡ Some y → slice_get (xs ++ x ∷ []) n ≡ Some y
+pub get_before : {A : Type 0} → (xs : List A) (x : A) (n : ℕ) (y : A) → slice_get xs n ≡ Some y → slice_get (xs ++ x ∷ []) n ≡ Some y
 get_before [] x n y e = absurd (cc)
 get_before (z ∷ xs) x zero y e = e
 get_before (z ∷ xs) x (suc n) y e = get_before xs x n y e

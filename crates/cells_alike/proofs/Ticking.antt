@@ -16,8 +16,9 @@ use Rattle.lua_meaning.specs.Asks.{none as no_values, handle, turns, talks_on}
 use Rattle.library_rows.specs.Look.{Done, done}
 use Rattle.library_rows.specs.Look.{refused as no_result, raised as an_error}
 use Rattle.library_rows.specs.Arguments.{wrong_type}
-use Rattle.library_rows.specs.Library.{Primitive, base_error, base_pcall, base_xpcall, coroutine_close, coroutine_create, coroutine_isyieldable, coroutine_resume, coroutine_running, coroutine_status, coroutine_yield, prelude_build, prelude_out}
-use Rattle.lua_meaning.specs.Step.{placed, error_by, level_in, creates, with_coroutine, status_of, runs_one, bytes_in, row, after_row, does_primitive, has_ended, tick_by, tick}
+use Rattle.library_rows.specs.Library.{Primitive, base_error, base_pcall, base_xpcall, coroutine_close, coroutine_create, coroutine_isyieldable, coroutine_resume, coroutine_running, coroutine_status, coroutine_yield, prelude_build, prelude_out, primitive_at}
+use Rattle.load_rows.specs.Loading.{Builds, load_of}
+use Rattle.lua_meaning.specs.Step.{placed, error_by, level_in, creates, with_coroutine, status_of, runs_one, bytes_in, row, after_row, environment_in, does_primitive, has_ended, tick_by, tick}
 use Rattle.lua_meaning.specs.Opening.{primitives}
 use Rattle.meaning_cells.specs.Alike.{Member, Pairs, Cells, AreEven, Onward, Answered, after_asks, CarriesOwn, SameAsk, new_cell, Moves, FirstAlone, SecondOpens, BothOpen, Together}
 use Rattle.meaning_cells.proofs.Relation.{Rel, same, early, steps_behind}
@@ -27,6 +28,7 @@ use Rattle.cells_alike.proofs.Joint.{Made, Waiting, Layer, is_talking, is_waitin
 use Rattle.cells_alike.proofs.Moving.{more_map, get_more, where_same, either_by, stay_both, now_both, breaks_both, raises_both, yields_both}
 use Rattle.cells_alike.proofs.Answering.{first_form, second_form, calls_over_both, handed_both, raised_both, unwound_both, resumes_both, closes_both}
 use Rattle.cells_alike.proofs.Storing.{IsOther, cells_with, layers_pass, place_below, base_pass, flushed, flush_pass, rel_cells, opened_early, opened_late, opened_both, owned_more, early_pass, late_pass, both_pass}
+use Rattle.cells_alike.proofs.Loading.{loads_both}
 use Rattle.cells_alike.proofs.Turning.{opt_both, handle_both}
 
 -- primitives
@@ -98,22 +100,22 @@ runs_one_both : (J : Joint) (chain : List ℕ) → Quiet J → Both (runs_one (o
 runs_one_both J [] q = breaks_both J
 runs_one_both J (co ∷ chain) q = now_both J (gives_back (object a_coroutine co ∷ truth false ∷ [])) q
 
-primitive_both : (J : Joint) (p : Primitive) (vs : List Value) → Quiet J → Both (does_primitive first_form p (one J) vs) (does_primitive second_form p (two J) vs)
-primitive_both J base_error vs q = error_both J (nth vs 0) (nth vs 1) (level_in (nth vs 1)) q
-primitive_both J base_pcall vs q = calls_over_both J is_protected (nth vs 0) (drop 1 vs) q tt
-primitive_both J base_xpcall vs q = calls_over_both J (is_handled (nth vs 1)) (nth vs 0) (drop 2 vs) q tt
-primitive_both J coroutine_create vs q = creates_both J (nth vs 0) q
-primitive_both J coroutine_resume vs q = with_both J (codes "resume") (nth vs 0) _ _ q (λ co c l. resumes_both J co c (drop 1 vs) q l)
-primitive_both J coroutine_yield vs q = yields_both J vs q
-primitive_both J coroutine_close vs q = with_both J (codes "close") (nth vs 0) _ _ q (λ co c l. closes_both J co c q l)
-primitive_both J coroutine_status vs q =
+primitive_both : (builds : Builds Body) (J : Joint) (p : Primitive) (vs : List Value) → Quiet J → Both (does_primitive first_form builds p (one J) vs) (does_primitive second_form builds p (two J) vs)
+primitive_both builds J base_error vs q = error_both J (nth vs 0) (nth vs 1) (level_in (nth vs 1)) q
+primitive_both builds J base_pcall vs q = calls_over_both J is_protected (nth vs 0) (drop 1 vs) q tt
+primitive_both builds J base_xpcall vs q = calls_over_both J (is_handled (nth vs 1)) (nth vs 0) (drop 2 vs) q tt
+primitive_both builds J coroutine_create vs q = creates_both J (nth vs 0) q
+primitive_both builds J coroutine_resume vs q = with_both J (codes "resume") (nth vs 0) _ _ q (λ co c l. resumes_both J co c (drop 1 vs) q l)
+primitive_both builds J coroutine_yield vs q = yields_both J vs q
+primitive_both builds J coroutine_close vs q = with_both J (codes "close") (nth vs 0) _ _ q (λ co c l. closes_both J co c q l)
+primitive_both builds J coroutine_status vs q =
     with_both J (codes "status") (nth vs 0) _ _ q (λ co c l.
     subst (λ z. Both (now_in (one J) (gives_back (text (status_of (coroutine_one c)) ∷ []))) (now_in (two J) (gives_back (text z ∷ [])))) (status_same c) (now_both J (gives_back (text (status_of (coroutine_one c)) ∷ [])) q))
-primitive_both J coroutine_isyieldable vs q = now_both J (gives_back (truth true ∷ [])) q
-primitive_both J coroutine_running vs q = runs_one_both J J.chain q
-primitive_both J prelude_out vs q = now_both (record J { printed = J.printed ++ bytes_in (nth vs 0) }) (gives_back []) q
-primitive_both J prelude_build vs q = raises_both J (codes "load is not built yet") q
-primitive_both J p vs q = row_both J (row p J.heap vs) q
+primitive_both builds J coroutine_isyieldable vs q = now_both J (gives_back (truth true ∷ [])) q
+primitive_both builds J coroutine_running vs q = runs_one_both J J.chain q
+primitive_both builds J prelude_out vs q = now_both (record J { printed = J.printed ++ bytes_in (nth vs 0) }) (gives_back []) q
+primitive_both builds J prelude_build vs q = loads_both J (environment_in (one J) vs) (load_of builds (shape (nth vs 0)) (shape (nth vs 1)) (shape (nth vs 2))) q
+primitive_both builds J p vs q = row_both J (row p J.heap vs) q
 
 -- no activation is on top
 idle_both : (J : Joint) (frames : List Layer) → LayersAt J.store (head J.chain) frames → Both (talks_on first_form (one J) (map frame_one frames)) (talks_on second_form (two J) (map frame_two frames))
@@ -126,16 +128,16 @@ idle_both J (is_handled h ∷ below) l = breaks_both J
 idle_both J (is_handling ∷ below) l = breaks_both J
 idle_both J (is_closing e vs ∷ below) l = breaks_both J
 
-quiet_tick : (J : Joint) (now : Now) → Quiet J
-    → Both (tick_by first_form primitives now (one (record J { now = now }))) (tick_by second_form primitives now (two (record J { now = now })))
-quiet_tick J talks q = idle_both (record J { now = talks }) J.frames q.layers
-quiet_tick J (gives_back vs) q = handed_both (record J { now = gives_back vs }) vs J.frames q q.layers
-quiet_tick J (raises_error e) q = raised_both (record J { now = raises_error e }) e J.frames q q.layers
-quiet_tick J (unwinds e) q = unwound_both (record J { now = unwinds e }) e J.frames q q.layers
-quiet_tick J (calls_primitive n vs) q =
+quiet_tick : (builds : Builds Body) (J : Joint) (now : Now) → Quiet J
+    → Both (tick_by first_form (primitives builds) now (one (record J { now = now }))) (tick_by second_form (primitives builds) now (two (record J { now = now })))
+quiet_tick builds J talks q = idle_both (record J { now = talks }) J.frames q.layers
+quiet_tick builds J (gives_back vs) q = handed_both (record J { now = gives_back vs }) vs J.frames q q.layers
+quiet_tick builds J (raises_error e) q = raised_both (record J { now = raises_error e }) e J.frames q q.layers
+quiet_tick builds J (unwinds e) q = unwound_both (record J { now = unwinds e }) e J.frames q q.layers
+quiet_tick builds J (calls_primitive n vs) q =
     let K : Joint = record J { now = calls_primitive n vs } in
-    opt_both (primitives n) (breaks (one K)) (breaks (two K)) (λ p. does_primitive first_form p (one K) vs) (λ p. does_primitive second_form p (two K) vs) (breaks_both K) (λ p. primitive_both K p vs q)
-quiet_tick J (ends ending) q = stay_both (record J { now = ends ending }) q
+    opt_both (primitive_at n) (breaks (one K)) (breaks (two K)) (λ p. does_primitive first_form builds p (one K) vs) (λ p. does_primitive second_form builds p (two K) vs) (breaks_both K) (λ p. primitive_both builds K p vs q)
+quiet_tick builds J (ends ending) q = stay_both (record J { now = ends ending }) q
 
 -- an activation on top moves
 
@@ -324,9 +326,9 @@ module _ (J : Joint) (f : ℕ) (s t : State) (below : List Layer) (tk : TalksIn 
 
 -- a step
 
-pub data Step (J : Joint) (st : Stands J) : Type 0 where
-  together : Both (tick first_form primitives (one J)) (tick second_form primitives (two J)) → Step J st
-  alone : (K : Joint) (k : Stands K) → tick first_form primitives (one J) ≡ one K → two J ≡ two K → behind k < behind st → has_ended J.now ≡ false → Step J st
+pub data Step (builds : Builds Body) (J : Joint) (st : Stands J) : Type 0 where
+  together : Both (tick first_form (primitives builds) (one J)) (tick second_form (primitives builds) (two J)) → Step builds J st
+  alone : (K : Joint) (k : Stands K) → tick first_form (primitives builds) (one J) ≡ one K → two J ≡ two K → behind k < behind st → has_ended J.now ≡ false → Step builds J st
 
 data Split (cs : Cells) (s t : State) (r : Rel cs s t) : Type 0 where
   as_one : Together Rel cs (step s) (step t) → Split cs s t r
@@ -339,25 +341,25 @@ split cs _ _ (early v k line ns control h d scope r l) = first_only (length ns) 
 abbrev top_by : System Body State → Option (Function Body) → World Body State → ℕ → State → List (Frame State) → World Body State
 top_by system o W f s below = elim o as (λ _. World Body State) [ None ↦ breaks W | Some g ↦ turns system (as_known g.has_lines (system.steps g.made_of s)) W f below ]
 
-busy_step : (J : Joint) (f : ℕ) (s t : State) (below : List Layer) (tk : TalksIn J s t below)
-    → Step (talking_in J f s t below) (busy J f s t below tk)
-busy_step J f s t below tk = by (slice_get J.functions f) refl where
+busy_step : (builds : Builds Body) (J : Joint) (f : ℕ) (s t : State) (below : List Layer) (tk : TalksIn J s t below)
+    → Step builds (talking_in J f s t below) (busy J f s t below tk)
+busy_step builds J f s t below tk = by (slice_get J.functions f) refl where
   there : (o : Option Made) → slice_get J.functions f ≡ o
-      → tick first_form primitives (one (talking_in J f s t below)) ≡ top_by first_form (option_map function_one o) (one (talking_in J f s t below)) f s (map frame_one below)
+      → tick first_form (primitives builds) (one (talking_in J f s t below)) ≡ top_by first_form (option_map function_one o) (one (talking_in J f s t below)) f s (map frame_one below)
   there o e = ap (λ z. top_by first_form z (one (talking_in J f s t below)) f s (map frame_one below)) (slice_get-map function_one J.functions f ∙ ap (option_map function_one) e)
 
   there_too : (o : Option Made) → slice_get J.functions f ≡ o
-      → tick second_form primitives (two (talking_in J f s t below)) ≡ top_by second_form (option_map function_two o) (two (talking_in J f s t below)) f t (map frame_two below)
+      → tick second_form (primitives builds) (two (talking_in J f s t below)) ≡ top_by second_form (option_map function_two o) (two (talking_in J f s t below)) f t (map frame_two below)
   there_too o e = ap (λ z. top_by second_form z (two (talking_in J f s t below)) f t (map frame_two below)) (slice_get-map function_two J.functions f ∙ ap (option_map function_two) e)
 
   joined : (o : Option Made) → slice_get J.functions f ≡ o
       → Both (top_by first_form (option_map function_one o) (one (talking_in J f s t below)) f s (map frame_one below)) (top_by second_form (option_map function_two o) (two (talking_in J f s t below)) f t (map frame_two below))
-      → Step (talking_in J f s t below) (busy J f s t below tk)
+      → Step builds (talking_in J f s t below) (busy J f s t below tk)
   joined o e b =
-      together (subst (λ X. Both X (tick second_form primitives (two (talking_in J f s t below)))) (sym (there o e))
+      together (subst (λ X. Both X (tick second_form (primitives builds) (two (talking_in J f s t below)))) (sym (there o e))
       (subst (λ Y. Both (top_by first_form (option_map function_one o) (one (talking_in J f s t below)) f s (map frame_one below)) Y) (sym (there_too o e)) b))
 
-  moved : (g : Made) → slice_get J.functions f ≡ Some g → Split (cells_for J.store tk.own) s t tk.like → Step (talking_in J f s t below) (busy J f s t below tk)
+  moved : (g : Made) → slice_get J.functions f ≡ Some g → Split (cells_for J.store tk.own) s t tk.like → Step builds (talking_in J f s t below) (busy J f s t below tk)
   moved g e (as_one z) = ⊎_elim
       (λ m. joined (Some g) e (moves_both J f s t below tk g.has_lines (step s) (step t) m))
       (λ y. ⊎_elim
@@ -368,11 +370,11 @@ busy_step J f s t below tk = by (slice_get J.functions f) refl where
       let fewer = a.fewer in
       alone a.there a.stands (there (Some g) e ∙ a.same) a.stays (omega (arith, fewer, l)) refl
 
-  by : (o : Option Made) → slice_get J.functions f ≡ o → Step (talking_in J f s t below) (busy J f s t below tk)
+  by : (o : Option Made) → slice_get J.functions f ≡ o → Step builds (talking_in J f s t below) (busy J f s t below tk)
   by None e = joined None e (breaks_both (talking_in J f s t below))
   by (Some g) e = moved g e (split (cells_for J.store tk.own) s t tk.like)
 
-pub step_both : (J : Joint) (st : Stands J) → Step J st
-step_both _ (quiet J q) = together (quiet_tick J J.now q)
-step_both _ (stopped J ending l) = together (record { there = record J { now = ends ending }; same = refl; same_too = refl; stands = stopped J ending l })
-step_both _ (busy J f s t below tk) = busy_step J f s t below tk
+pub step_both : (builds : Builds Body) (J : Joint) (st : Stands J) → Step builds J st
+step_both builds _ (quiet J q) = together (quiet_tick builds J J.now q)
+step_both builds _ (stopped J ending l) = together (record { there = record J { now = ends ending }; same = refl; same_too = refl; stands = stopped J ending l })
+step_both builds _ (busy J f s t below tk) = busy_step builds J f s t below tk

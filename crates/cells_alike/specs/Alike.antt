@@ -4,6 +4,7 @@ use Rattle.tree_core.specs.Tree.{Body}
 use Rattle.tree_activation.specs.Work.{Celling, when_declared, when_captured, State}
 use Rattle.code_core.specs.Prototype.{Prototype}
 use Rattle.machine_core.specs.Talk.{State as CodeState}
+use Rattle.load_rows.specs.Loading.{Builds}
 use Rattle.library_rows.specs.Library.{Entry}
 use Rattle.lua_meaning.specs.World.{Function, Coroutine, World}
 use Rattle.lua_meaning.specs.Calls.{frames_in}
@@ -12,7 +13,7 @@ use Rattle.lua_meaning.specs.Opening.{primitives}
 use Rattle.lua_meaning.specs.TreeMeaning.{trees, tree_opening}
 use Rattle.code_means.specs.Means.{Means}
 use Rattle.code_means.specs.Runs.{codes_run, RunAlike}
-use Rattle.runs_alike.specs.Alike.{IsMeantBy, script, CodeEnds, WorldsAlike}
+use Rattle.runs_alike.specs.Alike.{BuildsAlike, IsMeantBy, script, CodeEnds, WorldsAlike}
 
 abbrev pub AreThere : List ℕ → (size : ℕ) → Type 0
 AreThere [] size = Unit {0}
@@ -24,16 +25,16 @@ pub record IsReady (W : World Body State) : Type 0 where
   pub functions : (n : ℕ) (f : Function Body) → slice_get W.functions n ≡ Some f → AreThere f.cells (length W.cells)
 
 -- a run in this form prints the same and ends alike
-pub record Ends (celling : Celling) (W : World Body State) (s : Script Body) (input : List (List ℕ)) (budget : ℕ) (m : Meaning Body State) : Type 0 where
+pub record Ends (celling : Celling) (builds : Builds Body) (W : World Body State) (s : Script Body) (input : List (List ℕ)) (budget : ℕ) (m : Meaning Body State) : Type 0 where
   pub meaning : Meaning Body State
-  pub is_meant : IsMeaning (trees celling) primitives W s input budget meaning
+  pub is_meant : IsMeaning (trees celling) (primitives builds) W s input budget meaning
   pub alike : RunAlike m meaning
 
 abbrev pub RunsDoNotShowCells : Type 0
 RunsDoNotShowCells =
-    (W : World Body State) → IsReady W → (s : Script Body) (input : List (List ℕ)) (budget : ℕ) (m : Meaning Body State)
-    → (IsMeaning (trees when_declared) primitives W s input budget m → Ends when_captured W s input budget m)
-    × (IsMeaning (trees when_captured) primitives W s input budget m → Ends when_declared W s input budget m)
+    (builds : Builds Body) (W : World Body State) → IsReady W → (s : Script Body) (input : List (List ℕ)) (budget : ℕ) (m : Meaning Body State)
+    → (IsMeaning (trees when_declared) (primitives builds) W s input budget m → Ends when_captured builds W s input budget m)
+    × (IsMeaning (trees when_captured) (primitives builds) W s input budget m → Ends when_declared builds W s input budget m)
 
 -- worlds of the libraries are such worlds
 abbrev pub OpeningsAreReady : Type 0
@@ -41,16 +42,17 @@ OpeningsAreReady = (prelude : List (Entry Body)) → IsReady (tree_opening prelu
 
 -- code, and the tree by the letter of the manual
 
-pub record LetterEnds (W : World Body State) (s : Script Body) (input : List (List ℕ)) (budget : ℕ) (m : Meaning Prototype CodeState) : Type 0 where
+pub record LetterEnds (trees_built : Builds Body) (W : World Body State) (s : Script Body) (input : List (List ℕ)) (budget : ℕ) (m : Meaning Prototype CodeState) : Type 0 where
   pub meaning : Meaning Body State
-  pub is_meant : IsMeaning (trees when_declared) primitives W s input budget meaning
+  pub is_meant : IsMeaning (trees when_declared) (primitives trees_built) W s input budget meaning
   pub alike : RunAlike meaning m
 
 -- where code means the main function and the functions that are there before the script, the tree's meaning by the letter is the code's, and the
 -- other way round
 abbrev pub CodeKeepsTheLetter : Type 0
 CodeKeepsTheLetter =
-    (W : World Body State) (V : World Prototype CodeState) → IsReady W → WorldsAlike IsMeantBy W V
+    (trees_built : Builds Body) (code_built : Builds Prototype) → BuildsAlike IsMeantBy trees_built code_built
+    → (W : World Body State) (V : World Prototype CodeState) → IsReady W → WorldsAlike IsMeantBy W V
     → (main : Body) (code : Prototype) (name : List ℕ) (lines : Bool) → Means lines code main → (input : List (List ℕ)) (budget : ℕ)
-    → ((m : Meaning Body State) → IsMeaning (trees when_declared) primitives W (script main name lines) input budget m → CodeEnds V (script code name lines) input budget m)
-    × ((m : Meaning Prototype CodeState) → IsMeaning codes_run primitives V (script code name lines) input budget m → LetterEnds W (script main name lines) input budget m)
+    → ((m : Meaning Body State) → IsMeaning (trees when_declared) (primitives trees_built) W (script main name lines) input budget m → CodeEnds code_built V (script code name lines) input budget m)
+    × ((m : Meaning Prototype CodeState) → IsMeaning codes_run (primitives code_built) V (script code name lines) input budget m → LetterEnds trees_built W (script main name lines) input budget m)

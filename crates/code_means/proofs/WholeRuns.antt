@@ -1,5 +1,5 @@
 -- Trees and codes that are written by hand, run in the same worlds: both print the same and end alike.
-use Rattle.std.proofs.Common.{◌≡◌, ℕ, true, false, List, [], ◌∷◌, Option, Some, refl}
+use Rattle.std.proofs.Common.{◌≡◌, ℕ, true, false, List, [], ◌∷◌, Option, Some, None, refl}
 use Prim.Native.String.{String}
 use Rattle.std.specs.Prelude.{codes, option_map}
 use Rattle.std.specs.Fmt.{digits}
@@ -10,6 +10,7 @@ use Rattle.code_core.specs.Opcode.{opcodes, number_of}
 use Rattle.code_core.specs.Prototype.{Prototype}
 use Rattle.lua_meaning.specs.Libraries.{primitive_values, constant_values, library_table}
 use Rattle.lua_meaning.specs.Meaning.{Meaning, Outcome, has_returned, has_failed, has_spent, is_suspended, is_broken}
+use Rattle.load_rows.specs.Loading.{refused_at, Builds}
 use Rattle.lua_meaning.specs.TreeMeaning.{tree_meaning}
 use Rattle.code_means.specs.Runs.{code_meaning}
 use Rattle.code_core.specs.declared.opcode.Opcode.TheVariants.{LoadK, GetTabUp, GetField, IDiv, MmBin, Call, TailCall, Return, VarArgPrep}
@@ -29,11 +30,15 @@ status is_broken = 99
 abbrev summary : {F S : Type 0} → Meaning F S → List ℕ × ℕ
 summary m = (m.printed, status m.outcome)
 
+-- these runs load nothing
+abbrev nothing_built : {F : Type 0} → Builds F
+nothing_built name source = refused_at 1 None
+
 abbrev tree_run : Body → List (List ℕ) → (budget : ℕ) → Option (List ℕ × ℕ)
-tree_run b input budget = option_map summary (tree_meaning when_captured 900 [] (record { main = b; name = codes "@s.lua"; has_lines = true }) input budget)
+tree_run b input budget = option_map summary (tree_meaning when_captured nothing_built 900 [] (record { main = b; name = codes "@s.lua"; has_lines = true }) input budget)
 
 abbrev code_run : Prototype → List (List ℕ) → (budget : ℕ) → Option (List ℕ × ℕ)
-code_run p input budget = option_map summary (code_meaning 900 [] (record { main = p; name = codes "@s.lua"; has_lines = true }) input budget)
+code_run p input budget = option_map summary (code_meaning nothing_built 900 [] (record { main = p; name = codes "@s.lua"; has_lines = true }) input budget)
 
 abbrev ran : String → ℕ → Option (List ℕ × ℕ) × Option (List ℕ × ℕ)
 ran text n = (Some (codes text, n), Some (codes text, n))

@@ -7,6 +7,7 @@ use Rattle.machine_core.specs.Text.{last_pending, done}
 use Rattle.machine_core.specs.InstructionRows.{left_so}
 use Rattle.machine_core.specs.Talk as code
 use Rattle.machine_core.specs.Talk.{before, amid, talk_start, talk_step}
+use Rattle.load_rows.specs.Loading.{Builds}
 use Rattle.library_rows.specs.Library.{Entry}
 use Rattle.lua_meaning.specs.World.{System, World}
 use Rattle.lua_meaning.specs.Meaning.{Script, Meaning, Outcome, has_returned, has_failed, has_spent, is_suspended, is_broken, meaning}
@@ -32,8 +33,8 @@ outer_in p = length p.own.upvalues
 abbrev pub code_opening : (prelude : List (Entry Prototype)) → World Prototype code.State
 code_opening prelude = opening outer_in prelude
 
-abbrev pub code_meaning : (steps : ℕ) → (prelude : List (Entry Prototype)) → Script Prototype → List (List ℕ) → (budget : ℕ) → Option (Meaning Prototype code.State)
-code_meaning steps prelude script input budget = meaning codes_run primitives steps (code_opening prelude) script input budget
+abbrev pub code_meaning : Builds Prototype → (steps : ℕ) → (prelude : List (Entry Prototype)) → Script Prototype → List (List ℕ) → (budget : ℕ) → Option (Meaning Prototype code.State)
+code_meaning builds steps prelude script input budget = meaning codes_run (primitives builds) steps (code_opening prelude) script input budget
 
 -- two runs end alike, whatever the worlds are in which they are suspended
 abbrev pub EndAlike : {A B S T : Type 0} → Outcome A S → Outcome B T → Type 0

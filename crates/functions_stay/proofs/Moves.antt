@@ -10,7 +10,7 @@ use Rattle.code_core.specs.Prototype.{Prototype, list_of}
 use Rattle.code_core.specs.Check.{at}
 use Rattle.machine_core.specs.World.{Function, Cell, closed, open_at, Wait, leaving, Frame, lua, pcall, xpcall, handler, closing, Coroutine, fresh, suspended, in_progress, normal, dead, failed, World, Stack, stack_of, Place, place_of, put_frames, put_top, push, pop, read_cell, write_cell, find_open, with_frames, write_in_coroutine}
 use Rattle.machine_core.specs.Text.{Arg, arg, args_of, Own, close_cells, keep_pending, Quick, read_upvalue, write_upvalue, make_table, make_function, fill_table, pay, Given, given_values, fits, reads, tells}
-use Rattle.machine_core.specs.Moves.{Over, frame_over, Move, on_own, move_pc, open_register, outside, settle, enter, enter_tail, await, find_close, is_closable, begin_leaving, leave_frame, take_moving, look, give, give_with, blame, place_text, push_frame, call_value, see_top, see_catcher, pop_frame, take_closing, set_error, end_coroutine, fail_coroutine, suspend, resume, begin_closing, consult, create, see_status, see_running, print, Made, made, CallShape, not_paid, one_left, resumed, refused, runs_main, error_or_nil, bytes_in, named, blamed, with_own, do_own, place_from, moved_pc, opened_cells, captured, made_function, own_cell, do_outside, new_frame, push_all, has_room, enters, enters_paid, called, popped, called_tail, top_now, catcher, next_closing, with_error, pending_values, put_coroutine, awake, back_to_resumer, bury, ends_as, suspend_running, wait_for_another, go_into, starts_in, can_start, resumes, closes_in, closes_coroutine, coroutine_number, add_coroutine, add_printed, consulted, settled, move}
+use Rattle.machine_core.specs.Moves.{Over, frame_over, Move, on_own, move_pc, open_register, outside, settle, enter, enter_tail, await, find_close, is_closable, begin_leaving, leave_frame, take_moving, look, give, give_with, blame, place_text, push_frame, call_value, see_top, see_catcher, pop_frame, take_closing, set_error, end_coroutine, fail_coroutine, suspend, resume, begin_closing, consult, create, see_status, see_running, print, make_loaded, Made, made, CallShape, not_paid, one_left, resumed, refused, runs_main, error_or_nil, bytes_in, named, blamed, with_own, do_own, place_from, moved_pc, opened_cells, captured, made_function, own_cell, do_outside, new_frame, push_all, has_room, enters, enters_paid, called, popped, called_tail, top_now, catcher, next_closing, with_error, pending_values, put_coroutine, awake, back_to_resumer, bury, ends_as, suspend_running, wait_for_another, go_into, starts_in, can_start, resumes, closes_in, closes_coroutine, coroutine_number, add_coroutine, add_printed, add_loaded, environment_in, consulted, settled, move}
 use Rattle.functions_stay.specs.Laws.{Keeps, KeepsIfMade, MovesKeep}
 
 -- worlds that have the same functions
@@ -256,6 +256,10 @@ print_kept : (W : World) (bytes : List ℕ) → Keeps W (add_printed W bytes)
 unfolding add_printed
 print_kept W bytes = same W (add_printed W bytes) refl refl refl
 
+loaded_kept : (W : World) (p : Prototype) (environment : Value) → Keeps W (add_loaded W p environment)
+unfolding add_loaded
+loaded_kept W p environment = record { made = record { code = p; cells = length W.cells ∷ [] } ∷ []; functions = refl; environment = refl; prelude = refl }
+
 -- moves
 
 moving_kept : (W V : World) (vs : List Value) → Keeps W V → Keeps W (record V { moving = vs })
@@ -304,3 +308,4 @@ moves_keep (create x) env W = kept_cond W (is_function (arg env x)) _ _ (add_kep
 moves_keep (see_status x) env W = kept_bind W (coroutine_number (arg env x)) _ (λ co. kept_bind W (slice_get W.coroutines co) _ (λ c. still W))
 moves_keep see_running env W = kept_bind W (last W.chain) _ (λ co. still W)
 moves_keep (print x) env W = print_kept W (bytes_in (arg env x))
+moves_keep (make_loaded p x) env W = loaded_kept W p (environment_in W env x)

@@ -1,4 +1,5 @@
 -- All functions of the library, by their rows.
+use Rattle.machine_core.specs.PrimitiveRows.{load_row}
 use Rattle.std.proofs.Common.{ℕ, ◌≡◌, List, [], ◌∷◌, Option, Some, None, refl, ap, ◌∙◌, map, length, true, false}
 use Rattle.std.specs.Prelude.{pos, codes}
 use Rattle.int_core.specs.Heap.{Heap}
@@ -14,13 +15,12 @@ use Rattle.library_rows.specs.Searches
 use Rattle.library_rows.specs.Strings
 use Rattle.library_rows.specs.Library.{Primitive, all_entries, row_of, walk_number, walk_lax_number}
 use Rattle.library_rows.specs.Library as library
-use Rattle.machine_core.specs.FrameRows.{blames}
 use Rattle.machine_core.specs.MachineStep.{look_row}
 use Rattle.machine_sound.specs.Safe.{LookOk}
-use Rattle.machine_sound.specs.Laws.{PrimitiveGood, LookRowsSafe, SafeIsGood, LibrarySafe}
+use Rattle.machine_sound.specs.Laws.{LoadRowSafe, PrimitiveGood, LookRowsSafe, SafeIsGood, LibrarySafe}
 use Rattle.machine_sound.proofs.Lists.{each_one, some_is}
 use Rattle.machine_sound.proofs.Values.{le_of}
-use Rattle.library_sound.specs.Laws.{LibraryIsSafe, LibraryWithoutBuildIsSafe}
+use Rattle.library_sound.specs.Laws.{LibraryThatLoadsIsSafe, LibraryIsSafe}
 use Rattle.library_sound.proofs.Plain as plain
 use Rattle.library_sound.proofs.Plain.{IsThere, AllThere}
 use Rattle.library_sound.proofs.Looks as looks
@@ -150,5 +150,5 @@ module _ (functions : PlainRowsAreFunctions) (safe : LookRowsSafe) (good : SafeI
 pub library_is_safe : PlainRowsAreFunctions → LookRowsSafe → SafeIsGood → LibrarySafe → LibraryIsSafe
 library_is_safe functions safe good all build b = all build b (by_row functions safe good)
 
-pub without_build : SafeIsGood → LibraryIsSafe → LibraryWithoutBuildIsSafe
-without_build good all text = all (blames text) (good count (blames text) (tt, λ _. tt))
+pub that_loads : SafeIsGood → LoadRowSafe → LibraryIsSafe → LibraryThatLoadsIsSafe
+that_loads good load all builds ok = all (load_row builds) (good (length all_entries) (load_row builds) (load builds ok))

@@ -15,7 +15,7 @@ use Rattle.lua_meaning.specs.TreeMeaning.{tree_meaning, tree_onward}
 use Rattle.tree_terms.proofs.Forms.{name, closed, of_local, loc, outer, global, int, str, bin, call, field, function, block, returning, locals, loc_is, does, fun}
 use Rattle.lua_meaning.specs.Libraries.{primitive_values, constant_values, library_table, environment}
 use Rattle.lua_meaning.specs.Step.{row}
-use Rattle.lua_meaning.proofs.Scripts.{assign, local_function, env, chunk, prelude, summary, run, ran, prints, co, usual}
+use Rattle.lua_meaning.proofs.Scripts.{assign, local_function, env, chunk, prelude, nothing_built, summary, run, ran, prints, co, usual}
 
 -- the lines of an input
 input_lines : lines (codes "ab\n\nz") ≡ codes "ab" ∷ codes "" ∷ codes "z" ∷ []
@@ -46,10 +46,10 @@ one_line = refl
 -- the same script cut between the lines
 abbrev goes_on : Option (Meaning Body State) → List (List ℕ) → Option (Meaning Body State)
 goes_on None input = None
-goes_on (Some m) input = elim m.outcome [ is_suspended W ↦ tree_onward when_captured 3000 W input usual | _ ↦ None ]
+goes_on (Some m) input = elim m.outcome [ is_suspended W ↦ tree_onward when_captured nothing_built 3000 W input usual | _ ↦ None ]
 
 abbrev begins : Body → List (List ℕ) → Option (Meaning Body State)
-begins main input = tree_meaning when_captured 3000 prelude (record { main = main; name = codes "@s.lua"; has_lines = Rattle.std.specs.Prelude.true }) input usual
+begins main input = tree_meaning when_captured nothing_built 3000 prelude (record { main = main; name = codes "@s.lua"; has_lines = Rattle.std.specs.Prelude.true }) input usual
 
 second_session : option_map summary (goes_on (begins bumps (codes "x" ∷ [])) (codes "y" ∷ [])) ≡ Some (codes "yield\t3\t3\n", 3)
 unfolding int_wrap digits raw_set row primitive_values constant_values library_table environment

@@ -18,7 +18,7 @@ use Rattle.lua_meaning.specs.Libraries.{primitive_values, constant_values, libra
 use Rattle.lua_meaning.specs.Opening.{prelude_function, primitives}
 use Rattle.lua_meaning.specs.TreeMeaning.{trees, outer_of, tree_opening}
 use Rattle.tree_terms.proofs.Forms.{of_local, loc, outer, global, int, bin, call, block, returning, does, fun}
-use Rattle.lua_meaning.proofs.Scripts.{local_function, chunk, prelude}
+use Rattle.lua_meaning.proofs.Scripts.{local_function, chunk, prelude, nothing_built}
 
 -- the scripts
 
@@ -42,10 +42,10 @@ Run = World Body State
 
 -- the world so many steps later
 abbrev pub after : Celling → (steps : ℕ) → Run → Run
-after celling steps W = ticks (trees celling) primitives steps W
+after celling steps W = ticks (trees celling) (primitives nothing_built) steps W
 
 abbrev pub begins : Celling → (script : Body) → (budget : ℕ) → Run
-begins celling script budget = begun (trees celling) primitives (tree_opening prelude) (record { main = script; name = codes "@s.lua"; has_lines = true }) budget
+begins celling script budget = begun (trees celling) (primitives nothing_built) (tree_opening prelude) (record { main = script; name = codes "@s.lua"; has_lines = true }) budget
 
 -- frames
 

@@ -15,7 +15,7 @@ use Rattle.lua_meaning.specs.TreeMeaning.{tree_meaning}
 use Rattle.tree_terms.proofs.Forms.{name, no_variable, closed, of_local, loc, outer, global, int, str, bin, call, function, block, returning, locals, loc_is, does, fun, vararg_fun}
 use Rattle.lua_meaning.specs.Libraries.{primitive_values, constant_values, library_table, environment}
 use Rattle.lua_meaning.specs.Step.{row}
-use Rattle.lua_meaning.proofs.Scripts.{dots, assign, local_function, env, of_outer, chunk, prelude, summary, run, ran, prints, usual}
+use Rattle.lua_meaning.proofs.Scripts.{dots, assign, local_function, env, of_outer, chunk, prelude, nothing_built, summary, run, ran, prints, usual}
 
 -- FUNCTION(ARGUMENTS) on another line
 abbrev call_at : ℕ → Exp → List Exp → Exp
@@ -47,7 +47,7 @@ by_zero = refl
 
 -- local x = nil + 1, of a script whose lines are not known
 without_lines :
-    option_map summary (tree_meaning when_captured 300 prelude
+    option_map summary (tree_meaning when_captured nothing_built 300 prelude
     (record { main = chunk (block (loc_is "x" 0 (bin Add (Nil 1) (int 1)) ∷ [])); name = codes "@s.lua"; has_lines = false }) [] usual)
     ≡ Some (codes "error\tattempt to perform arithmetic on a nil value\n", 1)
 without_lines = refl

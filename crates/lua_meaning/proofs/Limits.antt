@@ -2,7 +2,7 @@
 use Rattle.std.proofs.Common.{◌≡◌, ℕ, zero, suc, ◌+◌, ◌≤◌, Bool, true, false, cond, List, [], ◌∷◌, ◌++◌, length, Option, Some, None, refl, arith}
 use Rattle.std.proofs.lemmas.Bool.Decides.{nat_tests}
 use Rattle.std.specs.Prelude.{ℤ, nat_lt, slice_get, slice_set, drop, codes}
-use Rattle.int_core.specs.Value.{Value, known, primitive, object, a_function, a_coroutine, is_nil, nth}
+use Rattle.int_core.specs.Value.{Value, known, primitive, object, a_function, a_coroutine, shape, is_nil, nth}
 use Rattle.int_core.specs.Limits.{greatest_depth, greatest_resumes}
 use Rattle.int_core.specs.Heap.{filled_table}
 use Rattle.int_core.specs.Operations.{Callee, callee, not_callable, callee_of, greatest_chain, Settled, found, ask, fault, cannot_arise, does, handler_in, of_close, is_function}
@@ -12,8 +12,9 @@ use Rattle.lua_meaning.specs.Calls.{error_in_handler, error_or_nil, put_coroutin
 use Rattle.lua_meaning.specs.Asks.{calls_for, calls_in_place, settled, pays_unit, made_in, gets_function, handle, turns, talks_on}
 use Rattle.library_rows.specs.Look.{Done, done}
 use Rattle.library_rows.specs.Look.{refused as no_result, raised as an_error}
+use Rattle.load_rows.specs.Loading.{Builds, Loaded, wrong, not_loaded, loaded, load_of}
 use Rattle.library_rows.specs.Library.{Primitive, base_error, base_pcall, base_xpcall, coroutine_close, coroutine_create, coroutine_isyieldable, coroutine_resume, coroutine_running, coroutine_status, coroutine_yield, prelude_build, prelude_out}
-use Rattle.lua_meaning.specs.Step.{error_by, level_in, creates, with_coroutine, row, after_row, does_primitive, runs_one, has_ended, tick_by, tick, ticks}
+use Rattle.lua_meaning.specs.Step.{error_by, level_in, creates, with_coroutine, row, after_row, after_loading, environment_in, Primitives, does_primitive, runs_one, has_ended, tick_by, tick, ticks}
 use Rattle.lua_meaning.specs.Laws.{AllShallow}
 
 -- at most this fuel, and shallow
@@ -297,28 +298,33 @@ module _ {F S : Type 0} (system : System F S) where
   runs_one_keeps n W [] k = now_keeps n W _ k
   runs_one_keeps n W (co ∷ chain) k = now_keeps n W _ k
 
-  primitive_keeps : (n : ℕ) (p : Primitive) (W : World F S) (vs : List Value) → Keeps n W → Keeps n (does_primitive system p W vs)
-  primitive_keeps n base_error W vs k = error_keeps n W (nth vs 0) (nth vs 1) (level_in (nth vs 1)) k
-  primitive_keeps n base_pcall W vs k = calls_over_keep n W protected (nth vs 0) (drop 1 vs) k
-  primitive_keeps n base_xpcall W vs k = calls_over_keep n W (handled_by (nth vs 1)) (nth vs 0) (drop 2 vs) k
-  primitive_keeps n coroutine_create W vs k = creates_keep n W (nth vs 0) k
-  primitive_keeps n coroutine_resume W vs k = with_keeps n W (codes "resume") (nth vs 0) _ k (λ co c few. resumes_keep n W co c (drop 1 vs) k few)
-  primitive_keeps n coroutine_yield W vs k = yields_keep n W vs k
-  primitive_keeps n coroutine_close W vs k = with_keeps n W (codes "close") (nth vs 0) _ k (λ co c few. closes_keep n W co c k)
-  primitive_keeps n coroutine_status W vs k = with_keeps n W (codes "status") (nth vs 0) _ k (λ co c few. now_keeps n W _ k)
-  primitive_keeps n coroutine_isyieldable W vs k = now_keeps n W _ k
-  primitive_keeps n coroutine_running W vs k = runs_one_keeps n W W.chain k
-  primitive_keeps n prelude_out W vs k = record { spends = k.spends; top = k.top; others = k.others }
-  primitive_keeps n prelude_build W vs k = now_keeps n W _ k
-  primitive_keeps n p W vs k = row_keeps n W (row p W.heap vs) k
+  loads_keep : (n : ℕ) (W : World F S) (environment : Value) (l : Loaded F) → Keeps n W → Keeps n (after_loading W environment l)
+  loads_keep n W environment (wrong error) k = now_keeps n W _ k
+  loads_keep n W environment (not_loaded why) k = now_keeps n W _ k
+  loads_keep n W environment (loaded name f) k = record { spends = k.spends; top = k.top; others = k.others }
 
-  module _ (primitives : ℕ → Option Primitive) where
+  primitive_keeps : (builds : Builds F) (n : ℕ) (p : Primitive) (W : World F S) (vs : List Value) → Keeps n W → Keeps n (does_primitive system builds p W vs)
+  primitive_keeps builds n base_error W vs k = error_keeps n W (nth vs 0) (nth vs 1) (level_in (nth vs 1)) k
+  primitive_keeps builds n base_pcall W vs k = calls_over_keep n W protected (nth vs 0) (drop 1 vs) k
+  primitive_keeps builds n base_xpcall W vs k = calls_over_keep n W (handled_by (nth vs 1)) (nth vs 0) (drop 2 vs) k
+  primitive_keeps builds n coroutine_create W vs k = creates_keep n W (nth vs 0) k
+  primitive_keeps builds n coroutine_resume W vs k = with_keeps n W (codes "resume") (nth vs 0) _ k (λ co c few. resumes_keep n W co c (drop 1 vs) k few)
+  primitive_keeps builds n coroutine_yield W vs k = yields_keep n W vs k
+  primitive_keeps builds n coroutine_close W vs k = with_keeps n W (codes "close") (nth vs 0) _ k (λ co c few. closes_keep n W co c k)
+  primitive_keeps builds n coroutine_status W vs k = with_keeps n W (codes "status") (nth vs 0) _ k (λ co c few. now_keeps n W _ k)
+  primitive_keeps builds n coroutine_isyieldable W vs k = now_keeps n W _ k
+  primitive_keeps builds n coroutine_running W vs k = runs_one_keeps n W W.chain k
+  primitive_keeps builds n prelude_out W vs k = record { spends = k.spends; top = k.top; others = k.others }
+  primitive_keeps builds n prelude_build W vs k = loads_keep n W (environment_in W vs) (load_of builds (shape (nth vs 0)) (shape (nth vs 1)) (shape (nth vs 2))) k
+  primitive_keeps builds n p W vs k = row_keeps n W (row p W.heap vs) k
+
+  module _ (primitives : Primitives F) where
     tick_keeps : (n : ℕ) (now : Now) (W : World F S) → Keeps n W → Keeps n (tick_by system primitives now W)
     tick_keeps n talks W k = talks_keep n W W.frames k k.top
     tick_keeps n (gives_back vs) W k = handed_keeps n W vs W.frames k k.top
     tick_keeps n (raises_error e) W k = raised_keeps n W e W.frames k
     tick_keeps n (unwinds e) W k = unwound_keeps n W e W.frames k k.top
-    tick_keeps n (calls_primitive m vs) W k = if_there n (primitives m) _ _ (now_keeps n W _ k) (λ p. primitive_keeps n p W vs k)
+    tick_keeps n (calls_primitive m vs) W k = if_there n (primitives.numbered m) _ _ (now_keeps n W _ k) (λ p. primitive_keeps primitives.builds n p W vs k)
     tick_keeps n (ends ending) W k = k
 
     pub ticks_keep : (n m : ℕ) (W : World F S) → Keeps n W → Keeps n (ticks system primitives m W)

@@ -2,12 +2,11 @@
 use Rattle.std.proofs.Common.{◌≡◌, ℕ, zero, suc, ◌+◌, ◌≤◌, Bool, true, false, List, [], ◌∷◌, ◌++◌, Option, Some, None, refl, sym, ◌∙◌, ap, arith, append_assoc}
 use Rattle.std.specs.Prelude.{option_map}
 use Rattle.lua_meaning.specs.World.{System, World, yielded, returned, failed_with, spent, broken, Now, talks, gives_back, raises_error, unwinds, calls_primitive, ends}
-use Rattle.library_rows.specs.Library.{Primitive}
-use Rattle.lua_meaning.specs.Step.{has_ended, tick, ticks}
+use Rattle.lua_meaning.specs.Step.{Primitives, has_ended, tick, ticks}
 use Rattle.lua_meaning.specs.Meaning.{Meaning, Outcome, is_suspended, behind, at_end, suspends, handed_line, run_from, onward, begun, Script, IsMeaning, IsOnward}
 use Rattle.list_laws.proofs.Items.{some_same}
 
-module _ {F S : Type 0} (system : System F S) (primitives : ℕ → Option Primitive) where
+module _ {F S : Type 0} (system : System F S) (primitives : Primitives F) where
   by_ended : (b : Bool) (W V U : World F S) → has_ended (elim b as (λ _. World F S) [ true ↦ W | false ↦ V ]).now ≡ true → (has_ended V.now ≡ true → U ≡ V)
       → elim b as (λ _. World F S) [ true ↦ W | false ↦ U ] ≡ elim b as (λ _. World F S) [ true ↦ W | false ↦ V ]
   by_ended true W V U ended same = refl

@@ -1,5 +1,5 @@
 -- Short forms for trees that are written by hand, two functions of the prelude, and runs of scripts.
-use Rattle.std.specs.Prelude.{ℕ, true, false, List, [], ◌∷◌, Option, Some, option_map, codes}
+use Rattle.std.specs.Prelude.{ℕ, true, false, List, [], ◌∷◌, Option, Some, None, option_map, codes}
 use Prim.Native.String.{String}
 use Rattle.tree_core.specs.declared.name.UpName.{UpName}
 use Rattle.tree_core.specs.declared.name.Place.TheVariants.{GlobalIn}
@@ -9,6 +9,7 @@ use Rattle.tree_core.specs.declared.operator.UnOp.TheVariants.{Not}
 use Rattle.tree_core.specs.Tree.{Block, Body, BodyOf, Stat, LocalFunction, Assign, If, NumFor, Exp, Nil, Vararg, Var, Method, Unary, Paren, exps, arms}
 use Rattle.tree_activation.specs.Work.{Celling, when_captured, when_declared, State}
 use Rattle.library_rows.specs.Library.{of_globals, of_coroutine, of_prelude, Entry, entry}
+use Rattle.load_rows.specs.Loading.{refused_at, Builds}
 use Rattle.lua_meaning.specs.Meaning.{Meaning, Outcome, has_returned, has_failed, has_spent, is_suspended, is_broken}
 use Rattle.lua_meaning.specs.TreeMeaning.{tree_meaning}
 use Rattle.tree_terms.proofs.Forms.{name, no_variable, declared, of_local, loc, outer, global, int, str, call, bin, field, function, block, returning, locals, loc_is, does, when, fun, vararg_fun}
@@ -97,6 +98,10 @@ prelude =
     entry of_globals (codes "tostring") tostring_body ∷ entry of_globals (codes "print") print_body ∷ entry of_globals (codes "pairs") pairs_body
     ∷ entry of_prelude (codes "after") after_body ∷ entry of_coroutine (codes "wrap") wrap_body ∷ []
 
+-- these scripts load nothing
+abbrev pub nothing_built : {F : Type 0} → Builds F
+nothing_built name source = refused_at 1 None
+
 -- runs
 
 abbrev pub status : Outcome Body State → ℕ
@@ -112,7 +117,7 @@ summary m = (m.printed, status m.outcome)
 -- what a script prints, and the status of its ending
 abbrev pub run_with : Celling → (steps : ℕ) → Body → List (List ℕ) → (budget : ℕ) → Option (List ℕ × ℕ)
 run_with celling steps main input budget =
-    option_map summary (tree_meaning celling steps prelude (record { main = main; name = codes "@s.lua"; has_lines = true }) input budget)
+    option_map summary (tree_meaning celling nothing_built steps prelude (record { main = main; name = codes "@s.lua"; has_lines = true }) input budget)
 
 -- in both forms of cells
 abbrev pub run : (steps : ℕ) → Body → List (List ℕ) → (budget : ℕ) → Option (List ℕ × ℕ) × Option (List ℕ × ℕ)

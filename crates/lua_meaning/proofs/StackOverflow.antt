@@ -12,17 +12,17 @@ use Rattle.lua_meaning.specs.Step.{has_ended, tick}
 use Rattle.lua_meaning.specs.Meaning.{Meaning, has_returned, has_failed, has_spent, at_end, suspends}
 use Rattle.lua_meaning.specs.Opening.{primitives}
 use Rattle.lua_meaning.specs.TreeMeaning.{trees}
-use Rattle.lua_meaning.proofs.Scripts.{summary, run, ran, usual}
+use Rattle.lua_meaning.proofs.Scripts.{nothing_built, summary, run, ran, usual}
 use Rattle.lua_meaning.proofs.Runs.{ended_within}
 use Rattle.lua_meaning.proofs.Endless.{endless, endless_in_pcall, Run, after, begins, Caller, by_main, by_pcall, tower, world, with_f, entered, steps_of_main, main_calls, main_unpaid, main_cannot_pay, steps_of_pcall, pcall_calls, grown, deeper, steps_of_call, refused, f_calls, unpaid, f_cannot_pay, overflow, n_kept, raised, raises_it, passes_up, leaving, leaves_top, leaves_call, main_left, leaves_main, pcall_left, leaves_pcall}
 
 -- numbers of steps
 
 ended : (celling : Celling) (n : ℕ) (W : Run) → has_ended W.now ≡ true → after celling n W ≡ W
-ended celling n W is = ended_within (trees celling) primitives zero n W is (omega arith)
+ended celling n W is = ended_within (trees celling) (primitives nothing_built) zero n W is (omega arith)
 
 abbrev next : Celling → Run → Run
-next celling W = tick (trees celling) primitives W
+next celling W = tick (trees celling) (primitives nothing_built) W
 
 steps_add : (celling : Celling) (m n : ℕ) (W : Run) → after celling (m + n) W ≡ after celling n (after celling m W)
 steps_add celling zero n W = let e : zero + n ≡ n = omega arith in ap (λ k. after celling k W) e

@@ -3,8 +3,7 @@ use Rattle.std.specs.Prelude.{◌≡◌, ℕ, ◌==◌, Bool, true, false, cond,
 use Rattle.int_core.specs.Value.{nil, boolean, integer, string, a_table, Value, known, object, shape}
 use Rattle.int_core.specs.Operations.{type_name, integer_text}
 use Rattle.lua_meaning.specs.World.{System, talking, Ending, yielded, returned, failed_with, spent, broken, Now, talks, gives_back, ends, World}
-use Rattle.library_rows.specs.Library.{Primitive}
-use Rattle.lua_meaning.specs.Step.{ticks}
+use Rattle.lua_meaning.specs.Step.{Primitives, ticks}
 
 -- lines: each text before a line feed, and the text behind the last one where it is not empty
 
@@ -79,7 +78,7 @@ at_end _ W goes = None
 abbrev pub suspends : {F S : Type 0} → World F S → Option (Meaning F S)
 suspends W = Some (record { printed = []; outcome = is_suspended W })
 
-module _ {F S : Type 0} (system : System F S) (primitives : ℕ → Option Primitive) where
+module _ {F S : Type 0} (system : System F S) (primitives : Primitives F) where
   -- the script is about to run in a world of the libraries, with the whole budget; that costs nothing
   abbrev pub begun : World F S → Script F → (budget : ℕ) → World F S
   begun W script budget =

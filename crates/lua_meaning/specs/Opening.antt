@@ -1,14 +1,16 @@
 -- The world before a script: the libraries' tables and primitives by their numbers, and the prelude's functions (Lua 5.4 manual, 2.2 and 6).
-use Rattle.std.specs.Prelude.{ℕ, zero, suc, false, List, [], ◌∷◌, map, Option}
+use Rattle.std.specs.Prelude.{ℕ, zero, suc, false, List, [], ◌∷◌, map}
 use Rattle.int_core.specs.Value.{a_table, object}
-use Rattle.library_rows.specs.Library.{Library, Primitive, Entry, entry, primitive_at}
+use Rattle.load_rows.specs.Loading.{Builds}
+use Rattle.library_rows.specs.Library.{Library, Entry, entry, primitive_at}
 use Rattle.library_rows.specs.PreludeText.{prelude_functions}
 use Rattle.lua_meaning.specs.World.{Function, running, talks, World}
+use Rattle.lua_meaning.specs.Step.{Primitives}
 use Rattle.lua_meaning.specs.Libraries.{globals_table, environment_table, library_heap}
 
--- a primitive's number is its place among all
-abbrev pub primitives : ℕ → Option Primitive
-primitives n = primitive_at n
+-- a primitive's number is its place among all; what sources are built to is left open
+abbrev pub primitives : {F : Type 0} → Builds F → Primitives F
+primitives builds = record { numbered = primitive_at; builds = builds }
 
 -- each outer variable of a function of the prelude is the prelude's environment
 abbrev pub environment_cells : (count : ℕ) → List ℕ

@@ -1,12 +1,13 @@
 -- The primitives, and the step of a world. Those that look at values and tables alone do what their rows say; those that move frames or coroutines,
--- make a coroutine, print, or raise an error do it here.
-use Rattle.std.specs.Prelude.{ℕ, zero, suc, ℤ, pos, Bool, true, false, cond, List, [], ◌∷◌, ◌++◌, length, drop, Option, Some, None, option_map, slice_get, codes}
-use Rattle.int_core.specs.Value.{string, a_coroutine, Value, known, object, shape, is_nil, nth}
+-- make a coroutine, print, raise an error or load a source do it here.
+use Rattle.std.specs.Prelude.{ℕ, zero, suc, ℤ, pos, Bool, true, false, cond, List, [], ◌∷◌, ◌++◌, length, drop, Option, Some, None, nat_lt, option_map, slice_get, codes}
+use Rattle.int_core.specs.Value.{nil, string, a_table, a_function, a_coroutine, Value, known, object, shape, is_nil, nth}
 use Rattle.int_core.specs.Heap.{Heap}
 use Rattle.int_core.specs.Limits.{limited}
 use Rattle.int_core.specs.Operations.{is_function, number_in}
 use Rattle.library_rows.specs.Look.{Done, done, refused, raised, looked}
 use Rattle.library_rows.specs.Arguments.{wrong_type}
+use Rattle.load_rows.specs.Loading.{Builds, Loaded, wrong, not_loaded, loaded, load_of}
 use Rattle.library_rows.specs.Library.{Primitive, base_error, base_pcall, base_xpcall, coroutine_close, coroutine_create, coroutine_isyieldable, coroutine_resume, coroutine_running, coroutine_status, coroutine_yield, prelude_build, prelude_out, row_of}
 use Rattle.lua_meaning.specs.World.{System, protected, handled_by, Coroutine, fresh, suspended, running, normal, dead, failed, Now, talks, gives_back, raises_error, unwinds, calls_primitive, ends, World, now_in, breaks, where_at, raises_text}
 use Rattle.lua_meaning.specs.Calls.{text, truth, calls_over, handed, raised_to, unwound, resumes, yields, closes_coroutine}
@@ -68,35 +69,57 @@ after_row W (Some (done H vs)) = now_in (record W { heap = H }) (gives_back vs)
 after_row W (Some (refused why)) = raises_text W why
 after_row W (Some (raised H e)) = now_in (record W { heap = H }) (raises_error e)
 
+-- `load`: a new function of a source of this name, with one new cell, or nil and why there is none
+
+abbrev pub gives_loaded : {F S : Type 0} → World F S → (name : List ℕ) → F → (environment : Value) → World F S
+gives_loaded W name f environment =
+    gives_one (record W {
+      functions = W.functions ++ record { made_of = f; source = name; has_lines = true; cells = length W.cells ∷ [] } ∷ [];
+      cells = W.cells ++ environment ∷ [];
+    }) (object a_function (length W.functions))
+
+abbrev pub after_loading : {F S : Type 0} → World F S → (environment : Value) → Loaded F → World F S
+after_loading W environment (wrong error) = raises_text W error
+after_loading W environment (not_loaded why) = now_in W (gives_back (known nil ∷ text why ∷ []))
+after_loading W environment (loaded name f) = gives_loaded W name f environment
+
+-- a fourth argument is the environment; else the globals are
+abbrev pub environment_in : {F S : Type 0} → World F S → List Value → Value
+environment_in W vs = cond (nat_lt 3 (length vs)) (nth vs 3) (object a_table W.globals)
+
+-- the primitives by their numbers, and what sources are built to
+pub record Primitives (F : Type 0) : Type 0 where
+  pub numbered : ℕ → Option Primitive
+  pub builds : Builds F
+
 abbrev pub has_ended : Now → Bool
 has_ended (ends ending) = true
 has_ended now = false
 
 module _ {F S : Type 0} (system : System F S) where
-  abbrev pub does_primitive : Primitive → World F S → List Value → World F S
-  does_primitive base_error W vs = error_by W (nth vs 0) (nth vs 1) (level_in (nth vs 1))
-  does_primitive base_pcall W vs = calls_over system W protected (nth vs 0) (drop 1 vs)
-  does_primitive base_xpcall W vs = calls_over system W (handled_by (nth vs 1)) (nth vs 0) (drop 2 vs)
-  does_primitive coroutine_create W vs = creates W (nth vs 0)
-  does_primitive coroutine_resume W vs = with_coroutine W (codes "resume") (nth vs 0) (λ co c. resumes system W co c (drop 1 vs))
-  does_primitive coroutine_yield W vs = yields W vs
-  does_primitive coroutine_close W vs = with_coroutine W (codes "close") (nth vs 0) (λ co c. closes_coroutine system W co c)
-  does_primitive coroutine_status W vs = with_coroutine W (codes "status") (nth vs 0) (λ co c. gives_one W (text (status_of c)))
-  does_primitive coroutine_isyieldable W vs = gives_one W (truth true)
-  does_primitive coroutine_running W vs = runs_one W W.chain
-  does_primitive prelude_out W vs = now_in (record W { printed = W.printed ++ bytes_in (nth vs 0) }) (gives_back [])
-  -- until a text can be made a function while a script runs, `load` is an error
-  does_primitive prelude_build W vs = raises_text W (codes "load is not built yet")
-  does_primitive p W vs = after_row W (row p W.heap vs)
+  abbrev pub does_primitive : Builds F → Primitive → World F S → List Value → World F S
+  does_primitive builds base_error W vs = error_by W (nth vs 0) (nth vs 1) (level_in (nth vs 1))
+  does_primitive builds base_pcall W vs = calls_over system W protected (nth vs 0) (drop 1 vs)
+  does_primitive builds base_xpcall W vs = calls_over system W (handled_by (nth vs 1)) (nth vs 0) (drop 2 vs)
+  does_primitive builds coroutine_create W vs = creates W (nth vs 0)
+  does_primitive builds coroutine_resume W vs = with_coroutine W (codes "resume") (nth vs 0) (λ co c. resumes system W co c (drop 1 vs))
+  does_primitive builds coroutine_yield W vs = yields W vs
+  does_primitive builds coroutine_close W vs = with_coroutine W (codes "close") (nth vs 0) (λ co c. closes_coroutine system W co c)
+  does_primitive builds coroutine_status W vs = with_coroutine W (codes "status") (nth vs 0) (λ co c. gives_one W (text (status_of c)))
+  does_primitive builds coroutine_isyieldable W vs = gives_one W (truth true)
+  does_primitive builds coroutine_running W vs = runs_one W W.chain
+  does_primitive builds prelude_out W vs = now_in (record W { printed = W.printed ++ bytes_in (nth vs 0) }) (gives_back [])
+  does_primitive builds prelude_build W vs = after_loading W (environment_in W vs) (load_of builds (shape (nth vs 0)) (shape (nth vs 1)) (shape (nth vs 2)))
+  does_primitive builds p W vs = after_row W (row p W.heap vs)
 
-  module _ (primitives : ℕ → Option Primitive) where
+  module _ (primitives : Primitives F) where
     -- one step of the world; a turn that has ended stays as it is
     abbrev pub tick_by : Now → World F S → World F S
     tick_by talks W = talks_on system W W.frames
     tick_by (gives_back vs) W = handed system W vs W.frames
     tick_by (raises_error e) W = raised_to system W e W.frames
     tick_by (unwinds e) W = unwound system W e W.frames
-    tick_by (calls_primitive n vs) W = elim (primitives n) [ None ↦ breaks W | Some p ↦ does_primitive p W vs ]
+    tick_by (calls_primitive n vs) W = elim (primitives.numbered n) [ None ↦ breaks W | Some p ↦ does_primitive primitives.builds p W vs ]
     tick_by (ends ending) W = W
 
     abbrev pub tick : World F S → World F S

@@ -126,10 +126,10 @@ place_back p cs ds c d co co' f r one (same_place x x' g q at) e h =
     let l : x ≡ co = one.objects a_coroutine x co co' (at ∙ ap Some k) h in cc
 place_back p cs ds c d co co' f r one (same_content x y v w l m s) e h = absurd (loose_not ds (IsSecond p) y w co' f r m e (co, h))
 
-abbrev with_cell : Pairs → ℕ → ℕ → Pairs
+abbrev pub with_cell : Pairs → ℕ → ℕ → Pairs
 with_cell p i j = record p { cells = with_pair p.cells i j }
 
-extends_cell : (p : Pairs) (i j : ℕ) → p.cells i ≡ None → Extends p (with_cell p i j)
+pub extends_cell : (p : Pairs) (i j : ℕ) → p.cells i ≡ None → Extends p (with_cell p i j)
 extends_cell p i j fresh = record { objects = λ k n m h. h; cells = λ n m h. pair_old p.cells i j n m fresh h }
 
 pair_same : (p : Pairs) (A B : Objects) (i j co co' f r : ℕ) → SameObjects p A B → p.cells i ≡ None → ((n : ℕ) → p.cells n ≡ Some j → ⊥) → slice_get A.cells i ≡ Some (open_at co f r) → slice_get B.cells j ≡ Some (open_at co' f r) → SameNumber p a_coroutine co co'

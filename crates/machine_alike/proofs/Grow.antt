@@ -67,10 +67,10 @@ one_object p k i j one out = record {
     go l a b m false e h g = one.objects l a b m h g
 
 -- the next number is unpaired on both sides
-fresh_left : {A : Type 0} (R : A → A → Type 0) (f : ℕ → Option ℕ) (xs ys : List A) → ((i j : ℕ) → f i ≡ Some j → Both R (slice_get xs i) (slice_get ys j)) → f (length xs) ≡ None
+pub fresh_left : {A : Type 0} (R : A → A → Type 0) (f : ℕ → Option ℕ) (xs ys : List A) → ((i j : ℕ) → f i ≡ Some j → Both R (slice_get xs i) (slice_get ys j)) → f (length xs) ≡ None
 fresh_left R f xs ys h = none_of (f (length xs)) (λ j e. let l = both_left R _ _ (h (length xs) j e) in let z = get_end xs in cc)
 
-fresh_right : {A : Type 0} (R : A → A → Type 0) (f : ℕ → Option ℕ) (xs ys : List A) → ((i j : ℕ) → f i ≡ Some j → Both R (slice_get xs i) (slice_get ys j)) → (n : ℕ) → f n ≡ Some (length ys) → ⊥
+pub fresh_right : {A : Type 0} (R : A → A → Type 0) (f : ℕ → Option ℕ) (xs ys : List A) → ((i j : ℕ) → f i ≡ Some j → Both R (slice_get xs i) (slice_get ys j)) → (n : ℕ) → f n ≡ Some (length ys) → ⊥
 fresh_right R f xs ys h n e = let r = both_right R _ _ (h n (length ys) e) in let z = get_end ys in cc
 
 -- at another kind nothing is new

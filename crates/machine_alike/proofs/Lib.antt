@@ -12,6 +12,7 @@ pub mod Calls
 pub mod OtherFrames
 pub mod Coroutines
 pub mod PlainRows
+pub mod NewFunctions
 pub mod Opened
 pub mod Rows
 pub mod Keeps

@@ -3,10 +3,12 @@ use Rattle.std.proofs.Common.{ℕ, suc, Bool, true, false, cond, List, [], ◌�
 use Rattle.std.specs.Prelude.{ℤ, pos, negsuc, zero, Option, Some, None}
 use Rattle.int_core.specs.Value.{a_table, a_function, a_coroutine, Shape, is_known, is_object}
 use Rattle.library_rows.specs.Look.{Look}
+use Rattle.load_rows.specs.Loading.{Builds, Loaded, wrong, not_loaded, loaded, load_of}
+use Rattle.code_core.specs.Prototype.{Prototype}
 use Rattle.library_rows.specs.Library.{Primitive, base_error, base_pcall, base_xpcall, coroutine_close, coroutine_create, coroutine_isyieldable, coroutine_resume, coroutine_running, coroutine_status, coroutine_yield, prelude_build, prelude_out, primitive_at, row_of}
 use Rattle.machine_core.specs.World.{Wait}
 use Rattle.machine_core.specs.MachineStep.{level_in, errs_at, after_resume, resumes, after_closing, closes_coroutine, can_call, sees_status, after_look, look_row}
-use Rattle.machine_core.specs.PrimitiveRows.{own_row, primitive_row, row_numbered}
+use Rattle.machine_core.specs.PrimitiveRows.{own_row, primitive_row, row_numbered, environment_at, loaded_row, load_row}
 use Rattle.machine_core.specs.Text.{Arg, read, Own, read_upvalue, write_upvalue, make_table, make_function, fill_table, pay, Text, go_by, own, open_cell, quick, operate, call, tail_call, close, closable, raise, leave, trap, Given, results, thrown}
 use Rattle.machine_core.specs.InstructionRows.{fails, is_true}
 use Rattle.machine_core.specs.Moves.{ResumeShape, resumed, refused, LookShape, is_given, is_refused, is_raised, traps, CallShape, is_entered, is_primitive, not_paid, not_entered, SettledShape, is_found, is_asked, is_fault, TopShape, lua_top, pcall_top, xpcall_top, handler_top, closing_top, no_top, ClosingShape, one_left, all_closed, closed_with_error, Row, only}
@@ -184,6 +186,15 @@ after_look_none v is_raised = λ _ _. tt
 
 pub look_none : (l : Look) → NoneMade (look_row l)
 look_none l = λ _ _ v s. after_look_none v s
+
+loaded_none : (x : Option Arg) (l : Loaded Prototype) → NoneMade (loaded_row x l)
+loaded_none x (wrong error) = λ _ _. tt
+loaded_none x (not_loaded why) = λ _ _. hand_over_none
+loaded_none x (loaded name p) = λ _ _ _ _. hand_over_none
+
+-- a function of loaded code captures no local
+pub load_none : (builds : Builds Prototype) → NoneMade (load_row builds)
+load_none builds = λ c _ count chunk _ name _ mode. loaded_none (environment_at c count) (load_of builds chunk name mode)
 
 own_none : (build : Row) → NoneMade build → (p : Primitive) → NoneMade (own_row build p)
 own_none build b base_error = λ e _ _ s. errs_none e s (level_in s)

@@ -5,7 +5,7 @@ use Rattle.code_core.specs.Prototype.{Prototype}
 use Rattle.int_core.specs.Value.{Value, bind}
 use Rattle.machine_core.specs.World.{World, Place, place_of, find_open}
 use Rattle.machine_core.specs.Text.{Text, go_by, own, open_cell, quick, operate, call, tail_call, close, closable, raise, leave, trap, read_upvalue, write_upvalue, make_table, make_function, fill_table, pay}
-use Rattle.machine_core.specs.Moves.{Move, on_own, move_pc, open_register, outside, settle, enter, enter_tail, await, find_close, is_closable, begin_leaving, leave_frame, take_moving, look, give, give_with, blame, place_text, push_frame, call_value, see_top, see_catcher, pop_frame, take_closing, set_error, end_coroutine, fail_coroutine, suspend, resume, begin_closing, consult, create, see_status, see_running, print, Told, Made, made, move, opened_cells, Row, traps, stop, only, act, Outcome, trapped, run}
+use Rattle.machine_core.specs.Moves.{Move, on_own, move_pc, open_register, outside, settle, enter, enter_tail, await, find_close, is_closable, begin_leaving, leave_frame, take_moving, look, give, give_with, blame, place_text, push_frame, call_value, see_top, see_catcher, pop_frame, take_closing, set_error, end_coroutine, fail_coroutine, suspend, resume, begin_closing, consult, create, see_status, see_running, print, make_loaded, Told, Made, made, move, opened_cells, Row, traps, stop, only, act, Outcome, trapped, run}
 use Rattle.machine_core.specs.FrameRows.{When, at_once, expand_by, expand}
 use Rattle.machine_core.specs.RowFits.{MakesNone, OpensFirst}
 use Rattle.machine_alike.specs.Agree.{Pairs, SameValue, SameValues, AgreeInTurn, Extends}
@@ -18,6 +18,7 @@ use Rattle.machine_alike.proofs.Calls.{await_keeps, enter_keeps, enter_tail_keep
 use Rattle.machine_alike.proofs.OtherFrames.{take_moving_keeps, look_keeps, give_keeps, give_with_keeps, blame_keeps, place_text_keeps, push_frame_keeps, call_value_keeps, see_top_keeps, see_catcher_keeps, pop_keeps, take_closing_keeps, set_error_keeps}
 use Rattle.machine_alike.proofs.Looks.{consult_keeps}
 use Rattle.machine_alike.proofs.Coroutines.{end_keeps, fail_keeps, suspend_keeps, resume_keeps, begin_closing_keeps, create_keeps, see_status_keeps, see_running_keeps, print_keeps}
+use Rattle.machine_alike.proofs.NewFunctions.{make_loaded_keeps}
 use Rattle.machine_alike.proofs.PlainRows.{expand_none}
 use Rattle.machine_alike.proofs.Opened.{open_one_more, Ready, makes_alike}
 
@@ -57,6 +58,7 @@ moves_keep (create x) = create_keeps x
 moves_keep (see_status x) = see_status_keeps x
 moves_keep see_running = see_running_keeps
 moves_keep (print x) = print_keeps x
+moves_keep (make_loaded code x) = make_loaded_keeps code x
 
 -- rows
 
@@ -127,6 +129,7 @@ plain (create x) k h = record { keeps = moves_keep (create x); next = h }
 plain (see_status x) k h = record { keeps = moves_keep (see_status x); next = h }
 plain see_running k h = record { keeps = moves_keep see_running; next = h }
 plain (print x) k h = record { keeps = moves_keep (print x); next = h }
+plain (make_loaded code x) k h = record { keeps = moves_keep (make_loaded code x); next = h }
 
 pub rows_keep : RowsKeep
 rows_keep traps h p env other W X s a = both_trap

@@ -45,6 +45,7 @@ IsKept m = Keeps m
 abbrev pub MovesKeep : Type 0
 MovesKeep = (m : Move) → IsKept m
 
+-- no function is made that captures locals of a frame
 abbrev pub NoneMade : Row → Type 0
 NoneMade traps = Unit {0}
 NoneMade (stop e) = Unit {0}
@@ -52,11 +53,11 @@ NoneMade (only slot r) = NoneMade r
 NoneMade (act (outside (make_function n)) k) = ⊥
 NoneMade (act m k) = (n : ℕ) (t : Told m) → NoneMade (k n t)
 
--- a row that makes no function
+-- a row that makes no such function
 abbrev pub RowsKeep : Type 0
 RowsKeep = (r : Row) → NoneMade r → (p : Pairs) (env other : List Value) (W X : World) → SameValues p env other → AgreeInTurn p W X → SameOutcome p (run r env W) (run r other X)
 
--- the machine's own rows open what they share; so its steps keep it, whatever the rows of the primitives are that make no function
+-- the machine's own rows open what they share; so its steps keep it, whatever the rows of the primitives are that make no such function
 abbrev pub StepsKeep : Type 0
 StepsKeep = (primitives : ℕ → Row) → ((n : ℕ) → NoneMade (primitives n)) → (n : ℕ) (e : Ending) (p : Pairs) (W X : World) → AgreeInTurn p W X
     → SameOutcome p (steps primitives n e W) (steps primitives n e X)

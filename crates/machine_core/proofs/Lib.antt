@@ -2,8 +2,8 @@ pub mod Machine
 pub mod MachineTalk
 pub mod MachineFamilies
 pub mod MachineErrors
-pub mod BothReadings
 pub mod MachineEdges
 pub mod RowsFit
 pub mod RowsOpen
 pub mod Pending
+mod MachineLoads

@@ -7,5 +7,4 @@ pub mod MachineStep
 pub mod PrimitiveRows
 pub mod Talk
 pub mod RowFits
-pub mod TalkRun
 pub mod Laws

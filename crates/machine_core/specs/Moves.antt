@@ -8,7 +8,7 @@ use Rattle.code_core.specs.Prototype.{Prototype, list_of}
 use Rattle.code_core.specs.Check.{lines_from, at}
 use Rattle.int_core.specs.Limits.{limited, position, greatest_depth, greatest_resumes, stack_overflow}
 use Rattle.int_core.specs.Value.{nil, string, primitive, a_table, a_function, a_coroutine, Value, known, object, Shape, shape, is_nil, nth, bind, last, without_last}
-use Rattle.machine_core.specs.World.{Cell, open_at, Wait, running, for_call, for_iterator, for_value, for_truth, dropped, for_concat, for_close, returning, leaving, Activation, Frame, lua, pcall, xpcall, handler, closing, Coroutine, fresh, suspended, in_progress, normal, dead, failed, World, Stack, stack_of, Place, place_of, put_top, push, pop, read_cell, write_cell, find_open, close_from, frames_of}
+use Rattle.machine_core.specs.World.{Cell, closed, open_at, Wait, running, for_call, for_iterator, for_value, for_truth, dropped, for_concat, for_close, returning, leaving, Activation, Frame, lua, pcall, xpcall, handler, closing, Coroutine, fresh, suspended, in_progress, normal, dead, failed, World, Stack, stack_of, Place, place_of, put_top, push, pop, read_cell, write_cell, find_open, close_from, frames_of}
 use Rattle.int_core.specs.Operations.{Operation, Settled, found, ask, fault, cannot_arise, does, Callee, callee, not_callable, callee_of, greatest_chain, handler_in, of_close, is_function}
 use Rattle.machine_core.specs.Text.{Arg, arg, args_of, Own, close_cells, keep_pending, reads, tells, effect, fits, done, Quick, read_upvalue, write_upvalue, make_table, make_function, fill_table, pay, Given, given_values}
 
@@ -83,6 +83,7 @@ pub data Move : Type 0 where
   see_status : Arg → Move
   see_running : Move
   print : Arg → Move
+  make_loaded : Prototype → (environment : Option Arg) → Move
 
 -- what an operation came to: one value or none, a handler to be called with what was read behind it, a fault
 pub data SettledShape : Type 0 where
@@ -444,6 +445,18 @@ abbrev pub bytes_in : Value → List ℕ
 bytes_in (known (string bytes)) = bytes
 bytes_in _ = []
 
+-- loading
+
+-- a function of this code, whose outer variables are one new cell
+unfoldable pub add_loaded : World → Prototype → (environment : Value) → World
+add_loaded W p environment =
+    record W { functions = W.functions ++ record { code = p; cells = length W.cells ∷ [] } ∷ []; cells = W.cells ++ closed environment ∷ [] }
+
+-- the globals, where no environment is given
+abbrev pub environment_in : World → List Value → Option Arg → Value
+environment_in W env None = object a_table W.globals
+environment_in W env (Some x) = arg env x
+
 -- library rows that look at values and tables alone
 
 abbrev pub consulted : World → Done → Option (Made LookShape)
@@ -499,6 +512,7 @@ move (create x) env W = cond (is_function (arg env x)) (made (add_coroutine W (a
 move (see_status x) env W = bind (coroutine_number (arg env x)) (λ co. bind (slice_get W.coroutines co) (λ c. made W [] (status_of c)))
 move see_running env W = bind (last W.chain) (λ co. made W (object a_coroutine co ∷ []) tt)
 move (print x) env W = made (add_printed W (bytes_in (arg env x))) [] tt
+move (make_loaded p x) env W = made (add_loaded W p (environment_in W env x)) (object a_function (length W.functions) ∷ []) tt
 
 pub data Outcome : Type 0 where
   trapped : Outcome

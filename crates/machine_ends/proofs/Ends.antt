@@ -19,7 +19,7 @@ use Rattle.machine_runs.proofs.Waking.{wakes_good, budget_solid, budget_turn}
 use Rattle.machine_runs.proofs.Opening.{handed_sound, handed_may_turn}
 use Rattle.machine_runs.proofs.MainWaits.{turn_yields}
 use Rattle.machine_ends.specs.Measure.{Within, measure}
-use Rattle.machine_ends.specs.Laws.{PrimitiveFalls}
+use Rattle.machine_ends.specs.Laws.{FallsWithin, FallsFrom}
 use Rattle.machine_ends.proofs.Steps.{steps_fall}
 
 -- no function has more instructions than all have together
@@ -43,14 +43,14 @@ world_same V X e = ap (world_in V) e
     world_in V trapped = V
     world_in V (ends d X) = X
 
-module _ (build : Row) (b : PrimitiveFalls build) (primitives : ℕ) (p : PrimitivesSafe primitives (row_numbered build)) where
+module _ (build : Row) (least : ℕ) (b : FallsFrom least build) (primitives : ℕ) (p : PrimitivesSafe primitives (row_numbered build)) where
   abbrev Ends : Outcome → Type 0
   Ends o = (n : ℕ) × (has_ended (and_then o (steps (row_numbered build) n)) ≡ true)
 
   -- by the measure, which is below a number
-  within_bound : (most bound : ℕ) (e : Ending) (W : World) → SoundAfter primitives e W → Within most W → measure most e W < bound → (n : ℕ) × (has_ended (steps (row_numbered build) n e W) ≡ true)
-  within_bound most zero e W s w l = absurd (omega arith)
-  within_bound most (suc bound) e W s w l = by (step (row_numbered build) e W) (steps_good primitives (row_numbered build) p e W s) (λ d V q. steps_fall build b most e d W V w q) (λ d V z x y. within_bound most bound d V z x y) refl
+  within_bound : (most bound : ℕ) → FallsWithin most build → (e : Ending) (W : World) → SoundAfter primitives e W → Within most W → measure most e W < bound → (n : ℕ) × (has_ended (steps (row_numbered build) n e W) ≡ true)
+  within_bound most zero f e W s w l = absurd (omega arith)
+  within_bound most (suc bound) f e W s w l = by (step (row_numbered build) e W) (steps_good primitives (row_numbered build) p e W s) (λ d V q. steps_fall build most f e d W V w q) (λ d V z x y. within_bound most bound f d V z x y) refl
     where
       one : (n : ℕ) → has_ended (and_then (step (row_numbered build) e W) (steps (row_numbered build) n)) ≡ true → (n : ℕ) × (has_ended (steps (row_numbered build) n e W) ≡ true)
       one n h = (suc n, h)
@@ -65,7 +65,10 @@ module _ (build : Row) (b : PrimitiveFalls build) (primitives : ℕ) (p : Primit
           (f d V refl)
 
   pub steps_end : (e : Ending) (W : World) → SoundAfter primitives e W → (n : ℕ) × (has_ended (steps (row_numbered build) n e W) ≡ true)
-  steps_end e W s = let m = longest W in within_bound m.0 (suc (measure m.0 e W)) e W s m.1 (omega arith)
+  steps_end e W s =
+      let m = longest W in
+      let most = least + m.0 in
+      within_bound most (suc (measure most e W)) (b most (omega arith)) e W s (each_on (λ (f : Function). instruction_count f.code ≤ m.0) (λ (f : Function). instruction_count f.code ≤ most) (λ f l. omega arith) W.functions m.1) (omega arith)
 
   pub turns_end : (W : World) (budget : ℕ) → Sound primitives W → MayTurn W → (n : ℕ) × (has_ended (turn (row_numbered build) n W budget) ≡ true)
   turns_end W budget s t = by (wakes (with_budget W budget)) (wakes_good primitives (with_budget W budget) (record { solid = budget_solid primitives W budget s.solid; rests = idle t.idle }) (budget_turn W budget t))

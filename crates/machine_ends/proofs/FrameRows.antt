@@ -1,5 +1,5 @@
 -- Rows of frames that are no Lua functions', of errors on their way, and of primitives make the measure smaller.
-use Rattle.std.proofs.Common.{ℕ, zero, suc, ◌+◌, ◌<◌, List, [], ◌∷◌, Option, Some, None, refl, arith, Bool, true, false, cond}
+use Rattle.std.proofs.Common.{ℕ, zero, suc, ◌≡◌, ◌+◌, ◌<◌, List, [], ◌∷◌, Option, Some, None, refl, arith, Bool, true, false, cond}
 use Rattle.std.specs.Prelude.{ℤ, pos, negsuc, codes, slice_get}
 use Rattle.int_core.specs.Limits.{stack_overflow}
 use Rattle.int_core.specs.Value.{boolean, a_table, a_function, a_coroutine, Shape, is_known, is_object}
@@ -49,7 +49,7 @@ known_falls rich c top k f = (tt, λ n t. by (may_be top t) n t)
     by true n t = f n t
     by false n t = tt
 
-blames_fall : (rich : Bool) (c : ℕ) (top : Option TopShape) (text : List ℕ) → 7 < c → Falls (anywhere rich c top) (blames text)
+pub blames_fall : (rich : Bool) (c : ℕ) (top : Option TopShape) (text : List ℕ) → 7 < c → Falls (anywhere rich c top) (blames text)
 blames_fall rich c top text l = (tt, λ n t. l)
 
 begins_fall : (rich : Bool) (c : ℕ) (top : Option TopShape) (text : List ℕ) → 7 < c → Falls (anywhere rich c top) (raises text)
@@ -229,38 +229,25 @@ after_look_falls v is_given = (tt, λ n t. hand_over_falls true 100 None (omega 
 after_look_falls v (is_refused text) = blamed text
 after_look_falls v is_raised = (tt, λ n t. (let l : 7 < 100 = omega arith in l))
 
-look_falls : (l : Look) → RichAt (look_row l)
+pub look_falls : (l : Look) → RichAt (look_row l)
 look_falls l = (tt, λ n t. (tt, λ v s. after_look_falls v s))
 
-module _ (build : Row) (b : PrimitiveFalls build) where
-  own_falls : (p : Primitive) → RichAt (own_row build p)
-  own_falls base_error = (tt, λ e t. (tt, λ n s. errs_fall e s (level_in s)))
-  own_falls base_pcall = (tt, λ f t. over_falls over_pcall _ (tt, λ n t. (let l : 8 < 97 = omega arith in l)))
-  own_falls base_xpcall = (tt, λ f t. over_falls (over_xpcall (read (suc f))) _ (tt, λ n t. (let l : 8 < 97 = omega arith in l)))
-  own_falls coroutine_close = (tt, λ co t. (tt, λ n s. closes_fall s co))
-  own_falls coroutine_create = (tt, λ f t. (tt, λ n s. creates_fall s f))
-  own_falls coroutine_isyieldable = (tt, λ n t. hand_over_falls true 100 None (omega arith))
-  own_falls coroutine_resume = (tt, λ co t. (tt, λ n s. resumes_fall s co))
-  own_falls coroutine_running = (tt, λ co t. (tt, λ n t. hand_over_falls true 100 None (omega arith)))
-  own_falls coroutine_status = (tt, λ co t. (tt, λ n s. status_falls s co))
-  own_falls coroutine_yield = yields_fall
-  own_falls prelude_build = b
-  own_falls prelude_out = (tt, λ v t. (tt, λ n t. hand_over_falls true 100 None (omega arith)))
-  own_falls p = tt
-
-  primitive_falls : (p : Primitive) → RichAt (primitive_row build p)
-  primitive_falls p = from (row_of p)
-    where
-      from : (o : Option Look) → RichAt (elim o as (λ _. Row) [ Some l ↦ look_row l | None ↦ own_row build p ])
-      from (Some l) = look_falls l
-      from None = own_falls p
-
-  pub numbered_falls : (k : ℕ) → RichAt (row_numbered build k)
-  numbered_falls k = from (slice_get all_entries k)
-    where
-      from : (o : Option (Entry Primitive)) → RichAt (elim (elim o as (λ _. Option Primitive) [ None ↦ None | Some e ↦ Some e.entry ]) as (λ _. Row) [ None ↦ traps | Some p ↦ primitive_row build p ])
-      from None = tt
-      from (Some e) = primitive_falls e.entry
+-- each primitive but `build`
+module _ (build : Row) where
+  pub own_falls : (p : Primitive) → (p ≡ prelude_build → ⊥) → RichAt (own_row build p)
+  own_falls base_error q = (tt, λ e t. (tt, λ n s. errs_fall e s (level_in s)))
+  own_falls base_pcall q = (tt, λ f t. over_falls over_pcall _ (tt, λ n t. (let l : 8 < 97 = omega arith in l)))
+  own_falls base_xpcall q = (tt, λ f t. over_falls (over_xpcall (read (suc f))) _ (tt, λ n t. (let l : 8 < 97 = omega arith in l)))
+  own_falls coroutine_close q = (tt, λ co t. (tt, λ n s. closes_fall s co))
+  own_falls coroutine_create q = (tt, λ f t. (tt, λ n s. creates_fall s f))
+  own_falls coroutine_isyieldable q = (tt, λ n t. hand_over_falls true 100 None (omega arith))
+  own_falls coroutine_resume q = (tt, λ co t. (tt, λ n s. resumes_fall s co))
+  own_falls coroutine_running q = (tt, λ co t. (tt, λ n t. hand_over_falls true 100 None (omega arith)))
+  own_falls coroutine_status q = (tt, λ co t. (tt, λ n s. status_falls s co))
+  own_falls coroutine_yield q = yields_fall
+  own_falls prelude_build q = absurd (q refl)
+  own_falls prelude_out q = (tt, λ v t. (tt, λ n t. hand_over_falls true 100 None (omega arith)))
+  own_falls p q = tt
 
 -- a `load` that refuses every text falls so, as do all rows beside it
 pub refusing_falls : (text : List ℕ) → PrimitiveFalls (blames text)

@@ -11,4 +11,5 @@ pub mod Texts
 pub mod Opcodes
 pub mod FrameRows
 pub mod Steps
+pub mod Loads
 pub mod Ends

@@ -3,24 +3,26 @@ use Rattle.std.proofs.Common.{ℕ, ◌+◌, ◌*◌, ◌≤◌, ◌≡◌, inl, 
 use Rattle.std.specs.Prelude.{slice_get}
 use Rattle.int_core.specs.Value.{Value, bind, last}
 use Rattle.int_core.specs.Ask.{values}
+use Rattle.library_rows.specs.Look.{Look}
+use Rattle.library_rows.specs.Library.{Primitive, prelude_build, Entry, all_entries, row_of}
 use Rattle.code_core.specs.Prototype.{Prototype, instruction_count}
 use Rattle.machine_core.specs.World.{Function, Wait, running, for_call, for_iterator, for_value, for_truth, dropped, for_concat, for_close, returning, leaving, LuaFrame, Frame, lua, pcall, xpcall, handler, closing, World, Stack, stack_of, put_top}
 use Rattle.machine_core.specs.InstructionRows.{text_at, told_values, rest_at}
-use Rattle.machine_core.specs.Moves.{see_top, TopShape, lua_top, pcall_top, xpcall_top, handler_top, closing_top, no_top, top_now, Ending, go, returned, asks, calls_primitive, raised, unwinding, spent, main_yielded, main_returned, main_failed, Row, act, Outcome, trapped, ends, run}
+use Rattle.machine_core.specs.Moves.{see_top, TopShape, lua_top, pcall_top, xpcall_top, handler_top, closing_top, no_top, top_now, Ending, go, returned, asks, calls_primitive, raised, unwinding, spent, main_yielded, main_returned, main_failed, Row, traps, act, Outcome, trapped, ends, run}
 use Rattle.machine_core.specs.FrameRows.{goes_on_by, expand, asked_row, raised_row, unwound, handed_to}
-use Rattle.machine_core.specs.MachineStep.{woken, lua_step, frame_step, top_step, from_world, step}
-use Rattle.machine_core.specs.PrimitiveRows.{row_numbered}
+use Rattle.machine_core.specs.MachineStep.{woken, lua_step, frame_step, top_step, look_row, from_world, step}
+use Rattle.machine_core.specs.PrimitiveRows.{own_row, primitive_row, row_numbered}
 use Rattle.machine_sound.specs.Sound.{Each}
 use Rattle.machine_runs.specs.Runs.{is_end}
 use Rattle.machine_ends.specs.Measure.{Within, wait_weight, asks_weight, world_weight, measure}
 use Rattle.machine_ends.specs.Falls.{on_lua, anywhere, Falls}
-use Rattle.machine_ends.specs.Laws.{PrimitiveFalls, StepsFall}
+use Rattle.machine_ends.specs.Laws.{PrimitiveFalls, FallsWithin, PrimitivesFall, StepsFall}
 use Rattle.machine_ends.proofs.Weights.{Runs, stack_runs}
 use Rattle.machine_ends.proofs.Held.{with_top, top_last}
 use Rattle.machine_ends.proofs.OwnMoves.{PutSo, put_so}
 use Rattle.machine_ends.proofs.Rows.{Fell, run_falls}
 use Rattle.machine_ends.proofs.Opcodes.{text_falls, waiting_falls}
-use Rattle.machine_ends.proofs.FrameRows.{returned_falls, unwinding_falls, raised_falls, asked_falls, asked_over_handler, numbered_falls}
+use Rattle.machine_ends.proofs.FrameRows.{returned_falls, unwinding_falls, raised_falls, asked_falls, asked_over_handler, own_falls, look_falls}
 
 module _ (most : ℕ) where
   -- what has fallen below what it was
@@ -130,9 +132,27 @@ module _ (most : ℕ) where
       by None q e V h = absurd (cc)
       by (Some s) q e V h = on_top s (stack_runs W s q) (last s.frames) refl e V h
 
-  module _ (build : Row) (b : PrimitiveFalls build) where
-    primitive_low : (W : World) (k : ℕ) → Within most W → Low W (world_weight most W + (40 * most + 100)) (run (row_numbered build k) [] W)
-    primitive_low W k w = run_falls most (world_weight most W + (40 * most + 100)) (row_numbered build k) (anywhere true 100 None) [] W (record { within = w; held = record { low = omega arith; known = tt } }) (numbered_falls build b k)
+  rich_low : (r : Row) → PrimitiveFalls r → (W : World) → Within most W → Low W (world_weight most W + (40 * most + 100)) (run r [] W)
+  rich_low r f W w = run_falls most (world_weight most W + (40 * most + 100)) r (anywhere true 100 None) [] W (record { within = w; held = record { low = omega arith; known = tt } }) f
+
+  module _ (build : Row) (b : FallsWithin most build) where
+    abbrev LowAt : World → Row → Type 0
+    LowAt W r = Low W (world_weight most W + (40 * most + 100)) (run r [] W)
+
+    own_low : (p : Primitive) (W : World) → Within most W → LowAt W (own_row build p)
+    own_low prelude_build W w = λ e V h. b e W V w h
+    own_low p W w = rich_low (own_row build p) (own_falls build p (λ e. absurd (cc))) W w
+
+    primitive_low : (W : World) (k : ℕ) → Within most W → LowAt W (row_numbered build k)
+    primitive_low W k w = entry_low (slice_get all_entries k)
+      where
+        by_row : (p : Primitive) (o : Option Look) → LowAt W (elim o as (λ _. Row) [ Some l ↦ look_row l | None ↦ own_row build p ])
+        by_row p (Some l) = rich_low (look_row l) (look_falls l) W w
+        by_row p None = own_low p W w
+
+        entry_low : (o : Option (Entry Primitive)) → LowAt W (elim (elim o as (λ _. Option Primitive) [ None ↦ None | Some e ↦ Some e.entry ]) as (λ _. Row) [ None ↦ traps | Some p ↦ primitive_row build p ])
+        entry_low None = λ e V h. absurd (cc)
+        entry_low (Some x) = by_row x.entry (row_of x.entry)
 
     step_low : (e : Ending) (W : World) → Within most W → Low W (measure most e W) (step (row_numbered build) e W)
     step_low go W w = from_low W (world_weight most W + 0) (stepped (top_step W)) (top_low W w)
@@ -147,4 +167,7 @@ module _ (most : ℕ) where
     step_low main_failed W w = λ e V h. inl (ended_in main_failed e W V h refl)
 
 pub steps_fall : StepsFall
-steps_fall build b most e d W V w h = step_low most build b e W w d V h
+steps_fall build most b e d W V w h = step_low most build b e W w d V h
+
+pub primitives_fall : PrimitivesFall
+primitives_fall r f most e W V w h = rich_low most r f W w e V h

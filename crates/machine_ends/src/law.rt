@@ -1,7 +1,14 @@
 // The laws that turns of code end.
-ghost use Rattle.machine_ends.specs.Laws.{EveryCodeRuns, StepsEnd, StepsFall, TurnsEnd};
+ghost use Rattle.machine_ends.specs.Laws.{EveryCodeRuns, LoadFalls, PrimitivesFall, StepsEnd, StepsFall, TurnsEnd};
 
-/// Each step makes a measure of the world smaller, or ends the turn.
+/// A row that makes a measure of the world smaller comes to so much less, and so does the row of `build`, where no source is built to more
+/// instructions than are counted for.
+pub fn primitives_fall()
+    ensures rows { PrimitivesFall }
+    ensures loads { LoadFalls }
+{}
+
+/// Each step makes a measure of the world smaller, or ends the turn, where `build` does.
 pub fn steps_fall()
     ensures { StepsFall }
 {}

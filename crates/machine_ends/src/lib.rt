@@ -3,4 +3,4 @@
 
 mod law;
 
-pub use law::{every_code_runs, steps_fall, turns_of_code_end};
+pub use law::{every_code_runs, primitives_fall, steps_fall, turns_of_code_end};

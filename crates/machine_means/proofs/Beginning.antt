@@ -191,8 +191,8 @@ module _ (primitives : ℕ) (M : machine.World) (T : TalkWorld) (k : AtRest prim
       (subst (λ o. ComesTo o (calls.enters codes_run (U f.0 f.1) body vs (λ why V. raises_text V why))) (sym (begun_is l)) (entered_by f.0 f.1 body (λ z. ok (begun_is l ∙ z))))
 
 pub coroutines_begin : CoroutinesBegin
-coroutines_begin primitives M T k co vs moves body there ok =
+coroutines_begin builds primitives M T k co vs moves body there ok =
     let h = fresh_held M T k.joined co body there in
     let started : run resume_row [] M ≡ begun primitives M T k co vs body there = begins primitives M T k.solid k.waits k.joined co vs moves in
-    subst (λ U. ComesTo (run resume_row [] M) U) (sym (told_is primitives M T k.solid k.waits k.joined co vs (talk.fresh body) h.0))
+    subst (λ U. ComesTo (run resume_row [] M) U) (sym (told_is primitives M T k.solid k.waits k.joined co vs builds (talk.fresh body) h.0))
     (subst (λ o. ComesTo o (calls.resumes codes_run T co (talk.fresh body) vs)) (sym started) (by_resumes primitives M T k co vs body there (nat_lt greatest_resumes (length M.chain)) refl (λ z. ok (started ∙ z))))

@@ -1,4 +1,6 @@
 -- `coroutine.close`: the coroutine is dead, and a frame with what it still has to close stands on top of the one that runs.
+use Rattle.code_core.specs.Prototype.{Prototype}
+use Rattle.load_rows.specs.Loading.{Builds}
 use Rattle.std.proofs.Common.{ℕ, ◌+◌, ◌≡◌, ◌≢◌, ⊎_elim, List, [], ◌∷◌, ◌++◌, length, Option, Some, None, refl, sym, ap, subst, ◌∙◌, Bool, true, false, cond}
 use Rattle.std.specs.Prelude.{slice_get, slice_set, nat_le, reverse, flat_map, codes}
 use Rattle.std.proofs.lemmas.Bool.{cases_eq}
@@ -74,8 +76,8 @@ module _ (primitives : ℕ) (M : machine.World) (T : TalkWorld) (k : AtRest prim
   refusal : (text : List ℕ) (c : Coroutine) → slice_get M.coroutines co ≡ Some c → moves.closes_coroutine N s co c ≡ made N [] (refused text) → ComesTo begun (raises_text T text)
   refusal text c there e = subst (λ o. ComesTo o (raises_text T text)) (sym (goes N (refused text) (move_is c there ∙ e))) (raising primitives M T k text (env ++ []) [])
 
-  told_is : (d : talk.Coroutine State) → slice_get T.coroutines co ≡ Some d → does_primitive codes_run coroutine_close T (object a_coroutine co ∷ vs) ≡ calls.closes_coroutine codes_run T co d
-  told_is d e = ap (λ o. elim o as (λ _. TalkWorld) [ None ↦ breaks T | Some d ↦ calls.closes_coroutine codes_run T co d ]) e
+  told_is : (builds : Builds Prototype) (d : talk.Coroutine State) → slice_get T.coroutines co ≡ Some d → does_primitive codes_run builds coroutine_close T (object a_coroutine co ∷ vs) ≡ calls.closes_coroutine codes_run T co d
+  told_is builds d e = ap (λ o. elim o as (λ _. TalkWorld) [ None ↦ breaks T | Some d ↦ calls.closes_coroutine codes_run T co d ]) e
 
   -- the coroutine is dead, and holds nothing
   buried : (ws : List Cell) (x : Coroutine) (y : talk.Coroutine State) (hs : List Held) → slice_get M.coroutines co ≡ Some x → slice_get T.coroutines co ≡ Some y → slice_get k.joined.held co ≡ Some hs → CellsPair ws T.cells (slice_set k.joined.held co [])
@@ -189,7 +191,7 @@ module _ (primitives : ℕ) (M : machine.World) (T : TalkWorld) (k : AtRest prim
   closed_so _ _ hs there talks held p = absurd p
 
 pub coroutines_closed : CoroutinesClosed
-coroutines_closed primitives M T k co vs moves c there =
+coroutines_closed builds primitives M T k co vs moves c there =
     let p = all3_first (CoroutinePair M.functions T.cells (runs primitives M T k co vs)) c (slice_get M.coroutines co) (slice_get T.coroutines co) (slice_get k.joined.held co) there (k.joined.coroutines co) in
-    subst (λ U. ComesTo (run close_row [] M) U) (sym (told_is primitives M T k co vs p.0 p.2))
+    subst (λ U. ComesTo (run close_row [] M) U) (sym (told_is primitives M T k co vs builds p.0 p.2))
     (subst (λ o. ComesTo o (calls.closes_coroutine codes_run T co p.0)) (sym (begins primitives M T k co vs moves)) (closed_so primitives M T k co vs c p.0 p.1 there p.2 p.3 p.4))

@@ -95,7 +95,7 @@ module _ (primitives : ℕ) (M : machine.World) (T : TalkWorld) (lax : Bool) (i 
 
 -- it yields
 pub yields_joined : YieldsJoined
-yields_joined primitives M T i =
+yields_joined builds primitives M T i =
     let x = resumer primitives M i.solid i.waits T false i.joined i.resumed in
     let co = i.waits.coroutine in
     let frames = i.waits.frames in

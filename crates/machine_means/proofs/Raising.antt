@@ -141,7 +141,7 @@ pub texts_raised : TextsRaised
 texts_raised primitives M T k text = raising primitives M T k text [] M.moving
 
 pub protected_calls : ProtectedCalls
-protected_calls primitives M T k = (
+protected_calls builds primitives M T k = (
   over_comes primitives M T k over_pcall pcall protected 1 refl refl refl refl,
   over_comes primitives M T k (over_xpcall (read 1)) (xpcall (nth M.moving 1)) (handled_by (nth M.moving 1)) 2 refl (refl, refl) refl refl,
 )

@@ -1,4 +1,6 @@
 -- A coroutine that has begun is resumed, or that is refused.
+use Rattle.code_core.specs.Prototype.{Prototype}
+use Rattle.load_rows.specs.Loading.{Builds}
 use Rattle.std.proofs.Common.{ℕ, ◌≡◌, ◌≢◌, List, [], ◌∷◌, ◌++◌, length, Some, None, refl, sym, ap, subst, ◌∙◌, Bool, true, false, cond}
 use Rattle.std.specs.Prelude.{slice_get, nat_lt, codes}
 use Rattle.std.proofs.lemmas.List.{length-reverse}
@@ -66,8 +68,8 @@ module _ (primitives : ℕ) (M : machine.World) (T : TalkWorld) (solid : Solid p
       subst (λ p. GivesBack p (refuses T text)) (sym (goes N (refused text) (move_is c there ∙ e)))
       (gives W (refuses T text) s (env ++ [] ++ []) stack_now (told_now false W T (gives_back mv) (moved false M T mv k)) refl)
 
-  pub told_is : (d : talk.Coroutine State) → slice_get T.coroutines co ≡ Some d → does_primitive codes_run coroutine_resume T (object a_coroutine co ∷ vs) ≡ calls.resumes codes_run T co d vs
-  told_is d e = ap (λ o. elim o as (λ _. TalkWorld) [ None ↦ breaks T | Some d ↦ calls.resumes codes_run T co d vs ]) e
+  pub told_is : (builds : Builds Prototype) (d : talk.Coroutine State) → slice_get T.coroutines co ≡ Some d → does_primitive codes_run builds coroutine_resume T (object a_coroutine co ∷ vs) ≡ calls.resumes codes_run T co d vs
+  told_is builds d e = ap (λ o. elim o as (λ _. TalkWorld) [ None ↦ breaks T | Some d ↦ calls.resumes codes_run T co d vs ]) e
 
   -- both refuse a coroutine with the same text
   pub record Refused (c : Coroutine) (d : talk.Coroutine State) : Type 0 where
@@ -132,7 +134,7 @@ module _ (primitives : ℕ) (M : machine.World) (T : TalkWorld) (solid : Solid p
   from _ _ hs begun there talks p = absurd p
 
 pub resumes_joined : ResumesJoined
-resumes_joined primitives M T solid all k co vs moves c there begun =
+resumes_joined builds primitives M T solid all k co vs moves c there begun =
     let p = all3_first (CoroutinePair M.functions T.cells (runs primitives M T solid all k co vs)) c (slice_get M.coroutines co) (slice_get T.coroutines co) (slice_get k.held co) there (k.coroutines co) in
-    subst (λ U. GivesBack (run resume_row [] M) U) (sym (told_is primitives M T solid all k co vs p.0 p.2))
+    subst (λ U. GivesBack (run resume_row [] M) U) (sym (told_is primitives M T solid all k co vs builds p.0 p.2))
     (subst (λ o. GivesBack o (calls.resumes codes_run T co p.0 vs)) (sym (begins primitives M T solid all k co vs moves)) (from primitives M T solid all k co vs c p.0 p.1 begun there p.2 p.4))

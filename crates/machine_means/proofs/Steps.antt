@@ -1,4 +1,5 @@
 -- Steps that hand results or an error to frames that are no Lua functions'.
+use Rattle.code_core.specs.Prototype.{Prototype}
 use Rattle.std.proofs.Common.{ℕ, ◌≡◌, List, [], ◌∷◌, length, Option, Some, None, refl, sym, ap, subst, ◌∙◌, Bool, true, false}
 use Rattle.std.specs.Prelude.{slice_get}
 use Rattle.int_core.specs.Value.{Value, last}
@@ -8,8 +9,7 @@ use Rattle.machine_core.specs.Moves.{TopShape, lua_top, pcall_top, xpcall_top, h
 use Rattle.machine_core.specs.FrameRows.{hand_over, handed_to, unwound}
 use Rattle.machine_core.specs.MachineStep.{step_by}
 use Rattle.lua_meaning.specs.Calls as calls
-use Rattle.library_rows.specs.Library.{Primitive}
-use Rattle.lua_meaning.specs.Step.{tick, tick_by}
+use Rattle.lua_meaning.specs.Step.{Primitives, tick, tick_by}
 use Rattle.code_means.specs.Runs.{codes_run}
 use Rattle.machine_sound.specs.Sound.{Solid, StackWaits}
 use Rattle.machine_means.specs.Joined.{TalkWorld, Joined}
@@ -95,7 +95,7 @@ module _ (primitives : ℕ) (M : machine.World) (T : TalkWorld) (solid : Solid p
           (subst (λ U. ComesTo (run (unwound (no_top false)) [] M) U) (sym (ap (calls.unwound codes_run T e) (no_talks primitives M T solid waits true k none)))
           (from_gives (run (unwound (no_top false)) [] M) (calls.fails_all codes_run T e) (fails_joined primitives M T (record { solid = solid; waits = waits; resumed = b; joined = k }) e moves)))
 
-  module _ (rows : ℕ → Row) (known : ℕ → Option Primitive) where
+  module _ (rows : ℕ → Row) (known : Primitives Prototype) where
     handing : (ending : Ending) → IsHanding ending → Stands ending M T → ComesTo (step_by rows ending M) (tick codes_run known T)
     handing returned h (results_come _ _ _ reached now k) = subst (λ U. ComesTo (step_by rows returned M) U) (sym (ap (λ n. tick_by codes_run known n T) now)) (results k)
     handing raised h (error_raised _ _ e moves now k) =

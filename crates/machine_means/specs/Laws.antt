@@ -1,4 +1,6 @@
 -- What is proved of joined worlds: that writes of cells and switches between coroutines keep them joined.
+use Rattle.code_core.specs.Prototype.{Prototype}
+use Rattle.load_rows.specs.Loading.{Builds}
 use Rattle.std.specs.Prelude.{◌≡◌, ℕ, Bool, true, false, List, [], ◌∷◌, Some, slice_get, slice_set}
 use Rattle.int_core.specs.Value.{Value, object, a_coroutine}
 use Rattle.machine_core.specs.World.{Cell, Coroutine, fresh, World, read_cell, write_cell}
@@ -36,7 +38,7 @@ pub record InResumed (primitives : ℕ) (lax : Bool) (M : World) (T : TalkWorld)
 
 -- it yields what moves
 abbrev pub YieldsJoined : Type 0
-YieldsJoined = (primitives : ℕ) (M : World) (T : TalkWorld) → InResumed primitives false M T → GivesBack (run yield_row [] M) (does_primitive codes_run coroutine_yield T M.moving)
+YieldsJoined = (builds : Builds Prototype) (primitives : ℕ) (M : World) (T : TalkWorld) → InResumed primitives false M T → GivesBack (run yield_row [] M) (does_primitive codes_run builds coroutine_yield T M.moving)
 
 -- what moves reaches no frame of it, and it ends
 abbrev pub EndsJoined : Type 0
@@ -52,5 +54,5 @@ HasBegun _ = Unit {0}
 
 -- a coroutine that has begun is resumed, or that is refused
 abbrev pub ResumesJoined : Type 0
-ResumesJoined = (primitives : ℕ) (M : World) (T : TalkWorld) → Solid primitives M → StackWaits primitives M → Joined false M T → (co : ℕ) (vs : List Value) → M.moving ≡ object a_coroutine co ∷ vs
-    → (c : Coroutine) → slice_get M.coroutines co ≡ Some c → HasBegun c → GivesBack (run resume_row [] M) (does_primitive codes_run coroutine_resume T (object a_coroutine co ∷ vs))
+ResumesJoined = (builds : Builds Prototype) (primitives : ℕ) (M : World) (T : TalkWorld) → Solid primitives M → StackWaits primitives M → Joined false M T → (co : ℕ) (vs : List Value) → M.moving ≡ object a_coroutine co ∷ vs
+    → (c : Coroutine) → slice_get M.coroutines co ≡ Some c → HasBegun c → GivesBack (run resume_row [] M) (does_primitive codes_run builds coroutine_resume T (object a_coroutine co ∷ vs))

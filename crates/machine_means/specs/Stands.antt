@@ -1,4 +1,6 @@
 -- How both worlds stand between two steps of the machine, by the ending of its row, where no activation runs.
+use Rattle.code_core.specs.Prototype.{Prototype}
+use Rattle.load_rows.specs.Loading.{Builds}
 use Rattle.std.specs.Prelude.{◌≡◌, ℕ, Bool, true, false, List, [], ◌∷◌, Option, Some, slice_get}
 use Rattle.int_core.specs.Value.{Value, object, a_coroutine, last}
 use Rattle.int_core.specs.Ask.{faulted}
@@ -10,8 +12,8 @@ use Rattle.lua_meaning.specs.World.{waiting, handling, gives_back, raises_error,
 use Rattle.lua_meaning.specs.World as talk
 use Rattle.lua_meaning.specs.Calls.{calls_value, error_in_handler, handed}
 use Rattle.lua_meaning.specs.Calls as calls
-use Rattle.library_rows.specs.Library.{Primitive, base_pcall, base_xpcall, coroutine_close, coroutine_resume}
-use Rattle.lua_meaning.specs.Step.{does_primitive, tick}
+use Rattle.library_rows.specs.Library.{base_pcall, base_xpcall, coroutine_close, coroutine_resume}
+use Rattle.lua_meaning.specs.Step.{Primitives, does_primitive, tick}
 use Rattle.code_means.specs.Runs.{codes_run}
 use Rattle.machine_sound.specs.Sound.{Solid, StackWaits}
 use Rattle.machine_means.specs.Joined.{TalkFrame, TalkWorld, Joined}
@@ -68,8 +70,8 @@ TextsRaised = (primitives : ℕ) (M : World) (T : TalkWorld) → AtRest primitiv
 
 -- `pcall` and `xpcall` push a frame, over which a value is to be called, or there is no room for it
 abbrev pub ProtectedCalls : Type 0
-ProtectedCalls = (primitives : ℕ) (M : World) (T : TalkWorld) → AtRest primitives false M T
-    → ComesTo (run pcall_row [] M) (does_primitive codes_run base_pcall T M.moving) × ComesTo (run xpcall_row [] M) (does_primitive codes_run base_xpcall T M.moving)
+ProtectedCalls = (builds : Builds Prototype) (primitives : ℕ) (M : World) (T : TalkWorld) → AtRest primitives false M T
+    → ComesTo (run pcall_row [] M) (does_primitive codes_run builds base_pcall T M.moving) × ComesTo (run xpcall_row [] M) (does_primitive codes_run builds base_xpcall T M.moving)
 
 -- it is found who catches an error that was raised: a message handler is called on top of all frames, else frames are left with it, or the
 -- coroutine fails
@@ -78,13 +80,13 @@ ErrorsRaised = (primitives : ℕ) (M : World) (T : TalkWorld) → AtRest primiti
 
 -- a coroutine is closed, or that is refused
 abbrev pub CoroutinesClosed : Type 0
-CoroutinesClosed = (primitives : ℕ) (M : World) (T : TalkWorld) → AtRest primitives false M T → (co : ℕ) (vs : List Value) → M.moving ≡ object a_coroutine co ∷ vs → (c : Coroutine) → slice_get M.coroutines co ≡ Some c
-    → ComesTo (run close_row [] M) (does_primitive codes_run coroutine_close T (object a_coroutine co ∷ vs))
+CoroutinesClosed = (builds : Builds Prototype) (primitives : ℕ) (M : World) (T : TalkWorld) → AtRest primitives false M T → (co : ℕ) (vs : List Value) → M.moving ≡ object a_coroutine co ∷ vs → (c : Coroutine) → slice_get M.coroutines co ≡ Some c
+    → ComesTo (run close_row [] M) (does_primitive codes_run builds coroutine_close T (object a_coroutine co ∷ vs))
 
 -- a coroutine that has not begun is resumed: its function runs, or the primitive that it is made of is called, or that is refused
 abbrev pub CoroutinesBegin : Type 0
-CoroutinesBegin = (primitives : ℕ) (M : World) (T : TalkWorld) → AtRest primitives false M T → (co : ℕ) (vs : List Value) → M.moving ≡ object a_coroutine co ∷ vs → (body : Value) → slice_get M.coroutines co ≡ Some (fresh body) → (run resume_row [] M ≡ trapped → ⊥)
-    → ComesTo (run resume_row [] M) (does_primitive codes_run coroutine_resume T (object a_coroutine co ∷ vs))
+CoroutinesBegin = (builds : Builds Prototype) (primitives : ℕ) (M : World) (T : TalkWorld) → AtRest primitives false M T → (co : ℕ) (vs : List Value) → M.moving ≡ object a_coroutine co ∷ vs → (body : Value) → slice_get M.coroutines co ≡ Some (fresh body) → (run resume_row [] M ≡ trapped → ⊥)
+    → ComesTo (run resume_row [] M) (does_primitive codes_run builds coroutine_resume T (object a_coroutine co ∷ vs))
 
 -- where results are handed to a frame that is no Lua function's, or an error is raised or reaches such a frame
 abbrev pub IsHanding : Ending → Type 0
@@ -100,7 +102,7 @@ pub record NoLuaTop (M : World) (frames : List Frame) : Type 0 where
 
 -- there one step of the machine is one of the other world
 abbrev pub HandingSteps : Type 0
-HandingSteps = (primitives : ℕ) (rows : ℕ → Row) (known : ℕ → Option Primitive) (ending : Ending) → IsHanding ending → (M : World) (T : TalkWorld) → Solid primitives M → (waits : StackWaits primitives M) → NoLuaTop M waits.frames → Stands ending M T
+HandingSteps = (primitives : ℕ) (rows : ℕ → Row) (known : Primitives Prototype) (ending : Ending) → IsHanding ending → (M : World) (T : TalkWorld) → Solid primitives M → (waits : StackWaits primitives M) → NoLuaTop M waits.frames → Stands ending M T
     → ComesTo (step_by rows ending M) (tick codes_run known T)
 
 -- what is asked for is called, where no Lua frame asks: a function is entered, which runs in both worlds; a primitive is called; nothing is

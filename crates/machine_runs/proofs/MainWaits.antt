@@ -85,6 +85,17 @@ top_quiet W = quiet_bind (stack_of W) (λ s. bind (last s.frames) (frame_step W 
 
 -- the yield of the main coroutine
 
+-- it waits where it has yielded, and no coroutine runs
+pub record HasYielded (V : World) : Type 0 where
+  pub idle : V.chain ≡ []
+  pub main : ℕ
+  pub is_main : V.main ≡ Some main
+  pub frames : List Frame
+  pub there : slice_get V.coroutines main ≡ Some (suspended frames)
+
+may_turn : (V : World) → HasYielded V → MayTurn V
+may_turn V y = record { idle = y.idle; main = y.main; is_main = y.is_main; coroutine = suspended y.frames; there = y.there; waits = refl }
+
 one_of : (ch : List ℕ) (co : ℕ) → nat_eq (length ch) 1 ≡ true → last ch ≡ Some co → ch ≡ co ∷ []
 one_of [] co n l = absurd (cc)
 one_of (x ∷ []) co n l = let k : Some x ≡ Some co = l in let e : x ≡ co = cc in ap (λ x. x ∷ []) e
@@ -94,10 +105,10 @@ back_alone : (U : World) (co : ℕ) → U.chain ≡ co ∷ [] → back_to_resume
 unfolding back_to_resumer
 back_alone U co e = rw e refl
 
-main_waits : (W : World) (co : ℕ) (fs : List Frame) → W.chain ≡ co ∷ [] → W.main ≡ Some co → slice_get W.coroutines co ≡ Some (in_progress fs) → MayTurn (suspend_running W (record { coroutine = co; frames = fs }))
+main_waits : (W : World) (co : ℕ) (fs : List Frame) → W.chain ≡ co ∷ [] → W.main ≡ Some co → slice_get W.coroutines co ≡ Some (in_progress fs) → HasYielded (suspend_running W (record { coroutine = co; frames = fs }))
 unfolding suspend_running put_coroutine
-main_waits W co fs e m c = subst MayTurn (sym (back_alone (record W { coroutines = slice_set W.coroutines co (suspended fs) }) co e))
-    (record { idle = refl; main = co; is_main = m; coroutine = suspended fs; there = get_set_same W.coroutines co (in_progress fs) (suspended fs) c; waits = refl })
+main_waits W co fs e m c = subst HasYielded (sym (back_alone (record W { coroutines = slice_set W.coroutines co (suspended fs) }) co e))
+    (record { idle = refl; main = co; is_main = m; frames = fs; there = get_set_same W.coroutines co (in_progress fs) (suspended fs) c })
 
 yielded_is : (W : World) (s : Stack) (b : Bool) → stack_of W ≡ Some s → runs_main W ≡ b
     → run yield_row [] W ≡ run (cond b (stop main_yielded) (act take_moving (λ v _. then (give_with (written (boolean true) ∷ []) v) hand_over))) [] (suspend_running W s)
@@ -112,14 +123,14 @@ ended_in e W V h = ap (world_of W) h
     world_of W trapped = W
     world_of W (ends d V) = V
 
-yield_leaves : (n : ℕ) (W V : World) → Sound n W → StackWaits n W → run yield_row [] W ≡ ends main_yielded V → MayTurn V
+yield_leaves : (n : ℕ) (W V : World) → Sound n W → StackWaits n W → run yield_row [] W ≡ ends main_yielded V → HasYielded V
 yield_leaves n W V s h y = from (runs_main W) refl
   where
-    from : (b : Bool) → runs_main W ≡ b → MayTurn V
+    from : (b : Bool) → runs_main W ≡ b → HasYielded V
     from true r =
         let q = yielded_is W (record { coroutine = h.coroutine; frames = h.frames }) true (waits_stack n W h) r in
         let one = one_of W.chain h.coroutine r h.last in
-        subst MayTurn (ended_in main_yielded (suspend_running W (record { coroutine = h.coroutine; frames = h.frames })) V (sym q ∙ y))
+        subst HasYielded (ended_in main_yielded (suspend_running W (record { coroutine = h.coroutine; frames = h.frames })) V (sym q ∙ y))
         (main_waits W h.coroutine h.frames one (s.solid.chain.first h.coroutine (ap (λ ch. slice_get ch 0) one)) h.running)
     from false r =
         let q = yielded_is W (record { coroutine = h.coroutine; frames = h.frames }) false (waits_stack n W h) r in
@@ -151,7 +162,7 @@ module _ (build : Row) (b : NeverYields build) where
       from None = inl (λ W V h. absurd (cc))
       from (Some e) = of_primitive e.entry
 
-  step_leaves : (n : ℕ) (e : Ending) (W V : World) → SoundAfter n e W → IsNoYield e → step (row_numbered build) e W ≡ ends main_yielded V → MayTurn V
+  step_leaves : (n : ℕ) (e : Ending) (W V : World) → SoundAfter n e W → IsNoYield e → step (row_numbered build) e W ≡ ends main_yielded V → HasYielded V
   step_leaves n go W V s q h = absurd (from_quiet W (stepped (top_step W)) (top_quiet W) V h)
   step_leaves n returned W V s q h = absurd (from_quiet W _ (quiet_of (act see_top (λ _ top. handed_to top)) [] W (λ n t. silent_handed_to t)) V h)
   step_leaves n asks W V s q h = absurd (from_quiet W _ (quiet_of asked_row [] W silent_asked) V h)
@@ -172,7 +183,7 @@ module _ (build : Row) (b : NeverYields build) where
       came (ends main_returned X) h = h
       came (ends main_failed X) h = h
 
-      from : YieldsOrNot (row_numbered build k) → MayTurn V
+      from : YieldsOrNot (row_numbered build k) → HasYielded V
       from x = ⊎_elim
           (λ (f : (W : World) → Quiet (run (row_numbered build k) [] W)). absurd (from_quiet W (run (row_numbered build k) [] W) (f W) V h))
           (λ (e : row_numbered build k ≡ yield_row). yield_leaves n W V s.sound s.ready.all (ap (λ r. run r [] W) (sym e) ∙ came (run (row_numbered build k) [] W) h)) x
@@ -195,17 +206,17 @@ module _ (build : Row) (b : NeverYields build) where
 
   module _ (n : ℕ) (p : PrimitivesSafe n (row_numbered build)) (V : World) where
     -- from a step's outcome on
-    goes_leaves : (m : ℕ) (o : Outcome) → StepGood n o → ((X : World) → o ≡ ends main_yielded X → MayTurn X)
-        → ((e : Ending) (X : World) → SoundAfter n e X → IsNoYield e → steps (row_numbered build) m e X ≡ ends main_yielded V → MayTurn V)
-        → and_then o (steps (row_numbered build) m) ≡ ends main_yielded V → MayTurn V
+    goes_leaves : (m : ℕ) (o : Outcome) → StepGood n o → ((X : World) → o ≡ ends main_yielded X → HasYielded X)
+        → ((e : Ending) (X : World) → SoundAfter n e X → IsNoYield e → steps (row_numbered build) m e X ≡ ends main_yielded V → HasYielded V)
+        → and_then o (steps (row_numbered build) m) ≡ ends main_yielded V → HasYielded V
     goes_leaves m trapped g here more h = absurd g
     goes_leaves m (ends e X) g here more h = ⊎_elim
         (λ (q : e ≡ main_yielded).
-        subst MayTurn (ended_in main_yielded X V (sym (end_stays (row_numbered build) m main_yielded X refl) ∙ ap (λ e. steps (row_numbered build) m e X) (sym q) ∙ h)) (here X (ap (λ e. ends e X) q)))
+        subst HasYielded (ended_in main_yielded X V (sym (end_stays (row_numbered build) m main_yielded X refl) ∙ ap (λ e. steps (row_numbered build) m e X) (sym q) ∙ h)) (here X (ap (λ e. ends e X) q)))
         (λ q. more e X g q h)
         (yields_or_not e)
 
-    steps_leave : (m : ℕ) (e : Ending) (W : World) → SoundAfter n e W → IsNoYield e → steps (row_numbered build) m e W ≡ ends main_yielded V → MayTurn V
+    steps_leave : (m : ℕ) (e : Ending) (W : World) → SoundAfter n e W → IsNoYield e → steps (row_numbered build) m e W ≡ ends main_yielded V → HasYielded V
     steps_leave zero e W s q h = absurd (ends_so e main_yielded W V q h)
     steps_leave (suc m) e W s q h = goes_leaves m (step (row_numbered build) e W) (steps_good n (row_numbered build) p e W s) (λ X k. step_leaves n e W X s q k) (steps_leave m) h
 
@@ -217,7 +228,7 @@ module _ (build : Row) (b : NeverYields build) where
     unfolding wakes
     wake_never W = wakes_quiet (resumed_main W)
 
-    turn_leaves : (count : ℕ) (W : World) (budget : ℕ) → Sound n W → MayTurn W → turn (row_numbered build) count W budget ≡ ends main_yielded V → MayTurn V
+    turn_leaves : (count : ℕ) (W : World) (budget : ℕ) → Sound n W → MayTurn W → turn (row_numbered build) count W budget ≡ ends main_yielded V → HasYielded V
     turn_leaves count W budget s t h = goes_leaves count (wakes (with_budget W budget))
         (wakes_good n (with_budget W budget) (record { solid = budget_solid n W budget s.solid; rests = idle t.idle }) (budget_turn W budget t))
         (λ X k. absurd (wake_never (with_budget W budget) X k)) (steps_leave count) h
@@ -233,6 +244,9 @@ module _ (build : Row) (b : NeverYields build) where
             world_of W trapped = W
             world_of W (ends d V) = V
 
+  pub turn_suspends : (n : ℕ) → PrimitivesSafe n (row_numbered build) → (count : ℕ) (W : World) (budget : ℕ) (V : World) → Sound n W → MayTurn W → turn (row_numbered build) count W budget ≡ ends main_yielded V → HasYielded V
+  turn_suspends n p count W budget V s t h = turn_leaves n p V count W budget s t h
+
   pub turn_yields : (n : ℕ) → PrimitivesSafe n (row_numbered build) → (count : ℕ) (W : World) (budget : ℕ) (V : World) → Sound n W → MayTurn W
       → turn (row_numbered build) count W budget ≡ ends main_yielded V → Sound n V × MayTurn V
-  turn_yields n p count W budget V s t h = (sound_at n p V (turn (row_numbered build) count W budget) (turn_good n (row_numbered build) p count W budget s t) h, turn_leaves n p V count W budget s t h)
+  turn_yields n p count W budget V s t h = (sound_at n p V (turn (row_numbered build) count W budget) (turn_good n (row_numbered build) p count W budget s t) h, may_turn V (turn_suspends n p count W budget V s t h))

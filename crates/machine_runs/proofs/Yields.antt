@@ -3,7 +3,9 @@ use Rattle.int_core.specs.Limits.{stack_overflow}
 use Rattle.std.proofs.Common.{ℕ, zero, suc, ◌≡◌, List, [], ◌∷◌, ◌++◌, Option, Some, None, refl, subst, ap, length, drop, Bool, true, false, cond}
 use Rattle.std.specs.Prelude.{ℤ, pos, negsuc, codes}
 use Rattle.int_core.specs.Value.{boolean, a_table, a_function, a_coroutine, Value, Shape, is_known, is_object, last}
+use Rattle.code_core.specs.Prototype.{Prototype}
 use Rattle.library_rows.specs.Look.{Look}
+use Rattle.load_rows.specs.Loading.{Builds, Loaded, wrong, not_loaded, loaded, load_of}
 use Rattle.library_rows.specs.Library.{Primitive, base_error, base_pcall, base_xpcall, coroutine_close, coroutine_create, coroutine_isyieldable, coroutine_resume, coroutine_running, coroutine_status, coroutine_yield, prelude_build, prelude_out}
 use Rattle.machine_core.specs.World.{Wait, World}
 use Rattle.machine_core.specs.Text.{Arg, read, written, Own, read_upvalue, write_upvalue, make_table, make_function, fill_table, pay, Given, results, thrown, Text, go_by, own, open_cell, quick, operate, call, tail_call, close, closable, raise, leave, trap}
@@ -11,7 +13,8 @@ use Rattle.machine_core.specs.InstructionRows.{fails}
 use Rattle.machine_core.specs.Moves.{Made, take_moving, give_with, move, Told, SettledShape, is_found, is_asked, is_fault, CallShape, is_entered, is_primitive, not_paid, not_entered, TopShape, lua_top, pcall_top, xpcall_top, handler_top, closing_top, no_top, ClosingShape, one_left, all_closed, closed_with_error, ResumeShape, resumed, refused, LookShape, is_given, is_refused, is_raised, Ending, spent, main_yielded, Row, traps, stop, only, act, Outcome, trapped, ends, run}
 use Rattle.machine_core.specs.FrameRows.{then, handed, hand_over, raises, after_call, When, at_once, by_asking, calls_row, prepares, leave_row, expand_by, gives_up, coroutine_fails, raised_to, raised_row, caught, blames, refused_under, after_asked, asked_row, closing_by, closing_row, unwound, handed_to}
 use Rattle.machine_core.specs.MachineStep.{errs_at, after_entry, after_resume, resumes, after_closing, closes_coroutine, after_look, look_row, can_call, creates, sees_status, level_in}
-use Rattle.machine_core.specs.PrimitiveRows.{own_row}
+use Rattle.machine_core.specs.PrimitiveRows.{own_row, environment_at, loaded_row, load_row}
+use Rattle.machine_runs.specs.Laws.{LoadsNeverYield}
 
 abbrev pub IsNoYield : Ending → Type 0
 IsNoYield main_yielded = ⊥
@@ -231,6 +234,17 @@ silent_look l = λ n t. λ v s. silent_after_look v s
 
 silent_creates : (s : Shape) (f : ℕ) → Silent (creates s f)
 silent_creates s f = silent_cond (can_call s) _ (blames _) (λ n t. λ n t. silent_hand_over) (λ n t. tt)
+
+silent_loaded : (x : Option Arg) (l : Loaded Prototype) → Silent (loaded_row x l)
+silent_loaded x (wrong error) = silent_blames error
+silent_loaded x (not_loaded why) = λ n t. silent_hand_over
+silent_loaded x (loaded name p) = λ n t. λ n t. silent_hand_over
+
+silent_load : (builds : Builds Prototype) → Silent (load_row builds)
+silent_load builds = λ c t. λ count chunk. λ n name. λ n mode. silent_loaded (environment_at c count) (load_of builds chunk name mode)
+
+pub loads_never_yield : LoadsNeverYield
+loads_never_yield builds W V h = silent_run (load_row builds) [] W main_yielded V (silent_load builds) h
 
 -- each primitive but `coroutine.yield`, where that of `build` is so
 

@@ -4,9 +4,10 @@ use Rattle.int_core.specs.Value.{greatest_string}
 use Rattle.code_core.specs.Prototype.{Prototype}
 use Rattle.code_core.specs.Check.{IsChecked}
 use Rattle.library_rows.specs.Library.{Entry, all_entries}
+use Rattle.load_rows.specs.Loading.{Builds}
 use Rattle.machine_core.specs.World.{Coroutine, World}
 use Rattle.machine_core.specs.Moves.{main_yielded, Row, can_start, ends, run}
-use Rattle.machine_core.specs.PrimitiveRows.{row_numbered}
+use Rattle.machine_core.specs.PrimitiveRows.{row_numbered, load_row}
 use Rattle.machine_sound.specs.Sound.{Each, Sound}
 use Rattle.machine_sound.specs.Laws.{PrimitivesSafe, StepGood}
 use Rattle.machine_runs.specs.Opening.{opening, begun, handed_line}
@@ -57,6 +58,9 @@ TurnsGood = (primitives : ℕ) (rows : ℕ → Row) → PrimitivesSafe primitive
 -- no step of a row ends a turn with a yield
 abbrev pub NeverYields : Row → Type 0
 NeverYields r = (W V : World) → run r [] W ≡ ends main_yielded V → ⊥
+
+abbrev pub LoadsNeverYield : Type 0
+LoadsNeverYield = (builds : Builds Prototype) → NeverYields (load_row builds)
 
 -- where a turn ends with a yield, the world is sound and main waits for a line
 abbrev pub YieldsLeaveMainWaiting : Type 0

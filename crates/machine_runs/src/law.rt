@@ -1,5 +1,5 @@
 // The laws of sessions.
-ghost use Rattle.machine_runs.specs.Laws.{BegunIsSound, BegunMayTurn, CutsDoNotShow, EndedStays, HandedIsSound, HandedMayTurn, OnwardCutsDoNotShow, OpeningIsIdle, OpeningIsSound, RunIsOne, TurnsGood, WakesSoundly, YieldsLeaveMainWaiting};
+ghost use Rattle.machine_runs.specs.Laws.{BegunIsSound, BegunMayTurn, CutsDoNotShow, EndedStays, HandedIsSound, HandedMayTurn, LoadsNeverYield, OnwardCutsDoNotShow, OpeningIsIdle, OpeningIsSound, RunIsOne, TurnsGood, WakesSoundly, YieldsLeaveMainWaiting};
 
 /// The world of the libraries is sound, where the prelude's code is checked. It stays so where a script with checked code begins in
 /// it, and where a line of input is handed over; then main is to be resumed.
@@ -16,6 +16,11 @@ pub fn sessions_are_sound()
 pub fn turns_do_not_trap()
     ensures wakes { WakesSoundly }
     ensures turns { TurnsGood }
+{}
+
+/// `load` ends no turn with a yield, whatever it is given.
+pub fn loads_never_yield()
+    ensures { LoadsNeverYield }
 {}
 
 /// A turn that ends with a yield leaves main waiting for a line, in a sound world, where `load` ends no turn by itself.

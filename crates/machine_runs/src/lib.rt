@@ -5,6 +5,6 @@
 mod law;
 
 pub use law::{
-    cuts_do_not_show, runs_are_one, sessions_are_sound, turns_do_not_trap,
+    cuts_do_not_show, loads_never_yield, runs_are_one, sessions_are_sound, turns_do_not_trap,
     yields_leave_main_waiting,
 };

@@ -3,7 +3,7 @@ use Rattle.std.proofs.Common.{ℕ, List, Option}
 use Rattle.int_core.specs.Value.{Value}
 use Rattle.machine_core.specs.World.{World}
 use Rattle.machine_core.specs.Text.{read_upvalue, write_upvalue, make_table, make_function, fill_table, pay}
-use Rattle.machine_core.specs.Moves.{Move, on_own, move_pc, open_register, outside, settle, enter, enter_tail, await, find_close, is_closable, begin_leaving, leave_frame, take_moving, look, give, give_with, blame, place_text, push_frame, call_value, see_top, see_catcher, pop_frame, take_closing, set_error, end_coroutine, fail_coroutine, suspend, resume, begin_closing, consult, create, see_status, see_running, print, TopShape}
+use Rattle.machine_core.specs.Moves.{Move, on_own, move_pc, open_register, outside, settle, enter, enter_tail, await, find_close, is_closable, begin_leaving, leave_frame, take_moving, look, give, give_with, blame, place_text, push_frame, call_value, see_top, see_catcher, pop_frame, take_closing, set_error, end_coroutine, fail_coroutine, suspend, resume, begin_closing, consult, create, see_status, see_running, print, make_loaded, TopShape}
 use Rattle.machine_sound.specs.Sound.{Top}
 use Rattle.machine_sound.specs.Safe.{on_lua, waiting, in_resumed, handing, Is, Ready, MoveGood, MovesGood, RowsGood}
 use Rattle.machine_sound.proofs.Moves.{own_move, pc_move}
@@ -16,6 +16,7 @@ use Rattle.machine_sound.proofs.CoroutineMoves.{end_coroutine_waits, suspend_wai
 use Rattle.machine_sound.proofs.Closings.{begin_closing_waits}
 use Rattle.machine_sound.proofs.Looks.{consult_waits}
 use Rattle.machine_sound.proofs.NewCoroutines.{create_waits, see_status_waits, see_running_waits, print_waits}
+use Rattle.machine_sound.proofs.NewFunctions.{make_loaded_waits}
 use Rattle.machine_sound.proofs.Rows.{rows_good}
 
 lua_moves : (n : ℕ) (m : Move) (t : Top) (env : List Value) (W : World) → Is n (on_lua t) env W → Ready (on_lua t) env m → MoveGood n (on_lua t) env m W
@@ -64,6 +65,7 @@ waiting_moves n (create x) s env W i r = create_waits n x s env W i r
 waiting_moves n (see_status x) s env W i r = see_status_waits n x s env W i r
 waiting_moves n see_running s env W i r = see_running_waits n s env W i r
 waiting_moves n (print x) s env W i r = print_waits n x s env W i r
+waiting_moves n (make_loaded p x) s env W i r = make_loaded_waits n p x s env W i r
 waiting_moves n _ s env W i r = absurd r
 
 resumed_moves : (n : ℕ) (m : Move) (env : List Value) (W : World) → Is n in_resumed env W → Ready in_resumed env m → MoveGood n in_resumed env m W

@@ -36,5 +36,6 @@ pub mod Steps
 pub mod Example
 pub mod Asking
 pub mod NewCoroutines
+pub mod NewFunctions
 pub mod Looks
 pub mod LibrarySafe

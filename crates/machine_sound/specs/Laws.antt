@@ -1,5 +1,8 @@
 -- What is proved of sound worlds.
-use Rattle.std.specs.Prelude.{ℕ, ◌<◌, ◌≡◌, [], length, Some, None}
+use Rattle.std.specs.Prelude.{ℕ, ◌<◌, ◌≤◌, ◌≡◌, List, [], length, Some, None}
+use Rattle.int_core.specs.Value.{greatest_string}
+use Rattle.code_core.specs.Prototype.{Prototype}
+use Rattle.load_rows.specs.Loading.{Builds, built}
 use Rattle.library_rows.specs.Look.{Look}
 use Rattle.library_rows.specs.Library.{Primitive, all_entries, row_of}
 use Rattle.int_core.specs.Ask.{values}
@@ -8,9 +11,9 @@ use Rattle.machine_core.specs.InstructionRows.{text_at, rest_at, told_values}
 use Rattle.machine_core.specs.FrameRows.{expand, goes_on_by}
 use Rattle.machine_core.specs.Moves.{Ending, go, Row, Outcome, trapped, ends, run}
 use Rattle.machine_core.specs.MachineStep.{woken, look_row, step, steps}
-use Rattle.machine_core.specs.PrimitiveRows.{row_numbered}
+use Rattle.machine_core.specs.PrimitiveRows.{row_numbered, load_row}
 use Rattle.machine_sound.specs.Sound.{Solid, StackWaits, Sound}
-use Rattle.machine_sound.specs.Safe.{waiting, LookOk, Safe, EndIs, Good}
+use Rattle.machine_sound.specs.Safe.{waiting, LookOk, LoadedOk, Safe, EndIs, Good}
 
 -- a sound world, and what else is known of it after a row that ended so
 pub record SoundAfter (primitives : ℕ) (ending : Ending) (W : World) : Type 0 where
@@ -40,6 +43,14 @@ PrimitivesSafe primitives rows = (n : ℕ) → n < primitives → PrimitiveGood 
 -- a row that looks at values and tables alone is safe where what it writes out is right
 abbrev pub LookRowsSafe : Type 0
 LookRowsSafe = (l : Look) → LookOk l → PrimitiveSafe (look_row l)
+
+-- the row of `build` is safe where each source is built to code of which a function can be made
+
+abbrev pub BuildsOk : Builds Prototype → Type 0
+BuildsOk builds = (name source : List ℕ) (p : Prototype) → length name ≤ greatest_string → builds name source ≡ built p → LoadedOk p
+
+abbrev pub LoadRowSafe : Type 0
+LoadRowSafe = (builds : Builds Prototype) → BuildsOk builds → PrimitiveSafe (load_row builds)
 
 -- and so all primitives are, where each such row is, and that of `build`
 abbrev pub LibrarySafe : Type 0

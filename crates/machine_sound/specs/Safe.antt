@@ -8,10 +8,10 @@ use Rattle.code_core.specs.declared.proto.Const.{Const}
 use Rattle.code_core.specs.declared.proto.UpDesc.{UpDesc}
 use Rattle.code_core.specs.Instruction.{opcode_of}
 use Rattle.code_core.specs.Prototype.{Prototype, list_of}
-use Rattle.code_core.specs.Check.{at, Mark, fixed, open_from, mark}
+use Rattle.code_core.specs.Check.{IsChecked, at, Mark, fixed, open_from, mark}
 use Rattle.machine_core.specs.World.{Wait, leaving, World}
 use Rattle.machine_core.specs.Text.{Arg, read, written, arg, constant, behind, is_there, Own, read_register, read_registers, read_list, read_constant, read_varargs, see, write_register, write_registers, write_list, write_nils, end_list, cut_from, close_cells, mark_pending, see_pending, drop_pending, keep_results, keep_pending, Quick, read_upvalue, write_upvalue, make_table, make_function, fill_table, pay, Given, results, thrown}
-use Rattle.machine_core.specs.Moves.{Over, over_xpcall, Move, on_own, move_pc, open_register, outside, settle, enter, enter_tail, await, find_close, is_closable, begin_leaving, leave_frame, take_moving, look, give, give_with, blame, place_text, push_frame, call_value, see_top, see_catcher, pop_frame, take_closing, set_error, end_coroutine, fail_coroutine, suspend, resume, begin_closing, consult, LookShape, is_given, is_refused, is_raised, create, see_status, see_running, print, Status, ClosingShape, one_left, all_closed, closed_with_error, ResumeShape, resumed, refused, SettledShape, is_found, is_asked, is_fault, CallShape, is_entered, is_primitive, not_paid, not_entered, TopShape, lua_top, closing_top, no_top, Told, place_from, top_shape, runs_main, Ending, go, returned, asks, calls_primitive, raised, unwinding, spent, main_yielded, main_returned, main_failed, Row, traps, stop, only, act, Outcome, trapped, ends, move, run}
+use Rattle.machine_core.specs.Moves.{Over, over_xpcall, Move, on_own, move_pc, open_register, outside, settle, enter, enter_tail, await, find_close, is_closable, begin_leaving, leave_frame, take_moving, look, give, give_with, blame, place_text, push_frame, call_value, see_top, see_catcher, pop_frame, take_closing, set_error, end_coroutine, fail_coroutine, suspend, resume, begin_closing, consult, LookShape, is_given, is_refused, is_raised, create, see_status, see_running, print, make_loaded, Status, ClosingShape, one_left, all_closed, closed_with_error, ResumeShape, resumed, refused, SettledShape, is_found, is_asked, is_fault, CallShape, is_entered, is_primitive, not_paid, not_entered, TopShape, lua_top, closing_top, no_top, Told, place_from, top_shape, runs_main, Ending, go, returned, asks, calls_primitive, raised, unwinding, spent, main_yielded, main_returned, main_failed, Row, traps, stop, only, act, Outcome, trapped, ends, move, run}
 use Rattle.machine_core.specs.MachineStep.{can_call}
 use Rattle.library_rows.specs.Look.{Arg as RowArg, read as row_read, written as row_written, Look, gives as row_gives, gives_all as row_gives_all, refuses as row_refuses, raises as row_raises, count as row_count, does as row_does}
 use Rattle.machine_sound.specs.Sound.{Each, sizes, Valid, waits_at, waiting_size, kept_below, Solid, Top, TopIs, FitsIfRuns, Settled, StackWaits}
@@ -385,6 +385,15 @@ abbrev pub OverOk : Over → Type 0
 OverOk (over_xpcall h) = ArgOk h
 OverOk _ = Unit {0}
 
+-- code of which a function can be made that has one cell
+pub record LoadedOk (p : Prototype) : Type 0 where
+  pub checked : IsChecked p
+  pub one_upvalue : length p.own.upvalues ≡ 1
+
+abbrev pub EnvironmentOk : Option Arg → Type 0
+EnvironmentOk None = Unit {0}
+EnvironmentOk (Some x) = ArgOk x
+
 abbrev pub WaitingReady : Option TopShape → List Value → Move → Type 0
 WaitingReady s env see_top = Unit {0}
 WaitingReady s env see_catcher = Unit {0}
@@ -410,6 +419,7 @@ WaitingReady s env (create x) = ArgOk x × IsTrue (can_call (shape (arg env x)))
 WaitingReady s env (see_status x) = shape (arg env x) ≡ is_object a_coroutine
 WaitingReady s env see_running = Unit {0}
 WaitingReady s env (print x) = Unit {0}
+WaitingReady s env (make_loaded p x) = LoadedOk p × EnvironmentOk x
 WaitingReady s env _ = ⊥
 
 -- a Lua frame on top that waits
@@ -486,6 +496,7 @@ WaitingEvent s (create x) = ℕ
 WaitingEvent s (see_status x) = Status
 WaitingEvent s see_running = ℕ
 WaitingEvent s (print x) = Unit {0}
+WaitingEvent s (make_loaded p x) = ℕ
 WaitingEvent s _ = ⊥
 
 abbrev pub see_leads : SeenTop → Led see_top
@@ -553,6 +564,7 @@ waiting_leads s env (create x) co = record { values = object a_coroutine co ∷ 
 waiting_leads s env (see_status x) status = record { values = []; told = status; phase = waiting s }
 waiting_leads s env see_running co = record { values = object a_coroutine co ∷ []; told = tt; phase = waiting s }
 waiting_leads s env (print x) e = record { values = []; told = tt; phase = waiting s }
+waiting_leads s env (make_loaded p x) n = record { values = object a_function n ∷ []; told = tt; phase = waiting s }
 waiting_leads s env _ e = absurd e
 
 -- any phase

@@ -1,6 +1,6 @@
 // The laws, each with what it speaks of in `specs/`.
 ghost use Rattle.machine_core.specs.MachineStep.{close_row, create_row, error_row, pcall_row, print_row, resume_row, running_row, status_row, xpcall_row, yield_row, yieldable_row};
-ghost use Rattle.machine_sound.specs.Laws.{GoesFromSound, LibrarySafe, LookRowsSafe, PrimitiveSafe, RunningTextsGood, RunsGood, SafeIsGood, SomeWorldSound, StepsGood, WaitingTextsGood};
+ghost use Rattle.machine_sound.specs.Laws.{GoesFromSound, LibrarySafe, LoadRowSafe, LookRowsSafe, PrimitiveSafe, RunningTextsGood, RunsGood, SafeIsGood, SomeWorldSound, StepsGood, WaitingTextsGood};
 ghost use Rattle.machine_sound.specs.Safe.{MovesGood, RowsGood};
 
 /// A move that is ready in a sound world does not trap, and neither does a row that is safe; both leave a sound world.
@@ -40,10 +40,11 @@ pub fn primitives_do_not_trap()
     ensures prints { PrimitiveSafe print_row }
 {}
 
-/// A library row that looks at values and tables alone is safe where what it writes out is right, so all primitives are where this holds
-/// of each such row, by their numbers.
+/// A library row that looks at values and tables alone is safe where what it writes out is right, and that of `build` where sources are built to
+/// checked code with one outer variable. So all primitives are where this holds of each such row, by their numbers.
 pub fn library_rows_do_not_trap()
     ensures rows { LookRowsSafe }
+    ensures loads { LoadRowSafe }
     ensures good { SafeIsGood }
     ensures all { LibrarySafe }
 {}

@@ -1,7 +1,7 @@
 -- What each step of a world leads to: the end of the turn, a unit spent, or less that is left to do.
 use Rattle.std.proofs.Common.{◌≡◌, ℕ, zero, suc, ◌+◌, ◌*◌, ◌<◌, ◌≤◌, Bool, true, false, cond, List, [], ◌∷◌, ◌++◌, length, Option, Some, None, refl, ap, arith}
 use Rattle.std.specs.Prelude.{ℤ, nat_lt, slice_get, slice_set, drop, codes}
-use Rattle.int_core.specs.Value.{Value, known, nil, primitive, object, a_function, a_coroutine, is_nil, nth}
+use Rattle.int_core.specs.Value.{Value, known, nil, primitive, object, a_function, a_coroutine, shape, is_nil, nth}
 use Rattle.int_core.specs.Limits.{greatest_resumes}
 use Rattle.int_core.specs.Heap.{filled_table}
 use Rattle.int_core.specs.Operations.{Callee, callee, not_callable, callee_of, greatest_chain, Settled, found, ask, fault, cannot_arise, does, handler_in, of_close, is_function}
@@ -14,8 +14,9 @@ use Rattle.lua_meaning.specs.Calls.{error_in_handler, error_or_nil, put_coroutin
 use Rattle.lua_meaning.specs.Asks.{calls_for, calls_in_place, settled, pays_unit, made_in, gets_function, handle, turns, talks_on}
 use Rattle.library_rows.specs.Look.{Done, done}
 use Rattle.library_rows.specs.Look.{refused as no_result, raised as an_error}
-use Rattle.library_rows.specs.Library.{Primitive, base_error, base_pcall, base_xpcall, coroutine_close, coroutine_create, coroutine_isyieldable, coroutine_resume, coroutine_running, coroutine_status, coroutine_yield, prelude_build, prelude_out}
-use Rattle.lua_meaning.specs.Step.{error_by, level_in, creates, with_coroutine, row, after_row, does_primitive, has_ended, tick_by, gives_one, status_of, runs_one}
+use Rattle.library_rows.specs.Library.{Primitive, base_error, base_pcall, base_xpcall, coroutine_close, coroutine_create, coroutine_isyieldable, coroutine_resume, coroutine_running, coroutine_status, coroutine_yield, prelude_build, prelude_out, primitive_at}
+use Rattle.load_rows.specs.Loading.{Builds, Loaded, wrong, not_loaded, loaded, load_of}
+use Rattle.lua_meaning.specs.Step.{error_by, level_in, creates, with_coroutine, row, after_row, after_loading, environment_in, does_primitive, has_ended, tick_by, gives_one, status_of, runs_one}
 use Rattle.lua_meaning.specs.Opening.{primitives}
 use Rattle.lua_meaning.specs.TreeMeaning.{trees}
 use Rattle.meaning_ends.specs.Units.{IsOnTheUnit, FallsBelow}
@@ -308,14 +309,14 @@ module _ (celling : Celling) where
   talks_go b n m W (closing e vs ∷ below) h can p room now = has_end refl can
 
   -- a step that calls no primitive
-  pub tick_goes : (b n m : ℕ) (now : Now) (W : Run) → W.now ≡ now → W.fuel ≤ b → Fits W.chain W.frames W.coroutines m → m + cost now ≤ n → is_call now ≡ false
-      → Goes b n (tick_by system primitives now W)
-  tick_goes b n m talks W e h p room apart = talks_go b n m W W.frames h (m, p) p (omega (arith, room)) e
-  tick_goes b n m (gives_back vs) W e h p room apart = handed_goes b n m W vs W.frames h (m, p) p room
-  tick_goes b n m (raises_error error) W e h p room apart = raised_goes b n m W error W.frames h (m, p) p room
-  tick_goes b n m (unwinds error) W e h p room apart = unwound_goes b n m W error W.frames h (m, p) p room
-  tick_goes b n m (calls_primitive k vs) W e h p room apart = absurd (cc)
-  tick_goes b n m (ends ending) W e h p room apart = has_end (ap has_ended e) (m, p)
+  pub tick_goes : (builds : Builds Body) (b n m : ℕ) (now : Now) (W : Run) → W.now ≡ now → W.fuel ≤ b → Fits W.chain W.frames W.coroutines m → m + cost now ≤ n → is_call now ≡ false
+      → Goes b n (tick_by system (primitives builds) now W)
+  tick_goes builds b n m talks W e h p room apart = talks_go b n m W W.frames h (m, p) p (omega (arith, room)) e
+  tick_goes builds b n m (gives_back vs) W e h p room apart = handed_goes b n m W vs W.frames h (m, p) p room
+  tick_goes builds b n m (raises_error error) W e h p room apart = raised_goes b n m W error W.frames h (m, p) p room
+  tick_goes builds b n m (unwinds error) W e h p room apart = unwound_goes b n m W error W.frames h (m, p) p room
+  tick_goes builds b n m (calls_primitive k vs) W e h p room apart = absurd (cc)
+  tick_goes builds b n m (ends ending) W e h p room apart = has_end (ap has_ended e) (m, p)
 
   entered_after : (b c k : ℕ) (W : Run) (o : Option (Function Body)) (arguments : List Value) → W.fuel ≤ b → CanEnd W → After b c (enters_function system W k o arguments raises_why)
   entered_after b c k W None arguments h can = has_end_too refl can
@@ -431,34 +432,39 @@ module _ (celling : Celling) where
   runs_one_after b c m W [] h p = settles h refl (m, p)
   runs_one_after b c m W (co ∷ chain) h p = settles h refl (m, p)
 
-  primitive_after : (b m : ℕ) (k : Primitive) (W : Run) (vs : List Value) → W.fuel ≤ b → Fits W.chain W.frames W.coroutines m → After b (fresh_count W.coroutines) (does_primitive system k W vs)
-  primitive_after b m base_error W vs h p = error_after b _ m W (nth vs 0) (nth vs 1) (level_in (nth vs 1)) h p
-  primitive_after b m base_pcall W vs h p = after b _ (1 + m + 4) _ (calls_over_go b (1 + m + 4) m 1 W protected (nth vs 0) (drop 1 vs) h p (omega arith) (omega arith))
-  primitive_after b m base_xpcall W vs h p = after b _ (1 + m + 4) _ (calls_over_go b (1 + m + 4) m 1 W (handled_by (nth vs 1)) (nth vs 0) (drop 2 vs) h p (omega arith) (omega arith))
-  primitive_after b m coroutine_create W vs h p = creates_after b _ m W (nth vs 0) h p
-  primitive_after b m coroutine_resume W vs h p =
+  loads_after : (b c m : ℕ) (W : Run) (environment : Value) (l : Loaded Body) → W.fuel ≤ b → Fits W.chain W.frames W.coroutines m → After b c (after_loading W environment l)
+  loads_after b c m W environment (wrong error) h p = settles h refl (m, p)
+  loads_after b c m W environment (not_loaded why) h p = settles h refl (m, p)
+  loads_after b c m W environment (loaded name f) h p = settles h refl (m, p)
+
+  primitive_after : (builds : Builds Body) (b m : ℕ) (k : Primitive) (W : Run) (vs : List Value) → W.fuel ≤ b → Fits W.chain W.frames W.coroutines m → After b (fresh_count W.coroutines) (does_primitive system builds k W vs)
+  primitive_after builds b m base_error W vs h p = error_after b _ m W (nth vs 0) (nth vs 1) (level_in (nth vs 1)) h p
+  primitive_after builds b m base_pcall W vs h p = after b _ (1 + m + 4) _ (calls_over_go b (1 + m + 4) m 1 W protected (nth vs 0) (drop 1 vs) h p (omega arith) (omega arith))
+  primitive_after builds b m base_xpcall W vs h p = after b _ (1 + m + 4) _ (calls_over_go b (1 + m + 4) m 1 W (handled_by (nth vs 1)) (nth vs 0) (drop 2 vs) h p (omega arith) (omega arith))
+  primitive_after builds b m coroutine_create W vs h p = creates_after b _ m W (nth vs 0) h p
+  primitive_after builds b m coroutine_resume W vs h p =
       with_after b _ m p.others W (codes "resume") (nth vs 0) (λ co c. resumes system W co c (drop 1 vs)) h p p.others_fit (λ co d e fit. resumes_after b m p.others co W d (drop 1 vs) h p e fit)
-  primitive_after b m coroutine_yield W vs h p = yields_after b _ m W vs h p
-  primitive_after b m coroutine_close W vs h p =
+  primitive_after builds b m coroutine_yield W vs h p = yields_after b _ m W vs h p
+  primitive_after builds b m coroutine_close W vs h p =
       with_after b _ m p.others W (codes "close") (nth vs 0) (λ co c. closes_coroutine system W co c) h p p.others_fit (λ co d e fit. closes_after b _ m co W d h p)
-  primitive_after b m coroutine_status W vs h p =
+  primitive_after builds b m coroutine_status W vs h p =
       with_after b _ m p.others W (codes "status") (nth vs 0) (λ co c. gives_one W (text (status_of c))) h p p.others_fit (λ co d e fit. settles h refl (m, p))
-  primitive_after b m coroutine_isyieldable W vs h p = settles h refl (m, p)
-  primitive_after b m coroutine_running W vs h p = runs_one_after b _ m W W.chain h p
-  primitive_after b m prelude_out W vs h p = settles h refl (m, p)
-  primitive_after b m prelude_build W vs h p = settles h refl (m, p)
-  primitive_after b m k W vs h p = row_after b _ m W (row k W.heap vs) h p
+  primitive_after builds b m coroutine_isyieldable W vs h p = settles h refl (m, p)
+  primitive_after builds b m coroutine_running W vs h p = runs_one_after b _ m W W.chain h p
+  primitive_after builds b m prelude_out W vs h p = settles h refl (m, p)
+  primitive_after builds b m prelude_build W vs h p = loads_after b _ m W (environment_in W vs) (load_of builds (shape (nth vs 0)) (shape (nth vs 1)) (shape (nth vs 2))) h p
+  primitive_after builds b m k W vs h p = row_after b _ m W (row k W.heap vs) h p
 
-  called_after : (b m : ℕ) (o : Option Primitive) (W : Run) (vs : List Value) → W.fuel ≤ b → Fits W.chain W.frames W.coroutines m
-      → After b (fresh_count W.coroutines) (elim o as (λ _. Run) [ None ↦ breaks W | Some p ↦ does_primitive system p W vs ])
-  called_after b m None W vs h p = has_end_too refl (m, p)
-  called_after b m (Some k) W vs h p = primitive_after b m k W vs h p
+  called_after : (builds : Builds Body) (b m : ℕ) (o : Option Primitive) (W : Run) (vs : List Value) → W.fuel ≤ b → Fits W.chain W.frames W.coroutines m
+      → After b (fresh_count W.coroutines) (elim o as (λ _. Run) [ None ↦ breaks W | Some p ↦ does_primitive system builds p W vs ])
+  called_after builds b m None W vs h p = has_end_too refl (m, p)
+  called_after builds b m (Some k) W vs h p = primitive_after builds b m k W vs h p
 
-  pub call_after : (b m : ℕ) (now : Now) (W : Run) → W.fuel ≤ b → Fits W.chain W.frames W.coroutines m → is_call now ≡ true
-      → After b (fresh_count W.coroutines) (tick_by system primitives now W)
-  call_after b m (calls_primitive k vs) W h p called = called_after b m (primitives k) W vs h p
-  call_after b m talks W h p called = absurd (cc)
-  call_after b m (gives_back vs) W h p called = absurd (cc)
-  call_after b m (raises_error e) W h p called = absurd (cc)
-  call_after b m (unwinds e) W h p called = absurd (cc)
-  call_after b m (ends ending) W h p called = absurd (cc)
+  pub call_after : (builds : Builds Body) (b m : ℕ) (now : Now) (W : Run) → W.fuel ≤ b → Fits W.chain W.frames W.coroutines m → is_call now ≡ true
+      → After b (fresh_count W.coroutines) (tick_by system (primitives builds) now W)
+  call_after builds b m (calls_primitive k vs) W h p called = called_after builds b m (primitive_at k) W vs h p
+  call_after builds b m talks W h p called = absurd (cc)
+  call_after builds b m (gives_back vs) W h p called = absurd (cc)
+  call_after builds b m (raises_error e) W h p called = absurd (cc)
+  call_after builds b m (unwinds e) W h p called = absurd (cc)
+  call_after builds b m (ends ending) W h p called = absurd (cc)

@@ -1,4 +1,5 @@
 -- The first turn of a script begins in both worlds.
+use Rattle.lua_meaning.specs.Step.{Primitives}
 use Rattle.std.proofs.Common.{ℕ, zero, suc, ◌≡◌, List, [], ◌∷◌, ◌++◌, length, Option, Some, refl, sym, ap, subst, ◌∙◌, arith, false, cond}
 use Rattle.std.specs.Prelude.{slice_get, slice_set, map, reverse}
 use Rattle.std.proofs.lemmas.List.{map-append}
@@ -12,7 +13,6 @@ use Rattle.machine_core.specs.FrameRows.{hand_over}
 use Rattle.machine_core.specs.Talk.{State, talk_start}
 use Rattle.lua_meaning.specs.World as talk
 use Rattle.lua_meaning.specs.World.{running, talking, talks}
-use Rattle.library_rows.specs.Library.{Primitive}
 use Rattle.lua_meaning.specs.Meaning as meaning
 use Rattle.lua_meaning.specs.Meaning.{Script}
 use Rattle.code_means.specs.Runs.{codes_run}
@@ -183,12 +183,12 @@ module _ (W : World) (T : TalkWorld) (script : Script Prototype) (budget : ℕ) 
   pub wakes_is : wakes (with_budget (begun W script.main) budget) ≡ ends go V
   wakes_is = wakes_so ∙ ap (λ X. woken (enters X (object a_function (length W.functions)) [])) called_is ∙ enters_so ∙ goes
 
-  pub stands : (library : ℕ → Option Primitive) → Stands go V (meaning.begun codes_run library T script budget)
+  pub stands : (library : Primitives Prototype) → Stands go V (meaning.begun codes_run library T script budget)
   stands library =
       subst (λ m. Stands go V (record U { frames = talking m (talk_start script.main []) ∷ []; now = talks })) (lengths W.functions T.functions o.functions)
       (code_runs V (record U { frames = talking (length W.functions) (talk_start script.main []) ∷ []; now = talks }) works_so)
 
-pub first_begins : (primitives : ℕ) (rows : ℕ → Rattle.machine_core.specs.Moves.Row) (library : ℕ → Option Primitive) (safe : PrimitivesSafe primitives rows) (same : SameLibrary primitives rows library) (W : World) (T : TalkWorld) (script : Script Prototype) (budget : ℕ)
+pub first_begins : (primitives : ℕ) (rows : ℕ → Rattle.machine_core.specs.Moves.Row) (library : Primitives Prototype) (safe : PrimitivesSafe primitives rows) (same : SameLibrary primitives rows library) (W : World) (T : TalkWorld) (script : Script Prototype) (budget : ℕ)
     → Sound primitives W → OpenAlike W T → ScriptOk script → Begins primitives rows library safe same (begun W script.main) budget (meaning.begun codes_run library T script budget)
 first_begins primitives rows library safe same W T script budget sound o ok = record {
   sound = begun_sound primitives W script.main sound o.idle ok.checked;

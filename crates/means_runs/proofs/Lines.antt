@@ -12,8 +12,7 @@ use Rattle.machine_core.specs.MachineStep.{and_then, steps}
 use Rattle.machine_core.specs.Talk.{State}
 use Rattle.lua_meaning.specs.World as talk
 use Rattle.lua_meaning.specs.World.{gives_back}
-use Rattle.library_rows.specs.Library.{Primitive}
-use Rattle.lua_meaning.specs.Step.{has_ended, ticks}
+use Rattle.lua_meaning.specs.Step.{Primitives, has_ended, ticks}
 use Rattle.lua_meaning.specs.Meaning as meaning
 use Rattle.lua_meaning.specs.Meaning.{Meaning, run_from as means_from, at_end as means_at, suspends as means_suspended, report as talk_report}
 use Rattle.lua_meaning.proofs.Runs.{ended_within, given_within as meaning_within}
@@ -108,7 +107,7 @@ yielded_on e V X goes m q so g =
     let k : EndsSo V.printed main_yielded V X = subst (λ e. EndsSo V.printed e V X) q so in
     map_some (meaning.behind (X.printed ++ talk_report (talk.yielded V.moving))) (goes X) m (sym (ap (λ nw. means_at nw X goes) k.0) ∙ g)
 
-module _ (primitives : ℕ) (rows : ℕ → Row) (library : ℕ → Option Primitive) (safe : PrimitivesSafe primitives rows) (same : SameLibrary primitives rows library) where
+module _ (primitives : ℕ) (rows : ℕ → Row) (library : Primitives Prototype) (safe : PrimitivesSafe primitives rows) (same : SameLibrary primitives rows library) where
   -- a turn is about to begin in both
   pub record Begins (W : World) (budget : ℕ) (T : TalkWorld) : Type 0 where
     pub sound : Sound primitives W

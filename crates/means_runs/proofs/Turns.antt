@@ -1,4 +1,5 @@
 -- A turn of the machine ends where that of the other world ends, and the other way round.
+use Rattle.code_core.specs.Prototype.{Prototype}
 use Rattle.std.proofs.Common.{ℕ, zero, suc, ◌+◌, ◌<◌, ◌≤◌, ◌≡◌, ◌⊎◌, inl, inr, List, [], ◌++◌, length, Option, Some, None, refl, sym, ap, subst, ◌∙◌, arith, Bool, true, false}
 use Rattle.int_core.specs.Value.{Value}
 use Rattle.machine_core.specs.World.{World}
@@ -8,8 +9,7 @@ use Rattle.machine_core.specs.FrameRows.{asked_row, after_asked, refused_under}
 use Rattle.machine_core.specs.MachineStep.{step_by, step, steps, from_world, and_then}
 use Rattle.lua_meaning.specs.World as talk
 use Rattle.lua_meaning.specs.World.{Now, talks, gives_back, raises_error, unwinds}
-use Rattle.library_rows.specs.Library.{Primitive}
-use Rattle.lua_meaning.specs.Step.{has_ended, tick, tick_by, ticks}
+use Rattle.lua_meaning.specs.Step.{Primitives, has_ended, tick, tick_by, ticks}
 use Rattle.lua_meaning.proofs.Runs.{ended_within}
 use Rattle.code_means.specs.Runs.{codes_run}
 use Rattle.machine_sound.specs.Laws.{SoundAfter, PrimitivesSafe, StepGood}
@@ -92,7 +92,7 @@ asked_no_ask : (W : World) → ending_in (run asked_row [] W) ≡ Some asks → 
 asked_no_ask W e = never_asks asked_row (λ _ _ _ s. after s) [] W e
 
 -- ticks one after another
-module _ (library : ℕ → Option Primitive) where
+module _ (library : Primitives Prototype) where
   abbrev pub after_ticks : ℕ → TalkWorld → TalkWorld
   after_ticks n T = ticks codes_run library n T
 
@@ -165,7 +165,7 @@ module _ (library : ℕ → Option Primitive) where
   not_ended e W T g n (budget_spent _ _ now) = absurd g
   not_ended e W T g n (code_runs _ _ w) = ap has_ended w.now
 
-module _ (primitives : ℕ) (rows : ℕ → Row) (library : ℕ → Option Primitive) (safe : PrimitivesSafe primitives rows) (same : SameLibrary primitives rows library) where
+module _ (primitives : ℕ) (rows : ℕ → Row) (library : Primitives Prototype) (safe : PrimitivesSafe primitives rows) (same : SameLibrary primitives rows library) where
   -- what the machine comes to, the other world comes to
   abbrev Reaches : TalkWorld → Ending → World → Type 0
   Reaches T e V = (j : ℕ) × EndsSo V.printed e V (after_ticks library j T)

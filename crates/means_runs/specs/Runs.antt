@@ -1,4 +1,5 @@
 -- A script's code by the machine, and as activations that talk to the world: what it prints and how it ends.
+use Rattle.lua_meaning.specs.Step.{Primitives}
 use Rattle.std.specs.Prelude.{◌≡◌, ◌≤◌, ℕ, false, List, [], ◌∷◌, length, Option, map}
 use Rattle.int_core.specs.Value.{greatest_string}
 use Rattle.code_core.specs.Prototype.{Prototype}
@@ -8,7 +9,6 @@ use Rattle.machine_core.specs.World.{closed, World}
 use Rattle.machine_core.specs.Moves.{Row}
 use Rattle.machine_core.specs.Talk.{State}
 use Rattle.lua_meaning.specs.World.{running}
-use Rattle.library_rows.specs.Library.{Primitive}
 use Rattle.lua_meaning.specs.Meaning as meaning
 use Rattle.lua_meaning.specs.Meaning.{Script, Meaning, Outcome, IsMeaning}
 use Rattle.code_means.specs.Runs.{codes_run, code_opening}
@@ -50,7 +50,7 @@ pub record RunsAlike (r : Run) (m : Meaning Prototype State) : Type 0 where
   pub ends : EndsAlike r.close r.last m.outcome
 
 -- what a run stands on
-pub record ScriptWorlds (primitives : ℕ) (rows : ℕ → Row) (library : ℕ → Option Primitive) (W : World) (T : TalkWorld) (script : Script Prototype) (input : List (List ℕ)) : Type 0 where
+pub record ScriptWorlds (primitives : ℕ) (rows : ℕ → Row) (library : Primitives Prototype) (W : World) (T : TalkWorld) (script : Script Prototype) (input : List (List ℕ)) : Type 0 where
   pub safe : PrimitivesSafe primitives rows
   pub same : SameLibrary primitives rows library
   pub sound : Sound primitives W
@@ -61,13 +61,13 @@ pub record ScriptWorlds (primitives : ℕ) (rows : ℕ → Row) (library : ℕ �
 -- what the machine does on some lines is what the script's code means on them
 abbrev pub ScriptsRun : Type 0
 ScriptsRun =
-    (primitives : ℕ) (rows : ℕ → Row) (library : ℕ → Option Primitive) (W : World) (T : TalkWorld) (script : Script Prototype) (input : List (List ℕ)) (budget : ℕ) → ScriptWorlds primitives rows library W T script input
+    (primitives : ℕ) (rows : ℕ → Row) (library : Primitives Prototype) (W : World) (T : TalkWorld) (script : Script Prototype) (input : List (List ℕ)) (budget : ℕ) → ScriptWorlds primitives rows library W T script input
     → (r : Run) → CodeRun rows (begun W script.main) input budget r → (m : Meaning Prototype State) × IsMeaning codes_run library T script input budget m × RunsAlike r m
 
 -- and the machine does what it means
 abbrev pub ScriptsMean : Type 0
 ScriptsMean =
-    (primitives : ℕ) (rows : ℕ → Row) (library : ℕ → Option Primitive) (W : World) (T : TalkWorld) (script : Script Prototype) (input : List (List ℕ)) (budget : ℕ) → ScriptWorlds primitives rows library W T script input
+    (primitives : ℕ) (rows : ℕ → Row) (library : Primitives Prototype) (W : World) (T : TalkWorld) (script : Script Prototype) (input : List (List ℕ)) (budget : ℕ) → ScriptWorlds primitives rows library W T script input
     → (m : Meaning Prototype State) → IsMeaning codes_run library T script input budget m → (r : Run) × CodeRun rows (begun W script.main) input budget r × RunsAlike r m
 
 -- code without lines and names

@@ -1,4 +1,5 @@
 -- One step of the machine, whatever the last one ended with.
+use Rattle.code_core.specs.Prototype.{Prototype}
 use Rattle.std.proofs.Common.{ℕ, ◌<◌, ◌≡◌, [], ◌∷◌, ◌++◌, Option, Some, None, refl, sym, ap, subst, ◌∙◌, Bool, true, false}
 use Rattle.int_core.specs.Value.{Value, last}
 use Rattle.list_laws.proofs.Ends.{last_is}
@@ -8,8 +9,7 @@ use Rattle.machine_core.specs.FrameRows.{hand_over, handed_to, unwound, raised_r
 use Rattle.machine_core.specs.MachineStep.{step_by}
 use Rattle.lua_meaning.specs.World.{breaks}
 use Rattle.lua_meaning.specs.Calls as calls
-use Rattle.library_rows.specs.Library.{Primitive}
-use Rattle.lua_meaning.specs.Step.{does_primitive, tick, tick_by}
+use Rattle.lua_meaning.specs.Step.{Primitives, does_primitive, tick, tick_by}
 use Rattle.code_means.specs.Runs.{codes_run}
 use Rattle.machine_sound.specs.Sound.{Solid, Settled, StackWaits}
 use Rattle.machine_means.specs.Joined.{TalkWorld, Joined}
@@ -82,7 +82,7 @@ not_calling handler_top n e = cc
 not_calling closing_top n e = cc
 not_calling (no_top b) n e = cc
 
-module _ (primitives : ℕ) (rows : ℕ → Row) (library : ℕ → Option Primitive) (same : SameLibrary primitives rows library) (M : World) (T : TalkWorld) (solid : Solid primitives M) where
+module _ (primitives : ℕ) (rows : ℕ → Row) (library : Primitives Prototype) (same : SameLibrary primitives rows library) (M : World) (T : TalkWorld) (solid : Solid primitives M) where
   -- a Lua frame is on top
   goes : Settled primitives M → Stands go M T → Leads library M.printed (tick codes_run library T) (step_by rows go M)
   goes s (code_runs _ _ w) = running_steps primitives rows library M T solid s w
@@ -185,7 +185,7 @@ module _ (primitives : ℕ) (rows : ℕ → Row) (library : ℕ → Option Primi
     calls_one : (n : ℕ) → n < primitives → Stands (calls_primitive n) M T → Leads library M.printed (tick codes_run library T) (step_by rows (calls_primitive n) M)
     calls_one n l (primitive_called _ _ _ now joined) =
         let p = same n l in
-        (subst (λ X. Leads library M.printed X (step_by rows (calls_primitive n) M)) (sym (ap (λ nw. tick_by codes_run library nw T) now ∙ ap (λ o. elim o as (λ _. TalkWorld) [ None ↦ breaks T | Some p ↦ does_primitive codes_run p T M.moving ]) p.1))
+        (subst (λ X. Leads library M.printed X (step_by rows (calls_primitive n) M)) (sym (ap (λ nw. tick_by codes_run library nw T) now ∙ ap (λ o. elim o as (λ _. TalkWorld) [ None ↦ breaks T | Some p ↦ does_primitive codes_run library.builds p T M.moving ]) p.1))
         (p.2 library primitives M T (record { solid = solid; waits = waits; joined = joined })))
     calls_one n l (results_come _ _ _ reached now joined) = absurd (not_calling (top_shape M (last waits.frames)) n (handed_ending (calls_primitive n) joined reached))
 

@@ -1,4 +1,5 @@
 -- An activation that is answered goes on with a text: what it leads to in both worlds, and errors of its own step.
+use Rattle.lua_meaning.specs.Step.{Primitives}
 use Rattle.std.proofs.Common.{ℕ, ◌≤◌, ◌≡◌, inl, List, [], ◌∷◌, ◌++◌, length, Option, Some, None, refl, sym, ap, subst, ◌∙◌, arith, true, false}
 use Rattle.std.specs.Prelude.{slice_get, slice_set, map, filter_map, reverse}
 use Rattle.std.proofs.lemmas.List.{reverse-reverse}
@@ -22,7 +23,6 @@ use Rattle.means_steps.proofs.Texts.{Good}
 use Rattle.lua_meaning.specs.World as talk
 use Rattle.lua_meaning.specs.World.{Asker, talking, waiting, raising, talks, as_known, without_name, shared_in, shared_out, second, raises_error, now_in}
 use Rattle.lua_meaning.specs.Asks.{turns, handle}
-use Rattle.library_rows.specs.Library.{Primitive}
 use Rattle.code_means.specs.Runs.{codes_run}
 use Rattle.machine_means.specs.Joined.{TalkFrame, TalkWorld, Dressed, RegistersPair, LuaPair, Joined, line_known}
 use Rattle.machine_means.specs.Stands.{error_raised}
@@ -184,7 +184,7 @@ pub own_middle : (M : World) (T : TalkWorld) (co n : ℕ) (g : Function) (g' : t
     → Middle (with_top M co n w own g below (cells_after m co (length below) own M.cells) w (effect m g.code env own)) T (shared_in (captured_after m a c).gone T.cells) co n g g' w (effect m g.code env own) (captured_after m a c).held below ts
 own_middle M T co n g g' w env a own c below ts m e k = done_middle M T co n g g' w w env a own c below ts (m ∷ []) e k
 
-module _ (rows : ℕ → Option Primitive) (shown : List ℕ) (when : When) (n : ℕ) (g : Function) (g' : talk.Function Prototype) (dressed : Dressed g g') (pc : ℕ) where
+module _ (rows : Primitives Prototype) (shown : List ℕ) (when : When) (n : ℕ) (g : Function) (g' : talk.Function Prototype) (dressed : Dressed g g') (pc : ℕ) where
   -- a talks, and own is the activation of its frame
   abbrev pub RowLeads : Wait Value → Text → Type 0
   RowLeads w t =

@@ -1,4 +1,6 @@
 -- What is asked for is called, whatever frame asks.
+use Rattle.code_core.specs.Prototype.{Prototype}
+use Rattle.lua_meaning.specs.Step.{Primitives}
 use Rattle.std.proofs.Common.{ℕ, ◌≡◌, List, [], ◌∷◌, ◌++◌, Option, Some, None, refl, sym, ap, subst, ◌∙◌, false}
 use Rattle.int_core.specs.Value.{Value, last}
 use Rattle.int_core.specs.Limits.{stack_overflow}
@@ -9,7 +11,6 @@ use Rattle.machine_core.specs.Moves.{call_value, TopShape, lua_top, pcall_top, x
 use Rattle.machine_core.specs.FrameRows.{refused_under as machine_refuses, after_asked, asked_row}
 use Rattle.machine_core.specs.MachineStep.{step_by}
 use Rattle.lua_meaning.specs.Calls.{calls_value, pays_for}
-use Rattle.library_rows.specs.Library.{Primitive}
 use Rattle.code_means.specs.Runs.{codes_run}
 use Rattle.machine_sound.specs.Sound.{Solid, StackWaits}
 use Rattle.machine_means.specs.Joined.{TalkWorld, Joined}
@@ -37,7 +38,7 @@ abbrev pub LuaIn : Option Frame → Type 0
 LuaIn None = ⊥
 LuaIn (Some m) = IsLua m
 
-module _ (rows : ℕ → Row) (known : ℕ → Option Primitive) (primitives : ℕ) (M : World) (T : TalkWorld) (solid : Solid primitives M) (waits : StackWaits primitives M) where
+module _ (rows : ℕ → Row) (known : Primitives Prototype) (primitives : ℕ) (M : World) (T : TalkWorld) (solid : Solid primitives M) (waits : StackWaits primitives M) where
   pub no_lua : (o : Option Frame) → last waits.frames ≡ o → (LuaIn o → ⊥) → (m : Frame) → last waits.frames ≡ Some m → IsLua m → ⊥
   no_lua o e n m at i = n (subst LuaIn (sym at ∙ e) i)
 

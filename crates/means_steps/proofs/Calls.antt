@@ -1,4 +1,6 @@
 -- A call in both worlds, where all frames wait for it: a function is entered, a primitive is called, nothing is left to pay with, or it is refused.
+use Rattle.code_core.specs.Prototype.{Prototype}
+use Rattle.lua_meaning.specs.Step.{Primitives}
 use Rattle.std.proofs.Common.{ℕ, zero, suc, ◌+◌, ◌≡◌, List, [], ◌∷◌, ◌++◌, length, Option, Some, None, refl, sym, ap, subst, ◌∙◌, Bool, true, false, cond}
 use Rattle.std.specs.Prelude.{slice_get, nat_le}
 use Rattle.std.proofs.lemmas.List.{length-reverse}
@@ -13,7 +15,6 @@ use Rattle.lua_meaning.specs.World as talk
 use Rattle.lua_meaning.specs.World.{talking, talks, now_in}
 use Rattle.lua_meaning.specs.Calls as calls
 use Rattle.lua_meaning.specs.Calls.{pays_for}
-use Rattle.library_rows.specs.Library.{Primitive}
 use Rattle.code_means.specs.Runs.{codes_run}
 use Rattle.machine_sound.proofs.Frames.{stack_is}
 use Rattle.machine_means.specs.Joined.{TalkWorld, Dressed, Joined}
@@ -28,7 +29,7 @@ use Rattle.machine_means.proofs.Entered.{entered, talks_so, works}
 use Rattle.means_steps.specs.Steps.{Leads}
 
 -- `k` is how the machine's row goes on, and `refused` how the other world does where it cannot be called
-module _ (rows : ℕ → Option Primitive) (shown : List ℕ) (P : World) (U : TalkWorld) (said : U.printed ≡ shown) (co : ℕ) (frames : List Frame) (joined : Joined false P U) (at_end : last P.chain ≡ Some co) (runs : slice_get P.coroutines co ≡ Some (in_progress frames)) (only : OnlyRuns P.coroutines co)
+module _ (rows : Primitives Prototype) (shown : List ℕ) (P : World) (U : TalkWorld) (said : U.printed ≡ shown) (co : ℕ) (frames : List Frame) (joined : Joined false P U) (at_end : last P.chain ≡ Some co) (runs : slice_get P.coroutines co ≡ Some (in_progress frames)) (only : OnlyRuns P.coroutines co)
     (env : List Value) (k : CallShape → Row) (refused : List ℕ → TalkWorld → TalkWorld) (goes : k is_entered ≡ stop go) (calls_so : (n : ℕ) → k (is_primitive n) ≡ stop (calls_primitive n)) (spends : k not_paid ≡ stop spent)
     (cramped : nat_le (length frames + 1) greatest_depth ≡ false → (fuel : ℕ) → Leads rows shown (refused stack_overflow (record U { fuel = fuel })) (run (k (not_entered stack_overflow)) (env ++ []) (record P { fuel = fuel }))) where
   abbrev s : Stack

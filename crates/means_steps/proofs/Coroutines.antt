@@ -1,4 +1,6 @@
 -- A new coroutine, and an error with its place.
+use Rattle.load_rows.specs.Loading.{Builds}
+use Rattle.code_core.specs.Prototype.{Prototype}
 use Rattle.std.proofs.Common.{ℕ, zero, suc, ◌≡◌, List, [], ◌∷◌, ◌++◌, length, Option, Some, None, refl, sym, ap, subst, ◌∙◌, Bool, true, false, cond}
 use Rattle.std.specs.Prelude.{ℤ, pos, negsuc, codes}
 use Rattle.int_core.specs.Value.{Value, known, object, nil, boolean, integer, string, primitive, a_table, a_function, a_coroutine, shape, nth}
@@ -20,7 +22,7 @@ use Rattle.lua_meaning.specs.World as talk
 use Rattle.lua_meaning.specs.World.{gives_back, raises_error, raises_text, now_in}
 use Rattle.library_rows.specs.Arguments.{wrong_type}
 use Rattle.library_rows.specs.Library.{Primitive, base_error, coroutine_create}
-use Rattle.lua_meaning.specs.Step.{level_in, placed, error_by, creates, gives_one, does_primitive}
+use Rattle.lua_meaning.specs.Step.{Primitives, level_in, placed, error_by, creates, gives_one, does_primitive}
 use Rattle.machine_sound.proofs.Frames.{stack_is}
 use Rattle.machine_means.specs.Joined.{TalkWorld, Stacks, CoroutinePair, CoroutinesPair, HoldsIn, Joined}
 use Rattle.machine_means.specs.Stands.{AtRest}
@@ -76,7 +78,7 @@ callable_same (object a_table n) = refl
 callable_same (object a_function n) = refl
 callable_same (object a_coroutine n) = refl
 
-module _ (library : ℕ → Option Primitive) (primitives : ℕ) (M : World) (T : TalkWorld) (k : AtRest primitives false M T) where
+module _ (builds : Builds Prototype) (library : Primitives Prototype) (primitives : ℕ) (M : World) (T : TalkWorld) (k : AtRest primitives false M T) where
   abbrev v : Value
   v = nth M.moving 0
 
@@ -134,7 +136,7 @@ module _ (library : ℕ → Option Primitive) (primitives : ℕ) (M : World) (T 
   by_kind true e = created e
   by_kind false e = raises_so library primitives M T k text env
 
-  pub creates_so : Leads library M.printed (does_primitive Rattle.code_means.specs.Runs.codes_run coroutine_create T M.moving) (run create_row [] M)
+  pub creates_so : Leads library M.printed (does_primitive Rattle.code_means.specs.Runs.codes_run builds coroutine_create T M.moving) (run create_row [] M)
   creates_so =
       subst (λ b. Leads library M.printed (creates T v) (run (cond b makes (blames text)) env (record M { moving = [] }))) (sym (callable_same v)) (by_kind (is_function v) refl)
 
@@ -175,11 +177,11 @@ module _ (library : ℕ → Option Primitive) (primitives : ℕ) (M : World) (T 
   errs_by (Some (pos zero)) = subst (λ x. Leads library M.printed (now_in T (raises_error v)) (ends raised (record M { moving = x ∷ [] }))) (sym env_first) (raises_value library primitives M T k M T v k.joined)
   errs_by (Some (negsuc n)) = subst (λ x. Leads library M.printed (now_in T (raises_error v)) (ends raised (record M { moving = x ∷ [] }))) (sym env_first) (raises_value library primitives M T k M T v k.joined)
 
-  pub errs_so : Leads library M.printed (does_primitive Rattle.code_means.specs.Runs.codes_run base_error T M.moving) (run error_row [] M)
+  pub errs_so : Leads library M.printed (does_primitive Rattle.code_means.specs.Runs.codes_run builds base_error T M.moving) (run error_row [] M)
   errs_so = subst (λ n. Leads library M.printed (error_by T v (nth M.moving 1) n) (run error_row [] M)) (level_same (nth M.moving 1)) (errs_by (rows.level_in (shape (nth M.moving 1))))
 
-pub create_leads : PrimitiveJoined create_row coroutine_create
-create_leads library primitives M T k = creates_so library primitives M T k
+pub create_leads : (builds : Builds Prototype) → PrimitiveJoined builds create_row coroutine_create
+create_leads builds library primitives M T k = creates_so builds library primitives M T k
 
-pub error_leads : PrimitiveJoined error_row base_error
-error_leads library primitives M T k = errs_so library primitives M T k
+pub error_leads : (builds : Builds Prototype) → PrimitiveJoined builds error_row base_error
+error_leads builds library primitives M T k = errs_so builds library primitives M T k

@@ -1,4 +1,5 @@
 -- Texts that go on at another place, or do a move on the own activation, or give a captured local its cell.
+use Rattle.lua_meaning.specs.Step.{Primitives}
 use Rattle.std.proofs.Common.{ℕ, ◌≡◌, List, [], ◌∷◌, ◌++◌, length, Option, Some, None, refl, sym, ap, subst, ◌∙◌, Bool, true, false}
 use Rattle.std.specs.Prelude.{ℤ, cond, nat_lt, codes, map}
 use Rattle.code_core.specs.declared.instruction.Instruction.{Instruction}
@@ -20,7 +21,6 @@ use Rattle.means_steps.proofs.Local.{fits_alike, reads_alike, tells_alike, effec
 use Rattle.lua_meaning.specs.World as talk
 use Rattle.lua_meaning.specs.World.{talking, talks, as_known, shared_in, second}
 use Rattle.lua_meaning.specs.Asks.{turns}
-use Rattle.library_rows.specs.Library.{Primitive}
 use Rattle.code_means.specs.Runs.{codes_run}
 use Rattle.machine_means.specs.Joined.{TalkFrame, TalkWorld, Dressed, PartsNamed, line_known}
 use Rattle.machine_means.specs.Works.{RunsOver, Works}
@@ -75,7 +75,7 @@ pub marks_known : (lines : Bool) (source : List ℕ) (p : Prototype) (pc : ℕ) 
 marks_known true source p pc names v name unnamed shared k = ap (λ line. marks_with v name line shared k) (line_is true source p pc names)
 marks_known false source p pc names v name unnamed shared k = says_known false source p pc names (marks v name) (let z : codes "?" ≡ name = sym (unnamed names.1) in ap (marks_so v) z) shared k
 
-module _ (rows : ℕ → Option Primitive) (shown : List ℕ) (when : When) (n : ℕ) (g : Function) (g' : talk.Function Prototype) (dressed : Dressed g g') (pc : ℕ) (w : Wait Value) where
+module _ (rows : Primitives Prototype) (shown : List ℕ) (when : When) (n : ℕ) (g : Function) (g' : talk.Function Prototype) (dressed : Dressed g g') (pc : ℕ) (w : Wait Value) where
   abbrev pub side : Text → List Value → Activation → Captured → TalkWorld → List TalkFrame → TalkWorld
   side t env a c T ts = turns codes_run (as_known g'.has_lines (talk g.code t env a c)) T n ts
 

@@ -18,8 +18,7 @@ use Rattle.means_steps.proofs.RowsGood.{rest_at_good, fails_good}
 use Rattle.lua_meaning.specs.World as talk
 use Rattle.lua_meaning.specs.World.{Asker, talking, waiting, raising, talks, gives_back, unwinds, shared_out, answered}
 use Rattle.lua_meaning.specs.Calls as calls_in
-use Rattle.library_rows.specs.Library.{Primitive}
-use Rattle.lua_meaning.specs.Step.{tick, tick_by}
+use Rattle.lua_meaning.specs.Step.{Primitives, tick, tick_by}
 use Rattle.code_means.specs.Runs.{codes_run}
 use Rattle.machine_sound.specs.Sound.{Solid}
 use Rattle.machine_sound.proofs.Frames.{stack_is}
@@ -112,7 +111,7 @@ module _ (primitives : ℕ) (M : World) (T : TalkWorld) (lax : Bool) (solid : So
       from Rattle.lua_meaning.specs.World.handling lax' d x is p = absurd p
       from (talk.closing e us) lax' d x is p = absurd p
 
-  module _ (known : ℕ → Option Primitive) (shown : List ℕ) (around : Around M T) (said : T.printed ≡ shown) (fr : LuaFrame) (lo : Bool) (x : Listens fr lo) where
+  module _ (known : Primitives Prototype) (shown : List ℕ) (around : Around M T) (said : T.printed ≡ shown) (fr : LuaFrame) (lo : Bool) (x : Listens fr lo) where
     -- a reply reaches it; M1 is the machine's world then, in which its wait is u
     pub delivered : (r : Reply) → IsHeard lo r → (u : Wait Value) (M1 : World) (T1 : TalkWorld) → T1.printed ≡ shown → Around M1 T1 → Middle M1 T1 T1.cells co fr.function x.asleep.function x.g' u fr.own x.held x.below x.ts → RegistersPair T1.cells x.held x.a.registers fr.own.registers
         → Good x.asleep.function.code fr.own.pc u (length (told_values fr.wait r)) (after fr.wait x.asleep.function.code fr.own.pc r)
@@ -150,7 +149,7 @@ left_there T asker ts lo e (inr p) = subst (λ fs. calls_in.unwound codes_run T 
 pub around_of : (lax : Bool) (M : World) (T : TalkWorld) → Joined lax M T → Around M T
 around_of lax M T k = record { heap = k.heap; globals = k.globals; printed = k.printed; fuel = k.fuel; chain = k.chain }
 
-module _ (rows : ℕ → Row) (known : ℕ → Option Primitive) (primitives : ℕ) (M : World) (T : TalkWorld) (solid : Solid primitives M) (co : ℕ) (frames : List Frame) (at_end : last M.chain ≡ Some co) (going : slice_get M.coroutines co ≡ Some (in_progress frames)) (fr : LuaFrame) (on_top_is : last frames ≡ Some (lua fr)) where
+module _ (rows : ℕ → Row) (known : Primitives Prototype) (primitives : ℕ) (M : World) (T : TalkWorld) (solid : Solid primitives M) (co : ℕ) (frames : List Frame) (at_end : last M.chain ≡ Some co) (going : slice_get M.coroutines co ≡ Some (in_progress frames)) (fr : LuaFrame) (on_top_is : last frames ≡ Some (lua fr)) where
   -- results reach it
   woken_is : (g : Function) (below : List Frame) → woken M (stack_at co (lua fr ∷ below)) fr ≡ record (with_top M co fr.function fr.wait fr.own g below M.cells running fr.own) { moving = [] }
   unfolding woken put_top put_frames

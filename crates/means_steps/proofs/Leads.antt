@@ -10,8 +10,7 @@ use Rattle.machine_core.specs.Talk.{State, talk_step}
 use Rattle.lua_meaning.specs.World as talk
 use Rattle.lua_meaning.specs.World.{talking, talks, breaks, as_known, without_name}
 use Rattle.lua_meaning.specs.Asks.{turns, talks_on}
-use Rattle.library_rows.specs.Library.{Primitive}
-use Rattle.lua_meaning.specs.Step.{has_ended, tick, ticks}
+use Rattle.lua_meaning.specs.Step.{Primitives, has_ended, tick, ticks}
 use Rattle.code_means.specs.Runs.{codes_run}
 use Rattle.machine_means.specs.Joined.{TalkFrame, TalkWorld, Dressed, PartsNamed, line_known}
 use Rattle.machine_means.specs.Stands.{Stands}
@@ -27,7 +26,7 @@ handed_so shown handler_top W T s = s
 handed_so shown closing_top W T s = s
 handed_so shown (no_top b) W T s = s
 
-module _ (known : ℕ → Option Primitive) (shown : List ℕ) where
+module _ (known : Primitives Prototype) (shown : List ℕ) where
   -- where an activation runs, one tick further on
   pub leads_on : (T : TalkWorld) (n : ℕ) (s : State) (ts : List TalkFrame) (o : Outcome) → Leads known shown (talks_on codes_run (record T { frames = talking n s ∷ ts; now = talks }) (talking n s ∷ ts)) o → Leads known shown (record T { frames = talking n s ∷ ts; now = talks }) o
   leads_on T n s ts trapped k = tt
@@ -64,7 +63,7 @@ pub says_known : (lines : Bool) (source : List ℕ) (p : Prototype) (pc : ℕ) �
 says_known true source p pc named q e shared k = ap (λ line. says q line shared k) (line_is true source p pc named)
 says_known false source p pc named q e shared k = ap (λ q. says q None shared k) e ∙ ap (λ line. says q line shared k) (line_is false source p pc named)
 
-module _ (known : ℕ → Option Primitive) (shown : List ℕ) where
+module _ (known : Primitives Prototype) (shown : List ℕ) where
   -- one tick further on, whatever goes on
   pub leads_tick : (T : TalkWorld) (o : Outcome) → has_ended T.now ≡ false → Leads known shown (tick codes_run known T) o → Leads known shown T o
   leads_tick T trapped e k = tt

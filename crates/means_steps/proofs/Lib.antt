@@ -22,5 +22,6 @@ pub mod Asking
 pub mod Mains
 pub mod Primitives
 pub mod Coroutines
+pub mod Loads
 pub mod Libraries
 pub mod All

@@ -1,4 +1,6 @@
 -- The main coroutine ends a turn: it yields, returns or fails.
+use Rattle.code_core.specs.Prototype.{Prototype}
+use Rattle.lua_meaning.specs.Step.{Primitives}
 use Rattle.std.proofs.Common.{ℕ, ◌≡◌, List, [], ◌∷◌, ◌++◌, length, Option, Some, None, refl, sym, ap, subst, ◌∙◌, arith, Bool, true, false, cond}
 use Rattle.std.specs.Prelude.{slice_get, slice_set, nat_eq, reverse, flat_map}
 use Rattle.std.proofs.lemmas.List.{length-reverse}
@@ -18,7 +20,6 @@ use Rattle.lua_meaning.specs.World as talk
 use Rattle.lua_meaning.specs.World.{now_in}
 use Rattle.lua_meaning.specs.Calls as calls
 use Rattle.lua_meaning.specs.Calls.{yields, leaves_coroutine, truth, all_pending}
-use Rattle.library_rows.specs.Library.{Primitive}
 use Rattle.code_means.specs.Runs.{codes_run}
 use Rattle.machine_sound.specs.Sound.{Solid, StackWaits}
 use Rattle.machine_sound.proofs.Frames.{stack_is}
@@ -81,7 +82,7 @@ module _ (primitives : ℕ) (M : machine.World) (T : TalkWorld) (lax : Bool) (so
   unfolding suspend_running
   suspends_is = back_is (suspended frames) M.cells M.moving
 
-  pub main_yields : (library : ℕ → Option Primitive) → lax ≡ false → Leads library M.printed (yields T M.moving) (run yield_row [] M)
+  pub main_yields : (library : Primitives Prototype) → lax ≡ false → Leads library M.printed (yields T M.moving) (run yield_row [] M)
   main_yields library strict =
       let W : machine.World = left_as (suspended frames) M.cells M.moving in
       let U : TalkWorld = now_in T (talk.ends (talk.yielded M.moving)) in
@@ -99,7 +100,7 @@ module _ (primitives : ℕ) (M : machine.World) (T : TalkWorld) (lax : Bool) (so
         (refl, (joined.printed, record { co = co; frames = frames; main = is_main; idle = refl; there = get_set_same M.coroutines co (in_progress frames) (suspended frames) waits.running; joined = again })),
       ))
 
-  pub main_returns : (library : ℕ → Option Primitive) → waits.frames ≡ [] → Leads library M.printed (calls.handed codes_run T M.moving T.frames) (run (handed_to (no_top true)) [] M)
+  pub main_returns : (library : Primitives Prototype) → waits.frames ≡ [] → Leads library M.printed (calls.handed codes_run T M.moving T.frames) (run (handed_to (no_top true)) [] M)
   main_returns library none =
       let W : machine.World = left_as dead (all_closed_from co 0 frames M.cells) M.moving in
       let U : TalkWorld = now_in T (talk.ends (talk.returned M.moving)) in
@@ -107,7 +108,7 @@ module _ (primitives : ℕ) (M : machine.World) (T : TalkWorld) (lax : Bool) (so
       let told : calls.handed codes_run T M.moving T.frames ≡ U = ap (calls.handed codes_run T M.moving) (no_talks primitives M T solid waits lax joined none) ∙ ap (λ b. cond b U (leaves_coroutine T talk.dead (truth true ∷ M.moving))) talk_main in
       subst (λ o. Leads library M.printed (calls.handed codes_run T M.moving T.frames) o) (sym ran) (subst (λ X. Leads library M.printed X (ends main_returned W)) (sym told) (0, (refl, joined.printed)))
 
-  pub main_fails : (library : ℕ → Option Primitive) → waits.frames ≡ [] → (e : Value) → M.moving ≡ e ∷ [] → Leads library M.printed (calls.unwound codes_run T e T.frames) (run (unwound (no_top true)) [] M)
+  pub main_fails : (library : Primitives Prototype) → waits.frames ≡ [] → (e : Value) → M.moving ≡ e ∷ [] → Leads library M.printed (calls.unwound codes_run T e T.frames) (run (unwound (no_top true)) [] M)
   main_fails library none e moves =
       let c : Coroutine = failed e (flat_map pending_values frames) in
       let W : machine.World = left_as c (all_closed_from co 0 frames M.cells) (e ∷ []) in

@@ -1,4 +1,6 @@
 -- The primitives: those that move frames and coroutines, make or look at a coroutine, print, raise, or look at values and tables alone.
+use Rattle.load_rows.specs.Loading.{Builds}
+use Rattle.code_core.specs.Prototype.{Prototype}
 use Rattle.std.proofs.Common.{ℕ, zero, suc, ◌<◌, ◌≡◌, List, [], ◌∷◌, ◌++◌, length, Option, Some, None, refl, sym, ap, subst, ◌∙◌, arith, Bool, true, false}
 use Rattle.std.specs.Prelude.{slice_get, option_map, drop, codes}
 use Rattle.int_core.specs.Heap.{Heap}
@@ -21,7 +23,7 @@ use Rattle.lua_meaning.specs.World.{gives_back, raises_error, raises_text, now_i
 use Rattle.lua_meaning.specs.Calls as calls
 use Rattle.library_rows.specs.Arguments.{wrong_type}
 use Rattle.library_rows.specs.Library.{Primitive, base_error, base_pcall, base_xpcall, coroutine_close, coroutine_create, coroutine_isyieldable, coroutine_resume, coroutine_running, coroutine_status, coroutine_yield, prelude_build, prelude_out, row_of}
-use Rattle.lua_meaning.specs.Step.{gives_one, status_of, with_coroutine, runs_one, bytes_in as bytes_of, row, after_row, does_primitive}
+use Rattle.lua_meaning.specs.Step.{Primitives, gives_one, status_of, with_coroutine, runs_one, bytes_in as bytes_of, row, after_row, does_primitive}
 use Rattle.code_means.specs.Runs.{codes_run}
 use Rattle.machine_sound.proofs.Frames.{stack_is}
 use Rattle.machine_means.specs.Joined.{TalkWorld, Stacks, CoroutinePair, Joined}
@@ -46,7 +48,7 @@ use Rattle.means_steps.proofs.Mains.{main_yields}
 pub blames_free : (text : List ℕ) → EndsNoTurn (blames text)
 blames_free text = λ _ _ _. tt
 
-module _ (library : ℕ → Option Primitive) (primitives : ℕ) (M : World) (T : TalkWorld) (k : AtRest primitives false M T) where
+module _ (library : Primitives Prototype) (primitives : ℕ) (M : World) (T : TalkWorld) (k : AtRest primitives false M T) where
   abbrev N : World
   N = record M { moving = [] }
 
@@ -64,7 +66,7 @@ module _ (library : ℕ → Option Primitive) (primitives : ℕ) (M : World) (T 
       (gives_leads library M.printed (run hand_over env W) (now_in U (gives_back W.moving)) (gives W (now_in U (gives_back W.moving)) s env e (told_now false W U (gives_back W.moving) j) refl))
 
   -- the same world, with other results
-  hands_here : (env mv : List Value) → Leads library M.printed (now_in T (gives_back mv)) (run hand_over env (record M { moving = mv }))
+  pub hands_here : (env mv : List Value) → Leads library M.printed (now_in T (gives_back mv)) (run hand_over env (record M { moving = mv }))
   hands_here env mv = hands (record M { moving = mv }) T env mv (stack_now primitives M T false k) (moved false M T mv k.joined) refl
 
   -- an error's value is raised as it is
@@ -78,24 +80,24 @@ row_is : (p : Primitive) (l : Look) (H : Heap) (vs : List Value) → row_of p �
 unfolding row
 row_is p l H vs e = ap (option_map (λ (l : Look). looked l vs H)) e
 
-told_by_row : (p : Primitive) (l : Look) (T : TalkWorld) (vs : List Value) → row_of p ≡ Some l → does_primitive codes_run p T vs ≡ after_row T (Some (looked l vs T.heap))
-told_by_row base_error l T vs e = absurd (cc)
-told_by_row base_pcall l T vs e = absurd (cc)
-told_by_row base_xpcall l T vs e = absurd (cc)
-told_by_row coroutine_close l T vs e = absurd (cc)
-told_by_row coroutine_create l T vs e = absurd (cc)
-told_by_row coroutine_isyieldable l T vs e = absurd (cc)
-told_by_row coroutine_resume l T vs e = absurd (cc)
-told_by_row coroutine_running l T vs e = absurd (cc)
-told_by_row coroutine_status l T vs e = absurd (cc)
-told_by_row coroutine_yield l T vs e = absurd (cc)
-told_by_row prelude_build l T vs e = absurd (cc)
-told_by_row prelude_out l T vs e = absurd (cc)
-told_by_row p l T vs e = ap (after_row T) (row_is p l T.heap vs e)
+told_by_row : (builds : Builds Prototype) (p : Primitive) (l : Look) (T : TalkWorld) (vs : List Value) → row_of p ≡ Some l → does_primitive codes_run builds p T vs ≡ after_row T (Some (looked l vs T.heap))
+told_by_row builds base_error l T vs e = absurd (cc)
+told_by_row builds base_pcall l T vs e = absurd (cc)
+told_by_row builds base_xpcall l T vs e = absurd (cc)
+told_by_row builds coroutine_close l T vs e = absurd (cc)
+told_by_row builds coroutine_create l T vs e = absurd (cc)
+told_by_row builds coroutine_isyieldable l T vs e = absurd (cc)
+told_by_row builds coroutine_resume l T vs e = absurd (cc)
+told_by_row builds coroutine_running l T vs e = absurd (cc)
+told_by_row builds coroutine_status l T vs e = absurd (cc)
+told_by_row builds coroutine_yield l T vs e = absurd (cc)
+told_by_row builds prelude_build l T vs e = absurd (cc)
+told_by_row builds prelude_out l T vs e = absurd (cc)
+told_by_row builds p l T vs e = ap (after_row T) (row_is p l T.heap vs e)
 
-pub look_leads : (l : Look) (p : Primitive) → row_of p ≡ Some l → PrimitiveJoined (look_row l) p
-look_leads l p is library primitives M T k =
-    subst (λ X. Leads library M.printed X (run (look_row l) [] M)) (sym (told_by_row p l T M.moving is))
+pub look_leads : (l : Look) (p : Primitive) → row_of p ≡ Some l → (builds : Builds Prototype) → PrimitiveJoined builds (look_row l) p
+look_leads l p is builds library primitives M T k =
+    subst (λ X. Leads library M.printed X (run (look_row l) [] M)) (sym (told_by_row builds p l T M.moving is))
     (subst (λ H. Leads library M.printed (after_row T (Some (looked l M.moving H))) (run (look_row l) [] M)) k.joined.heap (by (looked l M.moving M.heap)))
   where
     out : Done → Outcome
@@ -133,9 +135,9 @@ same_bytes (known (integer n)) = refl
 same_bytes (known (primitive n)) = refl
 same_bytes (object kind n) = refl
 
-pub print_leads : PrimitiveJoined print_row prelude_out
+pub print_leads : (builds : Builds Prototype) → PrimitiveJoined builds print_row prelude_out
 unfolding add_printed
-print_leads library primitives M T k =
+print_leads builds library primitives M T k =
     let v : Value = nth M.moving 0 in
     let W : World = record M { printed = M.printed ++ bytes_in v; moving = [] } in
     let U : TalkWorld = record T { printed = T.printed ++ bytes_of v } in
@@ -154,11 +156,11 @@ print_leads library primitives M T k =
 
 -- `isyieldable` and `running`
 
-pub yieldable_leads : PrimitiveJoined yieldable_row coroutine_isyieldable
-yieldable_leads library primitives M T k = hands_here library primitives M T k [] (known (boolean true) ∷ [])
+pub yieldable_leads : (builds : Builds Prototype) → PrimitiveJoined builds yieldable_row coroutine_isyieldable
+yieldable_leads builds library primitives M T k = hands_here library primitives M T k [] (known (boolean true) ∷ [])
 
-pub running_leads : PrimitiveJoined running_row coroutine_running
-running_leads library primitives M T k =
+pub running_leads : (builds : Builds Prototype) → PrimitiveJoined builds running_row coroutine_running
+running_leads builds library primitives M T k =
     let f = runs_first primitives M k.solid k.waits T false k.joined in
     let mv : List Value = object a_coroutine k.waits.coroutine ∷ known (boolean false) ∷ [] in
     let ran : run running_row [] M ≡ run hand_over (object a_coroutine k.waits.coroutine ∷ []) (record M { moving = mv }) =
@@ -168,43 +170,43 @@ running_leads library primitives M T k =
 
 -- `pcall` and `xpcall`
 
-pub pcall_leads : PrimitiveJoined pcall_row base_pcall
-pcall_leads library primitives M T k =
-    comes_leads library M.printed pcall_row [] M (does_primitive codes_run base_pcall T M.moving) (λ _ _ _ _ room _. either room _ _ (λ _ _ _. tt) (λ _ _ _. tt)) (protected_calls primitives M T k).0
+pub pcall_leads : (builds : Builds Prototype) → PrimitiveJoined builds pcall_row base_pcall
+pcall_leads builds library primitives M T k =
+    comes_leads library M.printed pcall_row [] M (does_primitive codes_run builds base_pcall T M.moving) (λ _ _ _ _ room _. either room _ _ (λ _ _ _. tt) (λ _ _ _. tt)) (protected_calls builds primitives M T k).0
 
-pub xpcall_leads : PrimitiveJoined xpcall_row base_xpcall
-xpcall_leads library primitives M T k =
-    comes_leads library M.printed xpcall_row [] M (does_primitive codes_run base_xpcall T M.moving) (λ _ _ _ _ room _. either room _ _ (λ _ _ _. tt) (λ _ _ _. tt)) (protected_calls primitives M T k).1
+pub xpcall_leads : (builds : Builds Prototype) → PrimitiveJoined builds xpcall_row base_xpcall
+xpcall_leads builds library primitives M T k =
+    comes_leads library M.printed xpcall_row [] M (does_primitive codes_run builds base_xpcall T M.moving) (λ _ _ _ _ room _. either room _ _ (λ _ _ _. tt) (λ _ _ _. tt)) (protected_calls builds primitives M T k).1
 
 -- `yield`
 
-pub yield_leads : PrimitiveJoined yield_row coroutine_yield
-yield_leads library primitives M T k = by (runs_main M) refl
+pub yield_leads : (builds : Builds Prototype) → PrimitiveJoined builds yield_row coroutine_yield
+yield_leads builds library primitives M T k = by (runs_main M) refl
   where
-    by : (b : Bool) → runs_main M ≡ b → Leads library M.printed (does_primitive codes_run coroutine_yield T M.moving) (run yield_row [] M)
+    by : (b : Bool) → runs_main M ≡ b → Leads library M.printed (does_primitive codes_run builds coroutine_yield T M.moving) (run yield_row [] M)
     by true e = main_yields primitives M T false k.solid k.waits k.joined e library refl
-    by false e = gives_leads library M.printed (run yield_row [] M) (does_primitive codes_run coroutine_yield T M.moving) (yields_joined primitives M T (record { solid = k.solid; waits = k.waits; resumed = e; joined = k.joined }))
+    by false e = gives_leads library M.printed (run yield_row [] M) (does_primitive codes_run builds coroutine_yield T M.moving) (yields_joined builds primitives M T (record { solid = k.solid; waits = k.waits; resumed = e; joined = k.joined }))
 
 -- what is no coroutine is refused
 
-module _ (library : ℕ → Option Primitive) (primitives : ℕ) (M : World) (T : TalkWorld) (k : AtRest primitives false M T) where
+module _ (builds : Builds Prototype) (library : Primitives Prototype) (primitives : ℕ) (M : World) (T : TalkWorld) (k : AtRest primitives false M T) where
   abbrev mv : List Value
   mv = M.moving
 
   is_first : (v : Value) (vs : List Value) → M.moving ≡ v ∷ vs → nth M.moving 0 ≡ v
   is_first v vs e = ap (λ l. nth l 0) e
 
-  resumed_out : (o : Outcome) → run resume_row [] M ≡ o → (co : ℕ) (vs : List Value) → M.moving ≡ object a_coroutine co ∷ vs → (c : Coroutine) → slice_get M.coroutines co ≡ Some c → Leads library M.printed (does_primitive codes_run coroutine_resume T (object a_coroutine co ∷ vs)) (run resume_row [] M)
-  resumed_out trapped q co vs e c there = subst (λ o. Leads library M.printed (does_primitive codes_run coroutine_resume T (object a_coroutine co ∷ vs)) o) (sym q) tt
+  resumed_out : (o : Outcome) → run resume_row [] M ≡ o → (co : ℕ) (vs : List Value) → M.moving ≡ object a_coroutine co ∷ vs → (c : Coroutine) → slice_get M.coroutines co ≡ Some c → Leads library M.printed (does_primitive codes_run builds coroutine_resume T (object a_coroutine co ∷ vs)) (run resume_row [] M)
+  resumed_out trapped q co vs e c there = subst (λ o. Leads library M.printed (does_primitive codes_run builds coroutine_resume T (object a_coroutine co ∷ vs)) o) (sym q) tt
   resumed_out (ends ending W) q co vs e c there = by c there
     where
-      begun : (c : Coroutine) → HasBegun c → slice_get M.coroutines co ≡ Some c → Leads library M.printed (does_primitive codes_run coroutine_resume T (object a_coroutine co ∷ vs)) (run resume_row [] M)
-      begun c h there = gives_leads library M.printed (run resume_row [] M) (does_primitive codes_run coroutine_resume T (object a_coroutine co ∷ vs)) (resumes_joined primitives M T k.solid k.waits k.joined co vs e c there h)
+      begun : (c : Coroutine) → HasBegun c → slice_get M.coroutines co ≡ Some c → Leads library M.printed (does_primitive codes_run builds coroutine_resume T (object a_coroutine co ∷ vs)) (run resume_row [] M)
+      begun c h there = gives_leads library M.printed (run resume_row [] M) (does_primitive codes_run builds coroutine_resume T (object a_coroutine co ∷ vs)) (resumes_joined builds primitives M T k.solid k.waits k.joined co vs e c there h)
 
-      by : (c : Coroutine) → slice_get M.coroutines co ≡ Some c → Leads library M.printed (does_primitive codes_run coroutine_resume T (object a_coroutine co ∷ vs)) (run resume_row [] M)
+      by : (c : Coroutine) → slice_get M.coroutines co ≡ Some c → Leads library M.printed (does_primitive codes_run builds coroutine_resume T (object a_coroutine co ∷ vs)) (run resume_row [] M)
       by (fresh body) there =
-          comes_leads library M.printed resume_row [] M (does_primitive codes_run coroutine_resume T (object a_coroutine co ∷ vs)) resume_free
-          (coroutines_begin primitives M T k co vs e body there (λ t. (let z : ends ending W ≡ trapped = sym q ∙ t in cc)))
+          comes_leads library M.printed resume_row [] M (does_primitive codes_run builds coroutine_resume T (object a_coroutine co ∷ vs)) resume_free
+          (coroutines_begin builds primitives M T k co vs e body there (λ t. (let z : ends ending W ≡ trapped = sym q ∙ t in cc)))
       by (suspended fr) there = begun (suspended fr) tt there
       by (in_progress fr) there = begun (in_progress fr) tt there
       by (normal fr) there = begun (normal fr) tt there
@@ -225,30 +227,30 @@ module _ (library : ℕ → Option Primitive) (primitives : ℕ) (M : World) (T 
   there_is co e = item_at M.coroutines co (k.solid.moving 0 (object a_coroutine co) (ap (λ l. slice_get l 0) (first_of M.moving co e)))
 
   resumes_by : (v : Value) → nth M.moving 0 ≡ v → Leads library M.printed (with_coroutine T (codes "resume") v (λ co c. calls.resumes codes_run T co c (drop 1 M.moving))) (run (rows.resumes (shape v) 0) (M.moving ++ []) (record M { moving = [] }))
-      → Leads library M.printed (does_primitive codes_run coroutine_resume T M.moving) (run resume_row [] M)
+      → Leads library M.printed (does_primitive codes_run builds coroutine_resume T M.moving) (run resume_row [] M)
   resumes_by v e l =
       subst (λ u. Leads library M.printed (with_coroutine T (codes "resume") u (λ co c. calls.resumes codes_run T co c (drop 1 M.moving))) (run (rows.resumes (shape u) 0) (M.moving ++ []) (record M { moving = [] }))) (sym e) l
 
-  pub resume_any : (v : Value) → nth M.moving 0 ≡ v → Leads library M.printed (does_primitive codes_run coroutine_resume T M.moving) (run resume_row [] M)
+  pub resume_any : (v : Value) → nth M.moving 0 ≡ v → Leads library M.printed (does_primitive codes_run builds coroutine_resume T M.moving) (run resume_row [] M)
   resume_any (object a_coroutine co) e =
       let c = there_is co e in
       let m = first_of M.moving co e in
-      subst (λ l. Leads library M.printed (does_primitive codes_run coroutine_resume T l) (run resume_row [] M)) (sym m) (resumed_out (run resume_row [] M) refl co (drop 1 M.moving) m c.0 c.1)
+      subst (λ l. Leads library M.printed (does_primitive codes_run builds coroutine_resume T l) (run resume_row [] M)) (sym m) (resumed_out (run resume_row [] M) refl co (drop 1 M.moving) m c.0 c.1)
   resume_any (known p) e = resumes_by (known p) e (raises_so library primitives M T k (wrong_type 1 (codes "resume") (codes "coroutine") (shape (known p))) (M.moving ++ []))
   resume_any (object a_table n) e = resumes_by (object a_table n) e (raises_so library primitives M T k (wrong_type 1 (codes "resume") (codes "coroutine") (shape (object a_table n))) (M.moving ++ []))
   resume_any (object a_function n) e = resumes_by (object a_function n) e (raises_so library primitives M T k (wrong_type 1 (codes "resume") (codes "coroutine") (shape (object a_function n))) (M.moving ++ []))
 
   closes_by : (v : Value) → nth M.moving 0 ≡ v → Leads library M.printed (with_coroutine T (codes "close") v (λ co c. calls.closes_coroutine codes_run T co c)) (run (rows.closes_coroutine (shape v) 0) (M.moving ++ []) (record M { moving = [] }))
-      → Leads library M.printed (does_primitive codes_run coroutine_close T M.moving) (run close_row [] M)
+      → Leads library M.printed (does_primitive codes_run builds coroutine_close T M.moving) (run close_row [] M)
   closes_by v e l =
       subst (λ u. Leads library M.printed (with_coroutine T (codes "close") u (λ co c. calls.closes_coroutine codes_run T co c)) (run (rows.closes_coroutine (shape u) 0) (M.moving ++ []) (record M { moving = [] }))) (sym e) l
 
-  pub close_any : (v : Value) → nth M.moving 0 ≡ v → Leads library M.printed (does_primitive codes_run coroutine_close T M.moving) (run close_row [] M)
+  pub close_any : (v : Value) → nth M.moving 0 ≡ v → Leads library M.printed (does_primitive codes_run builds coroutine_close T M.moving) (run close_row [] M)
   close_any (object a_coroutine co) e =
       let c = there_is co e in
       let m = first_of M.moving co e in
-      subst (λ l. Leads library M.printed (does_primitive codes_run coroutine_close T l) (run close_row [] M)) (sym m)
-      (comes_leads library M.printed close_row [] M (does_primitive codes_run coroutine_close T (object a_coroutine co ∷ drop 1 M.moving)) close_free (coroutines_closed primitives M T k co (drop 1 M.moving) m c.0 c.1))
+      subst (λ l. Leads library M.printed (does_primitive codes_run builds coroutine_close T l) (run close_row [] M)) (sym m)
+      (comes_leads library M.printed close_row [] M (does_primitive codes_run builds coroutine_close T (object a_coroutine co ∷ drop 1 M.moving)) close_free (coroutines_closed builds primitives M T k co (drop 1 M.moving) m c.0 c.1))
   close_any (known p) e = closes_by (known p) e (raises_so library primitives M T k (wrong_type 1 (codes "close") (codes "coroutine") (shape (known p))) (M.moving ++ []))
   close_any (object a_table n) e = closes_by (object a_table n) e (raises_so library primitives M T k (wrong_type 1 (codes "close") (codes "coroutine") (shape (object a_table n))) (M.moving ++ []))
   close_any (object a_function n) e = closes_by (object a_function n) e (raises_so library primitives M T k (wrong_type 1 (codes "close") (codes "coroutine") (shape (object a_function n))) (M.moving ++ []))
@@ -268,11 +270,11 @@ module _ (library : ℕ → Option Primitive) (primitives : ℕ) (M : World) (T 
   runs fr hs = Stacks false M.functions T.cells fr T.frames hs
 
   status_by : (v : Value) → nth M.moving 0 ≡ v → Leads library M.printed (with_coroutine T (codes "status") v (λ co c. gives_one T (calls.text (status_of c)))) (run (rows.sees_status (shape v) 0) (M.moving ++ []) (record M { moving = [] }))
-      → Leads library M.printed (does_primitive codes_run coroutine_status T M.moving) (run status_row [] M)
+      → Leads library M.printed (does_primitive codes_run builds coroutine_status T M.moving) (run status_row [] M)
   status_by v e l =
       subst (λ u. Leads library M.printed (with_coroutine T (codes "status") u (λ co c. gives_one T (calls.text (status_of c)))) (run (rows.sees_status (shape u) 0) (M.moving ++ []) (record M { moving = [] }))) (sym e) l
 
-  pub status_any : (v : Value) → nth M.moving 0 ≡ v → Leads library M.printed (does_primitive codes_run coroutine_status T M.moving) (run status_row [] M)
+  pub status_any : (v : Value) → nth M.moving 0 ≡ v → Leads library M.printed (does_primitive codes_run builds coroutine_status T M.moving) (run status_row [] M)
   status_any (object a_coroutine co) e =
       let c = there_is co e in
       let p = all3_first (CoroutinePair M.functions T.cells runs) c.0 (slice_get M.coroutines co) (slice_get T.coroutines co) (slice_get k.joined.held co) c.1 (k.joined.coroutines co) in
@@ -295,11 +297,11 @@ module _ (library : ℕ → Option Primitive) (primitives : ℕ) (M : World) (T 
   status_any (object a_table n) e = status_by (object a_table n) e (raises_so library primitives M T k (wrong_type 1 (codes "status") (codes "coroutine") (shape (object a_table n))) (M.moving ++ []))
   status_any (object a_function n) e = status_by (object a_function n) e (raises_so library primitives M T k (wrong_type 1 (codes "status") (codes "coroutine") (shape (object a_function n))) (M.moving ++ []))
 
-pub resume_leads : PrimitiveJoined resume_row coroutine_resume
-resume_leads library primitives M T k = resume_any library primitives M T k (nth M.moving 0) refl
+pub resume_leads : (builds : Builds Prototype) → PrimitiveJoined builds resume_row coroutine_resume
+resume_leads builds library primitives M T k = resume_any builds library primitives M T k (nth M.moving 0) refl
 
-pub close_leads : PrimitiveJoined close_row coroutine_close
-close_leads library primitives M T k = close_any library primitives M T k (nth M.moving 0) refl
+pub close_leads : (builds : Builds Prototype) → PrimitiveJoined builds close_row coroutine_close
+close_leads builds library primitives M T k = close_any builds library primitives M T k (nth M.moving 0) refl
 
-pub status_leads : PrimitiveJoined status_row coroutine_status
-status_leads library primitives M T k = status_any library primitives M T k (nth M.moving 0) refl
+pub status_leads : (builds : Builds Prototype) → PrimitiveJoined builds status_row coroutine_status
+status_leads builds library primitives M T k = status_any builds library primitives M T k (nth M.moving 0) refl

@@ -1,4 +1,5 @@
 -- Asks that are answered at once: upvalues, new tables and functions, lists put into tables, units of the budget.
+use Rattle.lua_meaning.specs.Step.{Primitives}
 use Rattle.std.proofs.Common.{ℕ, zero, suc, ◌+◌, ◌≡◌, List, [], ◌∷◌, ◌++◌, length, drop, Option, Some, None, refl, sym, ap, subst, ◌∙◌, length-append, Bool, true, false}
 use Rattle.std.specs.Prelude.{slice_get, slice_set, cond, option_map}
 use Rattle.code_core.specs.Prototype.{Prototype, Prototypes, none, more, list_of}
@@ -16,7 +17,6 @@ use Rattle.means_steps.proofs.Texts.{Good}
 use Rattle.lua_meaning.specs.World as talk
 use Rattle.lua_meaning.specs.World.{Asker, talks, breaks, as_known, shared_in, second, cell_of, without_name, answered_at_once}
 use Rattle.lua_meaning.specs.Asks.{turns, handle, made_in, of_maker, cells_named, gets_function, pays_unit, one}
-use Rattle.library_rows.specs.Library.{Primitive}
 use Rattle.code_means.specs.Runs.{codes_run}
 use Rattle.machine_means.specs.Joined.{TalkFrame, TalkWorld, Dressed, Named, AllNamed, Both, FunctionsPair, RegistersPair, line_known}
 use Rattle.machine_means.proofs.FrameWrites.{below_length}
@@ -55,7 +55,7 @@ pairs_more (x ∷ fs) [] f g k d n = absurd (k 0)
 pairs_more (x ∷ fs) (y ∷ gs) f g k d zero = k 0
 pairs_more (x ∷ fs) (y ∷ gs) f g k d (suc n) = pairs_more fs gs f g (λ n. k (suc n)) d n
 
-module _ (rows : ℕ → Option Primitive) (shown : List ℕ) (when : When) (n : ℕ) (g : Function) (g' : talk.Function Prototype) (dressed : Dressed g g') (pc : ℕ) (w : Wait Value) where
+module _ (rows : Primitives Prototype) (shown : List ℕ) (when : When) (n : ℕ) (g : Function) (g' : talk.Function Prototype) (dressed : Dressed g g') (pc : ℕ) (w : Wait Value) where
   -- a text that hangs on what was read is good with what was read behind
   pub good_more : (env vs : List Value) (t : Text) → Good g.code pc w (length env + length vs) t → Good g.code pc w (length (env ++ vs)) t
   good_more env vs t k = subst (λ l. Good g.code pc w l t) (sym (length-append env vs)) k

@@ -1,4 +1,5 @@
 -- Every text leads to the same in both worlds: one induction over it.
+use Rattle.lua_meaning.specs.Step.{Primitives}
 use Rattle.std.proofs.Common.{ℕ, zero, suc, ◌+◌, ◌≡◌, List, [], ◌∷◌, ◌++◌, length, drop, Option, Some, None, refl, sym, ap, subst, ◌∙◌, arith, Bool, true, false}
 use Rattle.std.specs.Prelude.{slice_get, slice_set, cond, nat_le, map}
 use Rattle.code_core.specs.Prototype.{Prototype}
@@ -25,7 +26,6 @@ use Rattle.lua_meaning.specs.World.{Asker, talking, talks, gives_back, unwinds, 
 use Rattle.lua_meaning.specs.Calls as calls_in
 use Rattle.lua_meaning.specs.Calls.{pays_for}
 use Rattle.lua_meaning.specs.Asks.{settled as talk_settled}
-use Rattle.library_rows.specs.Library.{Primitive}
 use Rattle.code_means.specs.Runs.{codes_run}
 use Rattle.machine_means.specs.Joined.{TalkFrame, TalkWorld, Dressed, RegistersPair, Joined, line_known}
 use Rattle.machine_means.specs.Stands.{results_come, error_leaves}
@@ -62,7 +62,7 @@ module _ (M : World) (T : TalkWorld) (co n : ℕ) (g : Function) (g' : talk.Func
   pub alone : OnlyRuns (slice_set M.coroutines co (in_progress (upward below))) co
   alone = left_alone M T (shared_in c.gone T.cells) co n g g' w own around below ts c.held k
 
-module _ (rows : ℕ → Option Primitive) (shown : List ℕ) (when : When) (n : ℕ) (g : Function) (g' : talk.Function Prototype) (dressed : Dressed g g') (pc : ℕ) (w : Wait Value) where
+module _ (rows : Primitives Prototype) (shown : List ℕ) (when : When) (n : ℕ) (g : Function) (g' : talk.Function Prototype) (dressed : Dressed g g') (pc : ℕ) (w : Wait Value) where
   left_for : (x : Given) → RowLeads rows shown when n g g' dressed pc w (leave x)
   left_for (results slot) env a own c M T co below ts al e gd now said around k =
       subst (λ X. Leads rows shown X (run (expand_by when (leave (results slot))) env M)) (sym (asked rows shown when n g g' dressed pc (leaves_ask (returns (drop slot env))) refl a c T ts (λ x b d. amid trap [] b d)))

@@ -17,8 +17,7 @@ use Rattle.means_steps.proofs.Alike.{Alike}
 use Rattle.means_steps.proofs.RowsGood.{Knows, text_good}
 use Rattle.lua_meaning.specs.World as talk
 use Rattle.lua_meaning.specs.World.{talking, talks, shared_in}
-use Rattle.library_rows.specs.Library.{Primitive}
-use Rattle.lua_meaning.specs.Step.{tick}
+use Rattle.lua_meaning.specs.Step.{Primitives, tick}
 use Rattle.code_means.specs.Runs.{codes_run}
 use Rattle.machine_sound.specs.Sound.{Solid}
 use Rattle.machine_sound.proofs.Frames.{stack_is}
@@ -48,7 +47,7 @@ top_steps M co n w own g below at_end runs there =
     ∙ ap (λ o. bind o (λ g. Some (lua_step M (stack_at co (lua (frame n w own) ∷ below)) (frame n w own) g.code w))) there
 
 -- a function runs
-module _ (rows : ℕ → Row) (known : ℕ → Option Primitive) (primitives : ℕ) (M : World) (T : TalkWorld) (solid : Solid primitives M) (co : ℕ) (at_end : last M.chain ≡ Some co) (k : Works M T)
+module _ (rows : ℕ → Row) (known : Primitives Prototype) (primitives : ℕ) (M : World) (T : TalkWorld) (solid : Solid primitives M) (co : ℕ) (at_end : last M.chain ≡ Some co) (k : Works M T)
     (stack : List Frame) (going : slice_get M.coroutines co ≡ Some (in_progress stack)) where
   abbrev n : ℕ
   n = k.frame.function

@@ -1,4 +1,5 @@
 -- Texts that have a value called, or an operation done: the frame waits, or goes on at once.
+use Rattle.lua_meaning.specs.Step.{Primitives}
 use Rattle.std.proofs.Common.{ℕ, suc, ◌≡◌, List, [], ◌∷◌, ◌++◌, length, drop, Option, Some, None, refl, sym, ap, subst, ◌∙◌, Bool, true, false}
 use Rattle.std.specs.Prelude.{slice_get, slice_set, cond, not, codes, map}
 use Rattle.code_core.specs.Prototype.{Prototype}
@@ -22,7 +23,6 @@ use Rattle.lua_meaning.specs.World as talk
 use Rattle.lua_meaning.specs.World.{Asker, talking, waiting, talks, on_frames, shared_in, shared_out, second, answered, answered_at_once}
 use Rattle.lua_meaning.specs.Calls.{calls_value, pays_for}
 use Rattle.lua_meaning.specs.Asks.{turns}
-use Rattle.library_rows.specs.Library.{Primitive}
 use Rattle.code_means.specs.Runs.{codes_run}
 use Rattle.machine_means.specs.Joined.{TalkFrame, TalkWorld, Dressed, RegistersPair, Joined, line_known}
 use Rattle.machine_means.specs.Stands.{call_asked}
@@ -35,7 +35,7 @@ use Rattle.means_steps.proofs.Calls.{called_leads}
 use Rattle.means_steps.proofs.Answered.{told_faulted, brought_at_once, share, flushed, done_middle, RowLeads, again, reply_leads, asked, asker_of, sleeps, raise_leads}
 use Rattle.means_steps.proofs.Goes.{marks_known}
 
-module _ (rows : ℕ → Option Primitive) (shown : List ℕ) (when : When) (n : ℕ) (g : Function) (g' : talk.Function Prototype) (dressed : Dressed g g') (pc : ℕ) where
+module _ (rows : Primitives Prototype) (shown : List ℕ) (when : When) (n : ℕ) (g : Function) (g' : talk.Function Prototype) (dressed : Dressed g g') (pc : ℕ) where
   -- what cannot be called is an error of the own step
   refused_leads : (u : Wait Value) (text : List ℕ) (env : List Value) (a own : Activation) (c : Captured) (M : World) (T : TalkWorld) (co : ℕ) (below : List Frame) (ts : List TalkFrame)
       → Fixed a own → a.pc ≡ pc → T.printed ≡ shown → Around M T → Middle M T T.cells co n g g' u own c.held below ts → RegistersPair T.cells c.held a.registers own.registers

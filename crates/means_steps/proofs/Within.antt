@@ -1,4 +1,6 @@
 -- Rows that end no turn and pay for nothing: what they come to at once, the other world comes to.
+use Rattle.code_core.specs.Prototype.{Prototype}
+use Rattle.lua_meaning.specs.Step.{Primitives}
 use Rattle.std.proofs.Common.{ℕ, ◌≡◌, List, [], ◌++◌, length, Option, Some, None, refl, sym, subst, Bool, true, false}
 use Rattle.std.specs.Prelude.{drop, slice_get, nat_lt, cond, ◌&&◌, codes}
 use Rattle.int_core.specs.Value.{Value, known, object, nil, boolean, integer, string, primitive, a_table, a_function, a_coroutine, Shape, is_known, is_object, bind}
@@ -6,10 +8,9 @@ use Rattle.int_core.specs.Limits.{greatest_resumes, stack_overflow}
 use Rattle.list_laws.proofs.Items.{some_same}
 use Rattle.machine_core.specs.World.{Coroutine, fresh, suspended, in_progress, normal, dead, failed, World, Stack, stack_of}
 use Rattle.machine_core.specs.Text.{arg}
-use Rattle.machine_core.specs.Moves.{Made, made, Told, Move, on_own, move_pc, open_register, outside, settle, enter, enter_tail, await, find_close, is_closable, begin_leaving, leave_frame, take_moving, look, give, give_with, blame, place_text, push_frame, call_value, see_top, see_catcher, pop_frame, take_closing, set_error, end_coroutine, fail_coroutine, suspend, resume, begin_closing, consult, create, see_status, see_running, print, move, CallShape, is_entered, is_primitive, not_paid, not_entered, TopShape, lua_top, pcall_top, xpcall_top, handler_top, closing_top, no_top, ClosingShape, one_left, all_closed, closed_with_error, ResumeShape, resumed, refused, enters, has_room, starts_in, resumes, can_start, wait_for_another, closes_in, closes_coroutine, coroutine_number, Row, traps, stop, only, act, Ending, go, returned, asks, calls_primitive, raised, unwinding, spent, main_yielded, main_returned, main_failed, Outcome, trapped, ends, run}
+use Rattle.machine_core.specs.Moves.{make_loaded, Made, made, Told, Move, on_own, move_pc, open_register, outside, settle, enter, enter_tail, await, find_close, is_closable, begin_leaving, leave_frame, take_moving, look, give, give_with, blame, place_text, push_frame, call_value, see_top, see_catcher, pop_frame, take_closing, set_error, end_coroutine, fail_coroutine, suspend, resume, begin_closing, consult, create, see_status, see_running, print, move, CallShape, is_entered, is_primitive, not_paid, not_entered, TopShape, lua_top, pcall_top, xpcall_top, handler_top, closing_top, no_top, ClosingShape, one_left, all_closed, closed_with_error, ResumeShape, resumed, refused, enters, has_room, starts_in, resumes, can_start, wait_for_another, closes_in, closes_coroutine, coroutine_number, Row, traps, stop, only, act, Ending, go, returned, asks, calls_primitive, raised, unwinding, spent, main_yielded, main_returned, main_failed, Outcome, trapped, ends, run}
 use Rattle.machine_core.specs.FrameRows.{hand_over, handed, closing_by, handed_to, unwound, raised_row, raised_to, coroutine_fails}
 use Rattle.machine_core.specs.MachineStep.{after_entry, after_resume, after_closing, resumes as row_resumes, closes_coroutine as row_closes, resume_row, close_row}
-use Rattle.library_rows.specs.Library.{Primitive}
 use Rattle.machine_means.specs.Joined.{TalkWorld}
 use Rattle.machine_means.specs.Laws.{GivesBack}
 use Rattle.machine_means.specs.Stands.{Stands, results_come, ComesTo}
@@ -130,6 +131,7 @@ tells_so (create x) env W d e = tt
 tells_so (see_status x) env W d e = tt
 tells_so see_running env W d e = tt
 tells_so (print x) env W d e = tt
+tells_so (make_loaded p x) env W d e = tt
 
 -- rows within a turn: they end none, and pay for nothing
 abbrev pub EndsNoTurn : Row → Type 0
@@ -165,7 +167,7 @@ ends_so shown main_returned W T g s = absurd g
 ends_so shown main_failed W T g s = absurd g
 
 -- what such a row comes to at once
-pub comes_leads : (library : ℕ → Option Primitive) (shown : List ℕ) (r : Row) (env : List Value) (W : World) (T : TalkWorld) → EndsNoTurn r → ComesTo (run r env W) T → Leads library shown T (run r env W)
+pub comes_leads : (library : Primitives Prototype) (shown : List ℕ) (r : Row) (env : List Value) (W : World) (T : TalkWorld) → EndsNoTurn r → ComesTo (run r env W) T → Leads library shown T (run r env W)
 comes_leads library shown r env W T k c =
     subst (λ o. Leads library shown T o) (sym c.is) (0, ends_so shown c.ending c.world T (subst GoesOnIn c.is (goes_on_in r k env W)) c.stands)
 
@@ -225,7 +227,7 @@ pub raised_row_free : EndsNoTurn raised_row
 raised_row_free = λ h top _. raised_free top h
 
 -- results on their way
-pub gives_leads : (library : ℕ → Option Primitive) (shown : List ℕ) (o : Outcome) (T : TalkWorld) → GivesBack o T → Leads library shown T o
+pub gives_leads : (library : Primitives Prototype) (shown : List ℕ) (o : Outcome) (T : TalkWorld) → GivesBack o T → Leads library shown T o
 gives_leads library shown o T g =
     subst (λ o. Leads library shown T o) (sym g.is) (0, ends_so shown g.ending g.world T (subst GoesOnIn g.reached (goes_on_in hand_over hand_free [] g.world)) (results_come g.ending g.world T g.reached g.now g.joined))
 

@@ -1,8 +1,5 @@
 // The laws, each with what it speaks of in `specs/`.
-ghost use Rattle.std.specs.Prelude.{codes};
-ghost use Rattle.library_rows.specs.Library.{prelude_build};
-ghost use Rattle.machine_core.specs.FrameRows.{blames};
-ghost use Rattle.means_steps.specs.Steps.{LibrariesAreSame, PrimitiveJoined, PrimitivesJoined, RunningSteps, StepsLead};
+ghost use Rattle.means_steps.specs.Steps.{LibrariesAreSame, LoadJoined, PrimitivesJoined, RunningSteps, StepsLead};
 
 /// In a sound world in which a function of code runs, one step of the machine, which is an instruction whatever its opcode, is some ticks
 /// of the world in which activations talk: both stand alike again, whether the function goes on, calls, asks for a call, returns, fails,
@@ -19,9 +16,9 @@ pub fn steps_keep_worlds_joined()
 {}
 
 /// Each function of the libraries that is no Lua text does in the machine what it does in the other world, and both have it by the same
-/// number, where what makes functions of texts does so; and where that is an error, it does.
+/// number, where that which loads sources does so. And it does where both make their functions of the same code, which has a source's name.
 pub fn primitives_keep_worlds_joined()
     ensures each { PrimitivesJoined }
     ensures numbered { LibrariesAreSame }
-    ensures builds { PrimitiveJoined (blames (codes "load is not built yet")) prelude_build }
+    ensures loads { LoadJoined }
 {}

@@ -6,6 +6,7 @@ mod AllAsks
 mod TreeLeft
 mod CodeLeft
 mod Pending
+mod Loading
 mod Turning
 mod Ticking
 mod Ticks

@@ -4,9 +4,9 @@ use Rattle.std.specs.Prelude.{slice_get}
 use Rattle.int_core.specs.Value.{Value, object, a_table}
 use Rattle.int_core.specs.Heap.{Heap}
 use Rattle.lua_meaning.specs.World.{System, Function, talking, Coroutine, fresh, running, dead, failed, talks, World}
-use Rattle.library_rows.specs.Library.{Primitive}
+use Rattle.lua_meaning.specs.Step.{Primitives}
 use Rattle.lua_meaning.specs.Meaning.{begun}
-use Rattle.runs_alike.specs.Alike.{FunctionAlike, FunctionsAlike, CoroutinesAlike, WorldsAlike, script}
+use Rattle.runs_alike.specs.Alike.{PrimitivesAlike, FunctionAlike, FunctionsAlike, CoroutinesAlike, WorldsAlike, script}
 use Rattle.runs_alike.proofs.Dressed.{Part, state, dressed_function, dress_functions, dress_coroutines, dress_world, Mid, FunctionsLike, Body, CoroutinesLike, Like}
 use Rattle.runs_alike.proofs.NewFunctions.{dress_more, functions_more}
 
@@ -25,7 +25,7 @@ function_of b source has_lines cells = record { made_of = b; source = source; ha
 module _ {A B S T : Type 0} (Sa : System A S) (Sb : System B T) (R : Bool → A → B → Type 0) (Q : Bool → A → B → S → T → Type 0)
     (asks : (l : Bool) (a : A) (b : B) (s : S) (t : T) → Q l a b s t → Mid Sa Sb R Q l a b s t)
     (begins : (l : Bool) (a : A) (b : B) (arguments : List Value) → R l a b → Q l a b (Sa.starts a arguments) (Sb.starts b arguments))
-    (prims : ℕ → Option Primitive) where
+    (pa : Primitives A) (pb : Primitives B) (prims : PrimitivesAlike R pa pb) where
   function_dressed : (f : Function A) (g : Function B) → FunctionAlike R f g → dressed_function f g.made_of ≡ g
   function_dressed f g like =
       ap (λ s. function_of g.made_of s f.has_lines f.cells) like.source ∙ ap (λ l. function_of g.made_of g.source l f.cells) like.has_lines
@@ -98,7 +98,7 @@ module _ {A B S T : Type 0} (Sa : System A S) (Sb : System B T) (R : Bool → A 
     parts_on_top = state (Sb.starts b []) ∷ []
 
     abbrev pub left_begun : World A S
-    left_begun = begun Sa prims W (script a name lines) budget
+    left_begun = begun Sa pa W (script a name lines) budget
 
     abbrev whole : Heap → List (Function B) → List Value → List (Coroutine T) → ℕ → List ℕ → ℕ → World B T
     whole heap functions cells coroutines globals chain count = record {
@@ -120,7 +120,7 @@ module _ {A B S T : Type 0} (Sa : System A S) (Sb : System B T) (R : Bool → A 
         ∙ ap (λ gs. gs ++ dressed_function main_of_left b ∷ []) (functions_dressed W.functions V.functions worlds.functions)
         ∙ ap (λ (c : List Value). V.functions ++ function_of b name lines (length c ∷ []) ∷ []) worlds.cells
 
-    pub begun_dressed : begun Sb prims V (script b name lines) budget ≡ dress_world left_begun bs_there parts_there parts_on_top
+    pub begun_dressed : begun Sb pb V (script b name lines) budget ≡ dress_world left_begun bs_there parts_there parts_on_top
     begun_dressed =
         let cells : W.cells ++ object a_table W.globals ∷ [] ≡ V.cells ++ object a_table V.globals ∷ [] =
         ap (λ c. c ++ object a_table W.globals ∷ []) worlds.cells ∙ ap (λ g. V.cells ++ object a_table g ∷ []) worlds.globals in

@@ -8,19 +8,21 @@ use Rattle.tree_activation.specs.Activation.{start, step}
 use Rattle.code_core.specs.Prototype.{Prototype}
 use Rattle.machine_core.specs.Talk.{State as CodeState, talk_start, talk_step}
 use Rattle.lua_meaning.specs.World.{System, Function, Coroutine, fresh, running, dead, failed, World, as_known, without_name}
-use Rattle.lua_meaning.specs.Meaning.{Outcome, has_returned, has_failed, has_spent, is_suspended, is_broken, Meaning, run_from, IsMeaning}
+use Rattle.lua_meaning.specs.Step.{Primitives}
+use Rattle.load_rows.specs.Loading.{Built, built, refused_at, Builds}
+use Rattle.lua_meaning.specs.Meaning.{Outcome, has_returned, has_failed, has_spent, is_suspended, is_broken, Meaning, run_from, IsMeaning, IsOnward}
 use Rattle.lua_meaning.specs.Opening.{primitives}
 use Rattle.lua_meaning.specs.TreeMeaning.{trees}
 use Rattle.code_means.specs.Means.{Means}
 use Rattle.code_means.specs.Runs.{codes_run, EndAlike, RunAlike}
-use Rattle.runs_alike.specs.Alike.{FunctionsAlike, CoroutinesAlike, WorldsAlike, IsMeantBy, script, CodeEnds, TreeEnds}
-use Rattle.runs_alike.proofs.Dressed.{Mid}
+use Rattle.runs_alike.specs.Alike.{BuiltAlike, BuildsAlike, PrimitivesAlike, FunctionsAlike, CoroutinesAlike, WorldsAlike, IsMeantBy, script, CodeEnds, TreeEnds}
+use Rattle.runs_alike.proofs.Dressed.{Mid, Out}
 use Rattle.runs_alike.proofs.AllAsks.{Talk, all_same}
 use Rattle.runs_alike.proofs.TreeLeft as tree_left
 use Rattle.runs_alike.proofs.CodeLeft as code_left
 use Rattle.runs_alike.proofs.Pending.{left_alike}
 use Rattle.runs_alike.proofs.Ticking.{PendAlike}
-use Rattle.runs_alike.proofs.Endings.{runs_out}
+use Rattle.runs_alike.proofs.Endings.{WaitAlike, runs_out, onward_out}
 use Rattle.runs_alike.proofs.Opened.{begun_dressed, begun_like}
 
 abbrev Flip : {A B : Type 0} → (A → B → Type 0) → B → A → Type 0
@@ -236,7 +238,33 @@ run_flip x y like = record { printed = sym like.printed; outcome = end_flip x.ou
 itself : (n : ℕ) → n ≤ n
 itself n = omega arith
 
-module _ (W : World Body TreeState) (V : World Prototype CodeState) (worlds : WorldsAlike IsMeantBy W V) (main : Body) (code : Prototype) (name : List ℕ) (lines : Bool) (means : Means lines code main)
+built_flip : (x : Built Body) (y : Built Prototype) → BuiltAlike IsMeantBy x y → BuiltAlike MeansBack y x
+built_flip (built b) (built p) like = like
+built_flip (refused_at line rule) (refused_at other broken) like = (sym like.0, sym like.1)
+built_flip (built b) (refused_at other broken) like = absurd like
+built_flip (refused_at line rule) (built p) like = absurd like
+
+-- a world of trees in which a run is suspended as one is in a world of codes
+abbrev pub TreeWaits : World Prototype CodeState → World Body TreeState → Type 0
+TreeWaits V W = Out codes_run (trees when_captured) MeansBack TalkBack V W
+
+back_alike : (trees_built : Builds Body) (code_built : Builds Prototype) → BuildsAlike IsMeantBy trees_built code_built → PrimitivesAlike MeansBack (primitives code_built) (primitives trees_built)
+back_alike trees_built code_built builds = record { numbered = λ n. refl; builds = λ given source. built_flip (trees_built given source) (code_built given source) (builds given source) }
+
+-- what the code means further on the tree means too
+pub record TreeGoesOn (trees_built : Builds Body) (W : World Body TreeState) (input : List (List ℕ)) (budget : ℕ) (m : Meaning Prototype CodeState) : Type 0 where
+  pub meaning : Meaning Body TreeState
+  pub goes : IsOnward (trees when_captured) (primitives trees_built) W input budget meaning
+  pub alike : RunAlike meaning m
+
+pub tree_goes_on : (trees_built : Builds Body) (code_built : Builds Prototype) → BuildsAlike IsMeantBy trees_built code_built → (V : World Prototype CodeState) (W : World Body TreeState) → TreeWaits V W
+    → (input : List (List ℕ)) (budget : ℕ) (m : Meaning Prototype CodeState) → IsOnward codes_run (primitives code_built) V input budget m → TreeGoesOn trees_built W input budget m
+tree_goes_on trees_built code_built builds V W waits input budget m given =
+    let l = onward_out codes_run (trees when_captured) MeansBack TalkBack asks_code begins_code pends_code (primitives code_built) (primitives trees_built) (back_alike trees_built code_built builds) input given.steps budget V W m waits given.gives in
+    record { meaning = l.other; goes = record { steps = l.count; gives = l.gives l.count (itself l.count) }; alike = run_flip m l.other l.alike }
+
+module _ (trees_built : Builds Body) (code_built : Builds Prototype) (builds : BuildsAlike IsMeantBy trees_built code_built)
+    (W : World Body TreeState) (V : World Prototype CodeState) (worlds : WorldsAlike IsMeantBy W V) (main : Body) (code : Prototype) (name : List ℕ) (lines : Bool) (means : Means lines code main)
     (input : List (List ℕ)) (budget : ℕ) where
   abbrev Sa : System Body TreeState
   Sa = trees when_captured
@@ -244,25 +272,45 @@ module _ (W : World Body TreeState) (V : World Prototype CodeState) (worlds : Wo
   abbrev Sb : System Prototype CodeState
   Sb = codes_run
 
-  pub code_ends : (m : Meaning Body TreeState) → IsMeaning (trees when_captured) primitives W (script main name lines) input budget m → CodeEnds V (script code name lines) input budget m
+  abbrev tree_side : Primitives Body
+  tree_side = primitives trees_built
+
+  abbrev code_side : Primitives Prototype
+  code_side = primitives code_built
+
+  both : PrimitivesAlike IsMeantBy tree_side code_side
+  both = record { numbered = λ n. refl; builds = builds }
+
+  back_both : PrimitivesAlike MeansBack code_side tree_side
+  back_both = back_alike trees_built code_built builds
+
+  pub code_ends : (m : Meaning Body TreeState) → IsMeaning (trees when_captured) (primitives trees_built) W (script main name lines) input budget m → CodeEnds code_built V (script code name lines) input budget m
   code_ends m given =
-      let like = begun_like Sa Sb IsMeantBy TalkAlike asks_tree begins_tree primitives W V worlds main code name lines means budget in
-      let same = begun_dressed Sa Sb IsMeantBy TalkAlike asks_tree begins_tree primitives W V worlds main code name lines means budget in
-      let l = runs_out Sa Sb IsMeantBy TalkAlike asks_tree begins_tree pends_tree primitives input given.steps budget _ _ _ _ m like given.gives in
+      let like = begun_like Sa Sb IsMeantBy TalkAlike asks_tree begins_tree tree_side code_side both W V worlds main code name lines means budget in
+      let same = begun_dressed Sa Sb IsMeantBy TalkAlike asks_tree begins_tree tree_side code_side both W V worlds main code name lines means budget in
+      let l = runs_out Sa Sb IsMeantBy TalkAlike asks_tree begins_tree pends_tree tree_side code_side both input given.steps budget _ _ _ _ m like given.gives in
       record {
         meaning = l.other;
-        is_meant = record { steps = l.count; gives = ap (λ U. run_from Sb primitives l.count U input budget) same ∙ l.gives l.count (itself l.count) };
+        is_meant = record { steps = l.count; gives = ap (λ U. run_from Sb code_side l.count U input budget) same ∙ l.gives l.count (itself l.count) };
         alike = l.alike;
       }
 
-  pub tree_ends : (m : Meaning Prototype CodeState) → IsMeaning codes_run primitives V (script code name lines) input budget m → TreeEnds W (script main name lines) input budget m
+  -- and where both are suspended their worlds wait alike
+  pub record TreeEndsSo (m : Meaning Prototype CodeState) : Type 0 where
+    pub ends : TreeEnds trees_built W (script main name lines) input budget m
+    pub waits : WaitAlike TreeWaits m.outcome ends.meaning.outcome
+
+  pub tree_ends : (m : Meaning Prototype CodeState) → IsMeaning codes_run (primitives code_built) V (script code name lines) input budget m → TreeEndsSo m
   tree_ends m given =
       let back = worlds_flip W V worlds in
-      let like = begun_like Sb Sa MeansBack TalkBack asks_code begins_code primitives V W back code main name lines means budget in
-      let same = begun_dressed Sb Sa MeansBack TalkBack asks_code begins_code primitives V W back code main name lines means budget in
-      let l = runs_out Sb Sa MeansBack TalkBack asks_code begins_code pends_code primitives input given.steps budget _ _ _ _ m like given.gives in
+      let like = begun_like Sb Sa MeansBack TalkBack asks_code begins_code code_side tree_side back_both V W back code main name lines means budget in
+      let same = begun_dressed Sb Sa MeansBack TalkBack asks_code begins_code code_side tree_side back_both V W back code main name lines means budget in
+      let l = runs_out Sb Sa MeansBack TalkBack asks_code begins_code pends_code code_side tree_side back_both input given.steps budget _ _ _ _ m like given.gives in
       record {
-        meaning = l.other;
-        is_meant = record { steps = l.count; gives = ap (λ U. run_from Sa primitives l.count U input budget) same ∙ l.gives l.count (itself l.count) };
-        alike = run_flip m l.other l.alike;
+        ends = record {
+          meaning = l.other;
+          is_meant = record { steps = l.count; gives = ap (λ U. run_from Sa tree_side l.count U input budget) same ∙ l.gives l.count (itself l.count) };
+          alike = run_flip m l.other l.alike;
+        };
+        waits = l.waits;
       }

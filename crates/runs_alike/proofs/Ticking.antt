@@ -1,21 +1,25 @@
 -- A step of a world is some steps of the world that is dressed anew.
 use Rattle.std.proofs.Common.{◌≡◌, ℕ, zero, suc, Bool, true, false, List, [], ◌∷◌, ◌++◌, length, Option, Some, None, refl, sym, ◌∙◌, ap, subst, arith}
 use Rattle.std.specs.Prelude.{ℤ, slice_get, drop, codes}
-use Rattle.int_core.specs.Value.{Value, known, string, object, a_table, a_function, a_coroutine, nth}
+use Rattle.int_core.specs.Value.{Value, known, string, object, a_table, a_function, a_coroutine, shape, nth}
 use Rattle.int_core.specs.Limits.{limited}
 use Rattle.int_core.specs.Operations.{is_function}
 use Rattle.int_core.specs.Ask.{Answer, IsLeft, FitsAsk, Next, goes_on, says, stuck, on_from, runs, NextLike}
-use Rattle.lua_meaning.specs.World.{System, Function, Frame, talking, protected, handled_by, Coroutine, fresh, suspended, running, normal, dead, failed, talks, gives_back, raises_error, World, now_in, breaks, shared_in, as_known}
+use Rattle.lua_meaning.specs.World.{System, Function, Frame, talking, protected, handled_by, Coroutine, fresh, suspended, running, normal, dead, failed, talks, gives_back, raises_error, World, now_in, breaks, raises_text, shared_in, as_known}
 use Rattle.lua_meaning.specs.Calls.{text}
 use Rattle.lua_meaning.specs.Asks.{turns}
 use Rattle.library_rows.specs.Look.{Done, done}
 use Rattle.library_rows.specs.Look.{refused as no_result, raised as an_error}
 use Rattle.library_rows.specs.Library.{Primitive, base_error, base_pcall, base_xpcall, coroutine_close, coroutine_create, coroutine_isyieldable, coroutine_resume, coroutine_running, coroutine_status, coroutine_yield, prelude_build, prelude_out}
-use Rattle.lua_meaning.specs.Step.{placed, error_by, level_in, creates, with_coroutine, status_of, runs_one, bytes_in, row, after_row, does_primitive, has_ended, tick, ticks}
-use Rattle.runs_alike.proofs.Dressed.{Part, dress, dress_coroutine, dress_coroutines, dress_world, Mid, Body, FramesLike, CoroutineLike, CoroutinesLike, Like, Out}
+use Rattle.load_rows.specs.Loading.{Loaded, wrong, not_loaded, loaded, load_of}
+use Rattle.lua_meaning.specs.Step.{placed, error_by, level_in, creates, with_coroutine, status_of, runs_one, bytes_in, row, after_row, gives_loaded, after_loading, environment_in, Primitives, does_primitive, has_ended, tick, ticks}
+use Rattle.runs_alike.proofs.Dressed.{Part, dress, dress_functions, dress_coroutine, dress_coroutines, dress_world, Mid, Body, FramesLike, CoroutineLike, CoroutinesLike, Like, Out}
 use Rattle.runs_alike.proofs.Moving.{with_same, with_like, where_same, either_out, now_out, raises_out, yields_out}
 use Rattle.runs_alike.proofs.Answering.{calls_over_out, resumes_out, closes_out}
-use Rattle.runs_alike.proofs.Turning.{handle_out}
+use Rattle.runs_alike.proofs.Turning.{count_functions, handle_out}
+use Rattle.runs_alike.proofs.NewFunctions.{dress_more, functions_more, frames_more, coroutines_more}
+use Rattle.runs_alike.proofs.Loading.{LoadedAlike, load_alike}
+use Rattle.runs_alike.specs.Alike.{PrimitivesAlike}
 use Rattle.code_means.proofs.Same.{NoOwn}
 
 pub known_goes : {F S : Type 0} → (l : Bool) (s : S) → as_known {F = F} l (goes_on s) ≡ goes_on s
@@ -28,7 +32,7 @@ abbrev pub sum_of : ℕ → ℕ → ℕ
 sum_of zero k = k
 sum_of (suc m) k = suc (sum_of m k)
 
-module _ {F S : Type 0} (system : System F S) (prims : ℕ → Option Primitive) where
+module _ {F S : Type 0} (system : System F S) (prims : Primitives F) where
   pub stay : (k : ℕ) (V : World F S) → has_ended V.now ≡ true → ticks system prims k V ≡ V
   stay zero V ended = refl
   stay (suc k) V ended = by (has_ended V.now) ended where
@@ -90,7 +94,7 @@ PendAlike Sa Sb a b x y = Unit {0}
 module _ {A B S T : Type 0} (Sa : System A S) (Sb : System B T) (R : Bool → A → B → Type 0) (Q : Bool → A → B → S → T → Type 0)
     (asks : (l : Bool) (a : A) (b : B) (s : S) (t : T) → Q l a b s t → Mid Sa Sb R Q l a b s t)
     (begins : (l : Bool) (a : A) (b : B) (arguments : List Value) → R l a b → Q l a b (Sa.starts a arguments) (Sb.starts b arguments))
-    (prims : ℕ → Option Primitive) where
+    (pa : Primitives A) (pb : Primitives B) (prims : PrimitivesAlike R pa pb) where
   abbrev Both : World A S → World B T → Type 0
   Both X Y = Out Sa Sb R Q X Y
 
@@ -100,7 +104,7 @@ module _ {A B S T : Type 0} (Sa : System A S) (Sb : System B T) (R : Bool → A 
   -- some steps of the other world
   pub record Reach (X : World A S) (Y : World B T) : Type 0 where
     pub count : ℕ
-    pub out : Both X (ticks Sb prims count Y)
+    pub out : Both X (ticks Sb pb count Y)
 
   pub turns_out : (W : World A S) (bs : List B) (xss : List (List (Part T))) (xs : List (Part T)) (f : ℕ) (below : List (Frame S)) (ys : List (Part T)) (body : Body Sa Sb R Q W.functions bs f) (x : Next A S) (y : Next B T)
       → Alike W bs xss xs → NextLike (R body.function.has_lines) (Q body.function.has_lines body.function.made_of body.code) x y → PendAlike Sa Sb body.function.made_of body.code x y → FramesLike Sa Sb R Q W.functions bs below ys
@@ -189,8 +193,32 @@ module _ {A B S T : Type 0} (Sa : System A S) (Sb : System B T) (R : Bool → A 
   runs_one_out W bs xss xs [] like = now_out Sa Sb R Q W bs xss xs _ like
   runs_one_out W bs xss xs (co ∷ chain) like = now_out Sa Sb R Q W bs xss xs _ like
 
+  -- a function of a loaded source, on both sides
+  made_out : (W : World A S) (bs : List B) (xss : List (List (Part T))) (xs : List (Part T)) (environment : Value) (name : List ℕ) (a : A) (b : B) → R true a b → Alike W bs xss xs
+      → Both (gives_loaded W name a environment) (gives_loaded (dress_world W bs xss xs) name b environment)
+  made_out W bs xss xs environment name a b means like =
+      let made : Function A = record { made_of = a; source = name; has_lines = true; cells = length W.cells ∷ [] } in
+      let X = record W { functions = W.functions ++ made ∷ []; cells = W.cells ++ environment ∷ [] } in
+      let V = record (dress_world W bs xss xs) { cells = W.cells ++ environment ∷ [] } in
+      subst (λ z. Both (gives_loaded W name a environment) (now_in (record V { functions = z }) (gives_back (object a_function (length (dress_functions W.functions bs)) ∷ [])))) (sym (dress_more Sa Sb R Q W.functions bs made b like.functions))
+      (subst (λ c. Both (gives_loaded W name a environment) (now_in (dress_world X (bs ++ b ∷ []) xss xs) (gives_back (object a_function c ∷ [])))) (sym (count_functions Sa Sb R Q asks begins W.functions bs like.functions))
+      (now_out Sa Sb R Q X (bs ++ b ∷ []) xss xs (gives_back (object a_function (length W.functions) ∷ []))
+      (record {
+        functions = functions_more Sa Sb R Q W.functions bs made b like.functions means;
+        coroutines = coroutines_more Sa Sb R Q W.functions bs made b W.coroutines xss like.functions like.coroutines;
+        frames = frames_more Sa Sb R Q W.functions bs made b W.frames xs like.functions like.frames;
+      })))
+
+  loads_out : (W : World A S) (bs : List B) (xss : List (List (Part T))) (xs : List (Part T)) (environment : Value) (l : Loaded A) (k : Loaded B) → LoadedAlike R l k → Alike W bs xss xs
+      → Both (after_loading W environment l) (after_loading (dress_world W bs xss xs) environment k)
+  loads_out W bs xss xs environment (wrong e) (wrong d) same like = subst (λ z. Both (raises_text W e) (raises_text (dress_world W bs xss xs) z)) same (raises_out Sa Sb R Q e W bs xss xs like)
+  loads_out W bs xss xs environment (not_loaded e) (not_loaded d) same like = subst (λ z. Both (after_loading W environment (not_loaded e)) (after_loading (dress_world W bs xss xs) environment (not_loaded z))) same (now_out Sa Sb R Q W bs xss xs _ like)
+  loads_out W bs xss xs environment (loaded name a) (loaded other b) same like =
+      subst (λ z. Both (gives_loaded W name a environment) (gives_loaded (dress_world W bs xss xs) z b environment)) same.0 (made_out W bs xss xs environment name a b same.1 like)
+  loads_out W bs xss xs environment l k same like = absurd same
+
   pub primitive_out : (p : Primitive) (W : World A S) (bs : List B) (xss : List (List (Part T))) (xs : List (Part T)) (vs : List Value) → Alike W bs xss xs
-      → Both (does_primitive Sa p W vs) (does_primitive Sb p (dress_world W bs xss xs) vs)
+      → Both (does_primitive Sa pa.builds p W vs) (does_primitive Sb pb.builds p (dress_world W bs xss xs) vs)
   primitive_out base_error W bs xss xs vs like = error_out W bs xss xs (nth vs 0) (nth vs 1) (level_in (nth vs 1)) like
   primitive_out base_pcall W bs xss xs vs like = calls_over_out Sa Sb R Q asks begins W bs xss xs protected (nth vs 0) (drop 1 vs) tt like
   primitive_out base_xpcall W bs xss xs vs like = calls_over_out Sa Sb R Q asks begins W bs xss xs (handled_by (nth vs 1)) (nth vs 0) (drop 2 vs) tt like
@@ -207,5 +235,9 @@ module _ {A B S T : Type 0} (Sa : System A S) (Sb : System B T) (R : Bool → A 
   primitive_out coroutine_running W bs xss xs vs like = runs_one_out W bs xss xs W.chain like
   primitive_out prelude_out W bs xss xs vs like =
       now_out Sa Sb R Q (record W { printed = W.printed ++ bytes_in (nth vs 0) }) bs xss xs _ (record { functions = like.functions; coroutines = like.coroutines; frames = like.frames })
-  primitive_out prelude_build W bs xss xs vs like = raises_out Sa Sb R Q (codes "load is not built yet") W bs xss xs like
+  primitive_out prelude_build W bs xss xs vs like =
+      let chunk = shape (nth vs 0) in
+      let name = shape (nth vs 1) in
+      let mode = shape (nth vs 2) in
+      loads_out W bs xss xs (environment_in W vs) (load_of pa.builds chunk name mode) (load_of pb.builds chunk name mode) (load_alike R pa.builds pb.builds prims.builds chunk name mode) like
   primitive_out p W bs xss xs vs like = row_out W bs xss xs (row p W.heap vs) like

@@ -5,8 +5,8 @@ use Rattle.int_core.specs.Value.{Value}
 use Rattle.int_core.specs.Ask.{Next, goes_on, says, stuck, on_from, runs, NextLike}
 use Rattle.lua_meaning.specs.World.{System, Function, Frame, talking, waiting, raising, protected, handled_by, handling, closing, Now, talks, gives_back, raises_error, unwinds, calls_primitive, ends, broken, World, breaks, as_known}
 use Rattle.lua_meaning.specs.Asks.{turns}
-use Rattle.library_rows.specs.Library.{Primitive}
-use Rattle.lua_meaning.specs.Step.{does_primitive, has_ended, tick, ticks}
+use Rattle.lua_meaning.specs.Step.{Primitives, does_primitive, has_ended, tick, ticks}
+use Rattle.runs_alike.specs.Alike.{PrimitivesAlike}
 use Rattle.runs_alike.proofs.Dressed.{Part, state, goes, dressed_function, dress, dress_world, Mid, Body, Like, Out}
 use Rattle.runs_alike.proofs.Moving.{same_out, now_out}
 use Rattle.runs_alike.proofs.Answering.{handed_out, raised_out, unwound_out}
@@ -15,7 +15,7 @@ use Rattle.code_means.proofs.Same.{like_no_own, known_no_own}
 use Rattle.runs_alike.proofs.Ticking.{sum_of, ticks_sum, seen, own_tick, comes, Reach, PendAlike, turns_out, primitive_out}
 
 -- the step of an activation on top
-now_tick : {F S : Type 0} → (system : System F S) (prims : ℕ → Option Primitive) (V : World F S) (f : ℕ) (below : List (Frame S)) (g : Function F) (s : S) → slice_get V.functions f ≡ Some g
+now_tick : {F S : Type 0} → (system : System F S) (prims : Primitives F) (V : World F S) (f : ℕ) (below : List (Frame S)) (g : Function F) (s : S) → slice_get V.functions f ≡ Some g
     → tick system prims (seen system prims V f below s) ≡ turns system (as_known g.has_lines (system.steps g.made_of s)) (seen system prims V f below s) f below
 now_tick {F = F} {S = S} system prims V f below g s there =
     subst (λ o. elim o as (λ _. World F S) [ None ↦ breaks (seen system prims V f below s) | Some h ↦ turns system (as_known h.has_lines (system.steps h.made_of s)) (seen system prims V f below s) f below ]
@@ -26,7 +26,7 @@ module _ {A B S T : Type 0} (Sa : System A S) (Sb : System B T) (R : Bool → A 
     (begins : (l : Bool) (a : A) (b : B) (arguments : List Value) → R l a b → Q l a b (Sa.starts a arguments) (Sb.starts b arguments))
     (pends : (l : Bool) (a : A) (b : B) (s : S) (t : T) → NextLike (R l) (Q l a b) (as_known l (Sa.steps a s)) (as_known l (Sb.steps b t))
     → PendAlike Sa Sb a b (as_known l (Sa.steps a s)) (as_known l (Sb.steps b t)))
-    (prims : ℕ → Option Primitive) where
+    (pa : Primitives A) (pb : Primitives B) (prims : PrimitivesAlike R pa pb) where
   abbrev Both : World A S → World B T → Type 0
   Both X Y = Out Sa Sb R Q X Y
 
@@ -34,10 +34,10 @@ module _ {A B S T : Type 0} (Sa : System A S) (Sb : System B T) (R : Bool → A 
   Alike W bs xss xs = Like Sa Sb R Q W bs xss xs
 
   abbrev Reaches : World A S → World B T → Type 0
-  Reaches X Y = Reach Sa Sb R Q asks begins prims X Y
+  Reaches X Y = Reach Sa Sb R Q asks begins pa pb prims X Y
 
   abbrev top : World A S → ℕ → List (Frame S) → S → World A S
-  top W f below s = seen Sa prims W f below s
+  top W f below s = seen Sa pa W f below s
 
   -- both sides ask the same after own steps of these numbers
   abbrev Meets : Function A → B → Next A S → Next B T → Type 0
@@ -47,45 +47,45 @@ module _ {A B S T : Type 0} (Sa : System A S) (Sb : System B T) (R : Bool → A 
   top_asks : (W : World A S) (bs : List B) (xss : List (List (Part T))) (f : ℕ) (s : S) (t : T) (below : List (Frame S)) (ys : List (Part T))
       (body : Body Sa Sb R Q W.functions bs f) (j : ℕ) → Alike (top W f below s) bs xss (state t ∷ ys)
       → Meets body.function body.code (Sa.steps body.function.made_of s) (runs (Sb.steps body.code) j t)
-      → Reaches (tick Sa prims (top W f below s)) (dress_world (top W f below s) bs xss (state t ∷ ys))
+      → Reaches (tick Sa pa (top W f below s)) (dress_world (top W f below s) bs xss (state t ∷ ys))
   top_asks W bs xss f s t below ys body j like next =
       let l = body.function.has_lines in
       let a = body.function.made_of in
       let V = dress_world (top W f below s) bs xss (state t ∷ ys) in
       let free = known_no_own l (runs (Sb.steps body.code) j t)
       (like_no_own (R l) (Q l a body.code) (as_known l (Sa.steps a s)) (as_known l (runs (Sb.steps body.code) j t)) next).1 in
-      let c = comes Sb prims V f (dress below ys) (dressed_function body.function body.code) j t body.there_too free in
+      let c = comes Sb pb V f (dress below ys) (dressed_function body.function body.code) j t body.there_too free in
       let met : Meets body.function body.code (Sa.steps a s) (Sb.steps body.code c.there) = subst (λ y. Meets body.function body.code (Sa.steps a s) y) (sym c.asks) next in
       let there : Alike (top W f below s) bs xss (state c.there ∷ ys) =
       record { functions = like.functions; coroutines = like.coroutines; frames = (record { body = body; mid = (zero, zero, met) }, like.frames.1) } in
-      let turn = turns_out Sa Sb R Q asks begins prims (top W f below s) bs xss (state c.there ∷ ys) f below ys body (as_known l (Sa.steps a s)) (as_known l (Sb.steps body.code c.there)) there met (pends l a body.code s c.there met) there.frames.1 in
-      let first = now_tick Sa prims W f below body.function s body.there in
+      let turn = turns_out Sa Sb R Q asks begins pa pb prims (top W f below s) bs xss (state c.there ∷ ys) f below ys body (as_known l (Sa.steps a s)) (as_known l (Sb.steps body.code c.there)) there met (pends l a body.code s c.there met) there.frames.1 in
+      let first = now_tick Sa pa W f below body.function s body.there in
       let other =
-      ticks_sum Sb prims c.count (suc zero) V ∙ ap (ticks Sb prims (suc zero)) c.leads
-      ∙ now_tick Sb prims V f (dress below ys) (dressed_function body.function body.code) c.there body.there_too in
+      ticks_sum Sb pb c.count (suc zero) V ∙ ap (ticks Sb pb (suc zero)) c.leads
+      ∙ now_tick Sb pb V f (dress below ys) (dressed_function body.function body.code) c.there body.there_too in
       record {
         count = sum_of c.count (suc zero);
         out =
-            subst (λ Y. Both (tick Sa prims (top W f below s)) Y) (sym other)
-            (subst (λ X. Both X (turns Sb (as_known l (Sb.steps body.code c.there)) (seen Sb prims V f (dress below ys) c.there) f (dress below ys))) (sym first) turn);
+            subst (λ Y. Both (tick Sa pa (top W f below s)) Y) (sym other)
+            (subst (λ X. Both X (turns Sb (as_known l (Sb.steps body.code c.there)) (seen Sb pb V f (dress below ys) c.there) f (dress below ys))) (sym first) turn);
       }
 
   -- the activation on top goes on by itself, or asks
   top_out : (i : ℕ) (W : World A S) (bs : List B) (xss : List (List (Part T))) (f : ℕ) (s : S) (t : T) (below : List (Frame S)) (ys : List (Part T))
       (body : Body Sa Sb R Q W.functions bs f) (j : ℕ) → Alike (top W f below s) bs xss (state t ∷ ys)
       → Meets body.function body.code (runs (Sa.steps body.function.made_of) i s) (runs (Sb.steps body.code) j t)
-      → Reaches (tick Sa prims (top W f below s)) (dress_world (top W f below s) bs xss (state t ∷ ys))
+      → Reaches (tick Sa pa (top W f below s)) (dress_world (top W f below s) bs xss (state t ∷ ys))
   top_out zero W bs xss f s t below ys body j like next = top_asks W bs xss f s t below ys body j like next
   top_out (suc i) W bs xss f s t below ys body j like next = by (Sa.steps body.function.made_of s) refl next where
     by : (x : Next A S) → Sa.steps body.function.made_of s ≡ x → Meets body.function body.code (on_from x (runs (Sa.steps body.function.made_of) i)) (runs (Sb.steps body.code) j t)
-        → Reaches (tick Sa prims (top W f below s)) (dress_world (top W f below s) bs xss (state t ∷ ys))
+        → Reaches (tick Sa pa (top W f below s)) (dress_world (top W f below s) bs xss (state t ∷ ys))
     by (goes_on u) e met =
         let there : Alike (top W f below u) bs xss (state t ∷ ys) =
         record { functions = like.functions; coroutines = like.coroutines; frames = (record { body = body; mid = (i, j, met) }, like.frames.1) } in
         record {
           count = zero;
           out =
-              subst (λ X. Both X (dress_world (top W f below s) bs xss (state t ∷ ys))) (sym (own_tick Sa prims W f below body.function s u body.there e))
+              subst (λ X. Both X (dress_world (top W f below s) bs xss (state t ∷ ys))) (sym (own_tick Sa pa W f below body.function s u body.there e))
               (same_out Sa Sb R Q (top W f below u) bs xss (state t ∷ ys) there);
         }
     by (says q line shared k) e met = top_asks W bs xss f s t below ys body j like (subst (λ x. Meets body.function body.code x (runs (Sb.steps body.code) j t)) (sym e) met)
@@ -100,7 +100,7 @@ module _ {A B S T : Type 0} (Sa : System A S) (Sb : System B T) (R : Bool → A 
   broken_out W bs xss frames ys like = now_out Sa Sb R Q (posed W talks frames) bs xss ys (ends broken) like
 
   pub step_out : (W : World A S) (bs : List B) (xss : List (List (Part T))) (now : Now) (frames : List (Frame S)) (ys : List (Part T)) → Alike (posed W now frames) bs xss ys
-      → Reaches (tick Sa prims (posed W now frames)) (dress_world (posed W now frames) bs xss ys)
+      → Reaches (tick Sa pa (posed W now frames)) (dress_world (posed W now frames) bs xss ys)
   step_out W bs xss talks (talking f s ∷ below) (state t ∷ ys) like =
       let one = like.frames.0 in
       top_out one.mid.0 W bs xss f s t below ys one.body one.mid.1 like one.mid.2
@@ -125,25 +125,25 @@ module _ {A B S T : Type 0} (Sa : System A S) (Sb : System B T) (R : Bool → A 
       let Y = dress_world X bs xss ys in
       record {
         count = suc zero;
-        out = opt_out Sa Sb R Q asks begins (prims m) (prims m) (breaks X) (breaks Y) (λ p. does_primitive Sa p X vs) (λ p. does_primitive Sb p Y vs) refl (now_out Sa Sb R Q X bs xss ys (ends broken) like)
-            (λ p. primitive_out Sa Sb R Q asks begins prims p X bs xss ys vs like);
+        out = opt_out Sa Sb R Q asks begins (pa.numbered m) (pb.numbered m) (breaks X) (breaks Y) (λ p. does_primitive Sa pa.builds p X vs) (λ p. does_primitive Sb pb.builds p Y vs) (sym (prims.numbered m)) (now_out Sa Sb R Q X bs xss ys (ends broken) like)
+            (λ p. primitive_out Sa Sb R Q asks begins pa pb prims p X bs xss ys vs like);
       }
   step_out W bs xss (ends ending) frames ys like =
       record { count = zero; out = same_out Sa Sb R Q (posed W (ends ending) frames) bs xss ys like }
 
   -- so many steps, up to the turn's end
-  pub ticks_out : (k : ℕ) (W : World A S) (bs : List B) (xss : List (List (Part T))) (xs : List (Part T)) → Alike W bs xss xs → Reaches (ticks Sa prims k W) (dress_world W bs xss xs)
+  pub ticks_out : (k : ℕ) (W : World A S) (bs : List B) (xss : List (List (Part T))) (xs : List (Part T)) → Alike W bs xss xs → Reaches (ticks Sa pa k W) (dress_world W bs xss xs)
   ticks_out zero W bs xss xs like = record { count = zero; out = same_out Sa Sb R Q W bs xss xs like }
   ticks_out (suc k) W bs xss xs like =
-      by (has_ended W.now) (step_out W bs xss W.now W.frames xs like) (λ bs' xss' xs' like'. ticks_out k (tick Sa prims W) bs' xss' xs' like')
+      by (has_ended W.now) (step_out W bs xss W.now W.frames xs like) (λ bs' xss' xs' like'. ticks_out k (tick Sa pa W) bs' xss' xs' like')
     where
-      by : (b : Bool) → Reaches (tick Sa prims W) (dress_world W bs xss xs)
-          → ((bs' : List B) (xss' : List (List (Part T))) (xs' : List (Part T)) → Alike (tick Sa prims W) bs' xss' xs' → Reaches (ticks Sa prims k (tick Sa prims W)) (dress_world (tick Sa prims W) bs' xss' xs'))
-          → Reaches (elim b as (λ _. World A S) [ true ↦ W | false ↦ ticks Sa prims k (tick Sa prims W) ]) (dress_world W bs xss xs)
+      by : (b : Bool) → Reaches (tick Sa pa W) (dress_world W bs xss xs)
+          → ((bs' : List B) (xss' : List (List (Part T))) (xs' : List (Part T)) → Alike (tick Sa pa W) bs' xss' xs' → Reaches (ticks Sa pa k (tick Sa pa W)) (dress_world (tick Sa pa W) bs' xss' xs'))
+          → Reaches (elim b as (λ _. World A S) [ true ↦ W | false ↦ ticks Sa pa k (tick Sa pa W) ]) (dress_world W bs xss xs)
       by true r more = record { count = zero; out = same_out Sa Sb R Q W bs xss xs like }
       by false r more =
           let m = more r.out.bs r.out.xss r.out.xs r.out.like in
           record {
             count = sum_of r.count m.count;
-            out = subst (λ Y. Both (ticks Sa prims k (tick Sa prims W)) Y) (sym (ticks_sum Sb prims r.count m.count (dress_world W bs xss xs) ∙ ap (ticks Sb prims m.count) r.out.same)) m.out;
+            out = subst (λ Y. Both (ticks Sa pa k (tick Sa pa W)) Y) (sym (ticks_sum Sb pb r.count m.count (dress_world W bs xss xs) ∙ ap (ticks Sb pb m.count) r.out.same)) m.out;
           }

@@ -113,7 +113,7 @@ module _ {A B S T : Type 0} (Sa : System A S) (Sb : System B T) (R : Bool → A 
   unit_out (suc m) W bs xss xs k g below ys like pair rest =
       once_out (record W { fuel = m }) bs xss xs pays k g 0 none below ys (fuel_like Sa Sb R Q asks begins W bs xss xs m like) pair tt rest
 
-  count_functions : (fs : List (Function A)) (bs : List B) → FunctionsLike Sa Sb R Q fs bs → length (dress_functions fs bs) ≡ length fs
+  pub count_functions : (fs : List (Function A)) (bs : List B) → FunctionsLike Sa Sb R Q fs bs → length (dress_functions fs bs) ≡ length fs
   count_functions [] [] like = refl
   count_functions (f ∷ fs) (b ∷ bs) like = let h = count_functions fs bs like.1 in omega (arith, h)
   count_functions [] (b ∷ bs) like = absurd like

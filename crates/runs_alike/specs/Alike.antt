@@ -1,11 +1,13 @@
 -- Runs of a script's tree and of code that means it: both print the same and end alike, whatever the lines and the budget are.
-use Rattle.std.specs.Prelude.{◌≡◌, ℕ, Bool, false, List, [], ◌∷◌}
+use Rattle.std.specs.Prelude.{◌≡◌, ℕ, Bool, true, false, List, [], ◌∷◌}
 use Rattle.tree_core.specs.Tree.{Body}
 use Rattle.tree_activation.specs.Work.{when_captured, State as TreeState}
 use Rattle.code_core.specs.Prototype.{Prototype}
 use Rattle.machine_core.specs.Talk.{State as CodeState}
+use Rattle.load_rows.specs.Loading.{Built, built, refused_at, Builds}
 use Rattle.library_rows.specs.Library.{Entry}
 use Rattle.lua_meaning.specs.World.{Function, Coroutine, fresh, running, dead, failed, World}
+use Rattle.lua_meaning.specs.Step.{Primitives}
 use Rattle.lua_meaning.specs.Meaning.{Script, Meaning, IsMeaning}
 use Rattle.lua_meaning.specs.Opening.{primitives}
 use Rattle.lua_meaning.specs.TreeMeaning.{trees, outer_of, tree_opening}
@@ -37,6 +39,19 @@ CoroutinesAlike [] [] = Unit {0}
 CoroutinesAlike (c ∷ cs) (d ∷ ds) = CoroutineAlike c d × CoroutinesAlike cs ds
 CoroutinesAlike _ _ = ⊥
 
+-- what a source is built to is related, its lines being known, or both are refused at the same line and for the same rule
+abbrev pub BuiltAlike : {A B : Type 0} → (Bool → A → B → Type 0) → Built A → Built B → Type 0
+BuiltAlike R (built a) (built b) = R true a b
+BuiltAlike R (refused_at line rule) (refused_at other broken) = (line ≡ other) × (rule ≡ broken)
+BuiltAlike R _ _ = ⊥
+
+abbrev pub BuildsAlike : {A B : Type 0} → (Bool → A → B → Type 0) → Builds A → Builds B → Type 0
+BuildsAlike R x y = (name source : List ℕ) → BuiltAlike R (x name source) (y name source)
+
+pub record PrimitivesAlike {A B : Type 0} (R : Bool → A → B → Type 0) (x : Primitives A) (y : Primitives B) : Type 0 where
+  pub numbered : (n : ℕ) → x.numbered n ≡ y.numbered n
+  pub builds : BuildsAlike R x.builds y.builds
+
 -- two worlds in which a script is about to run: what functions of the same number are made of is related, and all else is the same.
 -- Frames, printed bytes, the budget and what is going on are those of the script, so nothing is asked of them
 pub record WorldsAlike {A B S T : Type 0} (R : Bool → A → B → Type 0) (W : World A S) (V : World B T) : Type 0 where
@@ -55,23 +70,24 @@ abbrev pub script : {F : Type 0} → (main : F) → (name : List ℕ) → (has_l
 script main name has_lines = record { main = main; name = name; has_lines = has_lines }
 
 -- what the tree means, the code means as well
-pub record CodeEnds (W : World Prototype CodeState) (s : Script Prototype) (input : List (List ℕ)) (budget : ℕ) (m : Meaning Body TreeState) : Type 0 where
+pub record CodeEnds (code_built : Builds Prototype) (W : World Prototype CodeState) (s : Script Prototype) (input : List (List ℕ)) (budget : ℕ) (m : Meaning Body TreeState) : Type 0 where
   pub meaning : Meaning Prototype CodeState
-  pub is_meant : IsMeaning codes_run primitives W s input budget meaning
+  pub is_meant : IsMeaning codes_run (primitives code_built) W s input budget meaning
   pub alike : RunAlike m meaning
 
 -- and the other way round
-pub record TreeEnds (W : World Body TreeState) (s : Script Body) (input : List (List ℕ)) (budget : ℕ) (m : Meaning Prototype CodeState) : Type 0 where
+pub record TreeEnds (trees_built : Builds Body) (W : World Body TreeState) (s : Script Body) (input : List (List ℕ)) (budget : ℕ) (m : Meaning Prototype CodeState) : Type 0 where
   pub meaning : Meaning Body TreeState
-  pub is_meant : IsMeaning (trees when_captured) primitives W s input budget meaning
+  pub is_meant : IsMeaning (trees when_captured) (primitives trees_built) W s input budget meaning
   pub alike : RunAlike meaning m
 
 abbrev pub WholeRunsEndAlike : Type 0
 WholeRunsEndAlike =
-    (W : World Body TreeState) (V : World Prototype CodeState) → WorldsAlike IsMeantBy W V
+    (trees_built : Builds Body) (code_built : Builds Prototype) → BuildsAlike IsMeantBy trees_built code_built
+    → (W : World Body TreeState) (V : World Prototype CodeState) → WorldsAlike IsMeantBy W V
     → (main : Body) (code : Prototype) (name : List ℕ) (lines : Bool) → Means lines code main → (input : List (List ℕ)) (budget : ℕ)
-    → ((m : Meaning Body TreeState) → IsMeaning (trees when_captured) primitives W (script main name lines) input budget m → CodeEnds V (script code name lines) input budget m)
-    × ((m : Meaning Prototype CodeState) → IsMeaning codes_run primitives V (script code name lines) input budget m → TreeEnds W (script main name lines) input budget m)
+    → ((m : Meaning Body TreeState) → IsMeaning (trees when_captured) (primitives trees_built) W (script main name lines) input budget m → CodeEnds code_built V (script code name lines) input budget m)
+    × ((m : Meaning Prototype CodeState) → IsMeaning codes_run (primitives code_built) V (script code name lines) input budget m → TreeEnds trees_built W (script main name lines) input budget m)
 
 -- functions of the prelude of the same name and library, whose lines are not known, and that name as many outer variables
 pub record EntryAlike (x : Entry Body) (y : Entry Prototype) : Type 0 where

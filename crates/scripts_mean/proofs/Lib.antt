@@ -1,3 +1,4 @@
+mod Broken
 mod Names
 mod Preludes
-mod Scripts
+pub mod Scripts

@@ -15,9 +15,10 @@ use Rattle.code_parts.specs.Bodies.{block_bodies}
 use Rattle.stat_laws.specs.Fits.{is_known}
 use Rattle.library_rows.specs.Library.{Entry}
 use Rattle.library_rows.specs.PreludeText.{prelude_text}
-use Rattle.machine_core.specs.PrimitiveRows.{row_numbered}
-use Rattle.machine_primitives.specs.Primitives.{no_build}
 use Rattle.machine_sound.specs.Sound.{Each}
+use Rattle.load_rows.specs.Loading.{Builds}
+use Rattle.source_builds.specs.Builds.{BuildsSources}
+use Rattle.loaded_code.specs.Laws.{library}
 use Rattle.lua_meaning.specs.Meaning as meaning
 use Rattle.lua_meaning.specs.Meaning.{Meaning, Outcome, IsMeaning}
 use Rattle.lua_meaning.specs.Opening.{primitives, prelude_of}
@@ -60,14 +61,16 @@ abbrev pub name_in : Option (List ℕ) → List ℕ
 name_in None = []
 name_in (Some name) = name
 
-module _ (tree : Block) (given : Option (List ℕ)) (input : List (List ℕ)) (budget : ℕ) where
+module _ (builds : Builds Body) (tree : Block) (given : Option (List ℕ)) (input : List (List ℕ)) (budget : ℕ) where
   -- the machine does this with the code of the tree
   abbrev pub Does : (compiled : List (Entry Prototype)) → Run → Type 0
-  Does compiled r = CodeRun (row_numbered no_build) (begun (opening compiled) (code_of given (placed tree))) input budget r
+  Does compiled r = CodeRun (library builds) (begun (opening compiled) (code_of given (placed tree))) input budget r
 
   -- the tree means this by the letter of the manual
   abbrev pub MeansSo : (prelude : List (Entry Body)) → Meaning Body State → Type 0
-  MeansSo prelude m = IsMeaning (trees when_declared) primitives (tree_opening prelude) (script (placed tree) (name_in given) (is_known given)) input budget m
+  MeansSo prelude m = IsMeaning (trees when_declared) (primitives builds) (tree_opening prelude) (script (placed tree) (name_in given) (is_known given)) input budget m
+
+-- in both what is loaded is built as `builds` says: sources alone to their trees, or in the machine to the trees' code
 
 -- a source, a prelude, and lines of input that strings can hold; lines and names are kept in the code where it is given the source's name
 pub record Begins (source : List ℕ) (tree : Block) (prelude : List (Entry Body)) (compiled : List (Entry Prototype)) (given : Option (List ℕ)) (input : List (List ℕ)) : Type 0 where
@@ -78,15 +81,15 @@ pub record Begins (source : List ℕ) (tree : Block) (prelude : List (Entry Body
 
 abbrev pub ScriptsDo : Type 0
 ScriptsDo =
-    (source : List ℕ) (tree : Block) (prelude : List (Entry Body)) (compiled : List (Entry Prototype)) (given : Option (List ℕ)) (input : List (List ℕ)) (budget : ℕ)
+    (builds : Builds Body) → BuildsSources builds → (source : List ℕ) (tree : Block) (prelude : List (Entry Body)) (compiled : List (Entry Prototype)) (given : Option (List ℕ)) (input : List (List ℕ)) (budget : ℕ)
     → Begins source tree prelude compiled given input
-    → (r : Run) → Does tree given input budget compiled r → (m : Meaning Body State) × MeansSo tree given input budget prelude m × RunsAs r m
+    → (r : Run) → Does builds tree given input budget compiled r → (m : Meaning Body State) × MeansSo builds tree given input budget prelude m × RunsAs r m
 
 abbrev pub ScriptsMean : Type 0
 ScriptsMean =
-    (source : List ℕ) (tree : Block) (prelude : List (Entry Body)) (compiled : List (Entry Prototype)) (given : Option (List ℕ)) (input : List (List ℕ)) (budget : ℕ)
+    (builds : Builds Body) → BuildsSources builds → (source : List ℕ) (tree : Block) (prelude : List (Entry Body)) (compiled : List (Entry Prototype)) (given : Option (List ℕ)) (input : List (List ℕ)) (budget : ℕ)
     → Begins source tree prelude compiled given input
-    → (m : Meaning Body State) → MeansSo tree given input budget prelude m → (r : Run) × Does tree given input budget compiled r × RunsAs r m
+    → (m : Meaning Body State) → MeansSo builds tree given input budget prelude m → (r : Run) × Does builds tree given input budget compiled r × RunsAs r m
 
 -- the prelude that is there: the functions that its text defines, in their order, with the code of each
 

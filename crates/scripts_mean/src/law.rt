@@ -1,4 +1,5 @@
 // The laws, with what they speak of in `specs/`.
+ghost use Rattle.scripts_mean.specs.Broken.{SourcesAreNeverBroken};
 ghost use Rattle.scripts_mean.specs.Scripts.{PreludeIsAlike, ScriptsDo, ScriptsMean};
 
 use library_sound::law::library_is_safe;
@@ -19,3 +20,12 @@ pub fn scripts_do_as_they_mean()
 pub fn prelude_is_alike()
     ensures { PreludeIsAlike }
 {}
+
+/// Nothing that such a source means is broken: each step of its run is one that the manual defines. So it is of the tree, whether its locals get
+/// their cells as they are declared or as they are captured, and of its code, on all lines of input and every budget. (That the machine never traps
+/// on it is `turns_do_not_trap`, since its code is checked.)
+pub fn sources_are_never_broken()
+    ensures { SourcesAreNeverBroken }
+{
+    library_is_safe();
+}

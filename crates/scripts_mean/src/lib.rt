@@ -4,4 +4,4 @@
 
 mod law;
 
-pub use law::{prelude_is_alike, scripts_do_as_they_mean};
+pub use law::{prelude_is_alike, scripts_do_as_they_mean, sources_are_never_broken};

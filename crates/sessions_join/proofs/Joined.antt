@@ -64,14 +64,14 @@ module _
         same : session_image W ≡ l.image
         same = fits_so code_named (session_image W) l.image stands.0 l.met (sym (ap (with_fits code_named) back) ∙ l.accepted)
 
-    record Onward (W : World) (lines : List (List ℕ)) (printed : List ℕ) (close : Close) : Type 0 where
-      run : Run
-      runs : CodeOnward (row_numbered build) W lines budget run
-      prints : run.printed ≡ printed
-      closes : run.close ≡ close
+    pub record Onward (W : World) (lines : List (List ℕ)) (printed : List ℕ) (close : Close) : Type 0 where
+      pub run : Run
+      pub runs : CodeOnward (row_numbered build) W lines budget run
+      pub prints : run.printed ≡ printed
+      pub closes : run.close ≡ close
 
     -- what the loaded session does, the saved one would have done
-    moved : (W X : World) (bytes : List ℕ) (lines : List (List ℕ)) (s : Run) → Waits build fit budget W → HasFunctions prelude W → IsSaved prelude W bytes → IsLoaded R code_named prelude bytes X → Each Short lines
+    pub moved : (W X : World) (bytes : List ℕ) (lines : List (List ℕ)) (s : Run) → Waits build fit budget W → HasFunctions prelude W → IsSaved prelude W bytes → IsLoaded R code_named prelude bytes X → Each Short lines
         → CodeOnward (row_numbered build) X lines budget s → Onward W lines s.printed s.close
     moved W X bytes lines s w known saved loaded short c =
         let r = onward_runs build fit budget W lines w short in

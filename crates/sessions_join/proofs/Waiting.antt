@@ -66,22 +66,34 @@ module _ (build : Row) (fit : IsFit build) (budget : ℕ) where
   turn_waits : (count : ℕ) (W V : World) → Waits W → turn (row_numbered build) count W budget ≡ ends main_yielded V → Waits V
   turn_waits count W V w e = let k = turn_yields build fit.silent (length all_entries) fit.safe count W budget V w.sound w.may e in record { sound = k.0; may = k.1 }
 
-  from_waits : (count : ℕ) (input : List (List ℕ)) (W : World) (r : Run) → Waits W → Each Short input → run_from (row_numbered build) count W input budget ≡ Some r → r.close ≡ is_suspended → Waits r.last
-  from_waits count [] W r w l e s =
+  -- what holds of each world in which a turn ends with a yield holds of the last one of a run that is suspended
+
+  abbrev pub Left : (World → Type 0) → Type 0
+  Left P = (count : ℕ) (W V : World) → Waits W → turn (row_numbered build) count W budget ≡ ends main_yielded V → P V
+
+  from_leaves : (P : World → Type 0) → Left P → (count : ℕ) (input : List (List ℕ)) (W : World) (r : Run) → Waits W → Each Short input → run_from (row_numbered build) count W input budget ≡ Some r → r.close ≡ is_suspended → P r.last
+  from_leaves P left count [] W r w l e s =
       let y = yielded (turn (row_numbered build) count W budget) suspends r e s in
       let same : y.world ≡ r.last = ap (λ (x : Run). x.last) (some_same (record { printed = []; close = is_suspended; last = y.world }) y.rest y.goes_on) ∙ y.last in
-      subst Waits same (turn_waits count W y.world w y.yields)
-  from_waits count (line ∷ more) W r w l e s =
+      subst P same (left count W y.world w y.yields)
+  from_leaves P left count (line ∷ more) W r w l e s =
       let y = yielded (turn (row_numbered build) count W budget) (λ V. run_from (row_numbered build) count (handed_line V line) more budget) r e s in
-      subst Waits y.last
-      (from_waits count more (handed_line y.world line) y.rest (handed_waits y.world line (turn_waits count W y.world w y.yields) (l 0 line refl)) (each_tail Short line more l) y.goes_on y.suspended)
+      subst P y.last
+      (from_leaves P left count more (handed_line y.world line) y.rest (handed_waits y.world line (turn_waits count W y.world w y.yields) (l 0 line refl)) (each_tail Short line more l) y.goes_on y.suspended)
+
+  pub run_leaves : (P : World → Type 0) → Left P → (W : World) (input : List (List ℕ)) (r : Run) → Waits W → Each Short input → CodeRun (row_numbered build) W input budget r → r.close ≡ is_suspended → P r.last
+  run_leaves P left W input r w l c s = from_leaves P left c.count input W r w l c.gives s
+
+  -- and so from a world that waits for a line, where it holds there
+  pub onward_leaves : (P : World → Type 0) → Left P → (W : World) (input : List (List ℕ)) (r : Run) → Waits W → P W → Each Short input → CodeOnward (row_numbered build) W input budget r → r.close ≡ is_suspended → P r.last
+  onward_leaves P left W [] r w now l c s = subst P (ap (λ (x : Run). x.last) (some_same (record { printed = []; close = is_suspended; last = W }) r c.gives)) now
+  onward_leaves P left W (line ∷ more) r w now l c s = from_leaves P left c.count more (handed_line W line) r (handed_waits W line w (l 0 line refl)) (each_tail Short line more l) c.gives s
 
   pub run_waits : (W : World) (input : List (List ℕ)) (r : Run) → Waits W → Each Short input → CodeRun (row_numbered build) W input budget r → r.close ≡ is_suspended → Waits r.last
-  run_waits W input r w l c s = from_waits c.count input W r w l c.gives s
+  run_waits = run_leaves Waits turn_waits
 
   pub onward_waits : (W : World) (input : List (List ℕ)) (r : Run) → Waits W → Each Short input → CodeOnward (row_numbered build) W input budget r → r.close ≡ is_suspended → Waits r.last
-  onward_waits W [] r w l c s = subst Waits (ap (λ (x : Run). x.last) (some_same (record { printed = []; close = is_suspended; last = W }) r c.gives)) w
-  onward_waits W (line ∷ more) r w l c s = from_waits c.count more (handed_line W line) r (handed_waits W line w (l 0 line refl)) (each_tail Short line more l) c.gives s
+  onward_waits W input r w l c s = onward_leaves Waits turn_waits W input r w w l c s
 
   -- a world that waits for a line goes on in one way alone
 
@@ -89,7 +101,7 @@ module _ (build : Row) (fit : IsFit build) (budget : ℕ) where
   onward_runs W [] w l = (record { printed = []; close = is_suspended; last = W }, record { count = 0; gives = refl })
   onward_runs W (line ∷ more) w l =
       let h = handed_waits W line w (l 0 line refl) in
-      let k = code_runs build fit.falls (length all_entries) fit.safe fit.silent (handed_line W line) more budget h.sound h.may (each_tail Short line more l) in
+      let k = code_runs build fit.least fit.falls (length all_entries) fit.safe fit.silent (handed_line W line) more budget h.sound h.may (each_tail Short line more l) in
       (k.0, record { count = k.1.count; gives = k.1.gives })
 
   pub onward_once : (W : World) (input : List (List ℕ)) (x y : Run) → CodeOnward (row_numbered build) W input budget x → CodeOnward (row_numbered build) W input budget y → x ≡ y

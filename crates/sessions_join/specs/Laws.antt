@@ -10,7 +10,7 @@ use Rattle.machine_core.specs.PrimitiveRows.{row_numbered}
 use Rattle.machine_sound.specs.Sound.{Each}
 use Rattle.machine_sound.specs.Laws.{PrimitivesSafe}
 use Rattle.machine_alike.specs.Laws.{NoneMade}
-use Rattle.machine_ends.specs.Laws.{PrimitiveFalls}
+use Rattle.machine_ends.specs.Laws.{FallsFrom}
 use Rattle.machine_runs.specs.Laws.{NeverYields}
 use Rattle.machine_runs.specs.Opening.{opening, begun}
 use Rattle.machine_runs.specs.Runs.{Close, Run, CodeRun}
@@ -23,7 +23,8 @@ use Rattle.sessions_join.specs.Sessions.{Sessions}
 -- what is known of the row of `build`, the function of the libraries on which the others do not hang
 pub record IsFit (build : Row) : Type 0 where
   pub makes_none : NoneMade build
-  pub falls : PrimitiveFalls build
+  pub least : ℕ
+  pub falls : FallsFrom least build
   pub silent : NeverYields build
   pub safe : PrimitivesSafe (length all_entries) (row_numbered build)
 

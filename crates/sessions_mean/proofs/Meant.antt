@@ -1,6 +1,6 @@
 -- The sessions of a script are one run of its code, which does as the script means.
 use Rattle.std.proofs.Common.{ℕ, ◌≡◌, List, Option, length, refl, sym, ◌∙◌, ap, subst, arith}
-use Rattle.std.specs.Prelude.{codes}
+use Rattle.std.specs.Prelude.{◌^◌}
 use Rattle.tree_core.specs.Tree.{Block, Body}
 use Rattle.tree_activation.specs.Work.{State}
 use Rattle.scope_core.specs.Places.{placed}
@@ -8,13 +8,12 @@ use Rattle.code_core.specs.Prototype.{Prototype}
 use Rattle.code_core.specs.Check.{IsChecked}
 use Rattle.code_of.specs.CodeOf.{code_of}
 use Rattle.library_rows.specs.Library.{Entry}
-use Rattle.library_sound.specs.Laws.{LibraryWithoutBuildIsSafe}
 use Rattle.lua_meaning.specs.Meaning.{Meaning}
-use Rattle.machine_core.specs.Moves.{Ending, raised, main_yielded, Outcome, trapped, ends}
-use Rattle.machine_core.specs.PrimitiveRows.{row_numbered}
-use Rattle.machine_core.specs.World.{World}
-use Rattle.machine_primitives.specs.Primitives.{no_build}
-use Rattle.machine_runs.specs.Laws.{NeverYields, RunIsOne}
+use Rattle.load_rows.specs.Loading.{Builds}
+use Rattle.loaded_code.specs.Laws.{library, load_by, LoadingFalls, LoadingIsSafe, LoadingNeverYields}
+use Rattle.machine_alike.proofs.PlainRows.{load_none}
+use Rattle.source_builds.specs.Builds.{BuildsSources, code_builds}
+use Rattle.machine_runs.specs.Laws.{RunIsOne}
 use Rattle.machine_runs.specs.Opening.{opening, begun}
 use Rattle.machine_runs.specs.Runs.{Close, Run}
 use Rattle.source_laws.proofs.Checked.{source_checked}
@@ -23,25 +22,24 @@ use Rattle.sessions_join.specs.Laws.{IsFit, AreShort, all_lines, IsOneRun, Sessi
 use Rattle.sessions_join.proofs.Waiting.{all_short}
 use Rattle.sessions_mean.specs.Law.{AreSessions, IsAsMeant, SessionsMean, SessionsMeanOne}
 
-abbrev ending_in : Ending → Outcome → Ending
-ending_in e trapped = e
-ending_in e (ends d V) = d
+-- what is known of the row of `load`
+pub record LoadingStands : Type 0 where
+  pub safe : LoadingIsSafe
+  pub falls : LoadingFalls
+  pub silent : LoadingNeverYields
 
-never_yields : NeverYields no_build
-never_yields W V h = let k : raised ≡ main_yielded = ap (ending_in raised) h in absurd (cc)
-
-no_build_fits : LibraryWithoutBuildIsSafe → IsFit no_build
-no_build_fits safe = record { makes_none = λ _ _. tt; falls = (tt, λ _ _. omega arith); silent = never_yields; safe = safe (codes "load is not built yet") }
+pub loading_fits : LoadingStands → (builds : Builds Body) → BuildsSources builds → IsFit (load_by builds)
+loading_fits l builds are = record { makes_none = load_none (code_builds builds); least = 2 ^ 64; falls = l.falls builds are; silent = l.silent builds; safe = l.safe builds are }
 
 module _
-    (safe : LibraryWithoutBuildIsSafe) (joins : SessionsAreOneRun) (source : List ℕ) (tree : Block) (prelude : List (Entry Body)) (compiled : List (Entry Prototype)) (given : Option (List ℕ)) (budget : ℕ)
-    (inputs : List (List (List ℕ))) (printed : List ℕ) (close : Close) (s : AreSessions source tree prelude compiled given budget inputs printed close)
+    (loading : LoadingStands) (joins : SessionsAreOneRun) (builds : Builds Body) (are : BuildsSources builds) (source : List ℕ) (tree : Block) (prelude : List (Entry Body)) (compiled : List (Entry Prototype)) (given : Option (List ℕ)) (budget : ℕ)
+    (inputs : List (List (List ℕ))) (printed : List ℕ) (close : Close) (s : AreSessions builds source tree prelude compiled given budget inputs printed close)
   where
     checked : IsChecked (code_of given (placed tree))
     checked = source_checked source s.read.tokens tree s.read.limited s.read.lexed s.read.derived s.read.lawful given s.name
 
-    run : IsOneRun no_build compiled (code_of given (placed tree)) (all_lines inputs) budget printed close
-    run = joins no_build (no_build_fits safe) s.reader s.knows s.code_named compiled (record { ok = s.libraries.ok; count = s.all_there }) (code_of given (placed tree)) checked budget inputs printed close s.lines s.sessions
+    run : IsOneRun (load_by builds) compiled (code_of given (placed tree)) (all_lines inputs) budget printed close
+    run = joins (load_by builds) (loading_fits loading builds are) s.reader s.knows s.code_named compiled (record { ok = s.libraries.ok; count = s.all_there }) (code_of given (placed tree)) checked budget inputs printed close s.lines s.sessions
 
     begins : Begins source tree prelude compiled given (all_lines inputs)
     begins = record { read = s.read; libraries = s.libraries; name = s.name; lines = all_short inputs s.lines }
@@ -52,16 +50,16 @@ module _
       ends = subst (λ c. EndsAs c m.outcome) (ap (λ (x : Run). x.close) (sym same) ∙ run.closes) a.ends;
     }
 
-    does : ScriptsDo → (m : Meaning Body State) × MeansSo tree given (all_lines inputs) budget prelude m × IsAsMeant m printed close
-    does law = let k = law source tree prelude compiled given (all_lines inputs) budget begins run.run run.runs in (k.0, k.1, as_meant run.run k.0 refl k.2)
+    does : ScriptsDo → (m : Meaning Body State) × MeansSo builds tree given (all_lines inputs) budget prelude m × IsAsMeant m printed close
+    does law = let k = law builds are source tree prelude compiled given (all_lines inputs) budget begins run.run run.runs in (k.0, k.1, as_meant run.run k.0 refl k.2)
 
-    means : ScriptsMean → RunIsOne → (m : Meaning Body State) → MeansSo tree given (all_lines inputs) budget prelude m → IsAsMeant m printed close
+    means : ScriptsMean → RunIsOne → (m : Meaning Body State) → MeansSo builds tree given (all_lines inputs) budget prelude m → IsAsMeant m printed close
     means law one m is =
-        let k = law source tree prelude compiled given (all_lines inputs) budget begins m is in
-        as_meant k.0 m (one (row_numbered no_build) (begun (opening compiled) (code_of given (placed tree))) (all_lines inputs) budget run.run k.0 run.runs k.1) k.2
+        let k = law builds are source tree prelude compiled given (all_lines inputs) budget begins m is in
+        as_meant k.0 m (one (library builds) (begun (opening compiled) (code_of given (placed tree))) (all_lines inputs) budget run.run k.0 run.runs k.1) k.2
 
-pub sessions_mean : LibraryWithoutBuildIsSafe → SessionsAreOneRun → ScriptsDo → SessionsMean
-sessions_mean safe joins law source tree prelude compiled given budget inputs printed close s = does safe joins source tree prelude compiled given budget inputs printed close s law
+pub sessions_mean : LoadingStands → SessionsAreOneRun → ScriptsDo → SessionsMean
+sessions_mean loading joins law builds are source tree prelude compiled given budget inputs printed close s = does loading joins builds are source tree prelude compiled given budget inputs printed close s law
 
-pub sessions_mean_one : LibraryWithoutBuildIsSafe → SessionsAreOneRun → ScriptsMean → RunIsOne → SessionsMeanOne
-sessions_mean_one safe joins law one source tree prelude compiled given budget inputs printed close s = means safe joins source tree prelude compiled given budget inputs printed close s law one
+pub sessions_mean_one : LoadingStands → SessionsAreOneRun → ScriptsMean → RunIsOne → SessionsMeanOne
+sessions_mean_one loading joins law one builds are source tree prelude compiled given budget inputs printed close s = means loading joins builds are source tree prelude compiled given budget inputs printed close s law one

@@ -9,8 +9,9 @@ use Rattle.code_of.specs.CodeOf.{code_of}
 use Rattle.library_rows.specs.Library.{Entry}
 use Rattle.library_rows.specs.PreludeText.{function_keys}
 use Rattle.lua_meaning.specs.Meaning.{Meaning}
-use Rattle.machine_core.specs.PrimitiveRows.{row_numbered}
-use Rattle.machine_primitives.specs.Primitives.{no_build}
+use Rattle.load_rows.specs.Loading.{Builds}
+use Rattle.loaded_code.specs.Laws.{library}
+use Rattle.source_builds.specs.Builds.{BuildsSources}
 use Rattle.machine_runs.specs.Runs.{Close}
 use Rattle.image_core.specs.Image.{PermKey}
 use Rattle.image_bytes.specs.Bytes.{Reader}
@@ -19,8 +20,9 @@ use Rattle.scripts_mean.specs.Scripts.{IsRead, IsPrelude, EndsAs, MeansSo}
 use Rattle.sessions_join.specs.Sessions.{Sessions}
 use Rattle.sessions_join.specs.Laws.{AreShort, all_lines}
 
--- a source and a prelude, and the sessions of its code: the lines of each, what they print, and how the last one closes
-pub record AreSessions (source : List ℕ) (tree : Block) (prelude : List (Entry Body)) (compiled : List (Entry Prototype)) (given : Option (List ℕ)) (budget : ℕ) (inputs : List (List (List ℕ))) (printed : List ℕ) (close : Close) : Type 0 where
+-- a source and a prelude, and the sessions of its code: the lines of each, what they print, and how the last one closes. In all of them what is loaded is built as
+-- `builds` says
+pub record AreSessions (builds : Builds Body) (source : List ℕ) (tree : Block) (prelude : List (Entry Body)) (compiled : List (Entry Prototype)) (given : Option (List ℕ)) (budget : ℕ) (inputs : List (List (List ℕ))) (printed : List ℕ) (close : Close) : Type 0 where
   pub read : IsRead source tree
   pub libraries : IsPrelude prelude compiled
   pub all_there : length compiled ≡ length function_keys
@@ -29,7 +31,7 @@ pub record AreSessions (source : List ℕ) (tree : Block) (prelude : List (Entry
   pub reader : Reader
   pub knows : KnowsLibraries reader
   pub code_named : PermKey → Option Prototype
-  pub sessions : Sessions reader code_named compiled (row_numbered no_build) budget (code_of given (placed tree)) inputs printed close
+  pub sessions : Sessions reader code_named compiled (library builds) budget (code_of given (placed tree)) inputs printed close
 
 -- a meaning that prints these bytes and ends so
 pub record IsAsMeant (m : Meaning Body State) (printed : List ℕ) (close : Close) : Type 0 where
@@ -39,11 +41,11 @@ pub record IsAsMeant (m : Meaning Body State) (printed : List ℕ) (close : Clos
 -- what the sessions do, joined, the tree means on all lines
 abbrev pub SessionsMean : Type 0
 SessionsMean =
-    (source : List ℕ) (tree : Block) (prelude : List (Entry Body)) (compiled : List (Entry Prototype)) (given : Option (List ℕ)) (budget : ℕ) (inputs : List (List (List ℕ))) (printed : List ℕ) (close : Close)
-    → AreSessions source tree prelude compiled given budget inputs printed close → (m : Meaning Body State) × MeansSo tree given (all_lines inputs) budget prelude m × IsAsMeant m printed close
+    (builds : Builds Body) → BuildsSources builds → (source : List ℕ) (tree : Block) (prelude : List (Entry Body)) (compiled : List (Entry Prototype)) (given : Option (List ℕ)) (budget : ℕ) (inputs : List (List (List ℕ))) (printed : List ℕ) (close : Close)
+    → AreSessions builds source tree prelude compiled given budget inputs printed close → (m : Meaning Body State) × MeansSo builds tree given (all_lines inputs) budget prelude m × IsAsMeant m printed close
 
 -- and it means nothing else
 abbrev pub SessionsMeanOne : Type 0
 SessionsMeanOne =
-    (source : List ℕ) (tree : Block) (prelude : List (Entry Body)) (compiled : List (Entry Prototype)) (given : Option (List ℕ)) (budget : ℕ) (inputs : List (List (List ℕ))) (printed : List ℕ) (close : Close)
-    → AreSessions source tree prelude compiled given budget inputs printed close → (m : Meaning Body State) → MeansSo tree given (all_lines inputs) budget prelude m → IsAsMeant m printed close
+    (builds : Builds Body) → BuildsSources builds → (source : List ℕ) (tree : Block) (prelude : List (Entry Body)) (compiled : List (Entry Prototype)) (given : Option (List ℕ)) (budget : ℕ) (inputs : List (List (List ℕ))) (printed : List ℕ) (close : Close)
+    → AreSessions builds source tree prelude compiled given budget inputs printed close → (m : Meaning Body State) → MeansSo builds tree given (all_lines inputs) budget prelude m → IsAsMeant m printed close

@@ -1,1 +1,2 @@
 pub mod Preludes
+pub mod Loading

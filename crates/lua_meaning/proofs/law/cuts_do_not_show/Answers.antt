@@ -4,4 +4,4 @@ use Rattle.lua_meaning.proofs.Runs.{meaning_cut}
 use Rattle.lua_meaning.proofs.law.cuts_do_not_show.Goals as goal
 
 pub returns : goal.returns
-returns c = λ celling. meaning_cut (trees celling) primitives
+returns c = λ celling builds. meaning_cut (trees celling) (primitives builds)

@@ -4,4 +4,4 @@ use Rattle.lua_meaning.proofs.Runs.{meaning_once}
 use Rattle.lua_meaning.proofs.law.meaning_is_one.Goals as goal
 
 pub returns : goal.returns
-returns c = λ celling. meaning_once (trees celling) primitives
+returns c = λ celling builds. meaning_once (trees celling) (primitives builds)

@@ -1,4 +1,5 @@
-use Rattle.means_steps.proofs.Libraries.{build_leads, libraries_same, primitives_joined}
+use Rattle.means_steps.proofs.Loads.{load_leads}
+use Rattle.means_steps.proofs.Libraries.{libraries_same, primitives_joined}
 use Rattle.means_steps.proofs.law.primitives_keep_worlds_joined.Goals as goal
 
 pub returns-clause-each : goal.returns-clause-each
@@ -7,5 +8,5 @@ returns-clause-each c = primitives_joined
 pub returns-clause-numbered : goal.returns-clause-numbered
 returns-clause-numbered c = libraries_same
 
-pub returns-clause-builds : goal.returns-clause-builds
-returns-clause-builds c = build_leads
+pub returns-clause-loads : goal.returns-clause-loads
+returns-clause-loads c = load_leads

@@ -1,0 +1,2 @@
+pub mod Loads
+mod LoadingVectors

@@ -1,0 +1,3 @@
+pub mod Knowing
+mod OneReading
+pub mod Lookups
