@@ -23,3 +23,4 @@ pub mod texts;
 
 pub use answer::Answer;
 pub use calls::{Function, call};
+pub use shapes::argument_shape;

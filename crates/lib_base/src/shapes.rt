@@ -32,7 +32,7 @@ pub(crate) fn shape(world: &World, seen: Value) -> Shape<'_>
 }
 
 /// What a function sees of its argument of a place, from 0.
-pub(crate) fn argument_shape<'a>(world: &'a World, arguments: &[Value], at: usize) -> Shape<'a>
+pub fn argument_shape<'a>(world: &'a World, arguments: &[Value], at: usize) -> Shape<'a>
     requires { Stands world.now arguments.now }
     ensures { shape_of result ≡ shape (nth (map (value world.now.strings) arguments.now) at) }
 {

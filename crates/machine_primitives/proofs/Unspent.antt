@@ -4,12 +4,17 @@ use Rattle.std.specs.Prelude.{codes, ℤ, pos, negsuc, cond, drop, slice_get, �
 use Rattle.int_core.specs.Limits.{greatest_resumes, stack_overflow}
 use Rattle.int_core.specs.Value.{nil, boolean, integer, string, primitive, a_table, a_function, a_coroutine, Value, known, object, Shape, is_known, is_object, bind}
 use Rattle.machine_core.specs.World.{Function, Coroutine, fresh, suspended, in_progress, normal, dead, failed, World, Stack, stack_of}
-use Rattle.machine_core.specs.Moves.{on_own, move_pc, open_register, outside, settle, enter, enter_tail, await, find_close, is_closable, begin_leaving, leave_frame, take_moving, look, give, give_with, blame, place_text, push_frame, call_value, see_top, see_catcher, pop_frame, take_closing, set_error, end_coroutine, fail_coroutine, suspend, create, consult, see_status, see_running, print, resume, begin_closing, Move, Told, Made, made, move, CallShape, is_entered, is_primitive, not_paid, not_entered, ResumeShape, resumed, refused, enters, has_room, push_all, new_frame, starts_in, can_start, resumes, wait_for_another, closes_in, closes_coroutine, go_into, coroutine_number, Ending, Row, traps, stop, only, act, Outcome, trapped, ends, run}
+use Rattle.machine_core.specs.Moves.{on_own, move_pc, open_register, outside, settle, enter, enter_tail, await, find_close, is_closable, begin_leaving, leave_frame, take_moving, look, give, give_with, blame, place_text, push_frame, call_value, see_top, see_catcher, pop_frame, take_closing, set_error, end_coroutine, fail_coroutine, suspend, create, consult, see_status, see_running, print, resume, begin_closing, make_loaded, Move, Told, Made, made, move, CallShape, is_entered, is_primitive, not_paid, not_entered, ResumeShape, resumed, refused, enters, has_room, push_all, new_frame, starts_in, can_start, resumes, wait_for_another, closes_in, closes_coroutine, go_into, coroutine_number, Ending, Row, traps, stop, only, act, Outcome, trapped, ends, run}
 use Rattle.machine_core.specs.World.{push, closing}
 use Rattle.machine_core.specs.Text.{Arg, read}
 use Rattle.machine_core.specs.FrameRows.{hand_over, blames, over_frame, closing_row}
 use Rattle.machine_core.specs.MachineStep.{gives_back, look_row, after_look, pcall_row, xpcall_row, error_row, level_in, errs_at, after_entry, after_resume, resume_row, yield_row, after_closing, close_row, can_call, wrong_type, create_row, sees_status, status_row, running_row, print_row}
 use Rattle.machine_core.specs.Moves.{Over, over_pcall, over_xpcall, LookShape, is_given, is_refused, is_raised, lua_top, pcall_top, xpcall_top, handler_top, closing_top, no_top, one_left, all_closed, closed_with_error}
+use Rattle.machine_core.specs.PrimitiveRows.{environment_at, loaded_row, load_row}
+use Rattle.code_core.specs.Prototype.{Prototype}
+use Rattle.tree_core.specs.Tree.{Body}
+use Rattle.load_rows.specs.Loading.{Builds, Loaded, wrong, not_loaded, loaded, load_of}
+use Rattle.source_builds.specs.Builds.{code_builds}
 use Rattle.library_rows.specs.Look.{Look}
 use Rattle.lib_base.specs.Functions.{function_row}
 use Rattle.lua_heap.specs.declared.world.World.{World as Memory}
@@ -130,6 +135,7 @@ told_so (consult x y) env W d e = tt
 told_so (see_status x) env W d e = tt
 told_so see_running env W d e = tt
 told_so (print x) env W d e = tt
+told_so (make_loaded p x) env W d e = tt
 
 -- a row that never ends as spent
 abbrev pub Unspent : Row → Type 0
@@ -267,20 +273,28 @@ running_so n t c = gives_so []
 print_so : Unspent print_row
 print_so n t c = λ a b d. hands_over
 
-called_so : (c : Called) → Unspent (row_by c)
-called_so (Library f) = looks (function_row f)
-called_so Error = error_so
-called_so Pcall = pcall_so
-called_so Xpcall = xpcall_so
-called_so Close = close_so
-called_so Create = create_so
-called_so IsYieldable = gives_so []
-called_so Resume = resume_so
-called_so Running = running_so
-called_so Status = status_so
-called_so Yield = yield_so
-called_so Build = blames_so []
-called_so Print = print_so
+loaded_so : (x : Option Arg) (l : Loaded Prototype) → Unspent (loaded_row x l)
+loaded_so x (wrong error) = blames_so error
+loaded_so x (not_loaded why) = gives_so []
+loaded_so x (loaded name p) = λ n t c. gives_so []
 
-pub called_unspent : {W V : Memory} (c : Called) (e : Ending) → Leads (row_by c) [] W V e → is_spent e → ⊥
-called_unspent {W} {V} c e l = unspent_ends (row_by c) [] (plain W 0) (plain V 0) e (called_so c) (l.is 0)
+loads_so : (builds : Builds Prototype) → Unspent (load_row builds)
+loads_so builds c t d = λ count chunk d m name e k mode f. loaded_so (environment_at c count) (load_of builds chunk name mode)
+
+called_so : (builds : Builds Body) (c : Called) → Unspent (row_by builds c)
+called_so builds (Library f) = looks (function_row f)
+called_so builds Error = error_so
+called_so builds Pcall = pcall_so
+called_so builds Xpcall = xpcall_so
+called_so builds Close = close_so
+called_so builds Create = create_so
+called_so builds IsYieldable = gives_so []
+called_so builds Resume = resume_so
+called_so builds Running = running_so
+called_so builds Status = status_so
+called_so builds Yield = yield_so
+called_so builds Build = loads_so (code_builds builds)
+called_so builds Print = print_so
+
+pub called_unspent : {W V : Memory} (builds : Builds Body) (c : Called) (e : Ending) → Leads (row_by builds c) [] W V e → is_spent e → ⊥
+called_unspent {W} {V} builds c e l = unspent_ends (row_by builds c) [] (plain W 0) (plain V 0) e (called_so builds c) (l.is 0)

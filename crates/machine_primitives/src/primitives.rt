@@ -1,17 +1,22 @@
 // Each function by its number (the order of `library_rows`; luaL_Reg of lauxlib.h).
 ghost use Rattle.std.specs.Prelude.{◌≡◌, ℕ, [], IfOk, IfSome, IfNone, OnErr, slice_get};
-ghost use Rattle.machine_core.specs.PrimitiveRows.{row_numbered};
+ghost use Rattle.tree_core.specs.Tree.{Body};
+ghost use Rattle.load_rows.specs.Loading.{Builds};
+ghost use Rattle.source_builds.specs.Builds.{BuildsSources};
+ghost use Rattle.source_builds.specs.Readings.{AsRead};
+ghost use Rattle.loaded_code.specs.Laws.{library};
 ghost use Rattle.machine_core.specs.Moves.{traps};
 ghost use Rattle.move_laws.specs.Memory.{HasStack, InOrder, IsSafe, IsSound, Leads, ReadsSame, Steps};
 ghost use Rattle.machine_moves.specs.Ending.{ending_of};
-ghost use Rattle.machine_primitives.specs.Primitives.{no_build, row_by};
+ghost use Rattle.machine_primitives.specs.Primitives.{row_by};
 
 use lib_base::Function;
 use lib_base::math::Function as MathFunction;
 use lib_base::texts::Function as TextFunction;
 use lib_coroutine::{close, create, is_yieldable, resume, running, status, yield_running};
+use lib_load::load;
 use lua_heap::World;
-use machine_errors::{blame, error, pcall, xpcall};
+use machine_errors::{error, pcall, xpcall};
 use machine_library::{call_function, print};
 use machine_moves::Ending;
 use std::alloc::AllocError;
@@ -102,8 +107,8 @@ static PRIMITIVES: [Called; 60] = [
 
 /// The function of a number.
 fn of_number(number: u16) -> Option<Called>
-    ensures some { IfSome result (λ called. row_numbered no_build number ≡ row_by called) }
-    ensures none { IfNone result (row_numbered no_build number ≡ traps) }
+    ensures some { IfSome result (λ called. (builds : Builds Body) → library builds number ≡ row_by builds called) }
+    ensures none { IfNone result ((builds : Builds Body) → library builds number ≡ traps) }
 {
     at_place(&PRIMITIVES, number)
 }
@@ -115,13 +120,13 @@ fn at_place(table: &[Called], place: u16) -> Option<Called>
     table.get(usize::from(place)).copied()
 }
 
-/// Calls a function of the libraries by its number, with the values on their way. `load` is not there yet: its function is an error that says so.
-/// No function costs a unit of the budget. Where memory is wanting, all reads as before.
+/// Calls a function of the libraries by its number, with the values on their way. `load` reads the source that it is given, and what the call does is
+/// told wherever sources are built as it was read. No function costs a unit of the budget. Where memory is wanting, all reads as before.
 pub fn primitive(world: &mut World, number: u16) -> Result<Ending, AllocError>
     requires sound { IsSound world.old }
     requires running { HasStack world.old }
-    requires safe { IsSafe (row_numbered no_build number) [] world.old }
-    ensures steps { IfOk result (λ ending. (fuel : ℕ) → Steps (row_numbered no_build number) [] world.old fuel world.new fuel (ending_of ending)) }
+    requires safe { (builds : Builds Body) → BuildsSources builds → IsSafe (library builds number) [] world.old }
+    ensures steps { IfOk result (λ ending. AsRead (λ builds. (fuel : ℕ) → Steps (library builds number) [] world.old fuel world.new fuel (ending_of ending))) }
     ensures order { InOrder world.new }
     ensures err { OnErr result (ReadsSame world.old world.new) }
 {
@@ -138,8 +143,8 @@ pub fn primitive(world: &mut World, number: u16) -> Result<Ending, AllocError>
 fn call(world: &mut World, called: Called) -> Result<Ending, AllocError>
     requires sound { IsSound world.old }
     requires running { HasStack world.old }
-    requires safe { IsSafe (row_by called) [] world.old }
-    ensures leads { IfOk result (λ ending. Leads (row_by called) [] world.old world.new (ending_of ending)) }
+    requires safe { (builds : Builds Body) → BuildsSources builds → IsSafe (row_by builds called) [] world.old }
+    ensures leads { IfOk result (λ ending. AsRead (λ builds. Leads (row_by builds called) [] world.old world.new (ending_of ending))) }
     ensures order { InOrder world.new }
     ensures err { OnErr result (ReadsSame world.old world.new) }
 {
@@ -155,18 +160,7 @@ fn call(world: &mut World, called: Called) -> Result<Ending, AllocError>
         Called::Running => running(world),
         Called::Status => status(world),
         Called::Yield => yield_running(world),
-        Called::Build => build(world),
+        Called::Build => load(world),
         Called::Print => print(world),
     }
-}
-
-/// What `load` stands on is not there yet.
-fn build(world: &mut World) -> Result<Ending, AllocError>
-    requires { IsSound world.old }
-    ensures leads { IfOk result (λ ending. Leads no_build [] world.old world.new (ending_of ending)) }
-    ensures order { InOrder world.new }
-    ensures err { OnErr result (ReadsSame world.old world.new) }
-{
-    let ending = blame(world, b"load is not built yet")?;
-    Ok(ending)
 }
