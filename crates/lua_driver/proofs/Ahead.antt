@@ -5,8 +5,9 @@ use Rattle.library_rows.specs.Library.{all_entries}
 use Rattle.machine_core.specs.World.{World}
 use Rattle.machine_core.specs.Moves.{Ending, go, returned, asks, calls_primitive, raised, unwinding, spent, main_yielded, main_returned, main_failed, Row, Outcome, trapped, ends}
 use Rattle.machine_core.specs.MachineStep.{step, steps, and_then}
+use Rattle.machine_core.specs.PrimitiveRows.{row_numbered}
 use Rattle.machine_ends.specs.Measure.{Within, measure}
-use Rattle.machine_ends.specs.Laws.{StepsFall}
+use Rattle.machine_ends.specs.Laws.{FallsWithin, StepsFall}
 use Rattle.machine_runs.specs.Runs.{is_end}
 use Rattle.lua_heap.specs.declared.world.World.{World as Memory}
 use Rattle.lua_heap.specs.Plain.{plain}
@@ -16,9 +17,7 @@ use Rattle.machine_moves.specs.declared.ending.Ending.{Ending as Kept}
 use Rattle.machine_moves.specs.declared.ending.Ending.TheVariants.{Go}
 use Rattle.step_laws.specs.Steps.{Does, IsReady}
 use Rattle.lua_driver.specs.Turns.{GoesFurther, Reaches}
-use Rattle.lua_driver.proofs.Reaching.{distance, comes_nearer, no_build_falls, differ, reached_more, reached_none}
-use Rattle.machine_primitives.specs.Primitives.{no_build}
-use Rattle.machine_step.specs.Step.{library}
+use Rattle.lua_driver.proofs.Reaching.{distance, comes_nearer, differ, reached_more, reached_none}
 
 -- some steps and some more
 
@@ -53,7 +52,7 @@ end_stays rows main_yielded W h = refl
 end_stays rows main_returned W h = refl
 end_stays rows main_failed W h = refl
 
-ends_stay : (rows : ℕ → Row) (n : ℕ) (e : Ending) (W : World) → is_end e ≡ true → steps rows n e W ≡ ends e W
+pub ends_stay : (rows : ℕ → Row) (n : ℕ) (e : Ending) (W : World) → is_end e ≡ true → steps rows n e W ≡ ends e W
 ends_stay rows zero e W h = refl
 ends_stay rows (suc n) e W h = ap (λ o. and_then o (steps rows n)) (end_stays rows e W h) ∙ ends_stay rows n e W h
 
@@ -71,7 +70,7 @@ abbrev ends_in : Outcome → Bool
 ends_in trapped = false
 ends_in (ends e W) = is_end e
 
-module _ (falls : StepsFall) (most : ℕ) where
+module _ (falls : StepsFall) (build : Row) (most : ℕ) (within : FallsWithin most build) where
   abbrev NoFurther : (n : ℕ) → (d : Ending) → (V : World) → Type 0
   NoFurther n d V = Within most V × (measure most d V ≤ n)
 
@@ -80,47 +79,47 @@ module _ (falls : StepsFall) (most : ℕ) where
       let k : measure most e W ≡ measure most d V = ap (measure_in most 0) p in
       (subst (Within most) (ap (world_in W) p) w, omega (arith, k))
 
-  no_further : (n : ℕ) (e d : Ending) (W V : World) → steps library n e W ≡ ends d V → is_end d ≡ false → Within most W → NoFurther (measure most e W) d V
+  no_further : (n : ℕ) (e d : Ending) (W V : World) → steps (row_numbered build) n e W ≡ ends d V → is_end d ≡ false → Within most W → NoFurther (measure most e W) d V
   no_further zero e d W V p f w = same_there e d W V p w
-  no_further (suc n) e d W V p f w = by (step library e W) refl p (λ at U. no_further n at d U V)
+  no_further (suc n) e d W V p f w = by (step (row_numbered build) e W) refl p (λ at U. no_further n at d U V)
     where
-      by : (o : Outcome) → step library e W ≡ o → and_then o (steps library n) ≡ ends d V
-          → ((at : Ending) (U : World) → steps library n at U ≡ ends d V → is_end d ≡ false → Within most U → NoFurther (measure most at U) d V) → NoFurther (measure most e W) d V
+      by : (o : Outcome) → step (row_numbered build) e W ≡ o → and_then o (steps (row_numbered build) n) ≡ ends d V
+          → ((at : Ending) (U : World) → steps (row_numbered build) n at U ≡ ends d V → is_end d ≡ false → Within most U → NoFurther (measure most at U) d V) → NoFurther (measure most e W) d V
       by trapped q p h = absurd (cc)
       by (ends at U) q p h = ⊎_elim
-          (λ (x : is_end at ≡ true). absurd (differ (is_end at) x (ap ends_in (sym (ends_stay library n at U x) ∙ p) ∙ f)))
+          (λ (x : is_end at ≡ true). absurd (differ (is_end at) x (ap ends_in (sym (ends_stay (row_numbered build) n at U x) ∙ p) ∙ f)))
           (λ (x : Within most U × measure most at U < measure most e W). let k = h at U p f x.0 in (k.0, let l = x.1 in let m = k.1 in omega (arith, l, m)))
-          (falls no_build no_build_falls most e at W U w q)
+          (falls build most within e at W U w q)
 
 -- the step behind an ending, at once or behind what a Lua frame does by itself
 
 pub ready_to_go : {W : Memory} {ending : Kept} → ending ≡ Go → IsReady (length all_entries) (ending_of ending) W → IsReady (length all_entries) go W
 ready_to_go {W} e r = subst (λ e. IsReady (length all_entries) (ending_of e) W) e r
 
-pub at_once : {from to : Ending} {old new : Memory} {fuel left : ℕ} → IsReady (length all_entries) from old → Does library from old fuel new left to → GoesFurther library from old fuel new left to
+pub at_once : {rows : ℕ → Row} {from to : Ending} {old new : Memory} {fuel left : ℕ} → IsReady (length all_entries) from old → Does rows from old fuel new left to → GoesFurther rows from old fuel new left to
 at_once {old = old} {fuel = fuel} r d = record { mid = old; rest = fuel; reaches = reached_none; ready = r; does = d }
 
-pub went_further : {ending : Kept} {to : Ending} {old mid new : Memory} {fuel rest left : ℕ} → ending ≡ Go → PlainReaches library (plain old fuel) (plain mid rest) → IsReady (length all_entries) go mid → Does library go mid rest new left to
-    → GoesFurther library (ending_of ending) old fuel new left to
-went_further {to = to} {old} {mid} {new} {fuel} {rest} {left} e x r d = subst (λ e. GoesFurther library (ending_of e) old fuel new left to) (sym e) (record {
-  mid = mid;
-  rest = rest;
-  reaches = record { count = x.0; is = x.1 };
-  ready = r;
-  does = d;
+pub went_further : {rows : ℕ → Row} {ending : Kept} {to : Ending} {old mid new : Memory} {fuel rest left : ℕ} → ending ≡ Go → PlainReaches rows (plain old fuel) (plain mid rest) → GoesFurther rows go mid rest new left to
+    → GoesFurther rows (ending_of ending) old fuel new left to
+went_further {rows = rows} {to = to} {old} {mid} {new} {fuel} {rest} {left} e x g = subst (λ e. GoesFurther rows (ending_of e) old fuel new left to) (sym e) (record {
+  mid = g.mid;
+  rest = g.rest;
+  reaches = reached_further (record { count = x.0; is = x.1 }) g.reaches;
+  ready = g.ready;
+  does = g.does;
 })
 
 pub reached_so : {rows : ℕ → Row} {from at to : Ending} {old mid new : Memory} {fuel left less : ℕ} → Reaches rows from old fuel mid left at → GoesFurther rows at mid left new less to → Reaches rows from old fuel new less to
 reached_so {rows} r g = reached_more rows (reached_further r g.reaches) g.does
 
 -- it comes nearer to the end of the turn
-pub comes_nearer_so : StepsFall → (most : ℕ) (e d : Ending) (old new : Memory) (fuel less : ℕ) → is_end e ≡ false → Within most (plain old fuel) → GoesFurther library e old fuel new less d
+pub comes_nearer_so : StepsFall → (build : Row) (most : ℕ) → FallsWithin most build → (e d : Ending) (old new : Memory) (fuel less : ℕ) → is_end e ≡ false → Within most (plain old fuel) → GoesFurther (row_numbered build) e old fuel new less d
     → (is_end d ≡ false → Within most (plain new less)) × (distance most d (plain new less) < distance most e (plain old fuel))
-comes_nearer_so falls most e d old new fuel less f w g =
+comes_nearer_so falls build most within e d old new fuel less f w g =
     let mid = g.mid in
     let left = g.rest in
-    let k = no_further falls most g.reaches.count e e (plain old fuel) (plain mid left) g.reaches.is f w in
-    let n = comes_nearer falls most e d mid new left less f k.0 g.does in
+    let k = no_further falls build most within g.reaches.count e e (plain old fuel) (plain mid left) g.reaches.is f w in
+    let n = comes_nearer falls build most within e d mid new left less f k.0 g.does in
     let at_mid : distance most e (plain mid left) ≡ suc (measure most e (plain mid left)) = ap (λ b. cond b 0 (suc (measure most e (plain mid left)))) f in
     let at_old : distance most e (plain old fuel) ≡ suc (measure most e (plain old fuel)) = ap (λ b. cond b 0 (suc (measure most e (plain old fuel)))) f in
     (n.0, let l = n.1 in let m = k.1 in omega (arith, l, m, at_mid, at_old))

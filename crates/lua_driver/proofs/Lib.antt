@@ -1,3 +1,6 @@
 mod Reaching
 mod Ahead
+mod AnyRows
 mod Turned
+mod Few
+mod Handing

@@ -1,19 +1,20 @@
 -- Steps one after another up to the end of a turn.
-use Rattle.std.proofs.Common.{ℕ, zero, suc, ◌<◌, ◌≡◌, ◌⊎◌, ⊎_elim, refl, ap, sym, ◌∙◌, Bool, true, false, arith}
+use Rattle.std.proofs.Common.{ℕ, zero, suc, ◌+◌, ◌^◌, ◌≤◌, ◌<◌, ◌≡◌, ◌⊎◌, ⊎_elim, refl, ap, sym, ◌∙◌, Bool, true, false, arith}
 use Rattle.std.specs.Prelude.{cond}
-use Rattle.machine_core.specs.World.{World}
+use Rattle.code_core.specs.Prototype.{instruction_count}
+use Rattle.machine_core.specs.World.{Function, World}
 use Rattle.machine_core.specs.Moves.{Ending, Row, Outcome, trapped, ends}
 use Rattle.machine_core.specs.MachineStep.{step, steps, and_then}
+use Rattle.machine_core.specs.PrimitiveRows.{row_numbered}
+use Rattle.machine_sound.proofs.Lists.{each_on}
 use Rattle.machine_ends.specs.Measure.{Within, measure}
-use Rattle.machine_ends.specs.Laws.{PrimitiveFalls, StepsFall}
+use Rattle.machine_ends.specs.Laws.{FallsWithin, FallsFrom, StepsFall}
 use Rattle.machine_ends.proofs.Ends.{longest}
 use Rattle.machine_runs.specs.Runs.{is_end}
 use Rattle.lua_heap.specs.declared.world.World.{World as Memory}
 use Rattle.lua_heap.specs.Plain.{plain}
 use Rattle.step_laws.specs.Steps.{Does}
 use Rattle.lua_driver.specs.Turns.{Reaches}
-use Rattle.machine_primitives.specs.Primitives.{no_build}
-use Rattle.machine_step.specs.Step.{library}
 
 -- one step more
 
@@ -41,17 +42,30 @@ reached_none = record { count = 0; is = refl }
 
 -- how far the end of the turn is
 
+-- checked code has fewer instructions
+abbrev least : ℕ
+least = 2 ^ 64
+
 abbrev pub most_in : Memory → ℕ
-most_in W = (longest (plain W 0)).0
+most_in W = least + (longest (plain W 0)).0
+
+wider : (a b k : ℕ) → k ≤ b → k ≤ a + b
+wider a b k l = omega (arith, l)
+
+at_least : (a b : ℕ) → a ≤ a + b
+at_least a b = omega arith
 
 pub most_within : (W : Memory) (fuel : ℕ) → Within (most_in W) (plain W fuel)
-most_within W fuel = (longest (plain W 0)).1
+most_within W fuel =
+    let l = longest (plain W 0) in
+    each_on (λ (f : Function). instruction_count f.code ≤ l.0) (λ (f : Function). instruction_count f.code ≤ least + l.0) (λ f k. wider least l.0 (instruction_count f.code) k) (plain W fuel).functions l.1
+
+-- so the row of `build` may count on that number
+pub falls_in : (build : Row) → FallsFrom (2 ^ 64) build → (W : Memory) → FallsWithin (most_in W) build
+falls_in build f W = f (most_in W) (at_least least (longest (plain W 0)).0)
 
 abbrev pub distance : (most : ℕ) → Ending → World → ℕ
 distance most e W = cond (is_end e) 0 (suc (measure most e W))
-
-pub no_build_falls : PrimitiveFalls no_build
-no_build_falls = (tt, λ _ _. omega arith)
 
 abbrev Nearer : (most : ℕ) → Ending → World → (bound : ℕ) → Type 0
 Nearer most d V bound = (is_end d ≡ false → Within most V) × (distance most d V < suc bound)
@@ -73,10 +87,10 @@ nearer most bound d V = ⊎_elim
     on_way l false = omega (arith, l)
 
 -- a step comes nearer
-pub comes_nearer : StepsFall → (most : ℕ) (e d : Ending) (old new : Memory) (fuel left : ℕ) → is_end e ≡ false → Within most (plain old fuel) → Does library e old fuel new left d
+pub comes_nearer : StepsFall → (build : Row) (most : ℕ) → FallsWithin most build → (e d : Ending) (old new : Memory) (fuel left : ℕ) → is_end e ≡ false → Within most (plain old fuel) → Does (row_numbered build) e old fuel new left d
     → (is_end d ≡ false → Within most (plain new left)) × (distance most d (plain new left) < distance most e (plain old fuel))
-comes_nearer falls most e d old new fuel left f w s =
-    let n = nearer most (measure most e (plain old fuel)) d (plain new left) (falls no_build no_build_falls most e d (plain old fuel) (plain new left) w s.is) in
+comes_nearer falls build most within e d old new fuel left f w s =
+    let n = nearer most (measure most e (plain old fuel)) d (plain new left) (falls build most within e d (plain old fuel) (plain new left) w s.is) in
     let k : distance most e (plain old fuel) ≡ suc (measure most e (plain old fuel)) = ap (λ b. cond b 0 (suc (measure most e (plain old fuel)))) f in
     (n.0, let l = n.1 in omega (arith, l, k))
 

@@ -1,10 +1,10 @@
 -- A whole turn: main is resumed, and some steps follow.
 use Rattle.std.proofs.Common.{ℕ, ◌≡◌, [], ap, sym, subst, ◌∙◌, length}
-use Rattle.std.specs.Prelude.{codes}
 use Rattle.library_rows.specs.Library.{all_entries}
 use Rattle.machine_core.specs.World.{World}
-use Rattle.machine_core.specs.Moves.{main_yielded, raised, Ending, Outcome, trapped, ends}
+use Rattle.machine_core.specs.Moves.{main_yielded, Ending, Row, Outcome, trapped, ends}
 use Rattle.machine_core.specs.MachineStep.{steps, and_then}
+use Rattle.machine_core.specs.PrimitiveRows.{row_numbered}
 use Rattle.machine_sound.specs.Sound.{Sound, idle}
 use Rattle.machine_sound.specs.Laws.{SoundAfter, StepGood, PrimitivesSafe}
 use Rattle.machine_runs.specs.Laws.{MayTurn, NeverYields, WakesSoundly, YieldsLeaveMainWaiting}
@@ -15,8 +15,6 @@ use Rattle.lua_heap.specs.Plain.{plain}
 use Rattle.move_laws.specs.Memory.{InOrder, IsSound}
 use Rattle.step_laws.specs.Steps.{IsReady}
 use Rattle.lua_session.specs.Resuming.{Resumes}
-use Rattle.machine_primitives.specs.Primitives.{no_build}
-use Rattle.machine_step.specs.Step.{library}
 use Rattle.lua_driver.specs.Turns.{MayGoOn, Reaches, Turns}
 
 -- nothing has been printed in this turn
@@ -41,14 +39,14 @@ pub ready_by : WakesSoundly → (old new : Memory) (e : Ending) → MayGoOn old 
 ready_by law old new e m r o =
     record { after = ended_well (length all_entries) (wakes (plain old 0)) e (plain new 0) (law (length all_entries) (plain old 0) m.sound m.may) (r.is 0); order = o }
 
-pub turned : (old quiet mid new : Memory) (budget left : ℕ) (begun ended : Ending) → quiet ≡ record old { printed = quiet.printed } → quiet.printed.items ≡ [] → Resumes quiet mid begun → Reaches library begun mid budget new left ended
-    → Turns library old new budget ended
-turned old quiet mid new budget left begun ended r p w s = record {
+pub turned : (rows : ℕ → Row) (old quiet mid new : Memory) (budget left : ℕ) (begun ended : Ending) → quiet ≡ record old { printed = quiet.printed } → quiet.printed.items ≡ [] → Resumes quiet mid begun → Reaches rows begun mid budget new left ended
+    → Turns rows old new budget ended
+turned rows old quiet mid new budget left begun ended r p w s = record {
   count = s.count;
   left = left;
   is =
-      ap (λ W. and_then (wakes W) (steps library s.count)) (sym is)
-      ∙ ap (λ o. and_then o (steps library s.count)) (w.is budget)
+      ap (λ W. and_then (wakes W) (steps rows s.count)) (sym is)
+      ∙ ap (λ o. and_then o (steps rows s.count)) (w.is budget)
       ∙ s.is;
 }
   where
@@ -57,14 +55,7 @@ turned old quiet mid new budget left begun ended r p w s = record {
 
 -- at a yield main waits again
 
-abbrev ending_in : Ending → Outcome → Ending
-ending_in e trapped = e
-ending_in e (ends d V) = d
-
-never_yields : NeverYields no_build
-never_yields W V h = let k : raised ≡ main_yielded = ap (ending_in raised) h in absurd (cc)
-
-pub waits_again : YieldsLeaveMainWaiting → PrimitivesSafe (length all_entries) library → (old new : Memory) (budget : ℕ) (ending : Ending) → MayGoOn old → Turns library old new budget ending → ending ≡ main_yielded → MayTurn (plain new 0)
-waits_again law safe old new budget ending m t y =
-    let k = (law no_build never_yields (length all_entries) safe t.count (plain old 0) budget (plain new t.left) m.sound m.may (t.is ∙ ap (λ e. ends e (plain new t.left)) y)).1 in
+pub waits_again : YieldsLeaveMainWaiting → (build : Row) → NeverYields build → PrimitivesSafe (length all_entries) (row_numbered build) → (old new : Memory) (budget : ℕ) (ending : Ending) → MayGoOn old → Turns (row_numbered build) old new budget ending → ending ≡ main_yielded → MayTurn (plain new 0)
+waits_again law build silent safe old new budget ending m t y =
+    let k = (law build silent (length all_entries) safe t.count (plain old 0) budget (plain new t.left) m.sound m.may (t.is ∙ ap (λ e. ends e (plain new t.left)) y)).1 in
     record { idle = k.idle; main = k.main; is_main = k.is_main; coroutine = k.coroutine; there = k.there; waits = k.waits }

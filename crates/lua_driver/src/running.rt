@@ -5,14 +5,16 @@ ghost use Rattle.machine_runs.specs.Runs.{is_end};
 ghost use Rattle.move_laws.specs.Memory.{InOrder};
 ghost use Rattle.machine_moves.specs.Ending.{ending_of};
 ghost use Rattle.step_laws.specs.Steps.{IsReady};
+ghost use Rattle.loaded_code.specs.Laws.{library};
+ghost use Rattle.source_builds.specs.Readings.{AsRead};
 ghost use Rattle.lua_driver.specs.Turns.{GoesFurther, Reaches};
-ghost use Rattle.machine_step.specs.Step.{library};
 
-use library_sound::law::library_is_safe;
+use crate::returning::step_on;
+use loaded_code::loading_is_safe;
 use lua_heap::World;
 use machine_ends::steps_fall;
 use machine_moves::Ending;
-use machine_step::{step, step_from};
+use machine_step::step;
 use running_frame::run_ahead;
 use std::alloc::AllocError;
 use step_laws::law::steps_stay_ready;
@@ -21,13 +23,13 @@ use step_laws::law::steps_stay_ready;
 /// between two turns.
 pub fn run(world: &mut World, budget: &mut u64, begun: Ending) -> Result<Ending, AllocError>
     requires ready { IsReady (length all_entries) (ending_of begun) world.old }
-    ensures reaches { IfOk result (λ ended. Reaches library (ending_of begun) world.old budget.old world.new budget.new (ending_of ended)) }
+    ensures reaches { IfOk result (λ ended. AsRead (λ builds. Reaches (library builds) (ending_of begun) world.old budget.old world.new budget.new (ending_of ended))) }
     ensures ends { IfOk result (λ ended. is_end (ending_of ended) ≡ true) }
     ensures ready { IfOk result (λ ended. IsReady (length all_entries) (ending_of ended) world.new) }
     ensures order { InOrder world.new }
 {
     steps_fall();
-    library_is_safe();
+    loading_is_safe();
     steps_stay_ready();
     let mut ending = begun;
     'turn: while !ends_turn(ending) {
@@ -39,13 +41,12 @@ pub fn run(world: &mut World, budget: &mut u64, begun: Ending) -> Result<Ending,
 /// Does the step behind an ending. Where a Lua frame goes on, it first runs as long as it does so by itself.
 fn go_further(world: &mut World, budget: &mut u64, ending: Ending) -> Result<Ending, AllocError>
     requires { IsReady (length all_entries) (ending_of ending) world.old }
-    ensures goes { IfOk result (λ next. GoesFurther library (ending_of ending) world.old budget.old world.new budget.new (ending_of next)) }
+    ensures goes { IfOk result (λ next. AsRead (λ builds. GoesFurther (library builds) (ending_of ending) world.old budget.old world.new budget.new (ending_of next))) }
     ensures order { InOrder world.new }
 {
-    library_is_safe();
     if let Ending::Go = ending {
         let here = run_ahead(world, budget);
-        return step_from(world, budget, here);
+        return step_on(world, budget, here);
     }
     step(world, budget, ending)
 }

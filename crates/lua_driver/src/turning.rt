@@ -7,12 +7,13 @@ ghost use Rattle.machine_moves.specs.Ending.{ending_of};
 ghost use Rattle.machine_runs.specs.Laws.{MayTurn};
 ghost use Rattle.machine_runs.specs.Runs.{is_end};
 ghost use Rattle.machine_sound.specs.Sound.{Sound};
-ghost use Rattle.machine_step.specs.Step.{library};
 ghost use Rattle.move_laws.specs.Memory.{InOrder};
+ghost use Rattle.loaded_code.specs.Laws.{library};
+ghost use Rattle.source_builds.specs.Readings.{AsRead};
 ghost use Rattle.lua_driver.specs.Turns.{MayGoOn, Turns};
 
 use crate::running::run;
-use library_sound::law::library_is_safe;
+use loaded_code::loading_is_safe;
 use lua_heap::World;
 use lua_session::resume_main;
 use machine_moves::Ending;
@@ -26,13 +27,13 @@ use std::alloc::AllocError;
 /// Want of memory. The world is in order then, but the script cannot be resumed any more.
 pub fn turn(world: &mut World, budget: u64) -> Result<Ending, AllocError>
     requires { MayGoOn world.old }
-    ensures turns { IfOk result (λ ending. Turns library world.old world.new budget (ending_of ending)) }
+    ensures turns { IfOk result (λ ending. AsRead (λ builds. Turns (library builds) world.old world.new budget (ending_of ending))) }
     ensures ends { IfOk result (λ ending. is_end (ending_of ending) ≡ true) }
     ensures sound { OnOk result (Sound (length all_entries) (plain world.new 0)) }
     ensures waits { IfOk result (λ ending. ending_of ending ≡ main_yielded → MayTurn (plain world.new 0)) }
     ensures order { InOrder world.new }
 {
-    library_is_safe();
+    loading_is_safe();
     turns_do_not_trap();
     yields_leave_main_waiting();
     world.printed.clear();

@@ -1,3 +1,4 @@
 pub mod Beyond
 pub mod Keeping
 pub mod Read
+pub mod InPlace

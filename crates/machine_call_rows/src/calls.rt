@@ -1,16 +1,17 @@
 // Calls (OP_CALL, OP_TFORCALL and OP_TAILCALL of lvm.c).
-ghost use Rattle.std.specs.Prelude.{◌≡◌, ◌+◌, ◌<◌, ◌^◌, ℕ, [], IfOk, OnErr};
+ghost use Rattle.std.specs.Prelude.{◌≡◌, ◌+◌, ◌<◌, ◌^◌, ℕ, [], true, false, IfOk, OnErr};
 ghost use Rattle.code_core.specs.Prototype.{Prototype};
 ghost use Rattle.instruction_forms.specs.Forms.{text_of};
 ghost use Rattle.instruction_forms.specs.declared.form.Form.TheVariants.{Call, TailCall};
 ghost use Rattle.machine_core.specs.FrameRows.{expand};
+ghost use Rattle.machine_core.specs.Moves.{go};
 ghost use Rattle.move_laws.specs.Memory.{InOrder, IsSafe, IsSound, Steps};
 ghost use Rattle.machine_moves.specs.Ending.{ending_of};
 ghost use Rattle.machine_call_rows.specs.Rows.{IsWaitOfCall, MayKeep, MayReadValues, ReadsValues};
 
 use lua_heap::World;
 use lua_stack::Wait;
-use machine_calls::{Prepared, call_in_place, call_over};
+use machine_calls::{Prepared, call_in_place, call_over, call_registers};
 use machine_moves::{Ending, read_list, read_register, read_registers};
 use std::alloc::AllocError;
 use table_core::Value;
@@ -19,6 +20,63 @@ use table_core::Value;
 /// of the open list. The frame on top waits for what comes of it, and keeps its registers below `keeps` (Lua 5.4 manual, 3.4.10; for an iterator 3.3.5).
 /// A value that cannot be called, and a full stack, are errors of that frame. A refusal may leave it changed, but in order.
 pub fn call(
+    world: &mut World,
+    budget: &mut u64,
+    function: usize,
+    count: usize,
+    keeps: usize,
+    iterates: bool,
+) -> Result<Ending, AllocError>
+    requires sound { IsSound world.old }
+    requires keeps { MayKeep world.old keeps }
+    requires near { function + 1 < 2 ^ 64 }
+    requires safe { (p : Prototype) (pc : ℕ) → IsSafe (expand (text_of p pc (Call function count keeps iterates))) [] world.old }
+    ensures steps { IfOk result (λ ending. (p : Prototype) (pc : ℕ) → Steps (expand (text_of p pc (Call function count keeps iterates))) [] world.old budget.old world.new budget.new (ending_of ending)) }
+    ensures order { InOrder world.new }
+    ensures err { OnErr result ((world.new.printed ≡ world.old.printed) × (budget.new ≡ budget.old)) }
+{
+    if call_function(world, budget, function, count, keeps, iterates)? {
+        return Ok(Ending::Go);
+    }
+    call_apart(world, budget, function, count, keeps, iterates)
+}
+
+/// Does so where the value is a Lua function that is given its arguments in registers, and these are given up with it: they become the function's first
+/// registers where they stand. `false`, with all as before, where that is not so, where the budget is spent or the stack is full. A refusal changes nothing.
+fn call_function(
+    world: &mut World,
+    budget: &mut u64,
+    function: usize,
+    count: usize,
+    keeps: usize,
+    iterates: bool,
+) -> Result<bool, AllocError>
+    requires sound { IsSound world.old }
+    requires keeps { MayKeep world.old keeps }
+    requires near { function + 1 < 2 ^ 64 }
+    requires safe { (p : Prototype) (pc : ℕ) → IsSafe (expand (text_of p pc (Call function count keeps iterates))) [] world.old }
+    ensures steps { IfOk result (λ entered. entered ≡ true → (p : Prototype) (pc : ℕ) → Steps (expand (text_of p pc (Call function count keeps iterates))) [] world.old budget.old world.new budget.new go) }
+    ensures kept { IfOk result (λ entered. entered ≡ false → (world.new ≡ world.old) × (budget.new ≡ budget.old)) }
+    ensures order { InOrder world.new }
+    ensures err { OnErr result ((world.new ≡ world.old) × (budget.new ≡ budget.old)) }
+{
+    let called = read_register(world, function);
+    let Value::Func(id) = called else {
+        return Ok(false);
+    };
+    if count == 0 {
+        return Ok(false);
+    }
+    if keeps != function {
+        return Ok(false);
+    }
+    let given = count - 1;
+    let _arguments = read_registers(world, function + 1, given);
+    call_registers(world, budget, id, function, given, wait_of_call(iterates))
+}
+
+/// Does so with the arguments apart.
+fn call_apart(
     world: &mut World,
     budget: &mut u64,
     function: usize,

@@ -7,3 +7,4 @@ pub mod Asked
 pub mod Blamed
 pub mod Over
 pub mod InPlace
+pub mod Given

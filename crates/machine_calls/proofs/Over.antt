@@ -48,7 +48,7 @@ entered_over old ready new wait prepared n arguments r s k = record {
 
 -- where there is no room
 
-functions_own : (V : World) (at : Place) (w : Wait Value) (ms : List Own) (env : List Value) → (with_own V at w ms env).functions ≡ V.functions
+pub functions_own : (V : World) (at : Place) (w : Wait Value) (ms : List Own) (env : List Value) → (with_own V at w ms env).functions ≡ V.functions
 unfolding with_own put_top put_frames
 functions_own V at w ms env = refl
 

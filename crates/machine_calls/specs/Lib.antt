@@ -4,3 +4,4 @@ pub mod Leaving
 pub mod Preparing
 pub mod Waiting
 pub mod Tails
+pub mod Given

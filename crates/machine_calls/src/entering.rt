@@ -43,7 +43,7 @@ pub fn enter_function(
 }
 
 /// What a call needs to know of a function's code.
-fn shape_of(world: &World, function: FuncId) -> Shape
+pub(crate) fn shape_of(world: &World, function: FuncId) -> Shape
     requires codes { AreCodes world.now.strings world.now.codes }
     requires function { HasFunction world.now function.0 }
     ensures { HasShape world.now function.0 result }

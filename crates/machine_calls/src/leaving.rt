@@ -32,7 +32,7 @@ pub fn leave_frame(world: &mut World, given: Vec<Value>) -> Top
 }
 
 /// Takes the Lua frame on top away, and closes its cells.
-pub(crate) fn drop_frame(world: &mut World)
+pub fn drop_frame(world: &mut World)
     requires frame { HasFrame world.old }
     requires listed { CellsAreListed world.old }
     ensures drops { Drops world.old world.new }

@@ -5,13 +5,15 @@ mod calling;
 mod entering;
 mod leaving;
 mod preparing;
+mod registers;
 mod running;
 mod tails;
 mod waiting;
 
 pub use calling::{Called, call_value, enter_callee};
 pub use entering::enter_function;
-pub use leaving::leave_frame;
+pub use leaving::{drop_frame, leave_frame};
 pub use preparing::{Prepared, make_ready};
+pub use registers::call_registers;
 pub use tails::call_in_place;
 pub use waiting::{ask_over, call_over};

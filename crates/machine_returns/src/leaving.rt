@@ -50,7 +50,7 @@ pub(crate) fn leave_with_error(world: &mut World, error: Value) -> Result<Ending
 }
 
 /// How a step ends with results for what is on top.
-fn handed(top: Top) -> Ending
+pub fn handed(top: Top) -> Ending
     ensures ends { (in_main : Bool) → handed (shape_of in_main top) ≡ stop (ending_of result) }
     ensures paid { result ≡ Spent → ⊥ }
 {

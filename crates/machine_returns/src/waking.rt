@@ -37,7 +37,7 @@ pub fn doze(world: &mut World, wait: Wait, values: Vec<Value>)
 }
 
 /// For what the Lua frame on top waits.
-fn wait_on_top(world: &World) -> Wait
+pub fn wait_on_top(world: &World) -> Wait
     requires { HasFrame world.now }
     ensures { HasWait world.now result }
 {
@@ -45,7 +45,7 @@ fn wait_on_top(world: &World) -> Wait
 }
 
 /// Lets it wait, or run.
-pub(crate) fn set_wait(world: &mut World, wait: Wait)
+pub fn set_wait(world: &mut World, wait: Wait)
     requires { HasFrame world.old }
     ensures waits { WaitsSo world.old world.new wait }
     ensures at { (pc : ℕ) → StandsAt world.old pc → StandsAt world.new pc }

@@ -35,7 +35,7 @@ use Rattle.step_laws.specs.Steps.{WaitsAt, WaitsFor, Wakes}
 use Rattle.step_laws.proofs.Joins.{join_is_sound}
 use Rattle.step_laws.proofs.Small.{a_small, b_small}
 use Rattle.step_laws.proofs.Stepping.{answer_is_safe, answer_is_step}
-use Rattle.machine_step.specs.Step.{library, Passes}
+use Rattle.machine_step.specs.Step.{Passes}
 use Rattle.machine_operations.specs.Joining.{AreValid, rest_row, told_for}
 use Rattle.machine_returns.specs.GoingOn.{GoesOn, MayGoOn, told_so}
 use Rattle.machine_step.specs.Places.{GoesOnSo, IsAwake, WaitsHere, is_handled, left_row}
@@ -128,7 +128,7 @@ module _ {old new : Memory} {pc : ℕ} {word : Instruction} {wait : KeptWait} {c
 
   pub goes_on : {last : Memory} {to : Ending} → GoesOnSo new last word wait came to → Passes go old last to
   goes_on {last} {to} g = record {
-    is = λ fuel. answer_is_step library old new last fuel to k wakes
+    is = λ rows fuel. answer_is_step rows old new last fuel to k wakes
         (subst (λ vs. Leads (goes_on_by (rest_at P.top.wait P.function.code P.top.own.pc)) vs new last to) told_is
         (subst (λ (r : Row). Leads r (told_so new wait came) new last to) row_is (g.leads Q there h.goes.opcode is_opcode)));
   }

@@ -19,12 +19,11 @@ use Rattle.move_laws.specs.Memory.{CanDo, IsSafe, IsSound, Leads, StandsAt, Step
 use Rattle.move_laws.proofs.Order.{is_spent, steps_of}
 use Rattle.move_laws.proofs.Sounds.{sound_top}
 use Rattle.machine_returns.specs.Returning.{MayReturn}
-use Rattle.step_laws.specs.Steps.{Does}
 use Rattle.step_laws.specs.Small.{IsSmall, IsWithin}
 use Rattle.step_laws.proofs.Unpaid.{IsUnpaid}
 use Rattle.step_laws.proofs.Small.{forms_are_small, forms_are_within}
 use Rattle.step_laws.proofs.Stepping.{instruction_is_safe, instruction_is_step, unpaid_is_step}
-use Rattle.machine_step.specs.Step.{library, Passes}
+use Rattle.machine_step.specs.Step.{Goes, Passes}
 use Rattle.machine_step.specs.Places.{RunsForm}
 use Rattle.machine_call_rows.specs.Rows.{MayKeep}
 use Rattle.machine_operations.specs.Copying.{CanCopy}
@@ -52,22 +51,26 @@ module _ {W : Memory} {pc : ℕ} {form : Form} (r : RunsForm W pc form) where
 
   -- and what it does is a step
   pub does : {new : Memory} {fuel left : ℕ} {to : Ending} → Steps (expand (text_of r.runs.place.function.code pc form)) [] W fuel new left to
-      → Does library go W fuel new left to
-  does {new} {fuel} {left} {to} s =
-      instruction_is_step library W new fuel left to form r.runs r.has
-      (subst (λ n. Steps (expand (text_of r.runs.place.function.code n form)) [] W fuel new left to) (sym r.at) s)
+      → Goes W fuel new left to
+  does {new} {fuel} {left} {to} s = record {
+    is = λ rows. instruction_is_step rows W new fuel left to form r.runs r.has
+        (subst (λ n. Steps (expand (text_of r.runs.place.function.code n form)) [] W fuel new left to) (sym r.at) s);
+  }
 
   pub passes : {new : Memory} {to : Ending} → (is_spent to → ⊥) → Leads (expand (text_of r.runs.place.function.code pc form)) [] W new to
       → Passes go W new to
-  passes n l = record { is = λ fuel. does (steps_of fuel n l) }
+  passes n l = record { is = λ rows fuel. (does (steps_of fuel n l)).is rows }
 
   pub unpaid : {new : Memory} {to : Ending} → IsUnpaid (text_of r.runs.place.function.code pc form)
       → Leads (expand (text_of r.runs.place.function.code pc form)) [] W new to → Passes go W new to
   unpaid {new} {to} u l = record {
-    is = λ fuel. unpaid_is_step library W new fuel to form r.runs r.has
+    is = λ rows fuel. unpaid_is_step rows W new fuel to form r.runs r.has
         (subst (λ n. IsUnpaid (text_of r.runs.place.function.code n form)) (sym r.at) u)
         (subst (λ n. Leads (expand (text_of r.runs.place.function.code n form)) [] W new to) (sym r.at) l);
   }
+
+pub goes_by : {old new : Memory} {to : Ending} {fuel : ℕ} → Passes go old new to → Goes old fuel new fuel to
+goes_by {fuel = fuel} p = record { is = λ rows. p.is rows fuel }
 
 -- registers that rows name late
 

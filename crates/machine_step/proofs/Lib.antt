@@ -1,3 +1,3 @@
-mod ByForm
-mod Awake
-mod Steps
+pub mod ByForm
+pub mod Awake
+pub mod Steps

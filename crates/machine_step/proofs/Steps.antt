@@ -1,6 +1,8 @@
 -- Where a step begins, and by which of the machine's rows it is done.
 use Rattle.std.proofs.Common.{◌≡◌, ℕ, [], length, Some, None, refl, ap, sym, subst, ◌∙◌, Bool, true, false}
 use Rattle.library_rows.specs.Library.{all_entries}
+use Rattle.source_builds.proofs.Knowing.{read_all}
+use Rattle.loaded_code.specs.Laws.{library}
 use Rattle.code_core.specs.declared.opcode.Opcode.{Opcode}
 use Rattle.code_core.specs.declared.instruction.Instruction.{Instruction}
 use Rattle.code_core.specs.Instruction.{opcode_of}
@@ -10,7 +12,7 @@ use Rattle.machine_core.specs.World.{Wait, running, World, Place, place_of}
 use Rattle.machine_core.specs.Text.{Text, trap}
 use Rattle.machine_core.specs.InstructionRows.{row_of, text_at, text_by}
 use Rattle.machine_core.specs.FrameRows.{at_once, expand}
-use Rattle.machine_core.specs.Moves.{Ending, run}
+use Rattle.machine_core.specs.Moves.{Ending, go, Row, run}
 use Rattle.machine_sound.specs.Safe.{Good}
 use Rattle.machine_sound.proofs.Lists.{some_is}
 use Rattle.machine_sound.proofs.LuaSteps.{settles, running_text_good}
@@ -24,7 +26,7 @@ use Rattle.machine_moves.specs.declared.ending.Ending.{Ending as Kept}
 use Rattle.machine_moves.specs.Ending.{ending_of}
 use Rattle.step_laws.specs.Steps.{Does, HasForm, IsReady, WaitsAt}
 use Rattle.step_laws.proofs.Ready.{running_is_at, waiting_is_at}
-use Rattle.machine_step.specs.Step.{library}
+use Rattle.machine_step.specs.Step.{Did, Goes}
 use Rattle.running_frame.specs.Here.{IsAtWord, RunsIf, is_none}
 use Rattle.running_frame.proofs.Places.{none_is, waits_so}
 use Rattle.machine_step.specs.Places.{RunsForm, RunsWord, WaitsHere}
@@ -34,9 +36,17 @@ use Rattle.machine_step.specs.Places.{RunsForm, RunsWord, WaitsHere}
 pub ready_as : {W : Memory} {ending known : Kept} → IsReady (length all_entries) (ending_of ending) W → ending ≡ known → IsReady (length all_entries) (ending_of known) W
 ready_as {W} r e = subst (λ e. IsReady (length all_entries) (ending_of e) W) e r
 
-pub does_as : {old new : Memory} {fuel left : ℕ} {ending known : Kept} {to : Ending} → ending ≡ known
-    → Does library (ending_of known) old fuel new left to → Does library (ending_of ending) old fuel new left to
-does_as {old} {new} {fuel} {left} {to = to} e d = subst (λ e. Does library (ending_of e) old fuel new left to) (sym e) d
+pub did_as : {old new : Memory} {fuel left : ℕ} {ending known : Kept} {to : Ending} → ending ≡ known
+    → Did (ending_of known) old fuel new left to → Did (ending_of ending) old fuel new left to
+did_as {old} {new} {fuel} {left} {to = to} e d = subst (λ e. Did (ending_of e) old fuel new left to) (sym e) d
+
+-- a step that calls no function of the libraries
+pub did_always : {old new : Memory} {fuel left : ℕ} {ending known : Kept} {to : Ending} → ending ≡ known
+    → ((rows : ℕ → Row) → Does rows (ending_of known) old fuel new left to) → Did (ending_of ending) old fuel new left to
+did_always e d = did_as e (read_all (λ builds are. d (library builds)))
+
+pub did_go : {old new : Memory} {fuel left : ℕ} {to : Ending} → Goes old fuel new left to → Did go old fuel new left to
+did_go g = read_all (λ builds are. g.is (library builds))
 
 pub same_printed : {old new : Memory} → ReadsSame old new → new.printed.items ≡ old.printed.items
 same_printed s = ap (λ (W : World). W.printed) (s.is 0)

@@ -1,12 +1,10 @@
 // Calls (lvm.c).
 ghost use Rattle.std.specs.Prelude.{◌≡◌, IfOk, OnErr};
 ghost use Rattle.instruction_forms.specs.declared.form.Form.TheVariants.{Call, TailCall};
-ghost use Rattle.machine_core.specs.Moves.{go};
 ghost use Rattle.machine_moves.specs.Ending.{ending_of};
 ghost use Rattle.move_laws.specs.Memory.{InOrder, IsSound};
 ghost use Rattle.machine_step.specs.Places.{RunsForm};
-ghost use Rattle.machine_step.specs.Step.{library};
-ghost use Rattle.step_laws.specs.Steps.{Does};
+ghost use Rattle.machine_step.specs.Step.{Goes};
 
 use lua_heap::World;
 use machine_call_rows::{call, tail_call};
@@ -25,7 +23,7 @@ pub(crate) fn run_call(
 ) -> Result<Ending, AllocError>
     requires sound { IsSound world.old }
     requires runs { RunsForm world.old pc (Call function count keeps iterates) }
-    ensures does { IfOk result (λ next. Does library go world.old budget.old world.new budget.new (ending_of next)) }
+    ensures does { IfOk result (λ next. Goes world.old budget.old world.new budget.new (ending_of next)) }
     ensures order { InOrder world.new }
     ensures err { OnErr result (world.new.printed ≡ world.old.printed) }
 {
@@ -42,7 +40,7 @@ pub(crate) fn run_tail_call(
 ) -> Result<Ending, AllocError>
     requires sound { IsSound world.old }
     requires runs { RunsForm world.old pc (TailCall function count) }
-    ensures does { IfOk result (λ next. Does library go world.old budget.old world.new budget.new (ending_of next)) }
+    ensures does { IfOk result (λ next. Goes world.old budget.old world.new budget.new (ending_of next)) }
     ensures order { InOrder world.new }
     ensures err { OnErr result (world.new.printed ≡ world.old.printed) }
 {

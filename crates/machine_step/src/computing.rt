@@ -5,8 +5,7 @@ ghost use Rattle.machine_core.specs.Moves.{go};
 ghost use Rattle.machine_moves.specs.Ending.{ending_of};
 ghost use Rattle.move_laws.specs.Memory.{InOrder, IsSound};
 ghost use Rattle.machine_step.specs.Places.{RunsForm};
-ghost use Rattle.machine_step.specs.Step.{Passes, library};
-ghost use Rattle.step_laws.specs.Steps.{Does};
+ghost use Rattle.machine_step.specs.Step.{Goes, Passes};
 
 use instruction_forms::{After, Operand, Operands, Operation, Operator};
 use lua_heap::World;
@@ -26,7 +25,7 @@ pub(crate) fn run_operation(
 ) -> Result<Ending, AllocError>
     requires sound { IsSound world.old }
     requires runs { RunsForm world.old pc (Operate operation operands also after) }
-    ensures does { IfOk result (λ next. Does library go world.old budget.old world.new budget.new (ending_of next)) }
+    ensures does { IfOk result (λ next. Goes world.old budget.old world.new budget.new (ending_of next)) }
     ensures order { InOrder world.new }
     ensures err { OnErr result (world.new.printed ≡ world.old.printed) }
 {
@@ -61,7 +60,7 @@ pub(crate) fn run_concatenation(
 ) -> Result<Ending, AllocError>
     requires sound { IsSound world.old }
     requires runs { RunsForm world.old pc (Concatenate first count) }
-    ensures does { IfOk result (λ next. Does library go world.old budget.old world.new budget.new (ending_of next)) }
+    ensures does { IfOk result (λ next. Goes world.old budget.old world.new budget.new (ending_of next)) }
     ensures order { InOrder world.new }
     ensures err { OnErr result (world.new.printed ≡ world.old.printed) }
 {

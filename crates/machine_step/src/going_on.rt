@@ -33,7 +33,7 @@ pub(crate) fn go_on(world: &mut World, pc: usize, word: Instruction) -> Result<E
 }
 
 /// What is left of the instruction is done with what came.
-fn go_on_with(
+pub fn go_on_with(
     world: &mut World,
     pc: usize,
     word: Instruction,

@@ -5,8 +5,7 @@ ghost use Rattle.machine_core.specs.Moves.{go};
 ghost use Rattle.machine_moves.specs.Ending.{ending_of};
 ghost use Rattle.move_laws.specs.Memory.{InOrder, IsSound};
 ghost use Rattle.machine_step.specs.Places.{RunsForm};
-ghost use Rattle.machine_step.specs.Step.{Passes, library};
-ghost use Rattle.step_laws.specs.Steps.{Does};
+ghost use Rattle.machine_step.specs.Step.{Goes, Passes};
 
 use lua_heap::World;
 use machine_loops::{go_round, jump, loop_over, start_loop};
@@ -46,7 +45,7 @@ pub(crate) fn run_test_set(
 pub(crate) fn run_jump(world: &mut World, budget: &mut u64, pc: usize, by: i32) -> Ending
     requires sound { IsSound world.old }
     requires runs { RunsForm world.old pc (Jump by) }
-    ensures does { Does library go world.old budget.old world.new budget.new (ending_of result) }
+    ensures does { Goes world.old budget.old world.new budget.new (ending_of result) }
     ensures order { InOrder world.new }
 {
     jump(world, budget, pc, by)
@@ -78,7 +77,7 @@ pub(crate) fn run_loop(
 ) -> Result<Ending, AllocError>
     requires sound { IsSound world.old }
     requires runs { RunsForm world.old pc (Loop base by) }
-    ensures does { IfOk result (λ next. Does library go world.old budget.old world.new budget.new (ending_of next)) }
+    ensures does { IfOk result (λ next. Goes world.old budget.old world.new budget.new (ending_of next)) }
     ensures order { InOrder world.new }
     ensures err { OnErr result (world.new.printed ≡ world.old.printed) }
 {
@@ -95,7 +94,7 @@ pub(crate) fn run_loop_over(
 ) -> Ending
     requires sound { IsSound world.old }
     requires runs { RunsForm world.old pc (LoopOver base by) }
-    ensures does { Does library go world.old budget.old world.new budget.new (ending_of result) }
+    ensures does { Goes world.old budget.old world.new budget.new (ending_of result) }
     ensures order { InOrder world.new }
 {
     loop_over(world, budget, pc, base, by)

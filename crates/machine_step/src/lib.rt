@@ -11,4 +11,5 @@ mod objects;
 mod returning;
 mod stepping;
 
+pub use going_on::go_on_with;
 pub use stepping::{step, step_from};

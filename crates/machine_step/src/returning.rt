@@ -5,8 +5,7 @@ ghost use Rattle.machine_core.specs.Moves.{go};
 ghost use Rattle.machine_moves.specs.Ending.{ending_of};
 ghost use Rattle.move_laws.specs.Memory.{InOrder, IsSound};
 ghost use Rattle.machine_step.specs.Places.{RunsForm};
-ghost use Rattle.machine_step.specs.Step.{Passes, library};
-ghost use Rattle.step_laws.specs.Steps.{Does};
+ghost use Rattle.machine_step.specs.Step.{Goes, Passes};
 
 use lua_heap::World;
 use machine_moves::Ending;
@@ -23,7 +22,7 @@ pub(crate) fn run_return(
 ) -> Result<Ending, AllocError>
     requires sound { IsSound world.old }
     requires runs { RunsForm world.old pc (Return from count) }
-    ensures does { IfOk result (λ next. Does library go world.old budget.old world.new budget.new (ending_of next)) }
+    ensures does { IfOk result (λ next. Goes world.old budget.old world.new budget.new (ending_of next)) }
     ensures order { InOrder world.new }
     ensures err { OnErr result (world.new.printed ≡ world.old.printed) }
 {
@@ -40,7 +39,7 @@ pub(crate) fn run_return_some(
 ) -> Result<Ending, AllocError>
     requires sound { IsSound world.old }
     requires runs { RunsForm world.old pc (ReturnSome from count) }
-    ensures does { IfOk result (λ next. Does library go world.old budget.old world.new budget.new (ending_of next)) }
+    ensures does { IfOk result (λ next. Goes world.old budget.old world.new budget.new (ending_of next)) }
     ensures order { InOrder world.new }
     ensures err { OnErr result (world.new.printed ≡ world.old.printed) }
 {
@@ -56,7 +55,7 @@ pub(crate) fn run_close(
 ) -> Result<Ending, AllocError>
     requires sound { IsSound world.old }
     requires runs { RunsForm world.old pc (Close from) }
-    ensures does { IfOk result (λ next. Does library go world.old budget.old world.new budget.new (ending_of next)) }
+    ensures does { IfOk result (λ next. Goes world.old budget.old world.new budget.new (ending_of next)) }
     ensures order { InOrder world.new }
     ensures err { OnErr result (world.new.printed ≡ world.old.printed) }
 {

@@ -5,15 +5,15 @@ ghost use Rattle.machine_core.specs.Moves.{go};
 ghost use Rattle.machine_moves.specs.Ending.{ending_of};
 ghost use Rattle.move_laws.specs.Memory.{InOrder, IsSound};
 ghost use Rattle.running_frame.specs.Here.{IsHere};
-ghost use Rattle.step_laws.specs.Steps.{Does, IsReady};
+ghost use Rattle.step_laws.specs.Steps.{IsReady};
 ghost use Rattle.machine_step.specs.Places.{RunsWord};
-ghost use Rattle.machine_step.specs.Step.{library};
+ghost use Rattle.machine_step.specs.Step.{Did, Goes};
 
 use crate::going_on::go_on;
 use crate::instructions::run_instruction;
 use code_core::Instruction;
 use instruction_forms::form_of;
-use library_sound::law::library_is_safe;
+use loaded_code::loading_is_safe;
 use lua_heap::World;
 use machine_asked::call_asked;
 use machine_frame_rows::{catch_error, hand_results, unwind_top};
@@ -22,15 +22,16 @@ use machine_primitives::primitive;
 use running_frame::{Here, find_here};
 use std::alloc::AllocError;
 
-/// Does the step that follows an ending, and says how it ends. What ends a turn is no step. A step that costs a unit while none is left changes nothing. After
-/// a refusal the world is in order and no more has been printed, but it does not stand between two steps.
+/// Does the step that follows an ending, and says how it ends. What ends a turn is no step. A step that costs a unit while none is left changes nothing. What
+/// `load` does is told wherever sources are built as it read them. After a refusal the world is in order and no more has been printed, but it does not stand
+/// between two steps.
 pub fn step(world: &mut World, budget: &mut u64, ending: Ending) -> Result<Ending, AllocError>
     requires ready { IsReady (length all_entries) (ending_of ending) world.old }
-    ensures does { IfOk result (λ next. Does library (ending_of ending) world.old budget.old world.new budget.new (ending_of next)) }
+    ensures does { IfOk result (λ next. Did (ending_of ending) world.old budget.old world.new budget.new (ending_of next)) }
     ensures order { InOrder world.new }
     ensures err { OnErr result (world.new.printed.items ≡ world.old.printed.items) }
 {
-    library_is_safe();
+    loading_is_safe();
     match ending {
         Ending::Go => go_from(world, budget),
         Ending::Returned => hand_results(world),
@@ -48,7 +49,7 @@ pub fn step(world: &mut World, budget: &mut u64, ending: Ending) -> Result<Endin
 /// The Lua frame on top does its instruction, or goes on with what moves.
 fn go_from(world: &mut World, budget: &mut u64) -> Result<Ending, AllocError>
     requires ready { IsReady (length all_entries) go world.old }
-    ensures does { IfOk result (λ next. Does library go world.old budget.old world.new budget.new (ending_of next)) }
+    ensures does { IfOk result (λ next. Did go world.old budget.old world.new budget.new (ending_of next)) }
     ensures order { InOrder world.new }
     ensures err { OnErr result (world.new.printed.items ≡ world.old.printed.items) }
 {
@@ -60,7 +61,7 @@ fn go_from(world: &mut World, budget: &mut u64) -> Result<Ending, AllocError>
 pub fn step_from(world: &mut World, budget: &mut u64, here: Here) -> Result<Ending, AllocError>
     requires ready { IsReady (length all_entries) go world.old }
     requires here { IsHere world.old here }
-    ensures does { IfOk result (λ next. Does library go world.old budget.old world.new budget.new (ending_of next)) }
+    ensures does { IfOk result (λ next. Did go world.old budget.old world.new budget.new (ending_of next)) }
     ensures order { InOrder world.new }
     ensures err { OnErr result (world.new.printed.items ≡ world.old.printed.items) }
 {
@@ -79,7 +80,7 @@ fn run_word(
 ) -> Result<Ending, AllocError>
     requires sound { IsSound world.old }
     requires runs { RunsWord world.old pc word }
-    ensures does { IfOk result (λ next. Does library go world.old budget.old world.new budget.new (ending_of next)) }
+    ensures does { IfOk result (λ next. Goes world.old budget.old world.new budget.new (ending_of next)) }
     ensures order { InOrder world.new }
     ensures err { OnErr result (world.new.printed ≡ world.old.printed) }
 {

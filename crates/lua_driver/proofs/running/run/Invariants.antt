@@ -7,13 +7,14 @@ use Rattle.machine_moves.specs.Ending.{ending_of}
 use Rattle.step_laws.specs.Steps.{IsReady}
 use Rattle.lua_driver.specs.Turns.{Reaches}
 use Rattle.lua_driver.proofs.Reaching.{most_in, distance}
-use Rattle.machine_step.specs.Step.{library}
+use Rattle.loaded_code.specs.Laws.{library}
+use Rattle.source_builds.specs.Readings.{AsRead}
 use Rattle.lua_driver.proofs.running.run.Given as goal
 
 abbrev pub invariant-turn : goal.invariant-turn
 invariant-turn l = record {
   ready : IsReady (length all_entries) (ending_of l.ending) l.world;
-  reached : Reaches library (ending_of l.initial.ending) l.initial.world l.initial.budget l.world l.budget (ending_of l.ending);
+  reached : AsRead (λ builds. Reaches (library builds) (ending_of l.initial.ending) l.initial.world l.initial.budget l.world l.budget (ending_of l.ending));
   within : is_end (ending_of l.ending) ≡ false → Within (most_in l.initial.world) (plain l.world l.budget);
 }
 

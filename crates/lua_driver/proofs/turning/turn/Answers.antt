@@ -1,7 +1,9 @@
 use Rattle.std.proofs.Common.{rules, ◌≡◌, [], refl}
-use Rattle.std.specs.Prelude.{codes}
 use Rattle.lua_heap.specs.declared.world.World.{World as Memory}
 use Rattle.machine_moves.specs.Ending.{ending_of}
+use Rattle.loaded_code.specs.Laws.{load_by, library}
+use Rattle.source_builds.proofs.Knowing.{read_map}
+use Rattle.source_builds.proofs.Lookups.{read_some}
 use Rattle.lua_driver.proofs.Turned.{quiet_may, ready_by, sound_of, turned, waits_again}
 use Rattle.lua_driver.proofs.turning.turn.Goals as goal
 
@@ -31,10 +33,12 @@ returns-clause-turns c =
     let W : Memory = c.args.world.now in
     let quiet : Memory = record W { printed = c.clear.new.self } in
     let none : quiet.printed.items ≡ [] = search rules in
-    turned W quiet c.resume_main.new.world c.run.new.world c.args.budget c.run.new.budget (ending_of c.in_ok-begun.begun) (ending_of c.in_ok-ended.ended) refl none c.in_ok-begun.ensures.resumes c.in_ok-ended.ensures.reaches
+    read_map (λ builds are r. turned (library builds) W quiet c.resume_main.new.world c.run.new.world c.args.budget c.run.new.budget (ending_of c.in_ok-begun.begun) (ending_of c.in_ok-ended.ended) refl none c.in_ok-begun.ensures.resumes r) c.in_ok-ended.ensures.reaches
 
 pub returns-clause-sound : goal.returns-clause-sound
 returns-clause-sound c = c.in_ok-ended.ensures.ready.after.sound
 
 pub returns-clause-waits : goal.returns-clause-waits
-returns-clause-waits c = waits_again c.yields_leave_main_waiting.ensures (c.library_is_safe.ensures.without (codes "load is not built yet")) c.args.world.now c.run.new.world c.args.budget (ending_of c.in_ok-ended.ended) c.requires (returns-clause-turns c)
+returns-clause-waits c =
+    let some = read_some (returns-clause-turns c) in
+    waits_again c.yields_leave_main_waiting.ensures (load_by some.0) (c.loading_is_safe.ensures.silent some.0) (c.loading_is_safe.ensures.safe some.0 some.1) c.args.world.now c.run.new.world c.args.budget (ending_of c.in_ok-ended.ended) c.requires some.2

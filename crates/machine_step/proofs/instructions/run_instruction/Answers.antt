@@ -2,6 +2,7 @@ use Rattle.std.proofs.Common.{◌≡◌, ap, sym, subst, ◌∙◌, w32, to_z, o
 use Rattle.std.proofs.lemmas.Result.{IfOk-weaker}
 use Rattle.instruction_forms.specs.declared.form.Form.TheVariants.{Jump}
 use Rattle.machine_step.specs.Places.{RunsForm}
+use Rattle.machine_step.proofs.ByForm.{goes_by}
 use Rattle.machine_step.proofs.instructions.run_instruction.Goals as goal
 
 pub run_next-requires-clause-runs : goal.run_next-requires-clause-runs
@@ -84,46 +85,46 @@ run_extra_arguments-requires-clause-runs c = subst (RunsForm c.args.world.now c.
 -- what costs nothing is a step at any budget
 
 pub returns-in-Next-clause-does : goal.returns-in-Next-clause-does
-returns-in-Next-clause-does c = c.run_next.ensures.does.is c.args.budget.now
+returns-in-Next-clause-does c = goes_by c.run_next.ensures.does
 
 pub returns-in-Load-clause-does : goal.returns-in-Load-clause-does
-returns-in-Load-clause-does c = c.run_load.ensures.does.is c.args.budget.now
+returns-in-Load-clause-does c = goes_by c.run_load.ensures.does
 
 pub returns-in-LoadFar-clause-does : goal.returns-in-LoadFar-clause-does
-returns-in-LoadFar-clause-does c = c.run_load_far.ensures.does.is c.args.budget.now
+returns-in-LoadFar-clause-does c = goes_by c.run_load_far.ensures.does
 
 pub returns-in-Clear-clause-does : goal.returns-in-Clear-clause-does
-returns-in-Clear-clause-does c = c.run_clear.ensures.does.is c.args.budget.now
+returns-in-Clear-clause-does c = goes_by c.run_clear.ensures.does
 
 pub returns-in-StoreUpvalue-clause-does : goal.returns-in-StoreUpvalue-clause-does
-returns-in-StoreUpvalue-clause-does c = c.run_store_upvalue.ensures.does.is c.args.budget.now
+returns-in-StoreUpvalue-clause-does c = goes_by c.run_store_upvalue.ensures.does
 
 pub returns-in-Negate-clause-does : goal.returns-in-Negate-clause-does
-returns-in-Negate-clause-does c = c.run_negate.ensures.does.is c.args.budget.now
+returns-in-Negate-clause-does c = goes_by c.run_negate.ensures.does
 
 pub returns-in-Test-clause-does : goal.returns-in-Test-clause-does
-returns-in-Test-clause-does c = c.run_test.ensures.does.is c.args.budget.now
+returns-in-Test-clause-does c = goes_by c.run_test.ensures.does
 
 pub returns-in-TestSet-clause-does : goal.returns-in-TestSet-clause-does
-returns-in-TestSet-clause-does c = c.run_test_set.ensures.does.is c.args.budget.now
+returns-in-TestSet-clause-does c = goes_by c.run_test_set.ensures.does
 
 pub returns-in-Arithmetic-clause-does : goal.returns-in-Arithmetic-clause-does
-returns-in-Arithmetic-clause-does c = IfOk-weaker c.run_arithmetic.result _ _ (λ ending p. p.is c.args.budget.now) c.run_arithmetic.ensures.does
+returns-in-Arithmetic-clause-does c = IfOk-weaker c.run_arithmetic.result _ _ (λ ending p. goes_by p) c.run_arithmetic.ensures.does
 
 pub returns-in-Mark-clause-does : goal.returns-in-Mark-clause-does
-returns-in-Mark-clause-does c = IfOk-weaker c.run_mark.result _ _ (λ ending p. p.is c.args.budget.now) c.run_mark.ensures.does
+returns-in-Mark-clause-does c = IfOk-weaker c.run_mark.result _ _ (λ ending p. goes_by p) c.run_mark.ensures.does
 
 pub returns-in-StartLoop-clause-does : goal.returns-in-StartLoop-clause-does
-returns-in-StartLoop-clause-does c = IfOk-weaker c.run_start_loop.result _ _ (λ ending p. p.is c.args.budget.now) c.run_start_loop.ensures.does
+returns-in-StartLoop-clause-does c = IfOk-weaker c.run_start_loop.result _ _ (λ ending p. goes_by p) c.run_start_loop.ensures.does
 
 pub returns-in-NewTable-clause-does : goal.returns-in-NewTable-clause-does
-returns-in-NewTable-clause-does c = IfOk-weaker c.run_new_table.result _ _ (λ ending p. p.is c.args.budget.now) c.run_new_table.ensures.does
+returns-in-NewTable-clause-does c = IfOk-weaker c.run_new_table.result _ _ (λ ending p. goes_by p) c.run_new_table.ensures.does
 
 pub returns-in-FillTable-clause-does : goal.returns-in-FillTable-clause-does
-returns-in-FillTable-clause-does c = IfOk-weaker c.run_fill_table.result _ _ (λ ending p. p.is c.args.budget.now) c.run_fill_table.ensures.does
+returns-in-FillTable-clause-does c = IfOk-weaker c.run_fill_table.result _ _ (λ ending p. goes_by p) c.run_fill_table.ensures.does
 
 pub returns-in-NewFunction-clause-does : goal.returns-in-NewFunction-clause-does
-returns-in-NewFunction-clause-does c = IfOk-weaker c.run_new_function.result _ _ (λ ending p. p.is c.args.budget.now) c.run_new_function.ensures.does
+returns-in-NewFunction-clause-does c = IfOk-weaker c.run_new_function.result _ _ (λ ending p. goes_by p) c.run_new_function.ensures.does
 
 pub returns-in-ExtraArguments-clause-does : goal.returns-in-ExtraArguments-clause-does
-returns-in-ExtraArguments-clause-does c = IfOk-weaker c.run_extra_arguments.result _ _ (λ ending p. p.is c.args.budget.now) c.run_extra_arguments.ensures.does
+returns-in-ExtraArguments-clause-does c = IfOk-weaker c.run_extra_arguments.result _ _ (λ ending p. goes_by p) c.run_extra_arguments.ensures.does

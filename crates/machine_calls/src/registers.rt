@@ -1,0 +1,73 @@
+// Calls of Lua functions whose arguments stand in the registers behind them (luaD_precall of ldo.c).
+ghost use Rattle.std.specs.Prelude.{◌≡◌, true, false, IfOk, OnErr, OnOk};
+ghost use Rattle.move_laws.specs.Memory.{InOrder};
+ghost use Rattle.machine_calls.specs.declared.preparing.Prepared.TheVariants.{GivenUp};
+ghost use Rattle.machine_calls.specs.Entering.{HasFunction};
+ghost use Rattle.machine_calls.specs.Given.{CallsGiven, EntersGiven, HasGiven};
+ghost use Rattle.machine_calls.specs.Preparing.{CanPrepare};
+ghost use Rattle.machine_calls.specs.Waiting.{IsFull};
+
+use crate::entering::{is_full, shape_of};
+use crate::running::running;
+use lua_heap::{Coro, World};
+use lua_stack::Wait;
+use machine_moves::code_on_top;
+use std::alloc::AllocError;
+use table_core::FuncId;
+
+/// Calls a Lua function for a unit of the budget, with the values of so many registers behind the one from which on the Lua frame on top gives its
+/// registers up. They become the function's first registers where they are, and the frame waits. `false`, with all as before, where the budget is spent
+/// or the stack is full. A refusal changes nothing.
+pub fn call_registers(
+    world: &mut World,
+    budget: &mut u64,
+    function: FuncId,
+    register: usize,
+    given: usize,
+    wait: Wait,
+) -> Result<bool, AllocError>
+    requires order { InOrder world.old }
+    requires ready { CanPrepare world.old (GivenUp register) }
+    requires room { HasGiven world.old register given }
+    requires function { HasFunction world.old function.0 }
+    ensures calls { IfOk result (λ entered. entered ≡ true → CallsGiven world.old world.new budget.old budget.new function register given wait) }
+    ensures kept { IfOk result (λ entered. entered ≡ false → (world.new ≡ world.old) × (budget.new ≡ budget.old)) }
+    ensures order { InOrder world.new }
+    ensures err { OnErr result ((world.new ≡ world.old) × (budget.new ≡ budget.old)) }
+{
+    if *budget == 0 {
+        return Ok(false);
+    }
+    if is_full(world) {
+        return Ok(false);
+    }
+    enter_registers(world, function, register, given, wait)?;
+    *budget -= 1;
+    Ok(true)
+}
+
+/// Enters the function over the frame, which has room for it.
+fn enter_registers(
+    world: &mut World,
+    function: FuncId,
+    register: usize,
+    given: usize,
+    wait: Wait,
+) -> Result<(), AllocError>
+    requires order { InOrder world.old }
+    requires ready { CanPrepare world.old (GivenUp register) }
+    requires room { HasGiven world.old register given }
+    requires function { HasFunction world.old function.0 }
+    requires free { IsFull world.old false }
+    ensures enters { OnOk result (EntersGiven world.old world.new function register given wait) }
+    ensures order { InOrder world.new }
+    ensures err { OnErr result (world.new ≡ world.old) }
+{
+    let shape = shape_of(world, function);
+    let size = code_on_top(world).stack as usize;
+    let co = running(world);
+    match world.coros.get_mut(co.0) {
+        Coro::Running(stack) => stack.call(register, given, wait, size, function, shape),
+        _ => unreachable!(),
+    }
+}
