@@ -1,14 +1,14 @@
 -- Which command words ask for.
 use Rattle.std.proofs.Common.{◌≡◌, ℕ, zero, length, true, false, Bool, List, [], ◌∷◌, Option, Some, None, cond, refl, sym, ◌∙◌, ap, subst, arith, codes, ◌&&◌}
-use Rattle.std.specs.Prelude.{◌<◌, nat_lt, option_and_then, option_map, unwrap_or, IfSome}
+use Rattle.std.specs.Prelude.{◌<◌, nat_le, nat_lt, option_and_then, option_map, unwrap_or, IfSome}
 use Rattle.std.specs.Str.{bytes_eq}
 use Rattle.std.proofs.lemmas.Bool.{leb-true, le-leb}
 use Rattle.std.proofs.lemmas.Slice.Eq.{bytes_eq-Decides}
 use Rattle.command_words.specs.declared.arguments.Next.{Next}
 use Rattle.command_words.specs.declared.arguments.Next.TheVariants.{Any}
-use Rattle.command_words.specs.Words.{Command, run, resume, check, compile, Names, BudgetOf, default_budget, named_budget, SaveOf, unsaved, saved, StripOf, kept, stripped, IsShortName, IsCommand, runs, resumes, checks, compiles, AreShort, AreWrong, IsAsked}
-use Rattle.command_words.specs.Reading.{Arguments, after, command_of, command_with, is_short, may_be_saved, no_arguments, to_feed, to_run, to_resume, to_check, to_compile}
-use Rattle.command_words.proofs.Budgets.{budget_is, is_budget}
+use Rattle.command_words.specs.Words.{Command, run, resume, check, compile, work, Names, BudgetOf, default_budget, named_budget, SaveOf, unsaved, saved, StripOf, kept, stripped, IsShortName, IsCommand, runs, resumes, checks, compiles, works, IsNumber, AreShort, AreWrong, IsAsked}
+use Rattle.command_words.specs.Reading.{Arguments, after, command_of, command_with, is_short, may_be_saved, no_arguments, number_in, count_in, up_to, to_feed, to_run, to_resume, to_check, to_compile, to_work}
+use Rattle.command_words.proofs.Numbers.{number_is, is_number}
 use Rattle.command_words.proofs.Completing.{state, BudgetStep, budget_stays, budget_set, SaveStep, save_stays, save_set, StripStep, strip_stays, strip_set, read_to_end}
 use Rattle.command_words.proofs.Naming.{Named, named}
 
@@ -22,7 +22,7 @@ is_short' file h = le-leb (length file) 65536 h
 
 budget_of : {budgets : List (List ℕ)} {budget : Option ℕ} → BudgetStep None budgets budget → BudgetOf budgets (unwrap_or budget 10000000)
 budget_of budget_stays = default_budget
-budget_of (budget_set {digits = digits} {budget = n} e) = named_budget digits n (is_budget digits n e)
+budget_of (budget_set {digits = digits} {budget = n} e) = named_budget digits n (is_number digits n e)
 
 strip_of : {strips : ℕ} {strip : Bool} → StripStep false strips strip → StripOf strips strip
 strip_of strip_stays = kept
@@ -105,6 +105,28 @@ module _ (words budgets saves : List (List ℕ)) (strips : ℕ) (next : Next) (c
   compile_asked (script ∷ chunk ∷ []) None None strip n b v s e = compile_short (is_short script) (is_short chunk) script chunk strip refl refl n (no_budget b) (no_save v) s e
   compile_asked (script ∷ chunk ∷ other ∷ files) None None strip n b v s e = absurd (cc)
 
+  work_within : (t : Bool) (digits : List ℕ) (number : ℕ) → nat_le number 10000 ≡ t → IsNumber digits number → Names words (digits ∷ []) budgets saves strips → budgets ≡ [] → saves ≡ [] → strips ≡ zero
+      → option_map work (cond t (Some number) None) ≡ Some command → IsCommand (codes "work" ∷ words) command
+  work_within true digits number t d n b v s e =
+      let is : work number ≡ command = cc in
+      subst (IsCommand (codes "work" ∷ words)) is
+      (works words digits number (subst (λ vs. Names words (digits ∷ []) [] vs zero) v (subst (λ bs. Names words (digits ∷ []) bs saves zero) b (subst (Names words (digits ∷ []) budgets saves) s n))) d (leb-true number 10000 t))
+  work_within false digits number t d n b v s e = absurd (cc)
+
+  work_number : (number : Option ℕ) (digits : List ℕ) → number_in digits ≡ number → Names words (digits ∷ []) budgets saves strips → budgets ≡ [] → saves ≡ [] → strips ≡ zero
+      → option_map work (up_to 10000 number) ≡ Some command → IsCommand (codes "work" ∷ words) command
+  work_number (Some number) digits is n b v s e = work_within (nat_le number 10000) digits number refl (is_number digits number is) n b v s e
+  work_number None digits is n b v s e = absurd (cc)
+
+  work_asked : (files : List (List ℕ)) (budget : Option ℕ) (save : Option (List ℕ)) (strip : Bool) → Names words files budgets saves strips → BudgetStep None budgets budget → SaveStep None saves save → StripStep false strips strip
+      → to_work (state files budget save strip next) ≡ Some command → IsCommand (codes "work" ∷ words) command
+  work_asked files budget save true n b v s e = absurd (cc)
+  work_asked files (Some budget) save false n b v s e = absurd (cc)
+  work_asked files None (Some save) false n b v s e = absurd (cc)
+  work_asked [] None None false n b v s e = absurd (cc)
+  work_asked (digits ∷ []) None None false n b v s e = work_number (number_in digits) digits refl n (no_budget b) (no_save v) (no_strip s) e
+  work_asked (digits ∷ other ∷ files) None None false n b v s e = absurd (cc)
+
 module _ (words : List (List ℕ)) (command : Command) (end : Arguments) (n : Named [] None None false words end) where
   all_named : Names words end.files n.budgets n.saves n.strips
   all_named = subst (λ fs. Names words fs n.budgets n.saves n.strips) (sym n.comes.all_files) n.names
@@ -125,22 +147,26 @@ module _ (words : List (List ℕ)) (command : Command) (end : Arguments) (n : Na
   asked_compile : to_compile end ≡ Some command → IsCommand (codes "compile" ∷ words) command
   asked_compile e = compile_asked words n.budgets n.saves n.strips end.next command end.files end.budget end.save end.strip all_named n.comes.has_budget n.comes.has_save n.comes.has_strip e
 
+  asked_work : to_work end ≡ Some command → IsCommand (codes "work" ∷ words) command
+  asked_work e = work_asked words n.budgets n.saves n.strips end.next command end.files end.budget end.save end.strip all_named n.comes.has_budget n.comes.has_save n.comes.has_strip e
+
 module _ (name : List ℕ) (words : List (List ℕ)) (command : Command) where
   named_so : (text : List ℕ) → bytes_eq name text ≡ true → IsCommand (text ∷ words) command → IsCommand (name ∷ words) command
   named_so text e h = subst (λ w. IsCommand (w ∷ words) command) (sym ((bytes_eq-Decides name text).0 e)) h
 
-  by_name : (end : Arguments) → Named [] None None false words end → (r m c o : Bool) → bytes_eq name (codes "run") ≡ r → bytes_eq name (codes "resume") ≡ m → bytes_eq name (codes "check") ≡ c → bytes_eq name (codes "compile") ≡ o
-      → cond r (to_run end) (cond m (to_resume end) (cond c (to_check end) (cond o (to_compile end) None))) ≡ Some command → IsCommand (name ∷ words) command
-  by_name end n true m c o r m' c' o' e = named_so (codes "run") r (asked_run words command end n e)
-  by_name end n false true c o r m c' o' e = named_so (codes "resume") m (asked_resume words command end n e)
-  by_name end n false false true o r m c o' e = named_so (codes "check") c (asked_check words command end n e)
-  by_name end n false false false true r m c o e = named_so (codes "compile") o (asked_compile words command end n e)
-  by_name end n false false false false r m c o e = absurd (cc)
+  by_name : (end : Arguments) → Named [] None None false words end → (r m c o w : Bool) → bytes_eq name (codes "run") ≡ r → bytes_eq name (codes "resume") ≡ m → bytes_eq name (codes "check") ≡ c → bytes_eq name (codes "compile") ≡ o → bytes_eq name (codes "work") ≡ w
+      → cond r (to_run end) (cond m (to_resume end) (cond c (to_check end) (cond o (to_compile end) (cond w (to_work end) None)))) ≡ Some command → IsCommand (name ∷ words) command
+  by_name end n true m c o w r m' c' o' w' e = named_so (codes "run") r (asked_run words command end n e)
+  by_name end n false true c o w r m c' o' w' e = named_so (codes "resume") m (asked_resume words command end n e)
+  by_name end n false false true o w r m c o' w' e = named_so (codes "check") c (asked_check words command end n e)
+  by_name end n false false false true w r m c o w' e = named_so (codes "compile") o (asked_compile words command end n e)
+  by_name end n false false false false true r m c o w e = named_so (codes "work") w (asked_work words command end n e)
+  by_name end n false false false false false r m c o w e = absurd (cc)
 
   by_end : (end : Option Arguments) → after no_arguments words ≡ end → option_and_then (command_with name) end ≡ Some command → IsCommand (name ∷ words) command
   by_end None is e = absurd (cc)
   by_end (Some end) is e =
-      by_name end (named words end Any [] None None false (omega arith) is) (bytes_eq name (codes "run")) (bytes_eq name (codes "resume")) (bytes_eq name (codes "check")) (bytes_eq name (codes "compile")) refl refl refl refl e
+      by_name end (named words end Any [] None None false (omega arith) is) (bytes_eq name (codes "run")) (bytes_eq name (codes "resume")) (bytes_eq name (codes "check")) (bytes_eq name (codes "compile")) (bytes_eq name (codes "work")) refl refl refl refl refl e
 
 pub is_command : (words : List (List ℕ)) (command : Command) → command_of words ≡ Some command → IsCommand words command
 is_command [] command e = absurd (cc)
@@ -155,7 +181,7 @@ record Budgeted (budgets : List (List ℕ)) (n : ℕ) : Type 0 where
 
 budgeted : {budgets : List (List ℕ)} {n : ℕ} → BudgetOf budgets n → Budgeted budgets n
 budgeted default_budget = record { budget = None; step = budget_stays; is = refl }
-budgeted (named_budget digits n h) = record { budget = Some n; step = budget_set (budget_is digits n h); is = refl }
+budgeted (named_budget digits n h) = record { budget = Some n; step = budget_set (number_is digits n h); is = refl }
 
 record Saved (saves : List (List ℕ)) (save : Option (List ℕ)) : Type 0 where
   pub step : SaveStep None saves save
@@ -188,6 +214,9 @@ asks (checks words file names fits) =
 asks (compiles words script chunk strips strip names fits fits' s) =
     let r = read_to_end names [] None None false (script ∷ chunk ∷ []) None None strip (record { all_files = refl; few = omega arith; has_budget = budget_stays; has_save = save_stays; has_strip = strip_step s }) in
     ap (option_and_then (command_with (codes "compile"))) r.reached ∙ rw (is_short' script fits, is_short' chunk fits') refl
+asks (works words digits count names d few) =
+    let r = read_to_end names [] None None false (digits ∷ []) None None false (record { all_files = refl; few = omega arith; has_budget = budget_stays; has_save = save_stays; has_strip = strip_stays }) in
+    ap (option_and_then (command_with (codes "work"))) r.reached ∙ ap (λ number. option_map work (up_to 10000 number)) (number_is digits count d) ∙ rw (le-leb count 10000 few) refl
 
 pub is_wrong : (words : List (List ℕ)) → command_of words ≡ None → AreWrong words
 is_wrong words e command h = let a : command_of words ≡ Some command = asks h in absurd (cc)
@@ -208,6 +237,7 @@ are_short (runs words budgets saves file n save names fits b v) = (fits, short_s
 are_short (resumes words budgets saves image n save names fits b v) = (fits, short_save v)
 are_short (checks words file names fits) = fits
 are_short (compiles words script chunk strips strip names fits fits' s) = (fits, fits')
+are_short (works words digits count names d few) = (d.positive, few)
 
 -- what is answered of words
 pub command_answered : {T : Type 0} (shown : T → Command) (words : List (List ℕ)) (r : Option T) → option_map shown r ≡ command_of words → IfSome r (λ t. IsCommand words (shown t))

@@ -5,7 +5,7 @@ use Rattle.std.proofs.lemmas.Bool.Decides.{Decides-eqb, Decides-ltb}
 use Rattle.command_words.specs.declared.arguments.Next.{Next}
 use Rattle.command_words.specs.declared.arguments.Next.TheVariants.{Any, Budget, Save, File}
 use Rattle.command_words.specs.Words.{IsPlain, Names, nothing, only_files, a_file, a_budget, joined_budget, a_save, joined_save, a_strip}
-use Rattle.command_words.specs.Reading.{Arguments, after, budget_in, value_behind, with_any, with_budget, with_file, with_image, with_other, with_save, with_unvalued, with_value}
+use Rattle.command_words.specs.Reading.{Arguments, after, number_in, value_behind, with_any, with_budget, with_file, with_image, with_other, with_save, with_unvalued, with_value}
 
 abbrev pub state : (files : List (List ℕ)) (budget : Option ℕ) (save : Option (List ℕ)) (strip : Bool) (next : Next) → Arguments
 state files budget save strip next = record { files = files; budget = budget; save = save; strip = strip; next = next }
@@ -14,7 +14,7 @@ state files budget save strip next = record { files = files; budget = budget; sa
 
 pub data BudgetStep : Option ℕ → List (List ℕ) → Option ℕ → Type 0 where
   budget_stays : {budget : Option ℕ} → BudgetStep budget [] budget
-  budget_set : {digits : List ℕ} {budget : ℕ} → budget_in digits ≡ Some budget → BudgetStep None (digits ∷ []) (Some budget)
+  budget_set : {digits : List ℕ} {budget : ℕ} → number_in digits ≡ Some budget → BudgetStep None (digits ∷ []) (Some budget)
 
 pub data SaveStep : Option (List ℕ) → List (List ℕ) → Option (List ℕ) → Type 0 where
   save_stays : {save : Option (List ℕ)} → SaveStep save [] save
@@ -82,12 +82,12 @@ plain_any (c ∷ word) a h =
 module _ (words files' budgets saves : List (List ℕ)) (strips : ℕ) (files : List (List ℕ)) (budget : Option ℕ) (save : Option (List ℕ)) (strip : Bool) (all : List (List ℕ)) (budget' : Option ℕ) (save' : Option (List ℕ)) (strip' : Bool) where
   budget_read : (digits : List ℕ) (next : Next) → ((set : Option ℕ) → Comes files set save strip files' budgets saves strips all budget' save' strip' → Reaches (state files set save strip Any) words all budget' save' strip')
       → Comes files budget save strip files' (digits ∷ budgets) saves strips all budget' save' strip'
-      → (last : Next) × (option_and_then (λ b. after b words) (with_budget (budget_in digits) (state files budget save strip next)) ≡ Some (state all budget' save' strip' last))
+      → (last : Next) × (option_and_then (λ b. after b words) (with_budget (number_in digits) (state files budget save strip next)) ≡ Some (state all budget' save' strip' last))
   budget_read digits next further c = by budgets budget budget' further c.all_files c.few c.has_save c.has_strip c.has_budget
     where
       by : (budgets : List (List ℕ)) (budget budget' : Option ℕ) → ((set : Option ℕ) → Comes files set save strip files' budgets saves strips all budget' save' strip' → Reaches (state files set save strip Any) words all budget' save' strip')
           → all ≡ files ++ files' → length all ≤ 2 → SaveStep save saves save' → StripStep strip strips strip' → BudgetStep budget (digits ∷ budgets) budget'
-          → (last : Next) × (option_and_then (λ b. after b words) (with_budget (budget_in digits) (state files budget save strip next)) ≡ Some (state all budget' save' strip' last))
+          → (last : Next) × (option_and_then (λ b. after b words) (with_budget (number_in digits) (state files budget save strip next)) ≡ Some (state all budget' save' strip' last))
       by budgets budget budget' further e few v s (budget_set {budget = n} is) =
           let r = further (Some n) (record { all_files = e; few = few; has_budget = budget_stays; has_save = v; has_strip = s }) in
           (r.next, rw is r.reached)

@@ -1,5 +1,5 @@
 pub mod Fronts
-pub mod Budgets
+pub mod Numbers
 pub mod Completing
 pub mod Naming
 pub mod Asking

@@ -7,7 +7,7 @@ use Rattle.std.proofs.lemmas.Slice.Eq.{bytes_eq-Decides}
 use Rattle.command_words.specs.declared.arguments.Next.{Next}
 use Rattle.command_words.specs.declared.arguments.Next.TheVariants.{Any, Budget, Save, File}
 use Rattle.command_words.specs.Words.{IsPlain, Names, nothing, only_files, a_file, a_budget, joined_budget, a_save, joined_save, a_strip}
-use Rattle.command_words.specs.Reading.{Arguments, after, begins_option, budget_in, value_behind, with_budget, with_file, with_image, with_other, with_save, with_strip, with_value}
+use Rattle.command_words.specs.Reading.{Arguments, after, begins_option, number_in, value_behind, with_budget, with_file, with_image, with_other, with_save, with_strip, with_value}
 use Rattle.command_words.proofs.Fronts.{is_front}
 use Rattle.command_words.proofs.Completing.{state, BudgetStep, budget_stays, budget_set, SaveStep, save_stays, save_set, StripStep, strip_stays, strip_set, Comes}
 
@@ -68,7 +68,7 @@ with_first : {files : List (List ℕ)} {budget : Option ℕ} {save : Option (Lis
 with_first {files = files} {files' = more} word c =
     record { all_files = c.all_files ∙ append_assoc files (word ∷ []) more; few = c.few; has_budget = c.has_budget; has_save = c.has_save; has_strip = c.has_strip }
 
-set_then : {n : ℕ} {budgets : List (List ℕ)} {budget' : Option ℕ} (digits : List ℕ) → budget_in digits ≡ Some n → BudgetStep (Some n) budgets budget' → BudgetStep None (digits ∷ budgets) budget'
+set_then : {n : ℕ} {budgets : List (List ℕ)} {budget' : Option ℕ} (digits : List ℕ) → number_in digits ≡ Some n → BudgetStep (Some n) budgets budget' → BudgetStep None (digits ∷ budgets) budget'
 set_then digits e budget_stays = budget_set e
 
 save_then : {image : List ℕ} {saves : List (List ℕ)} {save' : Option (List ℕ)} → SaveStep (Some image) saves save' → SaveStep None (image ∷ saves) save'
@@ -98,7 +98,7 @@ module _ (word : List ℕ) (words : List (List ℕ)) (end : Arguments) (further 
   file_behind t files budget save strip test e = with_first word (is_file t File files budget save strip test e)
 
   -- the digits are the value of `--budget`
-  is_budget : (digits : List ℕ) (m : Option ℕ) (next : Next) (files : List (List ℕ)) (budget : Option ℕ) (save : Option (List ℕ)) (strip : Bool) → budget_in digits ≡ m → length files ≤ 2
+  is_budget : (digits : List ℕ) (m : Option ℕ) (next : Next) (files : List (List ℕ)) (budget : Option ℕ) (save : Option (List ℕ)) (strip : Bool) → number_in digits ≡ m → length files ≤ 2
       → option_and_then (λ b. after b words) (with_budget m (state files budget save strip next)) ≡ Some end
       → (n : Named files m save strip words end) × Comes files budget save strip n.files' (digits ∷ n.budgets) n.saves n.strips end.files end.budget end.save end.strip
   is_budget digits None next files budget save strip m few e = absurd (cc)
@@ -157,7 +157,7 @@ module _ (word : List ℕ) (words : List (List ℕ)) (end : Arguments) (further 
       → option_and_then (λ b. after b words) (with_value v word (state files budget save strip Any)) ≡ Some end → Named files budget save strip (word ∷ words) end
   by_value None files budget save strip v few e = by_image (value_behind (codes "--save=") word) files budget save strip refl few e
   by_value (Some digits) files budget save strip v few e =
-      let r = is_budget digits (budget_in digits) Any files budget save strip refl few e in
+      let r = is_budget digits (number_in digits) Any files budget save strip refl few e in
       let n = r.0 in
       record {
         files' = n.files';
@@ -216,7 +216,7 @@ named [] end File files budget save strip few e = nothing_more end File files bu
 named (word ∷ words) end Any files budget save strip few e =
     by_name word words end (named words end) (bytes_eq word (codes "--")) (bytes_eq word (codes "--budget")) (bytes_eq word (codes "--save")) (bytes_eq word (codes "--strip")) files budget save strip refl refl refl refl few e
 named (word ∷ words) end Budget files budget save strip few e =
-    let r = is_budget word words end (named words end) word (budget_in word) Budget files budget save strip refl few e in
+    let r = is_budget word words end (named words end) word (number_in word) Budget files budget save strip refl few e in
     let n = r.0 in
     record { digits = word; words' = words; are = refl; files' = n.files'; budgets = n.budgets; saves = n.saves; strips = n.strips; names = n.names; comes = r.1 }
 named (word ∷ words) end Save files budget save strip few e =

@@ -1,10 +1,10 @@
 -- How words are read one after another, for the functions that read them. What words ask for is said in `Words`.
-use Rattle.std.specs.Prelude.{ℕ, ◌^◌, List, [], ◌∷◌, ◌++◌, length, Bool, true, false, ◌&&◌, not, nat_eq, nat_lt, nat_le, if◌then◌else◌, Option, Some, None, option_and_then, unwrap_or, codes}
+use Rattle.std.specs.Prelude.{ℕ, ◌^◌, List, [], ◌∷◌, ◌++◌, length, Bool, true, false, ◌&&◌, not, nat_eq, nat_lt, nat_le, if◌then◌else◌, Option, Some, None, option_and_then, option_map, unwrap_or, codes}
 use Rattle.std.specs.Char.{is_digit}
 use Rattle.std.specs.List.{list_all}
 use Rattle.std.specs.Str.{bytes_eq}
 use Rattle.std.specs.Str.Parse.{digits_value}
-use Rattle.command_words.specs.Words.{Command, run, resume, check, compile}
+use Rattle.command_words.specs.Words.{Command, run, resume, check, compile, work}
 use Rattle.command_words.specs.declared.arguments.Next.{Next}
 use Rattle.command_words.specs.declared.arguments.Next.TheVariants.{Any, Budget, Save, File}
 
@@ -38,8 +38,15 @@ with_save image a = elim a.save [ None ↦ Some (record a { save = Some image; n
 abbrev pub all_digits : List ℕ → Bool
 all_digits text = list_all (λ byte. is_digit byte 10) text
 
-abbrev pub budget_in : List ℕ → Option ℕ
-budget_in text = if nat_le (length text) 15 && all_digits text && nat_lt 0 (digits_value 10 text) then Some (digits_value 10 text) else None
+abbrev pub number_in : List ℕ → Option ℕ
+number_in text = if nat_le (length text) 15 && all_digits text && nat_lt 0 (digits_value 10 text) then Some (digits_value 10 text) else None
+
+abbrev pub up_to : (most : ℕ) → Option ℕ → Option ℕ
+up_to most (Some number) = if nat_le number most then Some number else None
+up_to most None = None
+
+abbrev pub count_in : List ℕ → Option ℕ
+count_in text = up_to 10000 (number_in text)
 
 -- what stands behind a front of the word
 abbrev pub value_behind : (front word : List ℕ) → Option (List ℕ)
@@ -59,7 +66,7 @@ with_image (Some image) word a = with_save image a
 with_image None word a = with_unvalued word a
 
 abbrev pub with_value : Option (List ℕ) → List ℕ → Arguments → Option Arguments
-with_value (Some digits) word a = with_budget (budget_in digits) a
+with_value (Some digits) word a = with_budget (number_in digits) a
 with_value None word a = with_image (value_behind (codes "--save=") word) word a
 
 abbrev pub with_other : List ℕ → Arguments → Option Arguments
@@ -74,7 +81,7 @@ with_any word a =
     else with_other word a
 
 abbrev pub with_word : List ℕ → Arguments → Option Arguments
-with_word word a = elim a.next [ Any ↦ with_any word a | Budget ↦ with_budget (budget_in word) a | Save ↦ with_save word a | File ↦ with_file word a ]
+with_word word a = elim a.next [ Any ↦ with_any word a | Budget ↦ with_budget (number_in word) a | Save ↦ with_save word a | File ↦ with_file word a ]
 
 -- `--budget` and `--save` have a value
 abbrev pub complete : Arguments → Option Arguments
@@ -123,12 +130,20 @@ to_check a = if not a.strip && unset a.budget a.save then checking a.files else 
 abbrev pub to_compile : Arguments → Option Command
 to_compile a = if unset a.budget a.save then compiling a.files a.strip else None
 
+abbrev pub working : (files : List (List ℕ)) → Option Command
+working (digits ∷ []) = option_map work (count_in digits)
+working _ = None
+
+abbrev pub to_work : Arguments → Option Command
+to_work a = if not a.strip && unset a.budget a.save then working a.files else None
+
 abbrev pub command_with : (name : List ℕ) → Arguments → Option Command
 command_with name a =
     if bytes_eq name (codes "run") then to_run a
     else if bytes_eq name (codes "resume") then to_resume a
     else if bytes_eq name (codes "check") then to_check a
-    else if bytes_eq name (codes "compile") then to_compile a else None
+    else if bytes_eq name (codes "compile") then to_compile a
+    else if bytes_eq name (codes "work") then to_work a else None
 
 abbrev pub command_of : List (List ℕ) → Option Command
 command_of [] = None

@@ -5,12 +5,13 @@ use Rattle.std.specs.Str.Parse.{IsNumeral, digits_value}
 
 -- To run the script or the chunk in a file, or to go on with the session in an image, each turn with a budget, and to save the session in a file where
 -- it waits at the end of the input; to check the chunk in a file; to compile the script in a file into a chunk in another one, with lines and names or
--- without.
+-- without; to run a script that is work alone, with so many functions.
 pub data Command : Type 0 where
   run : (file : List ℕ) (budget : ℕ) (save : Option (List ℕ)) → Command
   resume : (image : List ℕ) (budget : ℕ) (save : Option (List ℕ)) → Command
   check : (file : List ℕ) → Command
   compile : (script chunk : List ℕ) (strip : Bool) → Command
+  work : (count : ℕ) → Command
 
 -- the word is a file where it stands before `--`
 abbrev pub IsPlain : List ℕ → Type 0
@@ -30,16 +31,16 @@ pub data Names : (words files budgets saves : List (List ℕ)) (strips : ℕ) �
   a_strip : {words files budgets saves : List (List ℕ)} {strips : ℕ} → Names words files budgets saves strips → Names (codes "--strip" ∷ words) files budgets saves (suc strips)
 
 -- one to fifteen digits of a number from 1 on
-pub record IsBudget (text : List ℕ) (budget : ℕ) : Type 0 where
+pub record IsNumber (text : List ℕ) (number : ℕ) : Type 0 where
   pub short : length text ≤ 15
   pub digits : IsNumeral 10 text
-  pub value : budget ≡ digits_value 10 text
-  pub positive : 0 < budget
+  pub value : number ≡ digits_value 10 text
+  pub positive : 0 < number
 
 -- the budget that is named, or where none is 10,000,000
 pub data BudgetOf : List (List ℕ) → ℕ → Type 0 where
   default_budget : BudgetOf [] 10000000
-  named_budget : (digits : List ℕ) (budget : ℕ) → IsBudget digits budget → BudgetOf (digits ∷ []) budget
+  named_budget : (digits : List ℕ) (budget : ℕ) → IsNumber digits budget → BudgetOf (digits ∷ []) budget
 
 -- a file's name has at most 65,536 bytes
 abbrev pub IsShortName : List ℕ → Type 0
@@ -64,13 +65,15 @@ pub data IsCommand : (words : List (List ℕ)) → Command → Type 0 where
   checks : (words : List (List ℕ)) (file : List ℕ) → Names words (file ∷ []) [] [] zero → IsShortName file → IsCommand (codes "check" ∷ words) (check file)
   compiles : (words : List (List ℕ)) (script chunk : List ℕ) (strips : ℕ) (strip : Bool) → Names words (script ∷ chunk ∷ []) [] [] strips → IsShortName script → IsShortName chunk → StripOf strips strip
       → IsCommand (codes "compile" ∷ words) (compile script chunk strip)
+  works : (words : List (List ℕ)) (digits : List ℕ) (count : ℕ) → Names words (digits ∷ []) [] [] zero → IsNumber digits count → count ≤ 10000 → IsCommand (codes "work" ∷ words) (work count)
 
--- a command's files have short names
+-- a command's files have short names, and its functions are few enough
 abbrev pub AreShort : Command → Type 0
 AreShort (run file budget save) = IsShortName file × IfSome save IsShortName
 AreShort (resume image budget save) = IsShortName image × IfSome save IsShortName
 AreShort (check file) = IsShortName file
 AreShort (compile script chunk strip) = IsShortName script × IsShortName chunk
+AreShort (work count) = (0 < count) × (count ≤ 10000)
 
 -- the words ask for no command
 abbrev pub AreWrong : List (List ℕ) → Type 0

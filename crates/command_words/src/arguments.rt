@@ -2,18 +2,21 @@
 ghost use Rattle.std.specs.Prelude.{◌≡◌, ◌≢◌, ◌++◌, ℕ, List, IfSome, MatchOption, false, map, string_bytes};
 ghost use Rattle.std.specs.Option.{option_map};
 ghost use Rattle.command_words.specs.Kept.{arguments_of, asked};
-ghost use Rattle.command_words.specs.Reading.{after, all_digits, begins_option, budget_in, complete, is_short, may_be_saved, no_arguments, to_check, to_compile, to_resume, to_run, unset, value_behind, with_any, with_budget, with_file, with_other, with_save, with_strip, with_word};
+ghost use Rattle.command_words.specs.Reading.{after, all_digits, begins_option, complete, count_in, is_short, may_be_saved, no_arguments, number_in, to_check, to_compile, to_resume, to_run, to_work, unset, value_behind, with_any, with_budget, with_file, with_other, with_save, with_strip, with_word};
 
 use crate::command::Command;
 
 /// The greatest number of bytes in a file's name.
 const MAX_FILE_NAME: usize = 65_536;
 
-/// The greatest number of digits of a budget.
-const MAX_BUDGET_DIGITS: usize = 15;
+/// The greatest number of digits of a number.
+const MAX_DIGITS: usize = 15;
 
 /// How many calls and jumps back a turn may do where the words do not say.
 const DEFAULT_BUDGET: u64 = 10_000_000;
+
+/// The greatest number of functions of a script that is work alone.
+const MAX_COUNT: u64 = 10_000;
 
 /// The files that words name.
 #[derive(Clone, Copy)]
@@ -141,9 +144,9 @@ impl<'a> Arguments<'a> {
     }
 
     fn with_budget(self, digits: &str) -> Option<Arguments<'a>>
-        ensures { option_map arguments_of result ≡ with_budget (budget_in digits.now) (arguments_of self.entry) }
+        ensures { option_map arguments_of result ≡ with_budget (number_in digits.now) (arguments_of self.entry) }
     {
-        let budget = budget_in(digits)?;
+        let budget = number_in(digits)?;
         match self.budget {
             None => Some(Arguments {
                 files: self.files,
@@ -259,6 +262,28 @@ impl<'a> Arguments<'a> {
             _ => None,
         }
     }
+
+    pub(crate) fn to_work(self) -> Option<Command<'a>>
+        ensures { option_map asked result ≡ to_work (arguments_of self.entry) }
+    {
+        match self.files {
+            Files::One(digits) if !self.strip && self.has_no_value() => {
+                let count = count_in(digits)?;
+                Some(Command::Work { count })
+            }
+            _ => None,
+        }
+    }
+}
+
+/// How many functions the digits ask for.
+fn count_in(digits: &str) -> Option<u32>
+    ensures { result ≡ count_in digits.now }
+{
+    match number_in(digits) {
+        Some(count) if count <= MAX_COUNT => Some(count as u32),
+        _ => None,
+    }
 }
 
 /// Whether the image to save has a name that is short enough and not empty, where there is one.
@@ -295,15 +320,15 @@ fn is_short(file: &str) -> bool
     file.len() <= MAX_FILE_NAME
 }
 
-/// The budget that one to fifteen digits spell.
-fn budget_in(digits: &str) -> Option<u64>
-    ensures { result ≡ budget_in digits.now }
+/// The number from 1 on that one to fifteen digits spell.
+fn number_in(digits: &str) -> Option<u64>
+    ensures { result ≡ number_in digits.now }
 {
-    if digits.len() > MAX_BUDGET_DIGITS || !all_digits(digits.as_bytes()) {
+    if digits.len() > MAX_DIGITS || !all_digits(digits.as_bytes()) {
         return None;
     }
     match digits.parse::<u64>() {
-        Ok(budget) if budget > 0 => Some(budget),
+        Ok(number) if number > 0 => Some(number),
         _ => None,
     }
 }

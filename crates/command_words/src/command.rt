@@ -1,8 +1,8 @@
 // The commands, and the words that ask for each.
 ghost use Rattle.std.specs.Prelude.{◌≡◌, IfSome, None, map, string_bytes};
 ghost use Rattle.std.specs.Option.{option_map};
-ghost use Rattle.command_words.specs.Kept.{asked};
-ghost use Rattle.command_words.specs.Reading.{command_of};
+ghost use Rattle.command_words.specs.Kept.{arguments_of, asked};
+ghost use Rattle.command_words.specs.Reading.{command_of, command_with};
 ghost use Rattle.command_words.specs.Words.{AreShort, AreWrong, IsCommand};
 
 use crate::arguments::Arguments;
@@ -42,10 +42,15 @@ pub enum Command<'a> {
         /// Whether lines and names are left out.
         strip: bool,
     },
+    /// To run a script that is work alone.
+    Work {
+        /// How many functions it makes and calls, from 1 to 10,000.
+        count: u32,
+    },
 }
 
 /// What words ask for, unless they are wrong. The first word names the command: `run FILE [--budget N] [--save IMG]`,
-/// `resume IMG [--budget N] [--save IMG2]`, `check FILE` or `compile FILE OUT [--strip]`.
+/// `resume IMG [--budget N] [--save IMG2]`, `check FILE`, `compile FILE OUT [--strip]` or `work N`.
 /// Options stand before or after the files, each once at most; behind `--` every word is a file.
 pub fn read_words(words: &[String]) -> Option<Command<'_>>
     ensures command { IfSome result (λ command. IsCommand (map string_bytes words.now) (asked command)) }
@@ -60,11 +65,18 @@ fn command_in(words: &[String]) -> Option<Command<'_>>
 {
     let (name, rest) = words.split_first()?;
     let arguments = Arguments::read(rest)?;
-    match name.as_str() {
+    command_named(name.as_str(), arguments)
+}
+
+fn command_named<'a>(name: &str, arguments: Arguments<'a>) -> Option<Command<'a>>
+    ensures { option_map asked result ≡ command_with name.now (arguments_of arguments.entry) }
+{
+    match name {
         "run" => arguments.to_run(),
         "resume" => arguments.to_resume(),
         "check" => arguments.to_check(),
         "compile" => arguments.to_compile(),
+        "work" => arguments.to_work(),
         _ => None,
     }
 }

@@ -1,5 +1,5 @@
-use Rattle.command_words.proofs.Budgets.{no_number}
-use Rattle.command_words.proofs.arguments.budget_in.Goals as goal
+use Rattle.command_words.proofs.Numbers.{no_number}
+use Rattle.command_words.proofs.arguments.number_in.Goals as goal
 
 pub returns-in_default-2 : goal.returns-in_default-2
 returns-in_default-2 c = no_number c.args.digits.now c.in_default.ensures.value.0
