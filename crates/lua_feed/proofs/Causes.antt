@@ -54,6 +54,9 @@ same_output Output r s a b = ap is_output_fault a ∙ sym (ap is_output_fault b)
 same_output Limit r s a b = ap is_output_fault a ∙ sym (ap is_output_fault b)
 same_output Memory r s a b = ap is_output_fault a ∙ sym (ap is_output_fault b)
 
+pub same_limit : (e : FeedFault) {T B : Type 0} (r : Result T FeedFault) (s : Result B FeedFault) → r ≡ Err e → s ≡ Err e → IsErrOf s Limit → IsErrOf r Limit
+same_limit e r s a b k = let is : s ≡ Err Limit = k in cc
+
 -- the count since an earlier moment, between which and the call nothing failed
 pub cause_since : (first before now : ℕ) (failed told : Bool) → before ≡ first → failed ≡ told → HasCause before now failed → HasCause first now told
 cause_since first before now failed told e f h = subst (HasCause first now) f (subst (λ n. HasCause n now failed) e h)

@@ -1,17 +1,19 @@
 -- What the feeding of a script has done so far, and how it goes on and closes.
-use Rattle.std.proofs.Common.{◌≡◌, ℕ, zero, suc, ◌+◌, true, List, [], ◌∷◌, ◌++◌, Option, Some, None, refl, sym, ◌∙◌, ap, append_assoc, append-nil, length, subst, take, inl, inr}
+use Rattle.std.proofs.Common.{◌≡◌, ℕ, zero, suc, ◌+◌, true, false, List, [], ◌∷◌, ◌++◌, Option, Some, None, refl, sym, ◌∙◌, ap, append_assoc, append-nil, length, subst, take}
 use Rattle.std.specs.Prelude.{option_map, IfSome}
 use Rattle.list_laws.proofs.Items.{some_same}
 use Rattle.machine_core.specs.World.{World}
-use Rattle.machine_core.specs.Moves.{Ending, main_yielded, Row}
+use Rattle.machine_core.specs.Moves.{Ending, main_yielded, main_returned, main_failed, spent, Row}
 use Rattle.machine_runs.specs.Opening.{handed_line}
 use Rattle.machine_runs.specs.Runs.{is_end, is_suspended, Run, turn_text, closes, behind, run_from, CodeRun}
 use Rattle.lua_heap.specs.declared.world.World.{World as Memory}
 use Rattle.lua_heap.specs.Plain.{plain}
 use Rattle.io_edge.specs.Content.{GrowsByFront}
-use Rattle.io_edge.specs.Lines.{lines_of, TakesLine, BeginsPastLimits}
+use Rattle.io_edge.specs.Lines.{lines_of, TakesLine, BeginsPastLimits, IsWithinLimits}
 use Rattle.lua_driver.specs.Turns.{Turns}
-use Rattle.lua_feed.specs.Feeding.{Does, IsFedTo, IsFront, IsFedFront, OnlyGrows, PassLimits}
+use Rattle.lua_feed.specs.Feeding.{Does, IsCutOff, IsFedTo, IsFront, IsFedFront, OnlyGrows}
+use Rattle.lua_feed.specs.Limits.{lines_within, pass_limits, usable_lines, passes_limits}
+use Rattle.lua_feed.proofs.Limits.{keeps_within, passes_on, none_usable, passes_now, none_left, none_past}
 use Rattle.lua_feed.proofs.Runs.{close_at, is_last, Comes, GoesOn, PrintsFirst, comes_none, comes_on, ends_here, suspends_here, turn_prints}
 
 -- fronts
@@ -46,14 +48,14 @@ front_all xs ys None (Some a) e = absurd (cc)
 front_all xs ys (Some b) (Some a) e =
     (b, longer xs 0, refl, some_same a (b ++ xs) e ∙ ap (λ t. b ++ t) (sym (append-nil xs) ∙ sym (take_longer xs ys 0)))
 
-front_behind : (xs ys : List ℕ) (before between after : Option (List ℕ)) → between ≡ option_map (λ t. t ++ xs) before → GrowsByFront ys between after → GrowsByFront (xs ++ ys) before after
+pub front_behind : (xs ys : List ℕ) (before between after : Option (List ℕ)) → between ≡ option_map (λ t. t ++ xs) before → GrowsByFront ys between after → GrowsByFront (xs ++ ys) before after
 front_behind xs ys before between None e h = tt
 front_behind xs ys None between (Some a) e h = let n : None ≡ Some h.0 = sym e ∙ h.2 in absurd (cc)
 front_behind xs ys (Some b) between (Some a) e h =
     let first : h.0 ≡ b ++ xs = some_same h.0 (b ++ xs) (sym h.2 ∙ e) in
     (b, longer xs h.1, refl, h.3 ∙ ap (λ t. t ++ take h.1 ys) first ∙ append_assoc b xs (take h.1 ys) ∙ ap (λ t. b ++ t) (sym (take_longer xs ys h.1)))
 
-grows_twice : (xs ys : List ℕ) (before between after : Option (List ℕ)) → between ≡ option_map (λ t. t ++ xs) before → after ≡ option_map (λ t. t ++ ys) between → after ≡ option_map (λ t. t ++ (xs ++ ys)) before
+pub grows_twice : (xs ys : List ℕ) (before between after : Option (List ℕ)) → between ≡ option_map (λ t. t ++ xs) before → after ≡ option_map (λ t. t ++ ys) between → after ≡ option_map (λ t. t ++ (xs ++ ys)) before
 grows_twice xs ys None between after e f = f ∙ ap (option_map (λ t. t ++ ys)) e
 grows_twice xs ys (Some b) between after e f = f ∙ ap (option_map (λ t. t ++ ys)) e ∙ ap Some (append_assoc b xs ys)
 
@@ -88,19 +90,36 @@ same_lines : (text : Option (List ℕ)) → option_map lines_of text ≡ option_
 same_lines None = refl
 same_lines (Some t) = refl
 
-abbrev rest_lines : Option (List ℕ) → List (List ℕ)
-rest_lines None = []
-rest_lines (Some t) = lines_of t
+abbrev rest_lines : ℕ → Option (List ℕ) → List (List ℕ)
+rest_lines taken None = []
+rest_lines taken (Some t) = usable_lines taken t
 
-are_lines : (used : List (List ℕ)) (text rest : Option (List ℕ)) → option_map lines_of text ≡ option_map (λ t. used ++ lines_of t) rest → IfSome text (λ bytes. used ++ rest_lines rest ≡ lines_of bytes)
-are_lines used None rest e = tt
-are_lines used (Some b) None e = absurd (cc)
-are_lines used (Some b) (Some t) e = sym (some_same (lines_of b) (used ++ lines_of t) e)
+abbrev all_rest : Option (List ℕ) → List (List ℕ)
+all_rest None = []
+all_rest (Some t) = lines_of t
 
-no_lines : (rest : Option (List ℕ)) → IfSome rest (λ text. text ≡ []) → rest_lines rest ≡ []
+none_rest : (rest : Option (List ℕ)) → IfSome rest (λ text. text ≡ []) → all_rest rest ≡ []
 unfolding lines_of
-no_lines None e = refl
-no_lines (Some t) e = ap lines_of e
+none_rest None e = refl
+none_rest (Some t) e = ap lines_of e
+
+-- where the input tells its bytes, what is known of the usable lines, and more
+pub told_within : (Runs : List (List ℕ) → Type 0) (Q : List ℕ → Type 0) (taken : ℕ) (lines : List (List ℕ)) (text : Option (List ℕ)) → IfSome text (λ bytes. lines ≡ usable_lines taken bytes) → Runs lines → IfSome text Q
+    → IfSome text (λ bytes. Runs (usable_lines taken bytes) × Q bytes)
+told_within Runs Q taken lines None are runs more = tt
+told_within Runs Q taken lines (Some b) are runs more = (subst Runs are runs, more)
+
+pub told_all : (Q : List ℕ → Type 0) (text : Option (List ℕ)) → ((bytes : List ℕ) → Q bytes) → IfSome text Q
+told_all Q None q = tt
+told_all Q (Some b) q = q b
+
+no_lines : (taken : ℕ) (rest : Option (List ℕ)) → IfSome rest (λ text. text ≡ []) → rest_lines taken rest ≡ []
+no_lines taken None e = refl
+no_lines taken (Some t) e = none_left taken t e
+
+cut_lines : (taken : ℕ) (rest : Option (List ℕ)) → IfSome rest (BeginsPastLimits taken) → rest_lines taken rest ≡ []
+cut_lines taken None p = refl
+cut_lines taken (Some t) p = none_usable taken t p
 
 one_more : (used : List (List ℕ)) (line : List ℕ) (text rest next : Option (List ℕ)) → option_map lines_of text ≡ option_map (λ t. used ++ lines_of t) rest → option_map lines_of rest ≡ option_map (λ t. line ∷ lines_of t) next
     → option_map lines_of text ≡ option_map (λ t. (used ++ line ∷ []) ++ lines_of t) next
@@ -134,18 +153,41 @@ pub record Feeding (rows : ℕ → Row) (budget : ℕ) (start : Memory) (text be
   pub comes : Comes rows budget (plain start 0) (plain now 0) used printed
   pub lines : option_map lines_of text ≡ option_map (λ t. used ++ lines_of t) rest
   pub grown : after ≡ option_map (λ t. t ++ printed) before
-  pub limits : (more : List (List ℕ)) → PassLimits taken more → PassLimits first (used ++ more)
+  pub usable : (more : List (List ℕ)) → lines_within first (used ++ more) ≡ used ++ lines_within taken more
+  pub passing : (more : List (List ℕ)) → pass_limits first (used ++ more) ≡ pass_limits taken more
+
+-- the lines that may be handed over, and whether one is past the limits
+module _ (rows : ℕ → Row) (budget : ℕ) (start : Memory) (before : Option (List ℕ)) (first : ℕ) (now : Memory) (after : Option (List ℕ)) (taken : ℕ) where
+  are_lines : (text rest : Option (List ℕ)) (f : Feeding rows budget start text before first now rest after taken) → IfSome text (λ bytes. f.used ++ rest_lines taken rest ≡ usable_lines first bytes)
+  are_lines None rest f = tt
+  are_lines (Some b) None f = let e = f.lines in absurd (cc)
+  are_lines (Some b) (Some t) f = sym (ap (lines_within first) (some_same (lines_of b) (f.used ++ lines_of t) f.lines) ∙ f.usable (lines_of t))
+
+  all_lines : (text rest : Option (List ℕ)) (f : Feeding rows budget start text before first now rest after taken) → IfSome text (λ bytes. f.used ++ all_rest rest ≡ lines_of bytes)
+  all_lines None rest f = tt
+  all_lines (Some b) None f = let e = f.lines in absurd (cc)
+  all_lines (Some b) (Some t) f = sym (some_same (lines_of b) (f.used ++ lines_of t) f.lines)
+
+  all_used : (text rest : Option (List ℕ)) → Feeding rows budget start text before first now rest after taken → IfSome rest (λ t. t ≡ []) → IfSome text (λ bytes. passes_limits first bytes ≡ false)
+  all_used None rest f none = tt
+  all_used (Some b) None f none = let e = f.lines in absurd (cc)
+  all_used (Some b) (Some t) f none = ap (pass_limits first) (some_same (lines_of b) (f.used ++ lines_of t) f.lines) ∙ f.passing (lines_of t) ∙ none_past taken t none
+
+  one_past : (text rest : Option (List ℕ)) → Feeding rows budget start text before first now rest after taken → IfSome rest (BeginsPastLimits taken) → IfSome text (λ bytes. passes_limits first bytes ≡ true)
+  one_past None rest f p = tt
+  one_past (Some b) None f p = let e = f.lines in absurd (cc)
+  one_past (Some b) (Some t) f p = ap (pass_limits first) (some_same (lines_of b) (f.used ++ lines_of t) f.lines) ∙ f.passing (lines_of t) ∙ passes_now taken t p
 
 pub fed_none : (rows : ℕ → Row) (budget : ℕ) (start : Memory) (text before : Option (List ℕ)) (first : ℕ) → Feeding rows budget start text before first start text before first
 fed_none rows budget start text before first =
-    record { used = []; printed = []; comes = comes_none rows budget (plain start 0); lines = same_lines text; grown = grows_none before; limits = λ more p. p }
+    record { used = []; printed = []; comes = comes_none rows budget (plain start 0); lines = same_lines text; grown = grows_none before; usable = λ more. refl; passing = λ more. refl }
 
 -- it goes on by a turn that yields and a line that is handed over
 pub fed_on : (rows : ℕ → Row) (budget : ℕ) (start : Memory) (text before : Option (List ℕ)) (first : ℕ) (now mid new : Memory) (rest next after later : Option (List ℕ)) (taken taken' : ℕ) (line : List ℕ)
     → Feeding rows budget start text before first now rest after taken → Turns rows now mid budget main_yielded → ((fuel : ℕ) → plain new fuel ≡ handed_line (plain mid fuel) line)
-    → later ≡ option_map (λ t. t ++ turn_text main_yielded (plain mid 0)) after → TakesLine (Some line) rest next → taken' ≡ taken + length line + 1
+    → later ≡ option_map (λ t. t ++ turn_text main_yielded (plain mid 0)) after → TakesLine (Some line) rest next → IsWithinLimits taken line → taken' ≡ taken + length line + 1
     → Feeding rows budget start text before first new next later taken'
-fed_on rows budget start text before first now mid new rest next after later taken taken' line f t handed grown takes counts =
+fed_on rows budget start text before first now mid new rest next after later taken taken' line f t handed grown takes within counts =
     let c : Comes rows budget (plain start 0) (handed_line (plain mid t.left) line) (f.used ++ line ∷ []) (f.printed ++ turn_text main_yielded (plain mid t.left)) =
     comes_on rows budget (plain start 0) (plain now 0) (plain mid t.left) f.used f.printed t.count line f.comes t.is in
     let d : Comes rows budget (plain start 0) (plain new t.left) (f.used ++ line ∷ []) (f.printed ++ turn_text main_yielded (plain mid t.left)) =
@@ -156,46 +198,89 @@ fed_on rows budget start text before first now mid new rest next after later tak
       comes = come_by_fuel rows budget (plain start 0) new t.left 0 (f.used ++ line ∷ []) (f.printed ++ turn_text main_yielded (plain mid 0)) d;
       lines = one_more f.used line text rest next f.lines takes;
       grown = grows_twice f.printed (turn_text main_yielded (plain mid 0)) before after later f.grown grown;
-      limits = λ more p. subst (PassLimits first) (sym (append_assoc f.used (line ∷ []) more)) (f.limits (line ∷ more) (inr (subst (λ n. PassLimits n more) counts p)));
+      usable = λ more.
+          ap (lines_within first) (append_assoc f.used (line ∷ []) more) ∙ f.usable (line ∷ more)
+          ∙ ap (λ ls. f.used ++ ls) (keeps_within taken line more within ∙ ap (λ n. line ∷ lines_within n more) (sym counts)) ∙ sym (append_assoc f.used (line ∷ []) (lines_within taken' more));
+      passing = λ more. ap (pass_limits first) (append_assoc f.used (line ∷ []) more) ∙ f.passing (line ∷ more) ∙ passes_on taken line more within ∙ ap (λ n. pass_limits n more) (sym counts);
     }
+
+last_ends : (e : Ending) → is_last e ≡ true → close_at e ≡ is_suspended → ⊥
+last_ends main_returned h c = absurd (cc)
+last_ends main_failed h c = absurd (cc)
+last_ends spent h c = absurd (cc)
+last_ends _ h c = absurd (cc)
 
 -- it closes by a turn that no line follows
 pub fed_last : (rows : ℕ → Row) (budget : ℕ) (start : Memory) (text before : Option (List ℕ)) (first : ℕ) (now mid : Memory) (rest after later : Option (List ℕ)) (taken : ℕ) (e : Ending)
     → Feeding rows budget start text before first now rest after taken → Turns rows now mid budget e → is_last e ≡ true → later ≡ option_map (λ t. t ++ turn_text e (plain mid 0)) after
-    → IsFedTo (Does rows (plain start 0) budget) text before later (close_at e) mid
+    → IsFedTo (Does rows (plain start 0) budget) first text before later (close_at e) mid
 fed_last rows budget start text before first now mid rest after later taken e f t h grown =
     let r : Run = closes e (close_at e) (plain mid t.left) in
     record {
       fed = record {
-        lines = f.used ++ rest_lines rest;
-        are = are_lines f.used text rest f.lines;
+        lines = f.used ++ all_rest rest;
+        are = all_lines rows budget start before first now after taken text rest f;
         run = behind f.printed r;
-        runs = f.comes.goes (rest_lines rest) r (ends_here rows budget (plain now 0) (plain mid t.left) t.count e (rest_lines rest) h t.is);
+        runs = f.comes.goes (all_rest rest) r (ends_here rows budget (plain now 0) (plain mid t.left) t.count e (all_rest rest) h t.is);
         closes = refl;
         grown = grows_twice f.printed (turn_text e (plain mid 0)) before after later f.grown grown;
+        within = told_within (λ ls. CodeRun rows (plain start 0) ls budget (behind f.printed r)) (λ bytes. close_at e ≡ is_suspended → passes_limits first bytes ≡ false) first (f.used ++ rest_lines taken rest) text
+            (are_lines rows budget start before first now after taken text rest f)
+            (f.comes.goes (rest_lines taken rest) r (ends_here rows budget (plain now 0) (plain mid t.left) t.count e (rest_lines taken rest) h t.is))
+            (told_all (λ bytes. close_at e ≡ is_suspended → passes_limits first bytes ≡ false) text (λ bytes c. absurd (last_ends e h c)));
       };
       leaves = record { left = t.left; is = refl };
     }
 
--- it closes where no line is left
-pub fed_suspended : (rows : ℕ → Row) (budget : ℕ) (start : Memory) (text before : Option (List ℕ)) (first : ℕ) (now mid : Memory) (rest after later : Option (List ℕ)) (taken : ℕ)
-    → Feeding rows budget start text before first now rest after taken → Turns rows now mid budget main_yielded → IfSome rest (λ t. t ≡ []) → later ≡ option_map (λ t. t ++ turn_text main_yielded (plain mid 0)) after
-    → IsFedTo (Does rows (plain start 0) budget) text before later is_suspended mid
-fed_suspended rows budget start text before first now mid rest after later taken f t none grown =
-    let words : List ℕ = turn_text main_yielded (plain mid 0) in
-    let r : Run = behind words (record { printed = []; close = is_suspended; last = plain mid t.left }) in
-    record {
-      fed = record {
-        lines = f.used ++ rest_lines rest;
-        are = are_lines f.used text rest f.lines;
-        run = behind f.printed r;
-        runs = subst (λ ls. CodeRun rows (plain start 0) (f.used ++ ls) budget (behind f.printed r)) (sym (no_lines rest none))
-            (f.comes.goes [] r (suspends_here rows budget (plain now 0) (plain mid t.left) t.count t.is));
-        closes = refl;
-        grown = grows_twice f.printed (words ++ []) before after later f.grown (grown ∙ ap (λ w. option_map (λ t. t ++ w) after) (sym (append-nil words)));
-      };
-      leaves = record { left = t.left; is = refl };
-    }
+-- a run that waits for a line behind what was used
+module _ (rows : ℕ → Row) (budget : ℕ) (start : Memory) (text before : Option (List ℕ)) (first : ℕ) (now mid : Memory) (rest after later : Option (List ℕ)) (taken : ℕ)
+    (f : Feeding rows budget start text before first now rest after taken) (t : Turns rows now mid budget main_yielded) (grown : later ≡ option_map (λ t. t ++ turn_text main_yielded (plain mid 0)) after) where
+  abbrev waiting : Run
+  waiting = behind f.printed (behind (turn_text main_yielded (plain mid 0)) (record { printed = []; close = is_suspended; last = plain mid t.left }))
+
+  waits : (more : List (List ℕ)) → more ≡ [] → CodeRun rows (plain start 0) (f.used ++ more) budget waiting
+  waits more none =
+      subst (λ ls. CodeRun rows (plain start 0) (f.used ++ ls) budget waiting) (sym none)
+      (f.comes.goes [] (behind (turn_text main_yielded (plain mid 0)) (record { printed = []; close = is_suspended; last = plain mid t.left })) (suspends_here rows budget (plain now 0) (plain mid t.left) t.count t.is))
+
+  grew : later ≡ option_map (λ t. t ++ (f.printed ++ (turn_text main_yielded (plain mid 0) ++ []))) before
+  grew =
+      grows_twice f.printed (turn_text main_yielded (plain mid 0) ++ []) before after later f.grown
+      (grown ∙ ap (λ w. option_map (λ t. t ++ w) after) (sym (append-nil (turn_text main_yielded (plain mid 0)))))
+
+  told_so : (text : Option (List ℕ)) → IfSome text (λ bytes. passes_limits first bytes ≡ false) → IfSome text (λ bytes. is_suspended ≡ is_suspended → passes_limits first bytes ≡ false)
+  told_so None p = tt
+  told_so (Some b) p = λ same. p
+
+  -- where no line is left
+  pub fed_suspended : IfSome rest (λ t. t ≡ []) → IsFedTo (Does rows (plain start 0) budget) first text before later is_suspended mid
+  fed_suspended none = record {
+    fed = record {
+      lines = f.used ++ all_rest rest;
+      are = all_lines rows budget start before first now after taken text rest f;
+      run = waiting;
+      runs = waits (all_rest rest) (none_rest rest none);
+      closes = refl;
+      grown = grew;
+      within = told_within (λ ls. CodeRun rows (plain start 0) ls budget waiting) (λ bytes. is_suspended ≡ is_suspended → passes_limits first bytes ≡ false) first (f.used ++ rest_lines taken rest) text
+          (are_lines rows budget start before first now after taken text rest f)
+          (waits (rest_lines taken rest) (no_lines taken rest none))
+          (told_so text (all_used rows budget start before first now after taken text rest f none));
+    };
+    leaves = record { left = t.left; is = refl };
+  }
+
+  -- where the next line is past the limits
+  pub fed_cut : IfSome rest (BeginsPastLimits taken) → IsCutOff (Does rows (plain start 0) budget) first text before later
+  fed_cut p = record {
+    lines = f.used ++ rest_lines taken rest;
+    are = are_lines rows budget start before first now after taken text rest f;
+    run = waiting;
+    runs = waits (rest_lines taken rest) (cut_lines taken rest p);
+    waits = refl;
+    grown = grew;
+    past = one_past rows budget start before first now after taken text rest f p;
+  }
 
 -- where it stops at a fault, a front of what a run prints was written
 
@@ -219,25 +304,13 @@ pub front_written : (rows : ℕ → Row) (budget : ℕ) (now mid : Memory) (afte
 front_written rows budget now mid after later e t h g = front_of_turn rows budget now mid after later e t h (whole_front (turn_text e (plain mid 0)) after later g)
 
 pub fed_front : (rows : ℕ → Row) (budget : ℕ) (start : Memory) (text before : Option (List ℕ)) (first : ℕ) (now : Memory) (rest after later : Option (List ℕ)) (taken : ℕ)
-    → Feeding rows budget start text before first now rest after taken → IsFront rows (plain now 0) budget after later → IsFedFront (Does rows (plain start 0) budget) text before later
+    → Feeding rows budget start text before first now rest after taken → IsFront rows (plain now 0) budget after later → IsFedFront (Does rows (plain start 0) budget) first text before later
 fed_front rows budget start None before first now rest after later taken f k = record { is = tt }
 fed_front rows budget start (Some b) before first now rest after later taken f k =
     record {
       is = λ r x.
-          let lines : f.used ++ rest_lines rest ≡ lines_of b = are_lines f.used (Some b) rest f.lines in
-          let x' : CodeRun rows (plain start 0) (f.used ++ rest_lines rest) budget r = subst (λ ls. CodeRun rows (plain start 0) ls budget r) (sym lines) x in
-          let g : GoesOn rows budget (plain now 0) (rest_lines rest) f.printed r = f.comes.back (rest_lines rest) r x' in
-          subst (λ (r : Run). GrowsByFront r.printed before later) g.is (front_behind f.printed g.rest.printed before after later f.grown (k.is (rest_lines rest) g.rest g.runs));
+          let lines : f.used ++ rest_lines taken rest ≡ usable_lines first b = are_lines rows budget start before first now after taken (Some b) rest f in
+          let x' : CodeRun rows (plain start 0) (f.used ++ rest_lines taken rest) budget r = subst (λ ls. CodeRun rows (plain start 0) ls budget r) (sym lines) x in
+          let g : GoesOn rows budget (plain now 0) (rest_lines taken rest) f.printed r = f.comes.back (rest_lines taken rest) r x' in
+          subst (λ (r : Run). GrowsByFront r.printed before later) g.is (front_behind f.printed g.rest.printed before after later f.grown (k.is (rest_lines taken rest) g.rest g.runs));
     }
-
--- a line past the limits
-
-pub begins_past : (taken : ℕ) (rest : List ℕ) → BeginsPastLimits taken rest → PassLimits taken (lines_of rest)
-begins_past taken rest (line, lines, e, past) = subst (PassLimits taken) (sym e) (inl past)
-
-pub fed_limit : (rows : ℕ → Row) (budget : ℕ) (start : Memory) (text before : Option (List ℕ)) (first : ℕ) (now : Memory) (rest after : Option (List ℕ)) (taken : ℕ)
-    → Feeding rows budget start text before first now rest after taken → IfSome rest (λ t. BeginsPastLimits taken t) → IfSome text (λ t. PassLimits first (lines_of t))
-fed_limit rows budget start None before first now rest after taken f p = tt
-fed_limit rows budget start (Some b) before first now None after taken f p = let e = f.lines in absurd (cc)
-fed_limit rows budget start (Some b) before first now (Some t) after taken f p =
-    subst (PassLimits first) (sym (some_same (lines_of b) (f.used ++ lines_of t) f.lines)) (f.limits (lines_of t) (begins_past taken t p))

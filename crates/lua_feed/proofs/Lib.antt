@@ -1,6 +1,7 @@
 mod Causes
 mod Closing
-mod Fed
+pub mod Fed
+pub mod Limits
 mod Runs
 pub mod Starting
 mod Texts

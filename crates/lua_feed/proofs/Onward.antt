@@ -1,6 +1,6 @@
 -- How a script that waits for a line is fed: by that line, and then as one whose main coroutine is to be resumed.
-use Rattle.std.proofs.Common.{◌≡◌, ◌+◌, ◌∙◌, ℕ, List, [], ◌∷◌, Option, Some, None, refl, sym, ap, subst, length, inr}
-use Rattle.std.specs.Prelude.{option_map, IfSome}
+use Rattle.std.proofs.Common.{◌≡◌, ◌+◌, ◌∙◌, ℕ, List, [], ◌∷◌, Option, Some, None, true, false, refl, sym, ap, subst, length}
+use Rattle.std.specs.Prelude.{Bool, option_map, IfSome}
 use Rattle.list_laws.proofs.Items.{some_same}
 use Rattle.machine_core.specs.World.{World}
 use Rattle.machine_core.specs.Moves.{Row}
@@ -9,9 +9,11 @@ use Rattle.machine_runs.specs.Runs.{Close, is_suspended, Run, run_from, CodeRun,
 use Rattle.lua_heap.specs.declared.world.World.{World as Memory}
 use Rattle.lua_heap.specs.Plain.{plain}
 use Rattle.io_edge.specs.Content.{GrowsByFront}
-use Rattle.io_edge.specs.Lines.{lines_of, TakesLine, BeginsPastLimits}
-use Rattle.lua_feed.specs.Feeding.{Does, GoesOn, IsFedTo, IsFedFront, PassLimits}
-use Rattle.lua_feed.proofs.Fed.{begins_past, grows_none}
+use Rattle.io_edge.specs.Lines.{lines_of, TakesLine, BeginsPastLimits, IsWithinLimits}
+use Rattle.lua_feed.specs.Feeding.{Does, GoesOn, IsCutOff, IsFedTo, IsFedFront}
+use Rattle.lua_feed.specs.Limits.{lines_within, pass_limits, usable_lines, passes_limits}
+use Rattle.lua_feed.proofs.Fed.{grows_none, told_within}
+use Rattle.lua_feed.proofs.Limits.{keeps_within, passes_on, none_usable, passes_now, none_left, none_past}
 
 -- no line is left
 
@@ -20,9 +22,17 @@ unfolding lines_of
 no_lines None e = tt
 no_lines (Some t) e = sym (ap lines_of e)
 
-pub on_none : (rows : ℕ → Row) (W : Memory) (budget : ℕ) (text next before after : Option (List ℕ)) → TakesLine None text next → after ≡ before
-    → IsFedTo (GoesOn rows (plain W 0) budget) text before after is_suspended W
-on_none rows W budget text next before after none same = record {
+no_usable : (taken : ℕ) (text : Option (List ℕ)) → IfSome text (λ t. t ≡ []) → IfSome text (λ bytes. [] ≡ usable_lines taken bytes)
+no_usable taken None e = tt
+no_usable taken (Some t) e = sym (none_left taken t e)
+
+none_pass : (taken : ℕ) (text : Option (List ℕ)) → IfSome text (λ t. t ≡ []) → IfSome text (λ bytes. is_suspended ≡ is_suspended → passes_limits taken bytes ≡ false)
+none_pass taken None e = tt
+none_pass taken (Some t) e = λ same. none_past taken t e
+
+pub on_none : (rows : ℕ → Row) (W : Memory) (budget taken : ℕ) (text next before after : Option (List ℕ)) → TakesLine None text next → after ≡ before
+    → IsFedTo (GoesOn rows (plain W 0) budget) taken text before after is_suspended W
+on_none rows W budget taken text next before after none same = record {
   fed = record {
     lines = [];
     are = no_lines text none.1;
@@ -30,55 +40,104 @@ on_none rows W budget text next before after none same = record {
     runs = record { count = 0; gives = refl };
     closes = refl;
     grown = same ∙ grows_none before;
+    within = told_within (λ ls. CodeOnward rows (plain W 0) ls budget (record { printed = []; close = is_suspended; last = plain W 0 })) (λ bytes. is_suspended ≡ is_suspended → passes_limits taken bytes ≡ false)
+        taken [] text (no_usable taken text none.1) (record { count = 0; gives = refl }) (none_pass taken text none.1);
   };
   leaves = record { left = 0; is = refl };
 }
 
+-- the first line is past the limits
+
+no_line : (taken : ℕ) (text : Option (List ℕ)) → IfSome text (BeginsPastLimits taken) → IfSome text (λ bytes. [] ≡ usable_lines taken bytes)
+no_line taken None p = tt
+no_line taken (Some t) p = sym (none_usable taken t p)
+
+first_past : (taken : ℕ) (text : Option (List ℕ)) → IfSome text (BeginsPastLimits taken) → IfSome text (λ bytes. passes_limits taken bytes ≡ true)
+first_past taken None p = tt
+first_past taken (Some t) p = passes_now taken t p
+
+pub on_past : (rows : ℕ → Row) (W : Memory) (budget taken : ℕ) (text before after : Option (List ℕ)) → IfSome text (BeginsPastLimits taken) → after ≡ before → IsCutOff (GoesOn rows (plain W 0) budget) taken text before after
+on_past rows W budget taken text before after p same = record {
+  lines = [];
+  are = no_line taken text p;
+  run = record { printed = []; close = is_suspended; last = plain W 0 };
+  runs = record { count = 0; gives = refl };
+  waits = refl;
+  grown = same ∙ grows_none before;
+  past = first_past taken text p;
+}
+
 -- a line was handed over
 
-one_more : (line : List ℕ) (lines : List (List ℕ)) (text next : Option (List ℕ)) → TakesLine (Some line) text next → IfSome next (λ bytes. lines ≡ lines_of bytes) → IfSome text (λ bytes. line ∷ lines ≡ lines_of bytes)
-one_more line lines None next takes are = tt
-one_more line lines (Some b) None takes are = absurd (cc)
-one_more line lines (Some b) (Some n) takes are = ap (λ ls. line ∷ ls) are ∙ sym (some_same (lines_of b) (line ∷ lines_of n) takes)
-
-module _ (rows : ℕ → Row) (old mid : Memory) (budget : ℕ) (line : List ℕ) (text next before after : Option (List ℕ)) (handed : plain mid 0 ≡ handed_line (plain old 0) line) (takes : TakesLine (Some line) text next) where
+module _ (rows : ℕ → Row) (old mid : Memory) (budget taken taken' : ℕ) (line : List ℕ) (text next before after : Option (List ℕ)) (handed : plain mid 0 ≡ handed_line (plain old 0) line) (takes : TakesLine (Some line) text next)
+    (within : IsWithinLimits taken line) (counts : taken' ≡ taken + length line + 1) where
   goes : (lines : List (List ℕ)) (r : Run) → CodeRun rows (plain mid 0) lines budget r → CodeOnward rows (plain old 0) (line ∷ lines) budget r
   goes lines r c = record { count = c.count; gives = subst (λ (V : World). run_from rows c.count V lines budget ≡ Some r) handed c.gives }
 
   back : (lines : List (List ℕ)) (r : Run) → CodeOnward rows (plain old 0) (line ∷ lines) budget r → CodeRun rows (plain mid 0) lines budget r
   back lines r c = record { count = c.count; gives = subst (λ (V : World). run_from rows c.count V lines budget ≡ Some r) (sym handed) c.gives }
 
-  pub on_fed : (new : Memory) (close : Close) → IsFedTo (Does rows (plain mid 0) budget) next before after close new → IsFedTo (GoesOn rows (plain old 0) budget) text before after close new
+  usable : (b n : List ℕ) → lines_of b ≡ line ∷ lines_of n → usable_lines taken b ≡ line ∷ usable_lines taken' n
+  usable b n e = ap (lines_within taken) e ∙ keeps_within taken line (lines_of n) within ∙ ap (λ m. line ∷ lines_within m (lines_of n)) (sym counts)
+
+  passing : (b n : List ℕ) → lines_of b ≡ line ∷ lines_of n → passes_limits taken b ≡ passes_limits taken' n
+  passing b n e = ap (pass_limits taken) e ∙ passes_on taken line (lines_of n) within ∙ ap (λ m. pass_limits m (lines_of n)) (sym counts)
+
+  one_more : (lines : List (List ℕ)) (text next : Option (List ℕ)) → TakesLine (Some line) text next → IfSome next (λ bytes. lines ≡ usable_lines taken' bytes) → IfSome text (λ bytes. line ∷ lines ≡ usable_lines taken bytes)
+  one_more lines None next takes are = tt
+  one_more lines (Some b) None takes are = absurd (cc)
+  one_more lines (Some b) (Some n) takes are = ap (λ ls. line ∷ ls) are ∙ sym (usable b n (some_same (lines_of b) (line ∷ lines_of n) takes))
+
+  same_past : (t : Bool) (text next : Option (List ℕ)) → TakesLine (Some line) text next → IfSome next (λ bytes. passes_limits taken' bytes ≡ t) → IfSome text (λ bytes. passes_limits taken bytes ≡ t)
+  same_past t None next takes p = tt
+  same_past t (Some b) None takes p = absurd (cc)
+  same_past t (Some b) (Some n) takes p = passing b n (some_same (lines_of b) (line ∷ lines_of n) takes) ∙ p
+
+  one_line : (lines : List (List ℕ)) (text next : Option (List ℕ)) → TakesLine (Some line) text next → IfSome next (λ bytes. lines ≡ lines_of bytes) → IfSome text (λ bytes. line ∷ lines ≡ lines_of bytes)
+  one_line lines None next takes are = tt
+  one_line lines (Some b) None takes are = absurd (cc)
+  one_line lines (Some b) (Some n) takes are = ap (λ ls. line ∷ ls) are ∙ sym (some_same (lines_of b) (line ∷ lines_of n) takes)
+
+  still_within : (close : Close) (run : Run) (text next : Option (List ℕ)) → TakesLine (Some line) text next
+      → IfSome next (λ bytes. CodeRun rows (plain mid 0) (usable_lines taken' bytes) budget run × (close ≡ is_suspended → passes_limits taken' bytes ≡ false))
+      → IfSome text (λ bytes. CodeOnward rows (plain old 0) (usable_lines taken bytes) budget run × (close ≡ is_suspended → passes_limits taken bytes ≡ false))
+  still_within close run None next takes w = tt
+  still_within close run (Some b) None takes w = absurd (cc)
+  still_within close run (Some b) (Some n) takes w =
+      let e : lines_of b ≡ line ∷ lines_of n = some_same (lines_of b) (line ∷ lines_of n) takes in
+      (subst (λ ls. CodeOnward rows (plain old 0) ls budget run) (sym (usable b n e)) (goes (usable_lines taken' n) run w.0), λ c. passing b n e ∙ w.1 c)
+
+  pub on_fed : (new : Memory) (close : Close) → IsFedTo (Does rows (plain mid 0) budget) taken' next before after close new → IsFedTo (GoesOn rows (plain old 0) budget) taken text before after close new
   on_fed new close f = record {
     fed = record {
       lines = line ∷ f.fed.lines;
-      are = one_more line f.fed.lines text next takes f.fed.are;
+      are = one_line f.fed.lines text next takes f.fed.are;
       run = f.fed.run;
       runs = goes f.fed.lines f.fed.run f.fed.runs;
       closes = f.fed.closes;
       grown = f.fed.grown;
+      within = still_within close f.fed.run text next takes f.fed.within;
     };
     leaves = record { left = f.leaves.left; is = f.leaves.is };
   }
 
-  pub on_front : IsFedFront (Does rows (plain mid 0) budget) next before after → IsFedFront (GoesOn rows (plain old 0) budget) text before after
+  pub on_cut : IsCutOff (Does rows (plain mid 0) budget) taken' next before after → IsCutOff (GoesOn rows (plain old 0) budget) taken text before after
+  on_cut f = record {
+    lines = line ∷ f.lines;
+    are = one_more f.lines text next takes f.are;
+    run = f.run;
+    runs = goes f.lines f.run f.runs;
+    waits = f.waits;
+    grown = f.grown;
+    past = same_past true text next takes f.past;
+  }
+
+  pub on_front : IsFedFront (Does rows (plain mid 0) budget) taken' next before after → IsFedFront (GoesOn rows (plain old 0) budget) taken text before after
   on_front f = record { is = by text next takes f.is }
     where
-      by : (text next : Option (List ℕ)) → TakesLine (Some line) text next → IfSome next (λ bytes. (run : Run) → Does rows (plain mid 0) budget (lines_of bytes) run → GrowsByFront run.printed before after)
-          → IfSome text (λ bytes. (run : Run) → GoesOn rows (plain old 0) budget (lines_of bytes) run → GrowsByFront run.printed before after)
+      by : (text next : Option (List ℕ)) → TakesLine (Some line) text next → IfSome next (λ bytes. (run : Run) → Does rows (plain mid 0) budget (usable_lines taken' bytes) run → GrowsByFront run.printed before after)
+          → IfSome text (λ bytes. (run : Run) → GoesOn rows (plain old 0) budget (usable_lines taken bytes) run → GrowsByFront run.printed before after)
       by None next takes f = tt
       by (Some b) None takes f = absurd (cc)
-      by (Some b) (Some n) takes f = λ r x. f r (back (lines_of n) r (subst (λ ls. CodeOnward rows (plain old 0) ls budget r) (some_same (lines_of b) (line ∷ lines_of n) takes) x))
-
--- limits
-
-pub on_past : (taken : ℕ) (text : Option (List ℕ)) → IfSome text (λ t. BeginsPastLimits taken t) → IfSome text (λ t. PassLimits taken (lines_of t))
-on_past taken None p = tt
-on_past taken (Some t) p = begins_past taken t p
-
-pub on_limit : (taken taken' : ℕ) (line : List ℕ) (text next : Option (List ℕ)) → TakesLine (Some line) text next → taken' ≡ taken + length line + 1
-    → IfSome next (λ t. PassLimits taken' (lines_of t)) → IfSome text (λ t. PassLimits taken (lines_of t))
-on_limit taken taken' line None next takes counts p = tt
-on_limit taken taken' line (Some b) None takes counts p = absurd (cc)
-on_limit taken taken' line (Some b) (Some n) takes counts p =
-    subst (PassLimits taken) (sym (some_same (lines_of b) (line ∷ lines_of n) takes)) (inr (subst (λ m. PassLimits m (lines_of n)) counts p))
+      by (Some b) (Some n) takes f =
+          λ r x. f r (back (usable_lines taken' n) r (subst (λ ls. CodeOnward rows (plain old 0) ls budget r) (usable b n (some_same (lines_of b) (line ∷ lines_of n) takes)) x))

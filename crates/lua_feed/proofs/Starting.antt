@@ -92,6 +92,6 @@ may_go_on sound idle begins turns prelude code W V p q o e order =
     }
 
 -- where nothing was written, that is a front
-pub unfed_front : (Runs : List (List ℕ) → Run → Type 0) (text before after : Option (List ℕ)) → after ≡ before → IsFedFront Runs text before after
-unfed_front Runs None before after e = record { is = tt }
-unfed_front Runs (Some b) before after e = record { is = λ r x. front_none r.printed before after e }
+pub unfed_front : (Runs : List (List ℕ) → Run → Type 0) (taken : ℕ) (text before after : Option (List ℕ)) → after ≡ before → IsFedFront Runs taken text before after
+unfed_front Runs taken None before after e = record { is = tt }
+unfed_front Runs taken (Some b) before after e = record { is = λ r x. front_none r.printed before after e }

@@ -1,12 +1,13 @@
 -- What a script does that is fed with the lines of an input.
-use Rattle.std.specs.Prelude.{◌≡◌, ◌+◌, ◌++◌, ◌⊎◌, ℕ, length, List, [], ◌∷◌, Option, Some, option_map, IfSome}
+use Rattle.std.specs.Prelude.{◌≡◌, ◌++◌, ℕ, List, Option, Some, option_map, IfSome, true, false}
 use Rattle.machine_core.specs.World.{World}
 use Rattle.machine_core.specs.Moves.{Row}
-use Rattle.machine_runs.specs.Runs.{Close, Run, CodeRun, CodeOnward}
+use Rattle.machine_runs.specs.Runs.{Close, is_suspended, Run, CodeRun, CodeOnward}
 use Rattle.lua_heap.specs.declared.world.World.{World as Memory}
 use Rattle.lua_heap.specs.Plain.{plain}
 use Rattle.io_edge.specs.Content.{GrowsByFront}
-use Rattle.io_edge.specs.Lines.{lines_of, IsPastLimits}
+use Rattle.io_edge.specs.Lines.{lines_of}
+use Rattle.lua_feed.specs.Limits.{passes_limits, usable_lines}
 
 -- what code does on lines of input, from a world in which the main coroutine is to be resumed with what moves, and from one in which it waits for a line
 
@@ -21,33 +22,41 @@ pub record IsLast (W : World) (now : Memory) : Type 0 where
   pub left : ℕ
   pub is : W ≡ plain now left
 
--- There is a run on these lines that closes so, and the output has grown by what it prints. Where the input tells its bytes, the lines are its lines.
-pub record IsFed (Runs : List (List ℕ) → Run → Type 0) (text before after : Option (List ℕ)) (close : Close) : Type 0 where
+-- There is a run on these lines that closes so, and the output has grown by what it prints. Where the input tells its bytes,
+-- before which so many were taken, the lines are its lines. The run is that on the lines before the first past the limits too, and where it waits for a
+-- line there is no such line.
+pub record IsFed (Runs : List (List ℕ) → Run → Type 0) (taken : ℕ) (text before after : Option (List ℕ)) (close : Close) : Type 0 where
   pub lines : List (List ℕ)
   pub are : IfSome text (λ bytes. lines ≡ lines_of bytes)
   pub run : Run
   pub runs : Runs lines run
   pub closes : run.close ≡ close
   pub grown : after ≡ option_map (λ written. written ++ run.printed) before
+  pub within : IfSome text (λ bytes. Runs (usable_lines taken bytes) run × (close ≡ is_suspended → passes_limits taken bytes ≡ false))
 
 -- and its last world is this one
-pub record IsFedTo (Runs : List (List ℕ) → Run → Type 0) (text before after : Option (List ℕ)) (close : Close) (now : Memory) : Type 0 where
-  pub fed : IsFed Runs text before after close
+pub record IsFedTo (Runs : List (List ℕ) → Run → Type 0) (taken : ℕ) (text before after : Option (List ℕ)) (close : Close) (now : Memory) : Type 0 where
+  pub fed : IsFed Runs taken text before after close
   pub leaves : IsLast fed.run.last now
+
+-- A line is past the limits, a run on the lines before it waits for it, and the output has grown by what the run prints.
+pub record IsCutOff (Runs : List (List ℕ) → Run → Type 0) (taken : ℕ) (text before after : Option (List ℕ)) : Type 0 where
+  pub lines : List (List ℕ)
+  pub are : IfSome text (λ bytes. lines ≡ usable_lines taken bytes)
+  pub run : Run
+  pub runs : Runs lines run
+  pub waits : run.close ≡ is_suspended
+  pub grown : after ≡ option_map (λ written. written ++ run.printed) before
+  pub past : IfSome text (λ bytes. passes_limits taken bytes ≡ true)
 
 -- whatever the lines are, the output has grown by a front of what a run on them prints
 pub record IsFront (rows : ℕ → Row) (W : World) (budget : ℕ) (before after : Option (List ℕ)) : Type 0 where
   pub is : (lines : List (List ℕ)) (run : Run) → CodeRun rows W lines budget run → GrowsByFront run.printed before after
 
--- the output has grown by a front of what any run on the lines of the input prints
-pub record IsFedFront (Runs : List (List ℕ) → Run → Type 0) (text before after : Option (List ℕ)) : Type 0 where
-  pub is : IfSome text (λ bytes. (run : Run) → Runs (lines_of bytes) run → GrowsByFront run.printed before after)
+-- the output has grown by a front of what any run on the lines of the input before the first past the limits prints
+pub record IsFedFront (Runs : List (List ℕ) → Run → Type 0) (taken : ℕ) (text before after : Option (List ℕ)) : Type 0 where
+  pub is : IfSome text (λ bytes. (run : Run) → Runs (usable_lines taken bytes) run → GrowsByFront run.printed before after)
 
 -- where it tells after the call, the output has grown, by whatever bytes
 abbrev pub OnlyGrows : (before after : Option (List ℕ)) → Type 0
 OnlyGrows before after = IfSome after (λ now. (text : List ℕ) × (more : List ℕ) × (before ≡ Some text) × (now ≡ text ++ more))
-
--- one of the lines is past the limits of lines, where so many bytes stand before the first
-abbrev pub PassLimits : (taken : ℕ) → List (List ℕ) → Type 0
-PassLimits taken [] = ⊥
-PassLimits taken (line ∷ lines) = IsPastLimits taken line ⊎ PassLimits (taken + length line + 1) lines

@@ -1,4 +1,5 @@
 pub mod Closes
 pub mod Faults
 pub mod Feeding
+pub mod Limits
 pub mod Running

@@ -1,16 +1,17 @@
 // A script is fed line by line.
-ghost use Rattle.std.specs.Prelude.{◌≡◌, IfOk, IfSome, IsErrOf, OnErr};
+ghost use Rattle.std.specs.Prelude.{◌≡◌, IfOk, IsErrOf, OnErr};
 ghost use Rattle.io_edge.specs.Causes.{HasCause};
-ghost use Rattle.io_edge.specs.Lines.{ahead, lines_of};
+ghost use Rattle.io_edge.specs.Lines.{ahead};
 ghost use Rattle.lua_heap.specs.Plain.{plain};
 ghost use Rattle.machine_moves.specs.Ending.{ending_of};
 ghost use Rattle.move_laws.specs.Memory.{InOrder};
 ghost use Rattle.lua_driver.specs.Turns.{MayGoOn};
 ghost use Rattle.lua_feed.specs.Closes.{close_of, closing};
 ghost use Rattle.lua_feed.specs.Faults.{is_input_fault, is_output_fault};
-ghost use Rattle.lua_feed.specs.Feeding.{Does, GoesOn, IsFedFront, IsFedTo, OnlyGrows, PassLimits};
+ghost use Rattle.lua_feed.specs.Feeding.{Does, GoesOn, IsCutOff, IsFedFront, IsFedTo, OnlyGrows};
 ghost use Rattle.machine_runs.specs.Runs.{is_suspended};
-ghost use Rattle.machine_step.specs.Step.{library};
+ghost use Rattle.loaded_code.specs.Laws.{library};
+ghost use Rattle.source_builds.specs.Readings.{AsRead};
 
 use crate::fault::FeedFault;
 use crate::writing::write_turn;
@@ -36,8 +37,8 @@ pub enum Close {
 ///
 /// # Errors
 ///
-/// `Input` and `Output` where a device fails, `Limit` where a line or the input up to its end is too long, and `Memory`. A front of what the run on the
-/// lines prints was written then, and the script cannot be resumed any more.
+/// `Input` and `Output` where a device fails, `Limit` where the script waits for a line that is too long, or up to whose end the input is, and `Memory`. A front
+/// of what the run on the lines prints was written then, at `Limit` all that it prints up to that line, and the script cannot be resumed any more.
 pub fn feed<S: Source, K: Sink>(
     world: &mut World,
     budget: u64,
@@ -46,13 +47,13 @@ pub fn feed<S: Source, K: Sink>(
     out: &mut K,
 ) -> Result<Close, FeedFault>
     requires { MayGoOn world.old }
-    ensures fed { IfOk result (λ close. IsFedTo (Does library (plain world.old 0) budget) (ahead reader.old (S.left input.old)) (K.written out.old) (K.written out.new) (close_of close) world.new) }
+    ensures fed { IfOk result (λ close. AsRead (λ builds. IsFedTo (Does (library builds) (plain world.old 0) budget) reader.old.taken (ahead reader.old (S.left input.old)) (K.written out.old) (K.written out.new) (close_of close) world.new)) }
     ensures waits { IfOk result (λ close. close_of close ≡ is_suspended → MayGoOn world.new) }
-    ensures front { OnErr result (IsFedFront (Does library (plain world.old 0) budget) (ahead reader.old (S.left input.old)) (K.written out.old) (K.written out.new)) }
+    ensures front { OnErr result (AsRead (λ builds. IsFedFront (Does (library builds) (plain world.old 0) budget) reader.old.taken (ahead reader.old (S.left input.old)) (K.written out.old) (K.written out.new))) }
     ensures grows { OnErr result (OnlyGrows (K.written out.old) (K.written out.new)) }
     ensures input { HasCause (S.faults input.old) (S.faults input.new) (is_input_fault result) }
     ensures output { HasCause (K.faults out.old) (K.faults out.new) (is_output_fault result) }
-    ensures limit { IsErrOf result FeedFault.Limit → IfSome (ahead reader.old (S.left input.old)) (λ text. PassLimits reader.old.taken (lines_of text)) }
+    ensures limit { IsErrOf result FeedFault.Limit → AsRead (λ builds. IsCutOff (Does (library builds) (plain world.old 0) budget) reader.old.taken (ahead reader.old (S.left input.old)) (K.written out.old) (K.written out.new)) }
     ensures order { InOrder world.new }
 {
     'turns: loop {
@@ -81,13 +82,13 @@ pub fn feed_on<S: Source, K: Sink>(
     out: &mut K,
 ) -> Result<Close, FeedFault>
     requires { MayGoOn world.old }
-    ensures fed { IfOk result (λ close. IsFedTo (GoesOn library (plain world.old 0) budget) (ahead reader.old (S.left input.old)) (K.written out.old) (K.written out.new) (close_of close) world.new) }
+    ensures fed { IfOk result (λ close. AsRead (λ builds. IsFedTo (GoesOn (library builds) (plain world.old 0) budget) reader.old.taken (ahead reader.old (S.left input.old)) (K.written out.old) (K.written out.new) (close_of close) world.new)) }
     ensures waits { IfOk result (λ close. close_of close ≡ is_suspended → MayGoOn world.new) }
-    ensures front { OnErr result (IsFedFront (GoesOn library (plain world.old 0) budget) (ahead reader.old (S.left input.old)) (K.written out.old) (K.written out.new)) }
+    ensures front { OnErr result (AsRead (λ builds. IsFedFront (GoesOn (library builds) (plain world.old 0) budget) reader.old.taken (ahead reader.old (S.left input.old)) (K.written out.old) (K.written out.new))) }
     ensures grows { OnErr result (OnlyGrows (K.written out.old) (K.written out.new)) }
     ensures input { HasCause (S.faults input.old) (S.faults input.new) (is_input_fault result) }
     ensures output { HasCause (K.faults out.old) (K.faults out.new) (is_output_fault result) }
-    ensures limit { IsErrOf result FeedFault.Limit → IfSome (ahead reader.old (S.left input.old)) (λ text. PassLimits reader.old.taken (lines_of text)) }
+    ensures limit { IsErrOf result FeedFault.Limit → AsRead (λ builds. IsCutOff (GoesOn (library builds) (plain world.old 0) budget) reader.old.taken (ahead reader.old (S.left input.old)) (K.written out.old) (K.written out.new)) }
     ensures order { InOrder world.new }
 {
     let Some(line) = reader.next_line(input)? else {

@@ -1,16 +1,16 @@
 // A script from its code (`handle_script` of Lua's lua.c).
-ghost use Rattle.std.specs.Prelude.{◌≡◌, IfOk, IfSome, IsErrOf, OnErr, length};
+ghost use Rattle.std.specs.Prelude.{◌≡◌, IfOk, IsErrOf, OnErr, length};
 ghost use Rattle.code_core.specs.Check.{IsChecked};
 ghost use Rattle.code_core.specs.Prototype.{list_of};
 ghost use Rattle.io_edge.specs.Causes.{HasCause};
-ghost use Rattle.io_edge.specs.Lines.{ahead, lines_of};
+ghost use Rattle.io_edge.specs.Lines.{ahead};
 ghost use Rattle.library_rows.specs.PreludeText.{prelude_functions};
 ghost use Rattle.lua_driver.specs.Turns.{MayGoOn};
 ghost use Rattle.lua_heap.specs.Plain.{plain};
 ghost use Rattle.lua_feed.specs.Closes.{close_of};
 ghost use Rattle.lua_feed.specs.Faults.{is_input_fault, is_output_fault};
-ghost use Rattle.lua_feed.specs.Feeding.{OnlyGrows, PassLimits};
-ghost use Rattle.lua_feed.specs.Running.{IsFrontOf, IsRunOf, started};
+ghost use Rattle.lua_feed.specs.Feeding.{OnlyGrows};
+ghost use Rattle.lua_feed.specs.Running.{IsCutOffOf, IsFrontOf, IsRunOf, started};
 
 use crate::fault::FeedFault;
 use crate::feeding::{Close, feed};
@@ -58,12 +58,12 @@ pub fn run_code<S: Source, K: Sink>(
     out: &mut K,
 ) -> Result<Close, FeedFault>
     requires { length (list_of prelude.inner) ≡ length prelude_functions }
-    ensures runs { IfOk result (λ close. IsRunOf prelude code budget (ahead reader.old (S.left input.old)) (K.written out.old) (K.written out.new) (close_of close)) }
-    ensures front { OnErr result (IsFrontOf prelude code budget (ahead reader.old (S.left input.old)) (K.written out.old) (K.written out.new)) }
+    ensures runs { IfOk result (λ close. IsRunOf prelude code budget reader.old.taken (ahead reader.old (S.left input.old)) (K.written out.old) (K.written out.new) (close_of close)) }
+    ensures front { OnErr result (IsFrontOf prelude code budget reader.old.taken (ahead reader.old (S.left input.old)) (K.written out.old) (K.written out.new)) }
     ensures grows { OnErr result (OnlyGrows (K.written out.old) (K.written out.new)) }
     ensures input { HasCause (S.faults input.old) (S.faults input.new) (is_input_fault result) }
     ensures output { HasCause (K.faults out.old) (K.faults out.new) (is_output_fault result) }
-    ensures limit { IsErrOf result FeedFault.Limit → IfSome (ahead reader.old (S.left input.old)) (λ text. PassLimits reader.old.taken (lines_of text)) }
+    ensures limit { IsErrOf result FeedFault.Limit → IsCutOffOf prelude code budget reader.old.taken (ahead reader.old (S.left input.old)) (K.written out.old) (K.written out.new) }
 {
     let mut world = start(alloc, prelude, code)?;
     let close = feed(&mut world, budget, reader, input, out)?;

@@ -11,7 +11,8 @@ ghost use Rattle.move_laws.specs.Memory.{InOrder};
 ghost use Rattle.lua_driver.specs.Turns.{MayGoOn, Turns};
 ghost use Rattle.lua_feed.specs.Faults.{is_output_fault, of_output};
 ghost use Rattle.lua_feed.specs.Feeding.{IsFront, OnlyGrows};
-ghost use Rattle.machine_step.specs.Step.{library};
+ghost use Rattle.loaded_code.specs.Laws.{library};
+ghost use Rattle.source_builds.specs.Readings.{AsRead};
 
 use crate::fault::FeedFault;
 use io_edge::{Sink, write_all};
@@ -29,11 +30,11 @@ pub(crate) fn write_turn<K: Sink>(
     out: &mut K,
 ) -> Result<Ending, FeedFault>
     requires { MayGoOn world.old }
-    ensures turns { IfOk result (λ ending. Turns library world.old world.new budget (ending_of ending)) }
+    ensures turns { IfOk result (λ ending. AsRead (λ builds. Turns (library builds) world.old world.new budget (ending_of ending))) }
     ensures ends { IfOk result (λ ending. is_end (ending_of ending) ≡ true) }
     ensures written { IfOk result (λ ending. K.written out.new ≡ option_map (λ written. written ++ turn_text (ending_of ending) (plain world.new 0)) (K.written out.old)) }
     ensures waits { IfOk result (λ ending. ending_of ending ≡ main_yielded → MayGoOn world.new) }
-    ensures front { OnErr result (IsFront library (plain world.old 0) budget (K.written out.old) (K.written out.new)) }
+    ensures front { OnErr result (AsRead (λ builds. IsFront (library builds) (plain world.old 0) budget (K.written out.old) (K.written out.new))) }
     ensures grows { OnErr result (OnlyGrows (K.written out.old) (K.written out.new)) }
     ensures cause { HasCause (K.faults out.old) (K.faults out.new) (is_output_fault result) }
     ensures kind { IfErr result (λ fault. of_output fault ≡ true) }

@@ -10,18 +10,21 @@ use Rattle.machine_core.specs.Moves.{Ending, main_yielded}
 use Rattle.machine_moves.specs.Ending.{ending_of}
 use Rattle.machine_runs.specs.Opening.{handed_line}
 use Rattle.machine_runs.specs.Runs.{Close, turn_text}
-use Rattle.machine_step.specs.Step.{library}
+use Rattle.loaded_code.specs.Laws.{library}
+use Rattle.source_builds.specs.Readings.{AsRead}
+use Rattle.source_builds.proofs.Knowing.{read_all, read_both}
+use Rattle.source_builds.proofs.Lookups.{read_some}
 use Rattle.lua_feed.specs.Faults.{fault_of_line, is_input_fault, is_output_fault}
 use Rattle.lua_feed.specs.Feeding.{Does, IsFedTo}
 use Rattle.lua_feed.proofs.Causes.{cause_since, line_input, line_limit, line_no_output, no_input, no_limit, same_output, unfailed, untouched}
 use Rattle.lua_feed.proofs.Closing.{yields, last, ended_otherwise}
-use Rattle.lua_feed.proofs.Fed.{fed_none, fed_on, fed_last, fed_suspended, fed_front, fed_limit, front_written, only_grown, only_twice}
+use Rattle.lua_feed.proofs.Fed.{fed_none, fed_on, fed_last, fed_suspended, fed_cut, fed_front, front_written, only_grown, only_twice}
 use Rattle.lua_feed.proofs.feeding.feed.Goals as goal
 
 pub turns-init : goal.turns-init
 turns-init g c =
     record {
-      so_far = fed_none library c.args.budget c.args.world.now (ahead c.args.reader.now (g.S.Source.left c.args.input.now)) (g.K.Sink.written c.args.out.now) c.args.reader.now.taken;
+      so_far = read_all (λ builds are. fed_none (library builds) c.args.budget c.args.world.now (ahead c.args.reader.now (g.S.Source.left c.args.input.now)) (g.K.Sink.written c.args.out.now) c.args.reader.now.taken);
       may = c.requires;
       read = refl;
       wrote = refl;
@@ -33,12 +36,12 @@ pub returns-in_err-ending-clause-front : goal.returns-in_err-ending-clause-front
 returns-in_err-ending-clause-front g c =
     let i = c.turns.invariant in
     on_err _ c.from_residual.result
-    (fed_front library c.args.budget c.args.world.now (ahead c.args.reader.now (g.S.Source.left c.args.input.now)) (g.K.Sink.written c.args.out.now) c.args.reader.now.taken
-    c.turns.world (ahead c.turns.reader (g.S.Source.left c.turns.input)) (g.K.Sink.written c.turns.out) (g.K.Sink.written c.write_turn.new.out) c.turns.reader.taken i.so_far c.in_err-ending.ensures.front)
+    (read_both (λ builds are f k. fed_front (library builds) c.args.budget c.args.world.now (ahead c.args.reader.now (g.S.Source.left c.args.input.now)) (g.K.Sink.written c.args.out.now) c.args.reader.now.taken
+    c.turns.world (ahead c.turns.reader (g.S.Source.left c.turns.input)) (g.K.Sink.written c.turns.out) (g.K.Sink.written c.write_turn.new.out) c.turns.reader.taken f k) i.so_far c.in_err-ending.ensures.front)
 
 pub returns-in_err-ending-clause-grows : goal.returns-in_err-ending-clause-grows
 returns-in_err-ending-clause-grows g c =
-    let f = c.turns.invariant.so_far in
+    let f = (read_some c.turns.invariant.so_far).2 in
     on_err _ c.from_residual.result
     (only_twice (g.K.Sink.written c.args.out.now) (g.K.Sink.written c.turns.out) (g.K.Sink.written c.write_turn.new.out)
     (only_grown f.printed (g.K.Sink.written c.args.out.now) (g.K.Sink.written c.turns.out) f.grown) c.in_err-ending.ensures.grows)
@@ -69,9 +72,9 @@ returns-in-Some-clause-fed g c =
     let before = g.K.Sink.written c.args.out.now in
     let text = ahead c.args.reader.now (g.S.Source.left c.args.input.now) in
     let l = last e c.in-Some.close (sym c.close_at.ensures ∙ c.in-Some.is) in
-    subst (λ (k : Close). IsFedTo (Does library (plain c.args.world.now 0) c.args.budget) text before (g.K.Sink.written c.write_turn.new.out) k c.write_turn.new.world) l.close
-    (fed_last library c.args.budget c.args.world.now text before c.args.reader.now.taken c.turns.world c.write_turn.new.world (ahead c.turns.reader (g.S.Source.left c.turns.input))
-    (g.K.Sink.written c.turns.out) (g.K.Sink.written c.write_turn.new.out) c.turns.reader.taken e c.turns.invariant.so_far c.in_ok-ending.ensures.turns l.last c.in_ok-ending.ensures.written)
+    subst (λ (k : Close). AsRead (λ builds. IsFedTo (Does (library builds) (plain c.args.world.now 0) c.args.budget) c.args.reader.now.taken text before (g.K.Sink.written c.write_turn.new.out) k c.write_turn.new.world)) l.close
+    (read_both (λ builds are f t. fed_last (library builds) c.args.budget c.args.world.now text before c.args.reader.now.taken c.turns.world c.write_turn.new.world (ahead c.turns.reader (g.S.Source.left c.turns.input))
+    (g.K.Sink.written c.turns.out) (g.K.Sink.written c.write_turn.new.out) c.turns.reader.taken e f t l.last c.in_ok-ending.ensures.written) c.turns.invariant.so_far c.in_ok-ending.ensures.turns)
 
 -- no line was read
 
@@ -79,13 +82,13 @@ pub returns-in_err-line-clause-front : goal.returns-in_err-line-clause-front
 returns-in_err-line-clause-front g c =
     let e = c.in_ok-ending.ensures in
     on_err _ c.from_residual-in_err-line.result
-    (fed_front library c.args.budget c.args.world.now (ahead c.args.reader.now (g.S.Source.left c.args.input.now)) (g.K.Sink.written c.args.out.now) c.args.reader.now.taken
-    c.turns.world (ahead c.turns.reader (g.S.Source.left c.turns.input)) (g.K.Sink.written c.turns.out) (g.K.Sink.written c.write_turn.new.out) c.turns.reader.taken c.turns.invariant.so_far
-    (front_written library c.args.budget c.turns.world c.write_turn.new.world (g.K.Sink.written c.turns.out) (g.K.Sink.written c.write_turn.new.out) (ending_of c.in_ok-ending.ending) e.turns e.ends e.written))
+    (read_both (λ builds are f t. fed_front (library builds) c.args.budget c.args.world.now (ahead c.args.reader.now (g.S.Source.left c.args.input.now)) (g.K.Sink.written c.args.out.now) c.args.reader.now.taken
+    c.turns.world (ahead c.turns.reader (g.S.Source.left c.turns.input)) (g.K.Sink.written c.turns.out) (g.K.Sink.written c.write_turn.new.out) c.turns.reader.taken f
+    (front_written (library builds) c.args.budget c.turns.world c.write_turn.new.world (g.K.Sink.written c.turns.out) (g.K.Sink.written c.write_turn.new.out) (ending_of c.in_ok-ending.ending) t e.ends e.written)) c.turns.invariant.so_far e.turns)
 
 pub returns-in_err-line-clause-grows : goal.returns-in_err-line-clause-grows
 returns-in_err-line-clause-grows g c =
-    let f = c.turns.invariant.so_far in
+    let f = (read_some c.turns.invariant.so_far).2 in
     let before = g.K.Sink.written c.args.out.now in
     let between = g.K.Sink.written c.turns.out in
     let after = g.K.Sink.written c.write_turn.new.out in
@@ -114,9 +117,15 @@ returns-in_err-line-clause-limit g c = λ limit.
     let fault = c.in_err-line.field-0.0 in
     let was : c.next_line.result ≡ Err fault = search rules in
     let is : c.from_residual-in_err-line.result ≡ Err (fault_of_line fault) = search rules in
-    fed_limit library c.args.budget c.args.world.now (ahead c.args.reader.now (g.S.Source.left c.args.input.now)) (g.K.Sink.written c.args.out.now) c.args.reader.now.taken
-    c.turns.world (ahead c.turns.reader (g.S.Source.left c.turns.input)) (g.K.Sink.written c.turns.out) c.turns.reader.taken c.turns.invariant.so_far
-    (c.next_line.ensures.limit (was ∙ ap Err (line_limit fault c.from_residual-in_err-line.result is limit)))
+    let e = c.in_ok-ending.ensures in
+    let mid = c.write_turn.new.world in
+    let later = g.K.Sink.written c.write_turn.new.out in
+    let after = g.K.Sink.written c.turns.out in
+    let yielded : ending_of c.in_ok-ending.ending ≡ main_yielded = yields (ending_of c.in_ok-ending.ending) e.ends (sym c.close_at.ensures ∙ c.in_default.is) in
+    read_both (λ builds are f t. fed_cut (library builds) c.args.budget c.args.world.now (ahead c.args.reader.now (g.S.Source.left c.args.input.now)) (g.K.Sink.written c.args.out.now) c.args.reader.now.taken
+    c.turns.world mid (ahead c.turns.reader (g.S.Source.left c.turns.input)) after later c.turns.reader.taken f (subst (Turns (library builds) c.turns.world mid c.args.budget) yielded t)
+    (subst (λ (k : Ending). later ≡ option_map (λ t. t ++ turn_text k (plain mid 0)) after) yielded e.written)
+    (c.next_line.ensures.limit (was ∙ ap Err (line_limit fault c.from_residual-in_err-line.result is limit)))) c.turns.invariant.so_far e.turns
 
 -- no line is left
 
@@ -130,9 +139,9 @@ returns-in_default-2-clause-fed g c =
     let later = g.K.Sink.written c.write_turn.new.out in
     let yielded : ending ≡ main_yielded = yields ending e.ends (sym c.close_at.ensures ∙ c.in_default.is) in
     let none : TakesLine None rest (ahead c.next_line.new.self (g.S.Source.left c.next_line.new.source)) = subst (λ o. TakesLine o rest (ahead c.next_line.new.self (g.S.Source.left c.next_line.new.source))) c.in_default-2.is c.in_ok-line.ensures.line in
-    fed_suspended library c.args.budget c.args.world.now (ahead c.args.reader.now (g.S.Source.left c.args.input.now)) (g.K.Sink.written c.args.out.now) c.args.reader.now.taken
-    c.turns.world mid rest after later c.turns.reader.taken c.turns.invariant.so_far (subst (Turns library c.turns.world mid c.args.budget) yielded e.turns) none.1
-    (subst (λ (k : Ending). later ≡ option_map (λ t. t ++ turn_text k (plain mid 0)) after) yielded e.written)
+    read_both (λ builds are f t. fed_suspended (library builds) c.args.budget c.args.world.now (ahead c.args.reader.now (g.S.Source.left c.args.input.now)) (g.K.Sink.written c.args.out.now) c.args.reader.now.taken
+    c.turns.world mid rest after later c.turns.reader.taken f (subst (Turns (library builds) c.turns.world mid c.args.budget) yielded t)
+    (subst (λ (k : Ending). later ≡ option_map (λ t. t ++ turn_text k (plain mid 0)) after) yielded e.written) none.1) c.turns.invariant.so_far e.turns
 
 -- a line is handed over
 
@@ -155,13 +164,13 @@ pub returns-in_err-hand_line-clause-front : goal.returns-in_err-hand_line-clause
 returns-in_err-hand_line-clause-front g c =
     let e = c.in_ok-ending.ensures in
     on_err _ c.from_residual-in_err-hand_line.result
-    (fed_front library c.args.budget c.args.world.now (ahead c.args.reader.now (g.S.Source.left c.args.input.now)) (g.K.Sink.written c.args.out.now) c.args.reader.now.taken
-    c.turns.world (ahead c.turns.reader (g.S.Source.left c.turns.input)) (g.K.Sink.written c.turns.out) (g.K.Sink.written c.write_turn.new.out) c.turns.reader.taken c.turns.invariant.so_far
-    (front_written library c.args.budget c.turns.world c.write_turn.new.world (g.K.Sink.written c.turns.out) (g.K.Sink.written c.write_turn.new.out) (ending_of c.in_ok-ending.ending) e.turns e.ends e.written))
+    (read_both (λ builds are f t. fed_front (library builds) c.args.budget c.args.world.now (ahead c.args.reader.now (g.S.Source.left c.args.input.now)) (g.K.Sink.written c.args.out.now) c.args.reader.now.taken
+    c.turns.world (ahead c.turns.reader (g.S.Source.left c.turns.input)) (g.K.Sink.written c.turns.out) (g.K.Sink.written c.write_turn.new.out) c.turns.reader.taken f
+    (front_written (library builds) c.args.budget c.turns.world c.write_turn.new.world (g.K.Sink.written c.turns.out) (g.K.Sink.written c.write_turn.new.out) (ending_of c.in_ok-ending.ending) t e.ends e.written)) c.turns.invariant.so_far e.turns)
 
 pub returns-in_err-hand_line-clause-grows : goal.returns-in_err-hand_line-clause-grows
 returns-in_err-hand_line-clause-grows g c =
-    let f = c.turns.invariant.so_far in
+    let f = (read_some c.turns.invariant.so_far).2 in
     let before = g.K.Sink.written c.args.out.now in
     let between = g.K.Sink.written c.turns.out in
     let after = g.K.Sink.written c.write_turn.new.out in
@@ -192,9 +201,9 @@ turns-preserved g c =
     let after = g.K.Sink.written c.turns.out in
     let later = g.K.Sink.written c.write_turn.new.out in
     let yielded : ending ≡ main_yielded = yields ending e.ends (sym c.close_at.ensures ∙ c.in_default.is) in
-    let turned : Turns library now mid c.args.budget main_yielded = subst (Turns library now mid c.args.budget) yielded e.turns in
     let written : later ≡ option_map (λ t. t ++ turn_text main_yielded (plain mid 0)) after = subst (λ (k : Ending). later ≡ option_map (λ t. t ++ turn_text k (plain mid 0)) after) yielded e.written in
     let takes : TakesLine (Some line) rest next = subst (λ o. TakesLine o rest next) c.in-Some-2.is c.in_ok-line.ensures.line in
+    let within : IsWithinLimits c.turns.reader.taken line = subst (λ o. IfSome o (λ l. IsWithinLimits c.turns.reader.taken l)) c.in-Some-2.is c.in_ok-line.ensures.within in
     let taken : c.next_line.new.self.taken ≡ c.turns.reader.taken + length line + 1 =
     subst (λ o. c.next_line.new.self.taken ≡ taken_with c.turns.reader.taken o) c.in-Some-2.is c.in_ok-line.ensures.taken in
     let same : c.as_slice.result.now ≡ line = search rules in
@@ -204,8 +213,8 @@ turns-preserved g c =
     let wrote : g.K.Sink.faults c.write_turn.new.out ≡ g.K.Sink.faults c.turns.out = unfailed _ _ (is_output_fault c.write_turn.result) (ap is_output_fault went) c.write_turn.ensures.cause in
     let unread : g.S.Source.faults c.next_line.new.source ≡ g.S.Source.faults c.turns.input = unfailed _ _ (is_line_failed c.next_line.result) (ap is_line_failed read) c.next_line.ensures.cause in
     record {
-      so_far = fed_on library c.args.budget c.args.world.now (ahead c.args.reader.now (g.S.Source.left c.args.input.now)) (g.K.Sink.written c.args.out.now) c.args.reader.now.taken
-          now mid new rest next after later c.turns.reader.taken c.next_line.new.self.taken line c.turns.invariant.so_far turned handed written takes taken;
+      so_far = read_both (λ builds are f t. fed_on (library builds) c.args.budget c.args.world.now (ahead c.args.reader.now (g.S.Source.left c.args.input.now)) (g.K.Sink.written c.args.out.now) c.args.reader.now.taken
+          now mid new rest next after later c.turns.reader.taken c.next_line.new.self.taken line f (subst (Turns (library builds) now mid c.args.budget) yielded t) handed written takes within taken) c.turns.invariant.so_far e.turns;
       may = record { sound = h.sound (length all_entries) (e.waits yielded).sound; order = h.order; may = h.may };
       read = unread ∙ c.turns.invariant.read;
       wrote = wrote ∙ c.turns.invariant.wrote;

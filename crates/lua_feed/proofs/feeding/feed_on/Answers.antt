@@ -1,22 +1,51 @@
-use Rattle.std.proofs.Common.{rules, ◌≡◌, ◌∙◌, length, Some, None, refl, subst, ap}
+use Rattle.std.proofs.Common.{rules, ◌≡◌, ◌+◌, ◌∙◌, length, Some, None, Err, refl, subst, ap}
+use Rattle.std.specs.Prelude.{IfSome}
 use Rattle.std.proofs.lemmas.Result.{IfOk-weaker, on_err_weaker}
-use Rattle.io_edge.specs.Lines.{ahead, TakesLine}
+use Rattle.io_edge.specs.Lines.{ahead, taken_with, IsWithinLimits, TakesLine}
 use Rattle.library_rows.specs.Library.{all_entries}
 use Rattle.lua_heap.specs.Plain.{plain}
 use Rattle.machine_runs.specs.Opening.{handed_line}
-use Rattle.machine_step.specs.Step.{library}
+use Rattle.loaded_code.specs.Laws.{library}
+use Rattle.source_builds.proofs.Knowing.{read_all, read_map}
 use Rattle.lua_feed.specs.Closes.{close_of}
-use Rattle.lua_feed.proofs.Onward.{on_none, on_fed, on_front}
+use Rattle.lua_stack.proofs.Called.{on_err}
+use Rattle.lua_feed.specs.Faults.{fault_of_line}
+use Rattle.lua_feed.specs.Feeding.{GoesOn}
+use Rattle.lua_feed.proofs.Causes.{line_limit}
+use Rattle.lua_feed.proofs.Starting.{unfed_front}
+use Rattle.lua_feed.proofs.Onward.{on_none, on_past, on_fed, on_cut, on_front}
 use Rattle.lua_feed.proofs.feeding.feed_on.Goals as goal
+
+-- the first line is past the limits
+
+pub returns-in_err-line-clause-limit : goal.returns-in_err-line-clause-limit
+returns-in_err-line-clause-limit g c = λ limit.
+    let fault = c.in_err-line.field-0.0 in
+    let was : c.next_line.result ≡ Err fault = search rules in
+    let is : c.from_residual.result ≡ Err (fault_of_line fault) = search rules in
+    read_all (λ builds are. on_past (library builds) c.args.world.now c.args.budget c.args.reader.now.taken (ahead c.args.reader.now (g.S.Source.left c.args.input.now)) (g.K.Sink.written c.args.out.now) (g.K.Sink.written c.args.out.now)
+    (c.next_line.ensures.limit (was ∙ ap Err (line_limit fault c.from_residual.result is limit))) refl)
+
+-- nothing is written where no line is read, and where none is handed over
+
+pub returns-in_err-line-clause-front : goal.returns-in_err-line-clause-front
+returns-in_err-line-clause-front g c =
+    on_err _ c.from_residual.result
+    (read_all (λ builds are. unfed_front (GoesOn (library builds) (plain c.args.world.now 0) c.args.budget) c.args.reader.now.taken (ahead c.args.reader.now (g.S.Source.left c.args.input.now)) (g.K.Sink.written c.args.out.now) _ refl))
+
+pub returns-in_err-hand_line-clause-front : goal.returns-in_err-hand_line-clause-front
+returns-in_err-hand_line-clause-front g c =
+    on_err _ c.from_residual-in_err-hand_line.result
+    (read_all (λ builds are. unfed_front (GoesOn (library builds) (plain c.args.world.now 0) c.args.budget) c.args.reader.now.taken (ahead c.args.reader.now (g.S.Source.left c.args.input.now)) (g.K.Sink.written c.args.out.now) _ refl))
 
 -- no line is left
 
 pub returns-in_default-clause-fed : goal.returns-in_default-clause-fed
 returns-in_default-clause-fed g c =
-    let text = ahead c.args.reader.now (g.S.Source.left c.args.input.now) in
+    let text = (ahead c.args.reader.now (g.S.Source.left c.args.input.now)) in
     let next = ahead c.next_line.new.self (g.S.Source.left c.next_line.new.source) in
     let none : TakesLine None text next = subst (λ o. TakesLine o text next) c.in_default.is c.in_ok-line.ensures.line in
-    on_none library c.args.world.now c.args.budget text next (g.K.Sink.written c.args.out.now) (g.K.Sink.written c.args.out.now) none refl
+    read_all (λ builds are. on_none (library builds) c.args.world.now c.args.budget c.args.reader.now.taken text next (g.K.Sink.written c.args.out.now) (g.K.Sink.written c.args.out.now) none refl)
 
 -- a line is handed over
 
@@ -28,23 +57,38 @@ feed-requires g c =
 pub returns-clause-fed : goal.returns-clause-fed
 returns-clause-fed g c =
     let line = c.in-Some.line in
-    let text = ahead c.args.reader.now (g.S.Source.left c.args.input.now) in
+    let text = (ahead c.args.reader.now (g.S.Source.left c.args.input.now)) in
     let next = ahead c.next_line.new.self (g.S.Source.left c.next_line.new.source) in
     let takes : TakesLine (Some line) text next = subst (λ o. TakesLine o text next) c.in-Some.is c.in_ok-line.ensures.line in
+    let within : IsWithinLimits c.args.reader.now.taken line = subst (λ o. IfSome o (λ l. IsWithinLimits c.args.reader.now.taken l)) c.in-Some.is c.in_ok-line.ensures.within in
+    let taken : c.next_line.new.self.taken ≡ c.args.reader.now.taken + length line + 1 =
+    subst (λ o. c.next_line.new.self.taken ≡ taken_with c.args.reader.now.taken o) c.in-Some.is c.in_ok-line.ensures.taken in
     let same : c.as_slice.result.now ≡ line = search rules in
     let handed : plain c.hand_line.new.world 0 ≡ handed_line (plain c.args.world.now 0) line = c.in_ok-hand_line.ensures.handed 0 ∙ ap (handed_line (plain c.args.world.now 0)) same in
-    IfOk-weaker c.feed.result _ _
-    (λ close f. on_fed library c.args.world.now c.hand_line.new.world c.args.budget line text next (g.K.Sink.written c.args.out.now) (g.K.Sink.written c.feed.new.out) handed takes c.feed.new.world (close_of close) f)
-    c.feed.ensures.fed
+    IfOk-weaker c.feed.result _ _ (λ close f. read_map (λ builds are f. on_fed (library builds) c.args.world.now c.hand_line.new.world c.args.budget c.args.reader.now.taken c.next_line.new.self.taken line text next (g.K.Sink.written c.args.out.now) (g.K.Sink.written c.feed.new.out) handed takes within taken c.feed.new.world (close_of close) f) f) c.feed.ensures.fed
 
 pub returns-clause-front : goal.returns-clause-front
 returns-clause-front g c =
     let line = c.in-Some.line in
-    let text = ahead c.args.reader.now (g.S.Source.left c.args.input.now) in
+    let text = (ahead c.args.reader.now (g.S.Source.left c.args.input.now)) in
     let next = ahead c.next_line.new.self (g.S.Source.left c.next_line.new.source) in
     let takes : TakesLine (Some line) text next = subst (λ o. TakesLine o text next) c.in-Some.is c.in_ok-line.ensures.line in
+    let within : IsWithinLimits c.args.reader.now.taken line = subst (λ o. IfSome o (λ l. IsWithinLimits c.args.reader.now.taken l)) c.in-Some.is c.in_ok-line.ensures.within in
+    let taken : c.next_line.new.self.taken ≡ c.args.reader.now.taken + length line + 1 =
+    subst (λ o. c.next_line.new.self.taken ≡ taken_with c.args.reader.now.taken o) c.in-Some.is c.in_ok-line.ensures.taken in
     let same : c.as_slice.result.now ≡ line = search rules in
     let handed : plain c.hand_line.new.world 0 ≡ handed_line (plain c.args.world.now 0) line = c.in_ok-hand_line.ensures.handed 0 ∙ ap (handed_line (plain c.args.world.now 0)) same in
-    on_err_weaker c.feed.result
-    (on_front library c.args.world.now c.hand_line.new.world c.args.budget line text next (g.K.Sink.written c.args.out.now) (g.K.Sink.written c.feed.new.out) handed takes)
-    c.feed.ensures.front
+    on_err_weaker c.feed.result (read_map (λ builds are f. on_front (library builds) c.args.world.now c.hand_line.new.world c.args.budget c.args.reader.now.taken c.next_line.new.self.taken line text next (g.K.Sink.written c.args.out.now) (g.K.Sink.written c.feed.new.out) handed takes within taken f)) c.feed.ensures.front
+
+pub returns-clause-limit : goal.returns-clause-limit
+returns-clause-limit g c = λ limit.
+    let line = c.in-Some.line in
+    let text = (ahead c.args.reader.now (g.S.Source.left c.args.input.now)) in
+    let next = ahead c.next_line.new.self (g.S.Source.left c.next_line.new.source) in
+    let takes : TakesLine (Some line) text next = subst (λ o. TakesLine o text next) c.in-Some.is c.in_ok-line.ensures.line in
+    let within : IsWithinLimits c.args.reader.now.taken line = subst (λ o. IfSome o (λ l. IsWithinLimits c.args.reader.now.taken l)) c.in-Some.is c.in_ok-line.ensures.within in
+    let taken : c.next_line.new.self.taken ≡ c.args.reader.now.taken + length line + 1 =
+    subst (λ o. c.next_line.new.self.taken ≡ taken_with c.args.reader.now.taken o) c.in-Some.is c.in_ok-line.ensures.taken in
+    let same : c.as_slice.result.now ≡ line = search rules in
+    let handed : plain c.hand_line.new.world 0 ≡ handed_line (plain c.args.world.now 0) line = c.in_ok-hand_line.ensures.handed 0 ∙ ap (handed_line (plain c.args.world.now 0)) same in
+    read_map (λ builds are f. on_cut (library builds) c.args.world.now c.hand_line.new.world c.args.budget c.args.reader.now.taken c.next_line.new.self.taken line text next (g.K.Sink.written c.args.out.now) (g.K.Sink.written c.feed.new.out) handed takes within taken f) (c.feed.ensures.limit limit)

@@ -1,14 +1,16 @@
 use Rattle.std.proofs.Common.{rules, ◌≡◌, refl, subst}
 use Rattle.std.specs.Prelude.{Err}
 use Rattle.machine_core.specs.World.{World}
-use Rattle.machine_step.specs.Step.{library}
+use Rattle.loaded_code.specs.Laws.{library}
+use Rattle.source_builds.specs.Readings.{AsRead}
+use Rattle.source_builds.proofs.Knowing.{read_all, read_map}
 use Rattle.io_edge.specs.Lines.{ahead}
 use Rattle.lua_stack.proofs.Called.{on_err}
 use Rattle.lua_feed.specs.Closes.{close_of}
 use Rattle.lua_feed.specs.Faults.{is_input_fault, is_output_fault}
-use Rattle.lua_feed.specs.Feeding.{Does, IsFed, IsFedFront}
+use Rattle.lua_feed.specs.Feeding.{Does, IsCutOff, IsFed, IsFedFront}
 use Rattle.lua_feed.specs.Running.{started}
-use Rattle.lua_feed.proofs.Causes.{cause_since, same_input, same_output}
+use Rattle.lua_feed.proofs.Causes.{cause_since, same_input, same_limit, same_output}
 use Rattle.lua_feed.proofs.Fed.{only_same}
 use Rattle.lua_feed.proofs.Starting.{unfed_front}
 use Rattle.lua_feed.proofs.script.run_code.Goals as goal
@@ -16,7 +18,7 @@ use Rattle.lua_feed.proofs.script.run_code.Goals as goal
 pub returns-in_err-world-clause-front : goal.returns-in_err-world-clause-front
 returns-in_err-world-clause-front g c =
     on_err _ c.from_residual.result
-    (unfed_front (Does library (started c.args.prelude c.args.code) c.args.budget) (ahead c.args.reader.now (g.S.Source.left c.args.input.now)) (g.K.Sink.written c.args.out.now) _ refl)
+    (read_all (λ builds are. unfed_front (Does (library builds) (started c.args.prelude c.args.code) c.args.budget) c.args.reader.now.taken (ahead c.args.reader.now (g.S.Source.left c.args.input.now)) (g.K.Sink.written c.args.out.now) _ refl))
 
 pub returns-in_err-world-clause-grows : goal.returns-in_err-world-clause-grows
 returns-in_err-world-clause-grows g c = on_err _ c.from_residual.result (only_same (g.K.Sink.written c.args.out.now) _ refl)
@@ -24,7 +26,7 @@ returns-in_err-world-clause-grows g c = on_err _ c.from_residual.result (only_sa
 pub returns-in_err-close-clause-front : goal.returns-in_err-close-clause-front
 returns-in_err-close-clause-front g c =
     on_err _ c.from_residual-in_err-close.result
-    (subst (λ (W : World). IsFedFront (Does library W c.args.budget) (ahead c.args.reader.now (g.S.Source.left c.args.input.now)) (g.K.Sink.written c.args.out.now) (g.K.Sink.written c.feed.new.out))
+    (subst (λ (W : World). AsRead (λ builds. IsFedFront (Does (library builds) W c.args.budget) c.args.reader.now.taken (ahead c.args.reader.now (g.S.Source.left c.args.input.now)) (g.K.Sink.written c.args.out.now) (g.K.Sink.written c.feed.new.out)))
     c.in_ok-world.ensures.begun c.in_err-close.ensures.front)
 
 pub returns-in_err-close-clause-grows : goal.returns-in_err-close-clause-grows
@@ -48,5 +50,13 @@ returns-in_err-close-clause-output g c =
 
 pub returns-clause-runs : goal.returns-clause-runs
 returns-clause-runs g c =
-    subst (λ (W : World). IsFed (Does library W c.args.budget) (ahead c.args.reader.now (g.S.Source.left c.args.input.now)) (g.K.Sink.written c.args.out.now) (g.K.Sink.written c.feed.new.out) (close_of c.in_ok-close.close))
-    c.in_ok-world.ensures.begun c.in_ok-close.ensures.fed.fed
+    subst (λ (W : World). AsRead (λ builds. IsFed (Does (library builds) W c.args.budget) c.args.reader.now.taken (ahead c.args.reader.now (g.S.Source.left c.args.input.now)) (g.K.Sink.written c.args.out.now) (g.K.Sink.written c.feed.new.out) (close_of c.in_ok-close.close)))
+    c.in_ok-world.ensures.begun (read_map (λ builds are f. f.fed) c.in_ok-close.ensures.fed)
+
+pub returns-in_err-close-clause-limit : goal.returns-in_err-close-clause-limit
+returns-in_err-close-clause-limit g c = λ limit.
+    let fault = c.in_err-close.field-0.0 in
+    let was : c.feed.result ≡ Err fault = search rules in
+    let is : c.from_residual-in_err-close.result ≡ Err fault = search rules in
+    subst (λ (W : World). AsRead (λ builds. IsCutOff (Does (library builds) W c.args.budget) c.args.reader.now.taken (ahead c.args.reader.now (g.S.Source.left c.args.input.now)) (g.K.Sink.written c.args.out.now) (g.K.Sink.written c.feed.new.out)))
+    c.in_ok-world.ensures.begun (c.feed.ensures.limit (same_limit fault c.feed.result c.from_residual-in_err-close.result was is limit))
