@@ -1,5 +1,5 @@
 mod Knowing
 mod CameBack
-mod Given
+pub mod Given
 mod Composed
 mod Whole

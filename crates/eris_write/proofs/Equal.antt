@@ -9,12 +9,12 @@ use Rattle.list_laws.proofs.Items.{some_same}
 use Rattle.machine_sound.proofs.Lists.{get_map, get_take, map_get, push_cases}
 use Rattle.image_core.specs.Image.{PermKey, number_key, text_key, Perm}
 use Rattle.lua_stack.proofs.Parts.{take_next}
+use Rattle.graph_core.specs.Inverse.{KeysAreOnce}
 use Rattle.graph_core.proofs.Meeting.{map_more}
 use Rattle.eris_write.specs.declared.keys.Key.{Key}
 use Rattle.eris_write.specs.declared.keys.Key.TheVariants.{Number, Text}
 use Rattle.eris_write.specs.contracts.keys.KeyPartialEq.TheImpl as key_impl
 use Rattle.eris_write.specs.Keys.{HaveEqualKeys, shown}
-use Rattle.eris_write.specs.Refusals.{KeysAreOnce}
 
 abbrev pub key_eq : Key → Key → Bool
 key_eq = (key_impl.ghosts).eq

@@ -16,6 +16,7 @@ use Rattle.image_sound.proofs.Savable.{savable_is_written}
 use Rattle.image_bytes.specs.Bytes.{Reader, image_format}
 use Rattle.lua_heap.specs.declared.world.World.{World as Memory}
 use Rattle.lua_heap.specs.Plain.{plain}
+use Rattle.graph_core.specs.Inverse.{KeysAreOnce}
 use Rattle.graph_core.specs.Numbering.{IsNumbering}
 use Rattle.graph_core.specs.Objects.{part}
 use Rattle.graph_core.specs.Permanents.{permanents}
@@ -30,7 +31,7 @@ use Rattle.eris_write.specs.declared.output.Output.{Output}
 use Rattle.eris_write.specs.declared.writer.Writer.{Writer}
 use Rattle.eris_write.specs.Images.{Finishes, IsDrawn, all_bytes}
 use Rattle.eris_write.specs.Persisting.{CanPersist, Persists, FirstRefusal, IsAllowed, image}
-use Rattle.eris_write.specs.Refusals.{Cause, refused, beyond, shown, KeysAreOnce, active, all_fields, coroutine_refusal, field_refusal, first_refusal, if_found, or_else, unless_item, unnamed_refusal}
+use Rattle.eris_write.specs.Refusals.{Cause, refused, beyond, shown, active, all_fields, coroutine_refusal, field_refusal, first_refusal, if_found, or_else, unless_item, unnamed_refusal}
 use Rattle.eris_write.specs.Writing.{name_in, read_in}
 use Rattle.eris_write.proofs.Allowed.{allowed_savable}
 use Rattle.eris_write.proofs.Imaged.{all_kept, first_by_fuel, fields_are, image_is, too_many, Knows}

@@ -1,9 +1,9 @@
 -- Keys of permanents that are the same.
 use Rattle.std.specs.Prelude.{◌≡◌, ◌<◌, ℕ, Bool, true, false, List, Some, slice_get}
 use Rattle.image_core.specs.Image.{PermKey, number_key, text_key, Perm}
+use Rattle.graph_core.specs.Inverse.{KeysAreOnce}
 use Rattle.eris_write.specs.declared.keys.Key.{Key}
 use Rattle.eris_write.specs.declared.keys.Key.TheVariants.{Number, Text}
-use Rattle.eris_write.specs.Refusals.{KeysAreOnce}
 
 -- two permanents have one key
 pub record HaveEqualKeys (ps : List Perm) : Type 0 where

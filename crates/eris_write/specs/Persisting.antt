@@ -13,13 +13,14 @@ use Rattle.lua_heap.specs.Plain.{plain}
 use Rattle.lua_heap.specs.Reading.{value}
 use Rattle.move_laws.specs.Memory.{InOrder}
 use Rattle.graph_core.specs.declared.permanents.Permanents.{Permanents}
+use Rattle.graph_core.specs.Inverse.{KeysAreOnce}
 use Rattle.graph_core.specs.Permanents.{permanents}
 use Rattle.eris_write.specs.declared.fault.PersistFault.{PersistFault}
 use Rattle.eris_write.specs.declared.fault.PersistFault.TheVariants.{Refused, TooLarge, Memory as NoMemory}
 use Rattle.eris_write.specs.declared.fault.Refusal.{Refusal}
 use Rattle.eris_write.specs.declared.fault.Refusal.TheVariants.{LibraryFunction, ActiveCoroutine, EqualKeys}
 use Rattle.eris_write.specs.Keys.{HaveEqualKeys}
-use Rattle.eris_write.specs.Refusals.{Cause, refused, KeysAreOnce, all_fields, first_refusal}
+use Rattle.eris_write.specs.Refusals.{Cause, refused, all_fields, first_refusal}
 
 -- a sound world in memory, and roots that are there and no more than an image may have
 pub record CanPersist (W : Memory) (roots : List Kept) : Type 0 where

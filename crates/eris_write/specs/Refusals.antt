@@ -1,10 +1,10 @@
 -- What an image cannot hold: library functions and coroutines at work, unless they are permanents, and what is refused first.
-use Rattle.std.specs.Prelude.{◌≡◌, ℕ, cond, nat_eq, List, [], ◌∷◌, ◌++◌, map, flat_map, Option, Some, None, slice_get}
+use Rattle.std.specs.Prelude.{ℕ, cond, nat_eq, List, [], ◌∷◌, ◌++◌, map, flat_map, Option, Some, None, slice_get}
 use Rattle.std.specs.List.{list_any}
 use Rattle.code_core.specs.Writable.{signed_fits}
 use Rattle.int_core.specs.Value.{integer, primitive, a_table, a_function, a_coroutine, Value, known, object}
 use Rattle.machine_core.specs.World.{Coroutine, in_progress, normal, World}
-use Rattle.image_core.specs.Image.{Item, Perm}
+use Rattle.image_core.specs.Image.{Item}
 use Rattle.image_core.specs.Records.{Field, of_value, of_cell, of_coroutine, fields, is_reached, parts_in_order}
 use Rattle.eris_write.specs.declared.fault.Refusal.{Refusal}
 use Rattle.eris_write.specs.declared.fault.Refusal.TheVariants.{LibraryFunction, ActiveCoroutine, EqualKeys}
@@ -68,7 +68,3 @@ module _ (W : World) (name : Value → Option Item) where
   -- what an image names, in its order: its roots, then the fields of each record
   abbrev pub all_fields : List Value → List Field
   all_fields roots = map of_value roots ++ flat_map (fields W (is_reached W name roots)) (parts_in_order W name roots)
-
--- no two permanents have one key
-abbrev pub KeysAreOnce : List Perm → Type 0
-KeysAreOnce ps = (i j : ℕ) (p q : Perm) → slice_get ps i ≡ Some p → slice_get ps j ≡ Some q → p.key ≡ q.key → i ≡ j

@@ -1,5 +1,6 @@
 pub mod Objects
 pub mod Permanents
+pub mod Inverse
 pub mod Walk
 pub mod Cells
 pub mod Frames

@@ -4,12 +4,14 @@
 
 mod coroutines;
 mod fields;
+mod inverting;
 mod numbering;
 mod object;
 mod permanents;
 mod walk;
 
 pub use fields::metatable_of;
+pub use inverting::inverse;
 pub use numbering::{Numbering, reach};
 pub use object::{Object, Sort};
 pub use permanents::{Permanent, PermanentKey, PermanentSort, Permanents};

@@ -1,8 +1,9 @@
 // Permanent values, which stand in an image by their keys alone (Eris's manual, `eris.persist`).
-ghost use Rattle.std.specs.Prelude.{◌≡◌, ◌<◌, ℕ, List, [], ◌∷◌, ◌++◌, Some, cond, length, is_some, slice_get, OnOk, OnErr};
+ghost use Rattle.std.specs.Prelude.{◌≡◌, ◌<◌, ℕ, List, [], ◌∷◌, ◌++◌, Some, Decides, cond, length, is_some, slice_get, OnOk, OnErr};
 ghost use Rattle.std.specs.Option.{option_map};
 ghost use Rattle.image_core.specs.Records.{key_of};
 ghost use Rattle.lua_heap.specs.Reading.{value as read};
+ghost use Rattle.graph_core.specs.Inverse.{KeyIsBefore, KeysAreOnce, ObjectsAreOnce};
 ghost use Rattle.graph_core.specs.Permanents.{key_read, object_read, permanent, permanents, stands_for};
 
 use indexmap::IndexMap;
@@ -26,7 +27,7 @@ pub struct Permanent {
 }
 
 /// The name of a permanent in an image.
-#[derive(Debug, Drop)]
+#[derive(Debug, PartialEq, Eq, Drop)]
 pub enum PermanentKey {
     Number(i64),
     Text(Vec<u8>),
@@ -114,5 +115,42 @@ impl Permanents {
     {
         let object = Permanent::of(value)?;
         self.keys.get(&object)
+    }
+
+    /// Whether an object has this key.
+    pub(crate) fn has(&self, object: Permanent, key: &PermanentKey) -> bool
+        ensures { Decides result (key_of (permanents self.now) (object_read object) ≡ Some (key_read key.now)) }
+    {
+        match self.keys.get(&object) {
+            Some(own) => own == key,
+            None => false,
+        }
+    }
+
+    /// Whether no two objects have one key.
+    pub(crate) fn has_each_key_once(&self) -> bool
+        ensures keys { Decides result (KeysAreOnce (permanents self.now)) }
+        ensures objects { ObjectsAreOnce (permanents self.now) }
+    {
+        for at in 0..self.keys.len() {
+            if self.has_key_before(at) {
+                return false;
+            }
+        }
+        true
+    }
+
+    /// Whether one before a place has the key of the one at it.
+    fn has_key_before(&self, at: usize) -> bool
+        requires { at < length (permanents self.now) }
+        ensures { Decides result (KeyIsBefore (permanents self.now) at) }
+    {
+        let key = self.at(at).1;
+        for before in 0..at {
+            if self.at(before).1 == key {
+                return true;
+            }
+        }
+        false
     }
 }

@@ -23,7 +23,7 @@ pub written_is_held : WrittenIsHeld
 written_is_held W roots ps bytes fuel w =
     held_of (plain W fuel) (named W.prelude.env.0 (permanents ps)) (all_fields (plain W fuel) (permanents ps) (map (value W.strings) roots)) (w.allowed.none.is fuel)
 
-abbrev IsReadAs : Reader → (PermKey → Option Prototype) → List ℕ → Image → ℕ → Type 0
+abbrev pub IsReadAs : Reader → (PermKey → Option Prototype) → List ℕ → Image → ℕ → Type 0
 IsReadAs R code_named bytes I n = (met : ℕ) × (reads R code_named n bytes ≡ read I met [])
 
 pub written_is_read : WrittenIsSavable → ReadersKnow → WrittenImagesAccepted → WrittenIsRead

@@ -1,3 +1,4 @@
 mod Goes
 mod Held
 mod Joined
+mod Inverted

@@ -1,7 +1,7 @@
 //! The laws that join the writing and the reading of images: the reader knows the permanents that it was handed, and what was written is read back.
 #![tactic(auto)]
 
-ghost use Rattle.images_joined.specs.Law.{ReaderKnows, SessionReaderKnows, WrittenIsHeld, WrittenIsRead};
+ghost use Rattle.images_joined.specs.Law.{InverseCanLoad, ReaderKnows, SessionReaderKnows, WrittenIsHeld, WrittenIsRead, WrittenIsReadByInverse};
 
 use eris_write::law::written_worlds_are_savable;
 use images_stand::{readers_know, written_images_stand};
@@ -23,4 +23,13 @@ pub fn what_is_written_is_read()
     written_worlds_are_savable();
     readers_know();
     written_images_stand();
+}
+
+/// What was written with some permanents is read back with permanents that are their inverse, as `graph_core::inverse` tells. Such permanents are what the laws on
+/// loading suppose, also of another world in which each permanent object has the same number.
+pub fn what_is_written_is_read_by_the_inverse()
+    ensures read { WrittenIsReadByInverse }
+    ensures loads { InverseCanLoad }
+{
+    what_is_written_is_read();
 }

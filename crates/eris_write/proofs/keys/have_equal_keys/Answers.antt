@@ -1,7 +1,7 @@
 use Rattle.std.proofs.Common.{subst, arith}
 use Rattle.std.proofs.lemmas.List.{take_all}
+use Rattle.graph_core.specs.Inverse.{KeysAreOnce}
 use Rattle.graph_core.specs.Permanents.{permanent, permanents}
-use Rattle.eris_write.specs.Refusals.{KeysAreOnce}
 use Rattle.eris_write.proofs.Equal.{none_seen, twice_when, more_when}
 use Rattle.eris_write.proofs.keys.have_equal_keys.Goals as goal
 
