@@ -3,6 +3,6 @@ mod Held
 mod Imaged
 mod Keys
 mod Made
-mod Resumed
-mod Rooted
+pub mod Resumed
+pub mod Rooted
 mod Taken

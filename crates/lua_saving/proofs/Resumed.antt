@@ -47,7 +47,7 @@ functions_there : (z : Sizes) (from : ℕ) (keys : List (List ℕ)) → from + l
 functions_there z from [] h = tt
 functions_there z from (key ∷ keys) h = (omega (arith, h), functions_there z (suc from) keys (omega (arith, h)))
 
-base_there : (z : Sizes) → z.primitives ≡ length all_entries → length function_keys ≤ length z.functions → Every (λ (p : Perm). Valid z p.object) base_permanents
+pub base_there : (z : Sizes) → z.primitives ≡ length all_entries → length function_keys ≤ length z.functions → Every (λ (p : Perm). Valid z p.object) base_permanents
 unfolding base_permanents
 base_there z e h =
     let same : length (map key_of_entry all_entries) ≡ length all_entries = refl in
@@ -59,11 +59,11 @@ functions_count [] ps h = refl
 functions_count (f ∷ fs) [] h = absurd (omega (arith, h))
 functions_count (f ∷ fs) (p ∷ ps) h = ap suc (functions_count fs ps (omega (arith, h)))
 
-opening_functions : (es : List (Entry Prototype)) → (opening es).functions ≡ map prelude_function es
+pub opening_functions : (es : List (Entry Prototype)) → (opening es).functions ≡ map prelude_function es
 unfolding opening
 opening_functions es = refl
 
-opening_environment : (es : List (Entry Prototype)) → (opening es).prelude_environment ≡ environment_table
+pub opening_environment : (es : List (Entry Prototype)) → (opening es).prelude_environment ≡ environment_table
 unfolding opening
 opening_environment es = refl
 

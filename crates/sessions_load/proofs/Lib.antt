@@ -1,0 +1,3 @@
+mod Known
+mod Loaded
+mod Saved
