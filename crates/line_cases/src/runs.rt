@@ -55,6 +55,7 @@ fn call(alloc: Global, line: &str, setting: &Setting) -> Result<Outcome, Fail> {
     let mut out = MemSink::new(alloc, numbers(alloc, setting.failing_out)?);
     let mut err = MemSink::new(alloc, numbers(alloc, &[])?);
     let words = words(alloc, line)?;
+    let mut last = None;
     let status = luaris(
         alloc,
         words.as_slice(),
@@ -62,6 +63,7 @@ fn call(alloc: Global, line: &str, setting: &Setting) -> Result<Outcome, Fail> {
         &mut input,
         &mut out,
         &mut err,
+        &mut last,
     );
     Ok(Outcome { status, out, err })
 }
@@ -232,6 +234,7 @@ fn compiled(alloc: Global, line: &str, script: &[u8]) -> Result<Vec<u8>, Fail> {
     let mut out = MemSink::new(alloc, numbers(alloc, &[])?);
     let mut err = MemSink::new(alloc, numbers(alloc, &[])?);
     let words = words(alloc, line)?;
+    let mut last = None;
     luaris(
         alloc,
         words.as_slice(),
@@ -239,6 +242,7 @@ fn compiled(alloc: Global, line: &str, script: &[u8]) -> Result<Vec<u8>, Fail> {
         &mut input,
         &mut out,
         &mut err,
+        &mut last,
     );
     match files.file("o") {
         Some(bytes) => Ok(bytes.to_vec(alloc)?),

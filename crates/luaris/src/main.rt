@@ -20,6 +20,7 @@ fn main(rt: HostRuntime) -> ExitCode {
     let mut files = HostFiles::new(rt);
     let mut input = HostSource::new(rt);
     let mut out = HostSink::new(rt, OutputStream::Output);
+    let mut last = None;
     ExitCode::from(luaris(
         rt.alloc(),
         words.as_slice(),
@@ -27,5 +28,6 @@ fn main(rt: HostRuntime) -> ExitCode {
         &mut input,
         &mut out,
         &mut err,
+        &mut last,
     ))
 }

@@ -45,6 +45,8 @@ refused_check name content f k held written status own found refuses =
       front = λ content' text has writes. grows_by_none text written;
       grows = only_same written;
       unwritten = λ other other'. refl;
+      none_lacking = λ lacks. refl;
+      none_refused = λ content' has refuses. refl;
       files_kept = keeps_telling held;
       files_same = λ other. refl;
     }
@@ -64,6 +66,8 @@ memory_check name content f k held written found =
       front = λ content' text has writes. grows_by_none text written;
       grows = only_same written;
       unwritten = λ other other'. refl;
+      none_lacking = λ lacks. refl;
+      none_refused = λ content' has refuses. refl;
       files_kept = keeps_telling held;
       files_same = λ other. refl;
     }
@@ -83,6 +87,8 @@ failed_check name content text f k k' held written written' found own cause fron
       front = λ content' text' has writes. subst (λ t. GrowsByFront t written written') (sym (own.only text' (subst (λ c. Reports c text') (same_content name content content' held found has) writes))) front;
       grows = only_front text written written' front;
       unwritten = λ other other'. absurd (other' refl);
+      none_lacking = λ lacks. absurd (not_lacking name content held found lacks);
+      none_refused = λ content' has refuses. absurd (refuses own.writes.0 (subst (λ c. IsAccepted c own.writes.0) (sym (same_content name content content' held found has)) own.writes.1));
       files_kept = keeps_telling held;
       files_same = λ other. absurd (other refl);
     }
@@ -104,6 +110,8 @@ done_check name content text f k k' held written written' found own same_count w
       front = λ content' text' has writes. subst (λ t. GrowsByFront t written written') (sym (own.only text' (subst (λ c. Reports c text') (same_content name content content' held found has) writes))) (grows_by_all text written written' wrote);
       grows = only_front text written written' (grows_by_all text written written' wrote);
       unwritten = λ other other'. absurd (other refl);
+      none_lacking = λ lacks. absurd (not_lacking name content held found lacks);
+      none_refused = λ content' has refuses. absurd (refuses own.writes.0 (subst (λ c. IsAccepted c own.writes.0) (sym (same_content name content content' held found has)) own.writes.1));
       files_kept = keeps_telling held;
       files_same = λ other. refl;
     }
@@ -134,6 +142,8 @@ unread_check name f f' k held held' written Failed cause absent lacking kept fai
       front = λ content text has writes. grows_by_none text written;
       grows = only_same written;
       unwritten = λ other other'. refl;
+      none_lacking = λ lacks. refl;
+      none_refused = λ content' has refuses. refl;
       files_kept = failed;
       files_same = λ other. absurd (other refl);
     }
@@ -152,6 +162,8 @@ unread_check name f f' k held held' written Absent cause absent lacking kept fai
       front = λ content text has writes. grows_by_none text written;
       grows = only_same written;
       unwritten = λ other other'. refl;
+      none_lacking = λ lacks. refl;
+      none_refused = λ content' has refuses. refl;
       files_kept = rw kept (keeps_telling held);
       files_same = λ other. kept;
     }
@@ -169,6 +181,8 @@ unread_check name f f' k held held' written Memory cause absent lacking kept fai
       front = λ content text has writes. grows_by_none text written;
       grows = only_same written;
       unwritten = λ other other'. refl;
+      none_lacking = λ lacks. refl;
+      none_refused = λ content' has refuses. refl;
       files_kept = rw kept (keeps_telling held);
       files_same = λ other. kept;
     }

@@ -4,10 +4,12 @@ pub mod CheckLemmas
 pub mod CompileLemmas
 pub mod CodeLemmas
 pub mod MeaningLemmas
+mod Limited
 pub mod Endings
 pub mod Leaving
 pub mod ImageLemmas
 pub mod RunLemmas
 pub mod ResumeLemmas
+pub mod WorkLemmas
 pub mod ReportLemmas
 pub mod Meant

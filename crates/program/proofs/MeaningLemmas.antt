@@ -1,7 +1,11 @@
 -- What a script means is what its code does, from the world of the libraries.
-use Rattle.std.proofs.Common.{◌≡◌, ℕ, ◌≤◌, Bool, true, false, List, length, Some, None, IsTrue, refl, sym, ap, ◌∙◌, arith}
+use Rattle.std.proofs.Common.{◌≡◌, ℕ, ◌+◌, ◌≤◌, Bool, true, false, cond, List, [], ◌∷◌, length, Some, None, IsTrue, refl, sym, ap, ◌∙◌, arith}
 use Rattle.std.proofs.lemmas.Bool.Decides.{nat_tests}
 use Rattle.std.specs.Bool.{MatchBool}
+use Rattle.load_rows.specs.Loading.{Builds}
+use Rattle.source_builds.specs.Builds.{BuildsSources}
+use Rattle.int_core.specs.Value.{greatest_string}
+use Rattle.machine_sound.proofs.Lists.{each_none, each_cons}
 use Rattle.tree_core.specs.Tree.{Block, Body}
 use Rattle.tree_activation.specs.Work.{State}
 use Rattle.scope_core.specs.Places.{placed}
@@ -16,14 +20,19 @@ use Rattle.lua_meaning.specs.Meaning as meaning
 use Rattle.lua_meaning.specs.Meaning.{Meaning, Outcome}
 use Rattle.lua_meaning.specs.Opening.{prelude_of}
 use Rattle.machine_runs.specs.Runs.{Close, has_returned, has_failed, has_spent, is_suspended, Run, CodeRun}
-use Rattle.machine_step.specs.Step.{library}
+use Rattle.loaded_code.specs.Laws.{library}
 use Rattle.scripts_mean.specs.Scripts.{IsRead, functions_in, EndsAs, RunsAs, ScriptsMean, PreludeIsAlike}
+use Rattle.lua_feed.specs.Limits.{is_within, lines_within}
 use Rattle.lua_feed.specs.Running.{started}
+use Rattle.lua_feed.proofs.Limits.{within_short}
 use Rattle.program.specs.Checking.{begins_chunk, IsAccepted}
 use Rattle.program.specs.Compiling.{source_name}
-use Rattle.program.specs.Meaning.{MeansOn, EndsWith, AreShort}
+use Rattle.program.specs.Meaning.{MeansOn, EndsWith, IsWaiting, AreShort}
 use Rattle.program.specs.Running.{HoldsCode}
 use Rattle.program.specs.Sessions.{status_of_close}
+
+abbrev pub Short : List ℕ → Type 0
+Short line = length line ≤ greatest_string
 
 pub read_of : (source : List ℕ) (tree : Block) → IsSource source tree → IsRead source tree
 read_of source tree s = record {
@@ -50,17 +59,17 @@ code_is name content code tree begins holds source =
     let made : IsCodeOf (source_name name) (script_in content) true code = by_script (IsAccepted content code) (IsCodeOf (source_name name) (script_in content) true code) (begins_chunk content) begins holds in
     made.code_is ∙ ap (λ t. code_of (Some (source_name name)) (placed t)) (source.only made.tree made.is_source.has_tree)
 
-prelude_is : (code : Prototype) (tree : Block) → IsPreludeCode code → IsRead prelude_text tree → code ≡ code_of None (placed tree)
+pub prelude_is : (code : Prototype) (tree : Block) → IsPreludeCode code → IsRead prelude_text tree → code ≡ code_of None (placed tree)
 prelude_is code tree own read =
     own.compiled.code_is ∙ ap (λ t. code_of None (placed t)) (sym (own.compiled.is_source.only tree (tree_of prelude_text tree read)))
 
-pub meaning_run : ScriptsMean → PreludeIsAlike → (name content : List ℕ) (lines : List (List ℕ)) (budget : ℕ) (prelude code : Prototype) (m : Meaning Body State)
-    → length name ≤ 65536 → AreShort lines → IsPreludeCode prelude → HoldsCode name content code → MeansOn name content lines budget m
-    → (run : Run) × CodeRun library (started prelude code) lines budget run × RunsAs run m
-meaning_run law alike name content lines budget prelude code m short fits own holds means =
+pub meaning_run : {builds : Builds Body} → BuildsSources builds → ScriptsMean → PreludeIsAlike → (name content : List ℕ) (lines : List (List ℕ)) (budget : ℕ) (prelude code : Prototype) (m : Meaning Body State)
+    → length name ≤ 65536 → AreShort lines → IsPreludeCode prelude → HoldsCode name content code → MeansOn builds name content lines budget m
+    → (run : Run) × CodeRun (library builds) (started prelude code) lines budget run × RunsAs run m
+meaning_run {builds = builds} sources law alike name content lines budget prelude code m short fits own holds means =
     let codes : code ≡ code_of (Some (source_name name)) (placed means.tree) = code_is name content code means.tree means.is_script holds means.is_source in
     let preludes : prelude ≡ code_of None (placed means.prelude) = prelude_is prelude means.prelude own means.is_prelude in
-    let goes = law (script_in content) means.tree (prelude_of (functions_in (placed means.prelude))) (prelude_of (list_of (code_of None (placed means.prelude)).inner)) (Some (source_name name)) lines budget
+    let goes = law builds sources (script_in content) means.tree (prelude_of (functions_in (placed means.prelude))) (prelude_of (list_of (code_of None (placed means.prelude)).inner)) (Some (source_name name)) lines budget
     (record { read = read_of (script_in content) means.tree means.is_source; libraries = alike means.prelude means.is_prelude; name = name_is_short name short; lines = fits }) m means.means in
     (goes.0, rw (codes, preludes) goes.1, goes.2)
 
@@ -85,3 +94,34 @@ ends_with is_suspended meaning.has_failed e = absurd e
 ends_with is_suspended meaning.has_spent e = absurd e
 ends_with is_suspended (meaning.is_suspended W) e = refl
 ends_with is_suspended meaning.is_broken e = absurd e
+
+-- a script that waits for a line runs as one that does
+pub waits_too : (close : Close) (o : Outcome Body State) → EndsAs close o → IsWaiting o → close ≡ is_suspended
+waits_too has_returned (meaning.is_suspended W) e w = absurd e
+waits_too has_failed (meaning.is_suspended W) e w = absurd e
+waits_too has_spent (meaning.is_suspended W) e w = absurd e
+waits_too is_suspended o e w = refl
+waits_too has_returned meaning.has_returned e w = absurd w
+waits_too has_returned meaning.has_failed e w = absurd w
+waits_too has_returned meaning.has_spent e w = absurd w
+waits_too has_returned meaning.is_broken e w = absurd w
+waits_too has_failed meaning.has_returned e w = absurd w
+waits_too has_failed meaning.has_failed e w = absurd w
+waits_too has_failed meaning.has_spent e w = absurd w
+waits_too has_failed meaning.is_broken e w = absurd w
+waits_too has_spent meaning.has_returned e w = absurd w
+waits_too has_spent meaning.has_failed e w = absurd w
+waits_too has_spent meaning.has_spent e w = absurd w
+waits_too has_spent meaning.is_broken e w = absurd w
+
+-- strings can hold the lines that are not past the limits
+pub usable_short : (taken : ℕ) (lines : List (List ℕ)) → AreShort (lines_within taken lines)
+usable_short taken [] = each_none Short
+usable_short taken (line ∷ lines) = by (is_within taken line) refl (usable_short (taken + length line + 1) lines)
+  where
+    by : (t : Bool) → is_within taken line ≡ t → AreShort (lines_within (taken + length line + 1) lines) → AreShort (cond t (line ∷ lines_within (taken + length line + 1) lines) [])
+    by true within rest =
+        let first = within_short taken line within in
+        let fits : length line ≤ greatest_string = omega (arith, first) in
+        each_cons Short line (lines_within (taken + length line + 1) lines) fits rest
+    by false within rest = each_none Short

@@ -1,9 +1,11 @@
 -- How the going on of a session ends.
-use Rattle.std.proofs.Common.{Err, ◌≡◌, ◌≢◌, ◌⊎◌, inl, inr, ℕ, ◌<◌, List, [], Option, Some, None, IfSome, refl, sym, ap, subst, ◌∙◌, arith}
+use Rattle.std.proofs.Common.{Err, ◌≡◌, ◌≢◌, ◌⊎◌, inl, inr, ℕ, ◌<◌, true, List, [], Option, Some, None, IfSome, refl, sym, ap, subst, ◌∙◌, arith}
 use Rattle.std.specs.Prelude.{IsErrOf}
 use Rattle.std.specs.Bool.{OnTrue, OnFalse}
 use Rattle.std.specs.declared.vec.Vec.{Vec}
 use Rattle.std.specs.declared.alloc.Global.{Global}
+use Rattle.load_rows.specs.Loading.{Builds}
+use Rattle.tree_core.specs.Tree.{Body}
 use Rattle.code_core.specs.Prototype.{Prototype}
 use Rattle.library_rows.specs.Library.{Entry}
 use Rattle.io_edge.specs.declared.fault.FileFault.{FileFault}
@@ -16,16 +18,19 @@ use Rattle.prelude_code.specs.declared.fault.PreludeFault.{PreludeFault}
 use Rattle.prelude_code.specs.declared.fault.PreludeFault.TheVariants as prelude
 use Rattle.machine_core.specs.World.{World}
 use Rattle.machine_runs.specs.Runs.{Run, CodeOnward}
-use Rattle.machine_step.specs.Step.{library}
+use Rattle.loaded_code.specs.Laws.{library}
 use Rattle.image_bytes.specs.Format.{Fault as Refusal, read}
 use Rattle.session_images.specs.Saved.{session_of}
 use Rattle.lua_feed.specs.Feeding.{GoesOn}
+use Rattle.lua_feed.specs.Limits.{usable_lines}
 use Rattle.lua_saving.specs.Saving.{IsSession, HasYielded}
 use Rattle.program.specs.declared.fault.Fault.{Fault}
 use Rattle.program.specs.declared.fault.Fault.TheVariants as fault
+use Rattle.program.specs.declared.session.Session.{Session}
 use Rattle.program.specs.Devices.{Device, Lacks, Holds}
 use Rattle.program.specs.Faults.{fault_of_file, fault_of_prelude}
 use Rattle.program.specs.Outcomes.{told_refusal, IsNoSessionFor}
+use Rattle.program.specs.Meaning.{has_ended}
 use Rattle.program.specs.Report.{status_of_fault}
 use Rattle.program.specs.Sessions.{functions_of, IsKept}
 use Rattle.program.specs.Resuming as resuming
@@ -35,59 +40,68 @@ use Rattle.program.proofs.Endings.{Ran}
 
 -- a file whose session does not go on
 
+not_resumed_ends : (name : List ℕ) (files : Device FileMap) (status : ℕ) → IsNotResumed name files status → has_ended status ≡ true → ⊥
+not_resumed_ends name files _ (resuming.absent lacks) ended = cc
+not_resumed_ends name files _ (resuming.unread rose) ended = cc
+not_resumed_ends name files _ (resuming.no_prelude bad) ended = cc
+not_resumed_ends name files _ (resuming.no_session content has bare) ended = cc
+not_resumed_ends name files _ resuming.no_memory ended = cc
+
 -- what is known whatever the cause is
-not_resumed_by : (name : List ℕ) (budget : ℕ) (save : Option (List ℕ)) (f f' i k : ℕ) (held held' : Option FileMap) (left written : Option (List ℕ)) (status : ℕ)
+not_resumed_by : {builds : Builds Body} → (name : List ℕ) (budget : ℕ) (save : Option (List ℕ)) (f f' i k : ℕ) (held held' : Option FileMap) (left written : Option (List ℕ)) (last : Option Session) (status : ℕ)
     → IsNotResumed name (files_of f f' held held') status
     → (Lacks held name → ¬ (Rose f f') → status ≡ 11)
     → ((content : List ℕ) → Holds held name content → HoldsNoSession content → ¬ (Rose f f') → status ≢ 9 → status ≢ 12 → status ≡ 8)
-    → ((content : List ℕ) (lines : List (List ℕ)) (run : Run) → Holds held name content → ResumesOn content lines budget run → ¬ (Rose f f') → status ≢ 9 → ⊥)
+    → ((content : List ℕ) (lines : List (List ℕ)) (run : Run) → Holds held name content → ResumesOn builds content lines budget run → ¬ (Rose f f') → status ≢ 9 → ⊥)
     → (f < f' → status ≡ 6)
     → MayEndTelling held held' → ((status ≡ 6 → ¬ (Rose f f')) → held' ≡ held)
-    → IsResume name budget save (files_of f f' held held') (stream_of i i left left) (stream_of k k written written) status
-not_resumed_by name budget save f f' i k held held' left written status why absent no_session runs fault kept same = record {
+    → IsResume builds name budget save (files_of f f' held held') (stream_of i i left left) (stream_of k k written written) last status
+not_resumed_by name budget save f f' i k held held' left written last status why absent no_session runs fault kept same = record {
   cause = not_resumed why (record { no_fault = refl; unwritten = refl }) (record { no_fault = refl; unwritten = refl });
   absent = absent;
   no_session = no_session;
   runs = λ content text run has told goes calm calm' calm'' within ample unchanged. absurd (runs content (lines_of text) run has goes calm ample);
+  session = λ content text run has told goes ended. absurd (not_resumed_ends name (files_of f f' held held') status why ended);
   fault = λ grew. elim grew [ inl less ↦ fault less | inr more ↦ absurd (elim more [ inl less ↦ stays i left left less | inr less ↦ stays k written written less ]) ];
+  limit = λ content text run has told goes waits past calm calm' calm'' ample. absurd (runs content (usable_lines 0 text) run has goes calm ample);
   front = λ content text run has told goes. grows_by_none run.printed written;
   grows = only_same written;
   others_kept = kept_others save (files_of f f' held held') kept;
   files_same = λ calm unnamed. same calm;
 }
 
-pub unread_resume : (name : List ℕ) (budget : ℕ) (save : Option (List ℕ)) (f f' i k : ℕ) (held held' : Option FileMap) (left written : Option (List ℕ)) (reason : FileFault) → HasCause f f' (is_failed {T = Vec ℕ Global} (Err reason)) → (IsErrOf {T = Vec ℕ Global} (Err reason) Absent → IfSome held (λ files. files name ≡ None)) → IfSome held (λ files. files name ≡ None → IsErrOf {T = Vec ℕ Global} (Err reason) Absent ⊎ IsErrOf {T = Vec ℕ Global} (Err reason) Failed) → OnFalse (is_failed {T = Vec ℕ Global} (Err reason)) (held' ≡ held) → OnTrue (is_failed {T = Vec ℕ Global} (Err reason)) (MayEndTelling held held')
-    → IsResume name budget save (files_of f f' held held') (stream_of i i left left) (stream_of k k written written) (status_of_fault (fault_of_file reason))
-unread_resume name budget save f f' i k held held' left written Failed cause absent lacking kept failed =
-    not_resumed_by name budget save f f' i k held held' left written 6 (resuming.unread cause.rose)
+pub unread_resume : {builds : Builds Body} → (name : List ℕ) (budget : ℕ) (save : Option (List ℕ)) (f f' i k : ℕ) (held held' : Option FileMap) (left written : Option (List ℕ)) (last : Option Session) (reason : FileFault) → HasCause f f' (is_failed {T = Vec ℕ Global} (Err reason)) → (IsErrOf {T = Vec ℕ Global} (Err reason) Absent → IfSome held (λ files. files name ≡ None)) → IfSome held (λ files. files name ≡ None → IsErrOf {T = Vec ℕ Global} (Err reason) Absent ⊎ IsErrOf {T = Vec ℕ Global} (Err reason) Failed) → OnFalse (is_failed {T = Vec ℕ Global} (Err reason)) (held' ≡ held) → OnTrue (is_failed {T = Vec ℕ Global} (Err reason)) (MayEndTelling held held')
+    → IsResume builds name budget save (files_of f f' held held') (stream_of i i left left) (stream_of k k written written) last (status_of_fault (fault_of_file reason))
+unread_resume name budget save f f' i k held held' left written last Failed cause absent lacking kept failed =
+    not_resumed_by name budget save f f' i k held held' left written last 6 (resuming.unread cause.rose)
     (λ lacks calm. absurd (calm cause.rose)) (λ content has none calm ample made. absurd (calm cause.rose))
     (λ content lines run has goes calm ample. calm cause.rose) (λ less. refl) failed (λ calm. absurd (calm refl cause.rose))
-unread_resume name budget save f f' i k held held' left written Absent cause absent lacking kept failed =
+unread_resume name budget save f f' i k held held' left written last Absent cause absent lacking kept failed =
     let none = absent refl in
-    not_resumed_by name budget save f f' i k held held' left written 11 (resuming.absent none)
+    not_resumed_by name budget save f f' i k held held' left written last 11 (resuming.absent none)
     (λ lacks calm. refl) (λ content has bare calm ample made. absurd (no_content name content held none has))
     (λ content lines run has goes calm ample. no_content name content held none has) (λ less. absurd (omega (arith, cause.only, less))) (rw kept (keeps_telling held)) (λ other. kept)
-unread_resume name budget save f f' i k held held' left written Memory cause absent lacking kept failed =
-    not_resumed_by name budget save f f' i k held held' left written 9 resuming.no_memory
+unread_resume name budget save f f' i k held held' left written last Memory cause absent lacking kept failed =
+    not_resumed_by name budget save f f' i k held held' left written last 9 resuming.no_memory
     (λ lacks calm. absurd (elim (told_lacking name held lacking lacks) [ inl bad ↦ cc | inr bad ↦ cc ])) (λ content has none calm ample made. absurd (ample refl))
     (λ content lines run has goes calm ample. ample refl) (λ less. absurd (omega (arith, cause.only, less))) (rw kept (keeps_telling held)) (λ other. kept)
 
 -- the file is read, and the prelude is refused, or no memory is found
 
-pub memory_resume : (name content : List ℕ) (budget : ℕ) (save : Option (List ℕ)) (f i k : ℕ) (held : Option FileMap) (left written : Option (List ℕ)) → IfSome held (λ h. h name ≡ Some content)
-    → IsResume name budget save (files_of f f held held) (stream_of i i left left) (stream_of k k written written) 9
-memory_resume name content budget save f i k held left written found =
-    not_resumed_by name budget save f f i k held held left written 9 resuming.no_memory
+pub memory_resume : {builds : Builds Body} → (name content : List ℕ) (budget : ℕ) (save : Option (List ℕ)) (f i k : ℕ) (held : Option FileMap) (left written : Option (List ℕ)) (last : Option Session) → IfSome held (λ h. h name ≡ Some content)
+    → IsResume builds name budget save (files_of f f held held) (stream_of i i left left) (stream_of k k written written) last 9
+memory_resume name content budget save f i k held left written last found =
+    not_resumed_by name budget save f f i k held held left written last 9 resuming.no_memory
     (λ lacks calm. absurd (not_lacking name content held found lacks)) (λ content' has none calm ample made. absurd (ample refl))
     (λ content' lines run has goes calm ample. ample refl) (λ less. absurd (omega (arith, less))) (keeps_telling held) (λ other. refl)
 
-pub no_prelude_resume : (name content : List ℕ) (budget : ℕ) (save : Option (List ℕ)) (f i k : ℕ) (held : Option FileMap) (left written : Option (List ℕ)) (reason : PreludeFault) → IfSome held (λ h. h name ≡ Some content) → IsNoPrelude reason
-    → IsResume name budget save (files_of f f held held) (stream_of i i left left) (stream_of k k written written) (status_of_fault (fault_of_prelude reason))
-no_prelude_resume name content budget save f i k held left written prelude.Refused found none =
-    not_resumed_by name budget save f f i k held held left written 12 (resuming.no_prelude none)
+pub no_prelude_resume : {builds : Builds Body} → (name content : List ℕ) (budget : ℕ) (save : Option (List ℕ)) (f i k : ℕ) (held : Option FileMap) (left written : Option (List ℕ)) (last : Option Session) (reason : PreludeFault) → IfSome held (λ h. h name ≡ Some content) → IsNoPrelude reason
+    → IsResume builds name budget save (files_of f f held held) (stream_of i i left left) (stream_of k k written written) last (status_of_fault (fault_of_prelude reason))
+no_prelude_resume name content budget save f i k held left written last prelude.Refused found none =
+    not_resumed_by name budget save f f i k held held left written last 12 (resuming.no_prelude none)
     (λ lacks calm. absurd (not_lacking name content held found lacks)) (λ content' has bare calm ample made. absurd (made refl))
     (λ content' lines run has goes calm ample. none goes.prelude goes.is_prelude) (λ less. absurd (omega (arith, less))) (keeps_telling held) (λ other. refl)
-no_prelude_resume name content budget save f i k held left written prelude.Memory found none = memory_resume name content budget save f i k held left written found
+no_prelude_resume name content budget save f i k held left written last prelude.Memory found none = memory_resume name content budget save f i k held left written last found
 
 -- the bytes are no session's image, or no memory is found
 
@@ -107,16 +121,16 @@ status_8 (fault.NoImage kind) why told = refl
 status_8 (fault.NoPermanent kind key) why told = refl
 status_8 fault.Memory why told = absurd (cc)
 
-pub no_session_resume : (name content : List ℕ) (budget : ℕ) (save : Option (List ℕ)) (prelude : Prototype) (f i k : ℕ) (held : Option FileMap) (left written : Option (List ℕ)) (reason : Fault) → IfSome held (λ h. h name ≡ Some content)
+pub no_session_resume : {builds : Builds Body} → (name content : List ℕ) (budget : ℕ) (save : Option (List ℕ)) (prelude : Prototype) (f i k : ℕ) (held : Option FileMap) (left written : Option (List ℕ)) (last : Option Session) (reason : Fault) → IfSome held (λ h. h name ≡ Some content)
     → ((other : Prototype) → IsPreludeCode other → prelude ≡ other) → IsNoSessionFor prelude content reason ⊎ (reason ≡ fault.Memory)
-    → IsResume name budget save (files_of f f held held) (stream_of i i left left) (stream_of k k written written) (status_of_fault reason)
-no_session_resume name content budget save prelude f i k held left written reason found only (inl own) =
+    → IsResume builds name budget save (files_of f f held held) (stream_of i i left left) (stream_of k k written written) last (status_of_fault reason)
+no_session_resume name content budget save prelude f i k held left written last reason found only (inl own) =
     let none : HoldsNoSession content = λ other is_prelude session holds waits. own.holds_none session (subst (λ p. IsSession (functions_of p) content session) (sym (only other is_prelude)) holds) waits in
-    rw (status_8 reason own.why own.told) (not_resumed_by name budget save f f i k held held left written 8 (resuming.no_session content found none)
+    rw (status_8 reason own.why own.told) (not_resumed_by name budget save f f i k held held left written last 8 (resuming.no_session content found none)
     (λ lacks calm. absurd (not_lacking name content held found lacks)) (λ content' has bare calm ample made. refl)
     (λ content' lines run has goes calm ample. none goes.prelude goes.is_prelude goes.session (subst (λ c. IsSession (functions_of goes.prelude) c goes.session) (same_content name content content' held found has) goes.holds) goes.waits)
     (λ less. absurd (omega (arith, less))) (keeps_telling held) (λ other. refl))
-no_session_resume name content budget save prelude f i k held left written reason found only (inr memory) = rw memory (memory_resume name content budget save f i k held left written found)
+no_session_resume name content budget save prelude f i k held left written last reason found only (inr memory) = rw memory (memory_resume name content budget save f i k held left written last found)
 
 -- the session goes on
 
@@ -129,20 +143,20 @@ session_once prelude content X Y x y =
     cc
 
 -- the one run of the session in the file
-same_onward : (name content content' : List ℕ) (budget : ℕ) (held : Option FileMap) (prelude : Prototype) (session : World) (lines : List (List ℕ)) (run : Run) → IfSome held (λ h. h name ≡ Some content) → Holds held name content'
-    → ((other : Prototype) → IsPreludeCode other → prelude ≡ other) → IsSession (functions_of prelude) content session → ResumesOn content' lines budget run → CodeOnward library session lines budget run
-same_onward name content content' budget held prelude session lines run found has only own goes =
+same_onward : {builds : Builds Body} → (name content content' : List ℕ) (budget : ℕ) (held : Option FileMap) (prelude : Prototype) (session : World) (lines : List (List ℕ)) (run : Run) → IfSome held (λ h. h name ≡ Some content) → Holds held name content'
+    → ((other : Prototype) → IsPreludeCode other → prelude ≡ other) → IsSession (functions_of prelude) content session → ResumesOn builds content' lines budget run → CodeOnward (library builds) session lines budget run
+same_onward {builds = builds} name content content' budget held prelude session lines run found has only own goes =
     let same : content' ≡ content = same_content name content content' held found has in
     let preludes : goes.prelude ≡ prelude = sym (only goes.prelude goes.is_prelude) in
     let holds : IsSession (functions_of goes.prelude) content goes.session = subst (λ c. IsSession (functions_of goes.prelude) c goes.session) same goes.holds in
     let its : IsSession (functions_of prelude) content goes.session = subst (λ p. IsSession (functions_of p) content goes.session) preludes holds in
-    subst (λ X. CodeOnward library X lines budget run) (session_once (functions_of prelude) content goes.session session its own) goes.runs
+    subst (λ X. CodeOnward (library builds) X lines budget run) (session_once (functions_of prelude) content goes.session session its own) goes.runs
 
 -- what is known of a session that was fed is known of the one in the file
-pub resume_of : (name content : List ℕ) (budget : ℕ) (save : Option (List ℕ)) (prelude : Prototype) (session : World) (files : Device FileMap) (input out : Device (List ℕ)) (status : ℕ)
+pub resume_of : {builds : Builds Body} → (name content : List ℕ) (budget : ℕ) (save : Option (List ℕ)) (prelude : Prototype) (session : World) (files : Device FileMap) (input out : Device (List ℕ)) (last : Option Session) (status : ℕ)
     → IfSome files.content (λ h. h name ≡ Some content) → IsPreludeCode prelude → ((other : Prototype) → IsPreludeCode other → prelude ≡ other) → IsSession (functions_of prelude) content session → HasYielded session
-    → Ran prelude (GoesOn library session budget) save files input out status → IsResume name budget save files input out status
-resume_of name content budget save prelude session files input out status found is_prelude only own waits ran = record {
+    → Ran prelude (GoesOn (library builds) session budget) save files input out last status → IsResume builds name budget save files input out last status
+resume_of name content budget save prelude session files input out last status found is_prelude only own waits ran = record {
   cause = goes_on content prelude session found is_prelude own waits ran.ends;
   absent = λ lacks calm. absurd (not_lacking name content files.content found lacks);
   no_session = λ content' has none calm ample made.
@@ -151,18 +165,21 @@ resume_of name content budget save prelude session files input out status found 
   runs = λ content' text run has told goes calm calm' calm'' within ample unchanged.
       let d = ran.does text run told (same_onward name content content' budget files.content prelude session (lines_of text) run found has only own goes) calm calm' calm'' within ample unchanged in
       (d.0, d.1, subst (λ p. IsKept p run files save) (only goes.prelude goes.is_prelude) d.2);
+  session = λ content' text run has told goes ended. ran.session text run told (same_onward name content content' budget files.content prelude session (lines_of text) run found has only own goes) ended;
   fault = ran.fault;
-  front = λ content' text run has told goes. ran.front text run told (same_onward name content content' budget files.content prelude session (lines_of text) run found has only own goes);
+  limit = λ content' text run has told goes waits past calm calm' calm'' ample.
+      ran.limit text run told (same_onward name content content' budget files.content prelude session (usable_lines 0 text) run found has only own goes) waits past calm calm' calm'' ample;
+  front = λ content' text run has told goes. ran.front text run told (same_onward name content content' budget files.content prelude session (usable_lines 0 text) run found has only own goes);
   grows = ran.grows;
   others_kept = ran.others;
   files_same = ran.same;
 }
 
 -- the files stayed as they were up to there
-pub resume_since : (name : List ℕ) (budget : ℕ) (save : Option (List ℕ)) (f f' f'' : ℕ) (held held' held'' : Option FileMap) (input out : Device (List ℕ)) (status status' : ℕ) → f' ≡ f → held' ≡ held → status ≡ status'
-    → IsResume name budget save (files_of f' f'' held' held'') input out status' → IsResume name budget save (files_of f f'' held held'') input out status
-resume_since name budget save f f' f'' held held' held'' input out status status' faults kept same run = rw (sym faults, sym kept, same) run
+pub resume_since : {builds : Builds Body} → (name : List ℕ) (budget : ℕ) (save : Option (List ℕ)) (f f' f'' : ℕ) (held held' held'' : Option FileMap) (input out : Device (List ℕ)) (last : Option Session) (status status' : ℕ) → f' ≡ f → held' ≡ held → status ≡ status'
+    → IsResume builds name budget save (files_of f' f'' held' held'') input out last status' → IsResume builds name budget save (files_of f f'' held held'') input out last status
+resume_since name budget save f f' f'' held held' held'' input out last status status' faults kept same run = rw (sym faults, sym kept, same) run
 
-pub resume_before : (name : List ℕ) (budget : ℕ) (save : Option (List ℕ)) (f f' : ℕ) (held held' : Option FileMap) (input out : Device (List ℕ)) (status status' : ℕ) → f' ≡ f → held' ≡ held → status ≡ status'
-    → IsResume name budget save (files_of f f held held) input out status' → IsResume name budget save (files_of f f' held held') input out status
-resume_before name budget save f f' held held' input out status status' faults kept same run = rw (faults, kept, same) run
+pub resume_before : {builds : Builds Body} → (name : List ℕ) (budget : ℕ) (save : Option (List ℕ)) (f f' : ℕ) (held held' : Option FileMap) (input out : Device (List ℕ)) (last : Option Session) (status status' : ℕ) → f' ≡ f → held' ≡ held → status ≡ status'
+    → IsResume builds name budget save (files_of f f held held) input out last status' → IsResume builds name budget save (files_of f f' held held') input out last status
+resume_before name budget save f f' held held' input out last status status' faults kept same run = rw (faults, kept, same) run

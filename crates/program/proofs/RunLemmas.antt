@@ -5,7 +5,10 @@ use Rattle.std.specs.Bool.{OnTrue, OnFalse, MatchBool}
 use Rattle.std.specs.Option.{option_map}
 use Rattle.std.specs.declared.vec.Vec.{Vec}
 use Rattle.std.specs.declared.alloc.Global.{Global}
+use Rattle.load_rows.specs.Loading.{Builds}
+use Rattle.source_builds.specs.Builds.{BuildsSources}
 use Rattle.code_core.specs.Prototype.{Prototype}
+use Rattle.code_core.specs.Check.{IsChecked}
 use Rattle.io_edge.specs.declared.fault.FileFault.{FileFault}
 use Rattle.io_edge.specs.declared.fault.FileFault.TheVariants.{Failed, Absent, Memory}
 use Rattle.io_edge.specs.Causes.{HasCause, Rose, is_failed}
@@ -21,11 +24,13 @@ use Rattle.scripts_mean.specs.Scripts.{RunsAs, ScriptsDo, ScriptsMean, PreludeIs
 use Rattle.lua_meaning.specs.Meaning.{Meaning}
 use Rattle.tree_core.specs.Tree.{Body}
 use Rattle.tree_activation.specs.Work.{State}
-use Rattle.machine_step.specs.Step.{library}
+use Rattle.loaded_code.specs.Laws.{library}
 use Rattle.lua_feed.specs.Feeding.{Does}
+use Rattle.lua_feed.specs.Limits.{usable_lines, passes_limits}
 use Rattle.lua_feed.specs.Running.{started}
 use Rattle.program.specs.declared.fault.Fault.{Fault}
 use Rattle.program.specs.declared.fault.Fault.TheVariants as fault
+use Rattle.program.specs.declared.session.Session.{Session}
 use Rattle.program.specs.Devices.{Device, Lacks, Holds}
 use Rattle.program.specs.Checking.{begins_chunk, IsAccepted, HoldsNoChunk}
 use Rattle.program.specs.Compiling.{source_name, HoldsNoScript}
@@ -37,8 +42,8 @@ use Rattle.program.specs.Sessions.{IsKept}
 use Rattle.program.specs.Running as running
 use Rattle.program.specs.Running.{HoldsCode, RunsOn, IsNotRun, not_run, has_run, IsRun}
 use Rattle.program.proofs.DeviceLemmas.{files_of, stream_of, grows_by_none, only_same, keeps_telling, kept_others, same_content, not_lacking, no_content, stays, told_lacking}
-use Rattle.program.proofs.MeaningLemmas.{by_script, meaning_run, ends_with}
-use Rattle.program.proofs.Endings.{Ran}
+use Rattle.program.proofs.MeaningLemmas.{by_script, meaning_run, ends_with, usable_short, waits_too}
+use Rattle.program.proofs.Endings.{Ran, ran_so}
 use Rattle.program.proofs.Meant.{not_run_ends, done}
 
 -- the choice by the first byte
@@ -65,17 +70,17 @@ chunk_refuses name content content' held code found has begins none holds =
 -- a file that is not run
 
 -- what is known whatever the cause is
-not_run_by : (name : List ℕ) (budget : ℕ) (save : Option (List ℕ)) (f f' i k : ℕ) (held held' : Option FileMap) (left written : Option (List ℕ)) (status : ℕ)
+not_run_by : {builds : Builds Body} → (name : List ℕ) (budget : ℕ) (save : Option (List ℕ)) (f f' i k : ℕ) (held held' : Option FileMap) (left written : Option (List ℕ)) (last : Option Session) (status : ℕ)
     → IsNotRun name (files_of f f' held held') status
     → (Lacks held name → ¬ (Rose f f') → status ≡ 11)
     → ((content : List ℕ) → Holds held name content → begins_chunk content ≡ false → HoldsNoScript content → ¬ (Rose f f') → status ≢ 9 → status ≢ 12 → status ≡ 5)
     → ((content : List ℕ) → Holds held name content → begins_chunk content ≡ true → HoldsNoChunk content → ¬ (Rose f f') → status ≢ 9 → status ≢ 12 → status ≡ 8)
-    → ((content : List ℕ) (lines : List (List ℕ)) (run : Run) → Holds held name content → RunsOn name content lines budget run → ¬ (Rose f f') → status ≢ 9 → ⊥)
-    → ((content : List ℕ) (lines : List (List ℕ)) (m : Meaning Body State) → Holds held name content → MeansOn name content lines budget m → ¬ (Rose f f') → status ≢ 9 → status ≢ 12 → ⊥)
+    → ((content : List ℕ) (lines : List (List ℕ)) (run : Run) → Holds held name content → RunsOn builds name content lines budget run → ¬ (Rose f f') → status ≢ 9 → ⊥)
+    → ((content : List ℕ) (lines : List (List ℕ)) (m : Meaning Body State) → Holds held name content → MeansOn builds name content lines budget m → ¬ (Rose f f') → status ≢ 9 → status ≢ 12 → ⊥)
     → (f < f' → status ≡ 6)
     → MayEndTelling held held' → ((status ≡ 6 → ¬ (Rose f f')) → held' ≡ held)
-    → IsRun name budget save (files_of f f' held held') (stream_of i i left left) (stream_of k k written written) status
-not_run_by name budget save f f' i k held held' left written status why absent no_script no_chunk runs means fault kept same = record {
+    → IsRun builds name budget save (files_of f f' held held') (stream_of i i left left) (stream_of k k written written) last status
+not_run_by name budget save f f' i k held held' left written last status why absent no_script no_chunk runs means fault kept same = record {
   cause = not_run why (record { no_fault = refl; unwritten = refl }) (record { no_fault = refl; unwritten = refl });
   absent = absent;
   no_script = no_script;
@@ -83,62 +88,66 @@ not_run_by name budget save f f' i k held held' left written status why absent n
   runs = λ content text run has told goes calm calm' calm'' within ample unchanged. absurd (runs content (lines_of text) run has goes calm ample);
   means = λ content text m has told short goes calm calm' calm'' within ample made. absurd (means content (lines_of text) m has goes calm ample made);
   meant = λ content text has begins told short ended. absurd (not_run_ends name (files_of f f' held held') status why ended);
+  session = λ content text run has told goes ended. absurd (not_run_ends name (files_of f f' held held') status why ended);
+  ran_script = λ content text has begins told ended. absurd (not_run_ends name (files_of f f' held held') status why ended);
   fault = λ grew. elim grew [ inl less ↦ fault less | inr more ↦ absurd (elim more [ inl less ↦ stays i left left less | inr less ↦ stays k written written less ]) ];
+  limit = λ content text run has told goes waits past calm calm' calm'' ample. absurd (runs content (usable_lines 0 text) run has goes calm ample);
+  meant_limit = λ content text m has told goes waits past calm calm' calm'' ample made. absurd (means content (usable_lines 0 text) m has goes calm ample made);
   front = λ content text run has told goes. grows_by_none run.printed written;
-  meant_front = λ content text m has told short goes. grows_by_none m.printed written;
+  meant_front = λ content text m has told goes. grows_by_none m.printed written;
   grows = only_same written;
   others_kept = kept_others save (files_of f f' held held') kept;
   files_same = λ calm unnamed. same calm;
 }
 
-pub unread_run : (name : List ℕ) (budget : ℕ) (save : Option (List ℕ)) (f f' i k : ℕ) (held held' : Option FileMap) (left written : Option (List ℕ)) (reason : FileFault) → HasCause f f' (is_failed {T = Vec ℕ Global} (Err reason)) → (IsErrOf {T = Vec ℕ Global} (Err reason) Absent → IfSome held (λ files. files name ≡ None)) → IfSome held (λ files. files name ≡ None → IsErrOf {T = Vec ℕ Global} (Err reason) Absent ⊎ IsErrOf {T = Vec ℕ Global} (Err reason) Failed) → OnFalse (is_failed {T = Vec ℕ Global} (Err reason)) (held' ≡ held) → OnTrue (is_failed {T = Vec ℕ Global} (Err reason)) (MayEndTelling held held')
-    → IsRun name budget save (files_of f f' held held') (stream_of i i left left) (stream_of k k written written) (status_of_fault (fault_of_file reason))
-unread_run name budget save f f' i k held held' left written Failed cause absent lacking kept failed =
-    not_run_by name budget save f f' i k held held' left written 6 (running.unread cause.rose)
+pub unread_run : {builds : Builds Body} → (name : List ℕ) (budget : ℕ) (save : Option (List ℕ)) (f f' i k : ℕ) (held held' : Option FileMap) (left written : Option (List ℕ)) (last : Option Session) (reason : FileFault) → HasCause f f' (is_failed {T = Vec ℕ Global} (Err reason)) → (IsErrOf {T = Vec ℕ Global} (Err reason) Absent → IfSome held (λ files. files name ≡ None)) → IfSome held (λ files. files name ≡ None → IsErrOf {T = Vec ℕ Global} (Err reason) Absent ⊎ IsErrOf {T = Vec ℕ Global} (Err reason) Failed) → OnFalse (is_failed {T = Vec ℕ Global} (Err reason)) (held' ≡ held) → OnTrue (is_failed {T = Vec ℕ Global} (Err reason)) (MayEndTelling held held')
+    → IsRun builds name budget save (files_of f f' held held') (stream_of i i left left) (stream_of k k written written) last (status_of_fault (fault_of_file reason))
+unread_run name budget save f f' i k held held' left written last Failed cause absent lacking kept failed =
+    not_run_by name budget save f f' i k held held' left written last 6 (running.unread cause.rose)
     (λ lacks calm. absurd (calm cause.rose)) (λ content has begins none calm ample made. absurd (calm cause.rose)) (λ content has begins none calm ample made. absurd (calm cause.rose))
     (λ content lines run has goes calm ample. calm cause.rose) (λ content lines m has goes calm ample made. calm cause.rose) (λ less. refl) failed (λ calm. absurd (calm refl cause.rose))
-unread_run name budget save f f' i k held held' left written Absent cause absent lacking kept failed =
+unread_run name budget save f f' i k held held' left written last Absent cause absent lacking kept failed =
     let none = absent refl in
-    not_run_by name budget save f f' i k held held' left written 11 (running.absent none)
+    not_run_by name budget save f f' i k held held' left written last 11 (running.absent none)
     (λ lacks calm. refl) (λ content has begins bare calm ample made. absurd (no_content name content held none has)) (λ content has begins bare calm ample made. absurd (no_content name content held none has))
     (λ content lines run has goes calm ample. no_content name content held none has) (λ content lines m has goes calm ample made. no_content name content held none has) (λ less. absurd (omega (arith, cause.only, less))) (rw kept (keeps_telling held)) (λ other. kept)
-unread_run name budget save f f' i k held held' left written Memory cause absent lacking kept failed =
-    not_run_by name budget save f f' i k held held' left written 9 running.no_memory
+unread_run name budget save f f' i k held held' left written last Memory cause absent lacking kept failed =
+    not_run_by name budget save f f' i k held held' left written last 9 running.no_memory
     (λ lacks calm. absurd (elim (told_lacking name held lacking lacks) [ inl bad ↦ cc | inr bad ↦ cc ])) (λ content has begins none calm ample made. absurd (ample refl)) (λ content has begins none calm ample made. absurd (ample refl))
     (λ content lines run has goes calm ample. ample refl) (λ content lines m has goes calm ample made. ample refl) (λ less. absurd (omega (arith, cause.only, less))) (rw kept (keeps_telling held)) (λ other. kept)
 
 -- the file is read, and the prelude is refused, or no memory is found
 
-pub memory_run : (name content : List ℕ) (budget : ℕ) (save : Option (List ℕ)) (f i k : ℕ) (held : Option FileMap) (left written : Option (List ℕ)) → IfSome held (λ h. h name ≡ Some content)
-    → IsRun name budget save (files_of f f held held) (stream_of i i left left) (stream_of k k written written) 9
-memory_run name content budget save f i k held left written found =
-    not_run_by name budget save f f i k held held left written 9 running.no_memory
+pub memory_run : {builds : Builds Body} → (name content : List ℕ) (budget : ℕ) (save : Option (List ℕ)) (f i k : ℕ) (held : Option FileMap) (left written : Option (List ℕ)) (last : Option Session) → IfSome held (λ h. h name ≡ Some content)
+    → IsRun builds name budget save (files_of f f held held) (stream_of i i left left) (stream_of k k written written) last 9
+memory_run name content budget save f i k held left written last found =
+    not_run_by name budget save f f i k held held left written last 9 running.no_memory
     (λ lacks calm. absurd (not_lacking name content held found lacks)) (λ content' has begins none calm ample made. absurd (ample refl)) (λ content' has begins none calm ample made. absurd (ample refl))
     (λ content' lines run has goes calm ample. ample refl) (λ content' lines m has goes calm ample made. ample refl) (λ less. absurd (omega (arith, less))) (keeps_telling held) (λ other. refl)
 
-pub no_prelude_run : (name content : List ℕ) (budget : ℕ) (save : Option (List ℕ)) (f i k : ℕ) (held : Option FileMap) (left written : Option (List ℕ)) (reason : PreludeFault) → IfSome held (λ h. h name ≡ Some content) → IsNoPrelude reason
-    → IsRun name budget save (files_of f f held held) (stream_of i i left left) (stream_of k k written written) (status_of_fault (fault_of_prelude reason))
-no_prelude_run name content budget save f i k held left written prelude.Refused found none =
-    not_run_by name budget save f f i k held held left written 12 (running.no_prelude none)
+pub no_prelude_run : {builds : Builds Body} → (name content : List ℕ) (budget : ℕ) (save : Option (List ℕ)) (f i k : ℕ) (held : Option FileMap) (left written : Option (List ℕ)) (last : Option Session) (reason : PreludeFault) → IfSome held (λ h. h name ≡ Some content) → IsNoPrelude reason
+    → IsRun builds name budget save (files_of f f held held) (stream_of i i left left) (stream_of k k written written) last (status_of_fault (fault_of_prelude reason))
+no_prelude_run name content budget save f i k held left written last prelude.Refused found none =
+    not_run_by name budget save f f i k held held left written last 12 (running.no_prelude none)
     (λ lacks calm. absurd (not_lacking name content held found lacks)) (λ content' has begins bare calm ample made. absurd (made refl)) (λ content' has begins bare calm ample made. absurd (made refl))
     (λ content' lines run has goes calm ample. none goes.prelude goes.is_prelude) (λ content' lines m has goes calm ample made. made refl) (λ less. absurd (omega (arith, less))) (keeps_telling held) (λ other. refl)
-no_prelude_run name content budget save f i k held left written prelude.Memory found none = memory_run name content budget save f i k held left written found
+no_prelude_run name content budget save f i k held left written last prelude.Memory found none = memory_run name content budget save f i k held left written last found
 
 -- the file is read, and there is no code in it, or no memory is found
 
-no_script_run : (name content : List ℕ) (budget : ℕ) (save : Option (List ℕ)) (f i k : ℕ) (held : Option FileMap) (left written : Option (List ℕ)) (reason : Fault) → IfSome held (λ h. h name ≡ Some content) → begins_chunk content ≡ false → IsNoScriptFor content reason
-    → IsRun name budget save (files_of f f held held) (stream_of i i left left) (stream_of k k written written) (status_of_fault reason)
-no_script_run name content budget save f i k held left written reason found begins own =
-    rw own.status (not_run_by name budget save f f i k held held left written 5 (running.no_script content found begins own.holds_none)
+no_script_run : {builds : Builds Body} → (name content : List ℕ) (budget : ℕ) (save : Option (List ℕ)) (f i k : ℕ) (held : Option FileMap) (left written : Option (List ℕ)) (last : Option Session) (reason : Fault) → IfSome held (λ h. h name ≡ Some content) → begins_chunk content ≡ false → IsNoScriptFor content reason
+    → IsRun builds name budget save (files_of f f held held) (stream_of i i left left) (stream_of k k written written) last (status_of_fault reason)
+no_script_run name content budget save f i k held left written last reason found begins own =
+    rw own.status (not_run_by name budget save f f i k held held left written last 5 (running.no_script content found begins own.holds_none)
     (λ lacks calm. absurd (not_lacking name content held found lacks)) (λ content' has begins' none calm ample made. refl)
     (λ content' has begins' none calm ample made. absurd (let same : content' ≡ content = same_content name content content' held found has in let bad : true ≡ false = sym begins' ∙ ap begins_chunk same ∙ begins in cc))
     (λ content' lines run has goes calm ample. script_refuses name content content' held goes.code found has begins own.holds_none goes.holds)
     (λ content' lines m has goes calm ample made. own.holds_none goes.tree (subst (λ c. IsSource (script_in c) goes.tree) (same_content name content content' held found has) goes.is_source)) (λ less. absurd (omega (arith, less))) (keeps_telling held) (λ other. refl))
 
-no_chunk_run : (name content : List ℕ) (budget : ℕ) (save : Option (List ℕ)) (f i k : ℕ) (held : Option FileMap) (left written : Option (List ℕ)) (reason : Fault) → IfSome held (λ h. h name ≡ Some content) → begins_chunk content ≡ true → IsNoChunkFor content reason
-    → IsRun name budget save (files_of f f held held) (stream_of i i left left) (stream_of k k written written) (status_of_fault reason)
-no_chunk_run name content budget save f i k held left written reason found begins own =
-    rw own.status (not_run_by name budget save f f i k held held left written 8 (running.no_chunk content found begins own.holds_none)
+no_chunk_run : {builds : Builds Body} → (name content : List ℕ) (budget : ℕ) (save : Option (List ℕ)) (f i k : ℕ) (held : Option FileMap) (left written : Option (List ℕ)) (last : Option Session) (reason : Fault) → IfSome held (λ h. h name ≡ Some content) → begins_chunk content ≡ true → IsNoChunkFor content reason
+    → IsRun builds name budget save (files_of f f held held) (stream_of i i left left) (stream_of k k written written) last (status_of_fault reason)
+no_chunk_run name content budget save f i k held left written last reason found begins own =
+    rw own.status (not_run_by name budget save f f i k held held left written last 8 (running.no_chunk content found begins own.holds_none)
     (λ lacks calm. absurd (not_lacking name content held found lacks))
     (λ content' has begins' none calm ample made. absurd (let same : content' ≡ content = same_content name content content' held found has in let bad : false ≡ true = sym begins' ∙ ap begins_chunk same ∙ begins in cc))
     (λ content' has begins' none calm ample made. refl)
@@ -149,19 +158,19 @@ by_first : {C : Type 0} (b : Bool) (A B : Type 0) → (b ≡ true → A → C) �
 by_first true A B first second given = first refl given
 by_first false A B first second given = second refl given
 
-pub no_code_run : (name content : List ℕ) (budget : ℕ) (save : Option (List ℕ)) (f i k : ℕ) (held : Option FileMap) (left written : Option (List ℕ)) (reason : Fault) → IfSome held (λ h. h name ≡ Some content) → IsNoCodeFor content reason ⊎ (reason ≡ fault.Memory)
-    → IsRun name budget save (files_of f f held held) (stream_of i i left left) (stream_of k k written written) (status_of_fault reason)
-no_code_run name content budget save f i k held left written reason found (inl own) =
+pub no_code_run : {builds : Builds Body} → (name content : List ℕ) (budget : ℕ) (save : Option (List ℕ)) (f i k : ℕ) (held : Option FileMap) (left written : Option (List ℕ)) (last : Option Session) (reason : Fault) → IfSome held (λ h. h name ≡ Some content) → IsNoCodeFor content reason ⊎ (reason ≡ fault.Memory)
+    → IsRun builds name budget save (files_of f f held held) (stream_of i i left left) (stream_of k k written written) last (status_of_fault reason)
+no_code_run name content budget save f i k held left written last reason found (inl own) =
     by_first (begins_chunk content) (IsNoChunkFor content reason) (IsNoScriptFor content reason)
-    (λ begins none. no_chunk_run name content budget save f i k held left written reason found begins none)
-    (λ begins none. no_script_run name content budget save f i k held left written reason found begins none) own
-no_code_run name content budget save f i k held left written reason found (inr memory) = rw memory (memory_run name content budget save f i k held left written found)
+    (λ begins none. no_chunk_run name content budget save f i k held left written last reason found begins none)
+    (λ begins none. no_script_run name content budget save f i k held left written last reason found begins none) own
+no_code_run name content budget save f i k held left written last reason found (inr memory) = rw memory (memory_run name content budget save f i k held left written last found)
 
 -- the code in the file runs
 
 -- the one run of the code in the file
-same_run : (name content content' : List ℕ) (budget : ℕ) (held : Option FileMap) (prelude code : Prototype) (lines : List (List ℕ)) (run : Run) → IfSome held (λ h. h name ≡ Some content) → Holds held name content'
-    → ((other : Prototype) → IsPreludeCode other → prelude ≡ other) → IsCodeIn name content code → RunsOn name content' lines budget run → CodeRun library (started prelude code) lines budget run
+same_run : {builds : Builds Body} → (name content content' : List ℕ) (budget : ℕ) (held : Option FileMap) (prelude code : Prototype) (lines : List (List ℕ)) (run : Run) → IfSome held (λ h. h name ≡ Some content) → Holds held name content'
+    → ((other : Prototype) → IsPreludeCode other → prelude ≡ other) → IsCodeIn name content code → RunsOn builds name content' lines budget run → CodeRun (library builds) (started prelude code) lines budget run
 same_run name content content' budget held prelude code lines run found has only own goes =
     let same : content' ≡ content = same_content name content content' held found has in
     let holds : HoldsCode name content goes.code = subst (λ c. HoldsCode name c goes.code) same goes.holds in
@@ -170,10 +179,10 @@ same_run name content content' budget held prelude code lines run found has only
     rw (preludes, codes) goes.runs
 
 -- what is known of a session that was fed is known of the run of the file
-pub run_of : ScriptsDo → ScriptsMean → PreludeIsAlike → (name content : List ℕ) (budget : ℕ) (save : Option (List ℕ)) (prelude code : Prototype) (files : Device FileMap) (input out : Device (List ℕ)) (status : ℕ) → length name ≤ 65536
-    → IfSome files.content (λ h. h name ≡ Some content) → IsPreludeCode prelude → ((other : Prototype) → IsPreludeCode other → prelude ≡ other) → IsCodeIn name content code
-    → Ran prelude (Does library (started prelude code) budget) save files input out status → IsRun name budget save files input out status
-run_of does law alike name content budget save prelude code files input out status short found is_prelude only own ran = record {
+pub run_of : {builds : Builds Body} → BuildsSources builds → ScriptsDo → ScriptsMean → PreludeIsAlike → (name content : List ℕ) (budget : ℕ) (save : Option (List ℕ)) (prelude code : Prototype) (files : Device FileMap) (input out : Device (List ℕ)) (last : Option Session) (status : ℕ) → length name ≤ 65536
+    → IfSome files.content (λ h. h name ≡ Some content) → IsPreludeCode prelude → ((other : Prototype) → IsPreludeCode other → prelude ≡ other) → IsCodeIn name content code → IsChecked code
+    → Ran prelude (Does (library builds) (started prelude code) budget) save files input out last status → IsRun builds name budget save files input out last status
+run_of {builds = builds} sources does law alike name content budget save prelude code files input out last status short found is_prelude only own checked ran = record {
   cause = has_run content prelude code found is_prelude own.holds ran.ends;
   absent = λ lacks calm. absurd (not_lacking name content files.content found lacks);
   no_script = λ content' has begins none calm ample made. absurd (script_refuses' content' has begins none);
@@ -182,16 +191,28 @@ run_of does law alike name content budget save prelude code files input out stat
       let d = ran.does text run told (same_run name content content' budget files.content prelude code (lines_of text) run found has only own goes) calm calm' calm'' within ample unchanged in
       (d.0, d.1, subst (λ p. IsKept p run files save) (only goes.prelude goes.is_prelude) d.2);
   means = λ content' text m has told fits goes calm calm' calm'' within ample made.
-      let r = its_run content' text m has fits goes in
+      let r = its_run content' (lines_of text) m has fits goes in
       let d = ran.does text r.0 told r.1 calm calm' calm'' within ample (λ named. made) in
       (subst (EndsWith m.outcome) (sym d.0) (ends_with r.0.close m.outcome r.2.ends), d.1 ∙ ap (λ b. option_map (λ before. before ++ b) out.content) r.2.printed);
   meant = λ content' text has begins told fits ended.
       let same : content' ≡ content = same_content name content content' files.content found has in
-      done does alike name content' text budget prelude code save files input out status short is_prelude (subst (λ c. HoldsCode name c code) (sym same) own.holds) begins told fits ended ran.ends;
+      done sources does alike name content' text budget prelude code save files input out last status short is_prelude (subst (λ c. HoldsCode name c code) (sym same) own.holds) begins told fits ended ran.ends;
+  session = λ content' text run has told goes ended. ran.session text run told (same_run name content content' budget files.content prelude code (lines_of text) run found has only own goes) ended;
+  ran_script = λ content' text has begins told ended.
+      let its : HoldsCode name content' code = subst (λ c. HoldsCode name c code) (sym (same_content name content content' files.content found has)) own.holds in
+      let made = by_script (IsAccepted content' code) (IsCodeOf (source_name name) (script_in content') true code) (begins_chunk content') begins its in
+      let went = ran_so prelude (Does (library builds) (started prelude code) budget) save files input out last status text ran.ends told ended in
+      (went.0, record { tree = made.tree; is_source = made.is_source; prelude = prelude; is_prelude = is_prelude; code = code; holds = its; checked = checked; means = made.means; runs = went.1 }, went.2);
   fault = ran.fault;
-  front = λ content' text run has told goes. ran.front text run told (same_run name content content' budget files.content prelude code (lines_of text) run found has only own goes);
-  meant_front = λ content' text m has told fits goes.
-      let r = its_run content' text m has fits goes in
+  limit = λ content' text run has told goes waits past calm calm' calm'' ample.
+      ran.limit text run told (same_run name content content' budget files.content prelude code (usable_lines 0 text) run found has only own goes) waits past calm calm' calm'' ample;
+  meant_limit = λ content' text m has told goes waits past calm calm' calm'' ample made.
+      let r = its_run content' (usable_lines 0 text) m has (usable_short 0 (lines_of text)) goes in
+      let d = ran.limit text r.0 told r.1 (waits_too r.0.close m.outcome r.2.ends waits) past calm calm' calm'' ample in
+      (d.0, d.1 ∙ ap (λ b. option_map (λ before. before ++ b) out.content) r.2.printed);
+  front = λ content' text run has told goes. ran.front text run told (same_run name content content' budget files.content prelude code (usable_lines 0 text) run found has only own goes);
+  meant_front = λ content' text m has told goes.
+      let r = its_run content' (usable_lines 0 text) m has (usable_short 0 (lines_of text)) goes in
       subst (λ b. GrowsByFront b out.content out.content') r.2.printed (ran.front text r.0 told r.1);
   grows = ran.grows;
   others_kept = ran.others;
@@ -211,17 +232,17 @@ run_of does law alike name content budget save prelude code files input out stat
         let its : HoldsCode name content' code = subst (λ c. HoldsCode name c code) (sym same) own.holds in
         none code (by_chunk (IsAccepted content' code) (IsCodeOf (source_name name) (script_in content') true code) (begins_chunk content') begins its)
 
-    its_run : (content' text : List ℕ) (m : Meaning Body State) → Holds files.content name content' → AreShort (lines_of text) → MeansOn name content' (lines_of text) budget m
-        → (run : Run) × CodeRun library (started prelude code) (lines_of text) budget run × RunsAs run m
-    its_run content' text m has fits goes =
+    its_run : (content' : List ℕ) (lines : List (List ℕ)) (m : Meaning Body State) → Holds files.content name content' → AreShort lines → MeansOn builds name content' lines budget m
+        → (run : Run) × CodeRun (library builds) (started prelude code) lines budget run × RunsAs run m
+    its_run content' lines m has fits goes =
         let same : content' ≡ content = same_content name content content' files.content found has in
-        meaning_run law alike name content (lines_of text) budget prelude code m short fits is_prelude own.holds (subst (λ c. MeansOn name c (lines_of text) budget m) same goes)
+        meaning_run sources law alike name content lines budget prelude code m short fits is_prelude own.holds (subst (λ c. MeansOn builds name c lines budget m) same goes)
 
 -- the files stayed as they were up to there
-pub run_since : (name : List ℕ) (budget : ℕ) (save : Option (List ℕ)) (f f' f'' : ℕ) (held held' held'' : Option FileMap) (input out : Device (List ℕ)) (status status' : ℕ) → f' ≡ f → held' ≡ held → status ≡ status'
-    → IsRun name budget save (files_of f' f'' held' held'') input out status' → IsRun name budget save (files_of f f'' held held'') input out status
-run_since name budget save f f' f'' held held' held'' input out status status' faults kept same run = rw (sym faults, sym kept, same) run
+pub run_since : {builds : Builds Body} → (name : List ℕ) (budget : ℕ) (save : Option (List ℕ)) (f f' f'' : ℕ) (held held' held'' : Option FileMap) (input out : Device (List ℕ)) (last : Option Session) (status status' : ℕ) → f' ≡ f → held' ≡ held → status ≡ status'
+    → IsRun builds name budget save (files_of f' f'' held' held'') input out last status' → IsRun builds name budget save (files_of f f'' held held'') input out last status
+run_since name budget save f f' f'' held held' held'' input out last status status' faults kept same run = rw (sym faults, sym kept, same) run
 
-pub run_before : (name : List ℕ) (budget : ℕ) (save : Option (List ℕ)) (f f' : ℕ) (held held' : Option FileMap) (input out : Device (List ℕ)) (status status' : ℕ) → f' ≡ f → held' ≡ held → status ≡ status'
-    → IsRun name budget save (files_of f f held held) input out status' → IsRun name budget save (files_of f f' held held') input out status
-run_before name budget save f f' held held' input out status status' faults kept same run = rw (faults, kept, same) run
+pub run_before : {builds : Builds Body} → (name : List ℕ) (budget : ℕ) (save : Option (List ℕ)) (f f' : ℕ) (held held' : Option FileMap) (input out : Device (List ℕ)) (last : Option Session) (status status' : ℕ) → f' ≡ f → held' ≡ held → status ≡ status'
+    → IsRun builds name budget save (files_of f f held held) input out last status' → IsRun builds name budget save (files_of f f' held held') input out last status
+run_before name budget save f f' held held' input out last status status' faults kept same run = rw (faults, kept, same) run

@@ -43,5 +43,8 @@ pub record IsCheck (name : List ℕ) (files : Device FileMap) (out : Device (Lis
   pub front : (content text : List ℕ) → Holds files.content name content → Reports content text → GrowsByFront text out.content out.content'
   pub grows : OnlyGrows out.content out.content'
   pub unwritten : status ≢ 0 → status ≢ 6 → out.content' ≡ out.content
+  -- nothing is written where there is no file of the name, and where it holds no chunk, a device fault or not
+  pub none_lacking : Lacks files.content name → out.content' ≡ out.content
+  pub none_refused : (content : List ℕ) → Holds files.content name content → HoldsNoChunk content → out.content' ≡ out.content
   pub files_kept : MayEndTelling files.content files.content'
   pub files_same : status ≢ 6 → files.content' ≡ files.content

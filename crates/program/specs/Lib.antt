@@ -5,6 +5,7 @@ pub mod Meaning
 pub mod Sessions
 pub mod Running
 pub mod Resuming
+pub mod Working
 pub mod Program
 pub mod Report
 pub mod Faults

@@ -1,6 +1,7 @@
 -- What the script in a file means (Lua 5.4 manual, 2 and 3), and that it was done.
 use Rattle.std.specs.Prelude.{◌≡◌, ℕ, ◌≤◌, length, List, ◌++◌, Bool, true, false, ◌||◌, nat_eq}
 use Rattle.std.specs.Option.{option_map}
+use Rattle.load_rows.specs.Loading.{Builds}
 use Rattle.int_core.specs.Value.{greatest_string}
 use Rattle.tree_core.specs.Tree.{Block, Body}
 use Rattle.tree_activation.specs.Work.{when_declared, State}
@@ -21,14 +22,14 @@ use Rattle.program.specs.Compiling.{source_name}
 
 -- What the script in a file means on lines of input by the letter of the manual, under the file's name and with lines: in the world of the libraries, whose
 -- Lua functions are those of the prelude's text. Each turn has the budget
-pub record MeansOn (name content : List ℕ) (lines : List (List ℕ)) (budget : ℕ) (m : Meaning Body State) : Type 0 where
+pub record MeansOn (builds : Builds Body) (name content : List ℕ) (lines : List (List ℕ)) (budget : ℕ) (m : Meaning Body State) : Type 0 where
   pub is_script : begins_chunk content ≡ false
   pub tree : Block
   pub is_source : IsSource (script_in content) tree
   pub prelude : Block
   pub is_prelude : IsRead prelude_text prelude
   pub means :
-      IsMeaning (trees when_declared) primitives (tree_opening (prelude_of (functions_in (placed prelude)))) (script (placed tree) (source_name name) true) lines budget m
+      IsMeaning (trees when_declared) (primitives builds) (tree_opening (prelude_of (functions_in (placed prelude)))) (script (placed tree) (source_name name) true) lines budget m
 
 -- the status of how a script ends by its meaning
 abbrev pub EndsWith : Outcome Body State → (status : ℕ) → Type 0
@@ -37,6 +38,11 @@ EndsWith meaning.has_failed status = status ≡ 1
 EndsWith (meaning.is_suspended W) status = status ≡ 3
 EndsWith meaning.has_spent status = status ≡ 4
 EndsWith meaning.is_broken status = ⊥
+
+-- the script waits for a line
+abbrev pub IsWaiting : Outcome Body State → Type 0
+IsWaiting (meaning.is_suspended W) = Unit {0}
+IsWaiting _ = ⊥
 
 -- strings can hold all lines
 abbrev pub AreShort : List (List ℕ) → Type 0
@@ -47,8 +53,8 @@ abbrev pub has_ended : (status : ℕ) → Bool
 has_ended status = nat_eq status 0 || nat_eq status 1 || nat_eq status 3 || nat_eq status 4
 
 -- the script in a file has a meaning on the lines of which this status is the end, and what it prints was written, byte for byte
-pub record IsDoneAsMeant (name content : List ℕ) (lines : List (List ℕ)) (budget : ℕ) (out : Device (List ℕ)) (status : ℕ) : Type 0 where
+pub record IsDoneAsMeant (builds : Builds Body) (name content : List ℕ) (lines : List (List ℕ)) (budget : ℕ) (out : Device (List ℕ)) (status : ℕ) : Type 0 where
   pub m : Meaning Body State
-  pub means : MeansOn name content lines budget m
+  pub means : MeansOn builds name content lines budget m
   pub ends : EndsWith m.outcome status
   pub written : out.content' ≡ option_map (λ before. before ++ m.printed) out.content

@@ -2,7 +2,7 @@
 use Rattle.std.specs.Prelude.{◌≡◌, ℕ, List, [], ◌++◌, Bool, true, ◌||◌, nat_eq, Option, Some, None, codes, decimal}
 use Rattle.std.specs.Bool.{MatchBool}
 use Rattle.std.specs.Option.{option_map}
-use Rattle.io_edge.specs.Content.{FileMap}
+use Rattle.io_edge.specs.Content.{FileMap, GrowsByFront}
 use Rattle.code_core.specs.Prototype.{Prototype}
 use Rattle.std.specs.Fmt.{signed_decimal}
 use Rattle.chunk_format.specs.Grammar.{BeginsWith, ChunkOf}
@@ -11,6 +11,7 @@ use Rattle.chunk_check.specs.Faults.{first_fault}
 use Rattle.compile_text.specs.Source.{IsRefused}
 use Rattle.compile_text.specs.declared.fault.TextFault.TheVariants as text
 use Rattle.compile_chunk.specs.Chunk.{script_in}
+use Rattle.work_script.specs.Script.{work_script}
 use Rattle.prelude_code.specs.Prelude.{IsPreludeCode}
 use Rattle.graph_core.specs.Permanents.{key_read}
 use Rattle.graph_core.specs.declared.permanents.PermanentKey.{PermanentKey}
@@ -21,7 +22,7 @@ use Rattle.session_images.specs.Stored.{root_count}
 use Rattle.lua_saving.specs.Saving.{session_reader, session_codes, HasNoSession}
 use Rattle.program.specs.declared.fault.Fault.{Fault}
 use Rattle.program.specs.declared.fault.Fault.TheVariants as fault
-use Rattle.command_words.specs.Words.{Command, run, resume, check, compile}
+use Rattle.command_words.specs.Words.{Command, run, resume, check, compile, work}
 use Rattle.program.specs.Devices.{Device, RoseIn, Holds}
 use Rattle.program.specs.Checking.{begins_chunk}
 use Rattle.program.specs.Sessions.{functions_of}
@@ -117,12 +118,13 @@ ImageFits content _ = Unit {0}
 abbrev pub CodeFits : List ℕ → Fault → Type 0
 CodeFits content reason = MatchBool (begins_chunk content) (ChunkFits content reason) (ScriptFits content reason)
 
--- what a fault tells of the bytes that the files hold for a command
+-- what a fault tells of the bytes that the files hold for a command, or of those of the script that is made for it
 abbrev pub FitsFor : Option Command → Option FileMap → Fault → Type 0
 FitsFor (Some (run file budget save)) files reason = (content : List ℕ) → Holds files file content → CodeFits content reason
 FitsFor (Some (resume image budget save)) files reason = (content : List ℕ) → Holds files image content → ImageFits content reason
 FitsFor (Some (check file)) files reason = (content : List ℕ) → Holds files file content → ChunkFits content reason
 FitsFor (Some (compile script chunk strip)) files reason = (content : List ℕ) → Holds files script content → ScriptFits content reason
+FitsFor (Some (work count)) files reason = ScriptFits (work_script count) reason
 FitsFor None files reason = Unit {0}
 
 -- the line of a status, which tells what the file's bytes give where the files tell them
@@ -130,8 +132,9 @@ pub data IsErrorLine (command : Option Command) (files : Option FileMap) : ℕ �
   none : (status : ℕ) → is_quiet status ≡ true → IsErrorLine command files status []
   of_fault : (reason : Fault) → FitsFor command files reason → IsErrorLine command files (status_of_fault reason) (line_of_fault reason)
 
--- standard error grows by exactly the line of the status where no write to it fails
+-- standard error grows by exactly the line of the status where no write to it fails, and else by a front of it
 pub record IsReported (command : Option Command) (files : Option FileMap) (err : Device (List ℕ)) (status : ℕ) : Type 0 where
   pub line : List ℕ
   pub line_is : IsErrorLine command files status line
   pub written : ¬ (RoseIn err) → err.content' ≡ option_map (λ text. text ++ line) err.content
+  pub front : GrowsByFront line err.content err.content'

@@ -1,5 +1,5 @@
 -- How a session ends that is fed with lines, and what is left of it: where it waits for a line, it is saved in the file that is named for that.
-use Rattle.std.specs.Prelude.{◌≡◌, ◌≢◌, ◌<◌, ◌≤◌, ◌⊎◌, ℕ, List, ◌++◌, length, Option, Some, None, IsSome, IfSome}
+use Rattle.std.specs.Prelude.{◌≡◌, ◌≢◌, ◌<◌, ◌≤◌, ◌⊎◌, ℕ, List, ◌++◌, length, Option, Some, None, IsSome, IfSome, IsSomeAnd}
 use Rattle.std.specs.Option.{option_map}
 use Rattle.code_core.specs.Prototype.{Prototype, list_of}
 use Rattle.library_rows.specs.Library.{Entry}
@@ -13,7 +13,10 @@ use Rattle.session_images.specs.Prelude.{HasPrelude}
 use Rattle.session_images.specs.Saved.{session_image}
 use Rattle.session_images.specs.Stored.{root_count, IsWrittenAs}
 use Rattle.images_stand.specs.Sessions.{IsKept as IsHeldWhole}
-use Rattle.lua_feed.specs.Feeding.{PassLimits}
+use Rattle.lua_feed.specs.Feeding.{IsLast, IsCutOff}
+use Rattle.program.specs.declared.session.Session.{Session}
+use Rattle.program.specs.declared.session.SessionState.{SessionState}
+use Rattle.program.specs.declared.session.SessionState.TheVariants.{Suspended, Ended}
 use Rattle.program.specs.Devices.{Device, RoseIn}
 
 abbrev pub status_of_close : Close → ℕ
@@ -21,6 +24,17 @@ status_of_close has_returned = 0
 status_of_close has_failed = 1
 status_of_close is_suspended = 3
 status_of_close has_spent = 4
+
+abbrev pub state_of : Close → SessionState
+state_of has_returned = Ended
+state_of has_failed = Ended
+state_of is_suspended = Suspended
+state_of has_spent = Ended
+
+-- the session that ran, as the run left it: its world is the last one of the run, but for what is left of a budget
+pub record IsSessionOf (run : Run) (session : Session) : Type 0 where
+  pub world : IsLast run.last session.world
+  pub state : session.state ≡ state_of run.close
 
 -- the functions of the prelude with this code, by their names
 abbrev pub functions_of : Prototype → List (Entry Prototype)
@@ -50,11 +64,13 @@ pub data IsLeft (prelude : Prototype) (run : Run) (save : Option (List ℕ)) (fi
   unwritten : IsSome save → run.close ≡ is_suspended → RoseIn files → IsLeft prelude run save files 6
   no_memory : IsSome save → run.close ≡ is_suspended → IsLeft prelude run save files 9
 
--- How a session ends, where `Runs` tells what it does on lines: it closes, all that it prints is written, and so much is left of it; or a device failed, the
--- input is past the limits on lines, or there is no memory. Where the input tells its bytes the lines are its lines
-pub data Ends (prelude : Prototype) (Runs : List (List ℕ) → Run → Type 0) (save : Option (List ℕ)) (files : Device FileMap) (input out : Device (List ℕ)) (status : ℕ) : Type 0 where
+-- How a session ends, where `Runs` tells what it does on lines: it closes, all that it prints is written, so much is left of it, and it is handed back; or a
+-- device failed, it waits for a line that is past the limits and all that it prints before is written, or there is no memory. Where the input tells its bytes
+-- the lines are its lines
+pub data Ends (prelude : Prototype) (Runs : List (List ℕ) → Run → Type 0) (save : Option (List ℕ)) (files : Device FileMap) (input out : Device (List ℕ)) (last : Option Session) (status : ℕ) : Type 0 where
   closed : (lines : List (List ℕ)) → IfSome input.content (λ text. lines ≡ lines_of text) → (run : Run) → Runs lines run
-      → out.content' ≡ option_map (λ before. before ++ run.printed) out.content → IsLeft prelude run save files status → Ends prelude Runs save files input out status
-  failed : RoseIn input ⊎ RoseIn out → status ≡ 6 → Ends prelude Runs save files input out status
-  past_limits : IfSome input.content (λ text. PassLimits 0 (lines_of text)) → status ≡ 7 → Ends prelude Runs save files input out status
-  no_memory : status ≡ 9 → Ends prelude Runs save files input out status
+      → out.content' ≡ option_map (λ before. before ++ run.printed) out.content → IsLeft prelude run save files status → IsSomeAnd last (IsSessionOf run)
+      → Ends prelude Runs save files input out last status
+  failed : RoseIn input ⊎ RoseIn out → status ≡ 6 → Ends prelude Runs save files input out last status
+  past_limits : IsCutOff Runs 0 input.content out.content out.content' → status ≡ 7 → Ends prelude Runs save files input out last status
+  no_memory : status ≡ 9 → Ends prelude Runs save files input out last status

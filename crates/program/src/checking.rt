@@ -46,7 +46,7 @@ pub fn checked_chunk(alloc: Global, bytes: &[u8]) -> Result<Checked, Fault>
 }
 
 /// Checked code keeps all rules.
-fn rules_hold(code: &Checked)
+pub fn rules_hold(code: &Checked)
     ensures { IsChecked code.now }
 {
     code.proto();
@@ -64,7 +64,7 @@ fn counts(alloc: Global, checked: &Checked) -> Result<Vec<u8>, AllocError>
 }
 
 /// Writes all of the output.
-fn write_output<K: Sink>(out: &mut K, text: &[u8]) -> Result<(), Fault>
+pub fn write_output<K: Sink>(out: &mut K, text: &[u8]) -> Result<(), Fault>
     ensures cause { HasCause (K.faults out.old) (K.faults out.new) (is_err result) }
     ensures written { OnOk result (K.written out.new ≡ option_map (λ before. before ++ text.now) (K.written out.old)) }
     ensures front { OnErr result (GrowsByFront text.now (K.written out.old) (K.written out.new)) }

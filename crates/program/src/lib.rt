@@ -5,12 +5,16 @@ mod call;
 mod checking;
 mod compiling;
 mod fault;
+mod no_input;
 mod refusing;
 mod reporting;
 mod resuming;
 mod running;
 mod saving;
+mod session;
+mod working;
 
 pub use call::luaris;
 pub use fault::Fault;
 pub use reporting::report;
+pub use session::{Session, SessionState};

@@ -1,7 +1,8 @@
 // The line of a fault.
-ghost use Rattle.std.specs.Prelude.{◌≡◌, ◌++◌, OnOk, codes, decimal, is_err};
+ghost use Rattle.std.specs.Prelude.{◌≡◌, ◌++◌, OnErr, OnOk, codes, decimal, is_err};
 ghost use Rattle.std.specs.Option.{option_map};
 ghost use Rattle.io_edge.specs.Causes.{HasCause};
+ghost use Rattle.io_edge.specs.Content.{GrowsByFront};
 ghost use Rattle.program.specs.Report.{key_text, line_of_fault};
 
 use crate::fault::Fault;
@@ -9,10 +10,11 @@ use graph_core::PermanentKey;
 use io_edge::{Failed, Sink, write_all};
 use itoa::Buffer;
 
-/// Writes the line of a fault, without taking memory.
+/// Writes the line of a fault, without taking memory. A failed write leaves a front of the line.
 pub fn report<E: Sink>(err: &mut E, fault: &Fault) -> Result<(), Failed>
     ensures cause { HasCause (E.faults err.old) (E.faults err.new) (is_err result) }
     ensures written { OnOk result (E.written err.new ≡ option_map (λ text. text ++ line_of_fault fault.now) (E.written err.old)) }
+    ensures front { OnErr result (GrowsByFront (line_of_fault fault.now) (E.written err.old) (E.written err.new)) }
 {
     match fault {
         Fault::Words => write_all(err, b"luaris: wrong words\n"),
@@ -36,6 +38,7 @@ pub fn report<E: Sink>(err: &mut E, fault: &Fault) -> Result<(), Failed>
 fn report_line<E: Sink>(err: &mut E, line: u32) -> Result<(), Failed>
     ensures cause { HasCause (E.faults err.old) (E.faults err.new) (is_err result) }
     ensures written { OnOk result (E.written err.new ≡ option_map (λ text. text ++ line_of_fault (Fault.Refused line)) (E.written err.old)) }
+    ensures front { OnErr result (GrowsByFront (line_of_fault (Fault.Refused line)) (E.written err.old) (E.written err.new)) }
 {
     write_all(err, b"luaris: source refused at line ")?;
     write_end(err, line)
@@ -45,6 +48,7 @@ fn report_line<E: Sink>(err: &mut E, line: u32) -> Result<(), Failed>
 fn report_violation<E: Sink>(err: &mut E, rule: u8, line: u32) -> Result<(), Failed>
     ensures cause { HasCause (E.faults err.old) (E.faults err.new) (is_err result) }
     ensures written { OnOk result (E.written err.new ≡ option_map (λ text. text ++ line_of_fault (Fault.Rule rule line)) (E.written err.old)) }
+    ensures front { OnErr result (GrowsByFront (line_of_fault (Fault.Rule rule line)) (E.written err.old) (E.written err.new)) }
 {
     write_all(err, b"luaris: source refused by rule ")?;
     write_number(err, u32::from(rule))?;
@@ -56,6 +60,7 @@ fn report_violation<E: Sink>(err: &mut E, rule: u8, line: u32) -> Result<(), Fai
 fn report_kind<E: Sink>(err: &mut E, kind: u8) -> Result<(), Failed>
     ensures cause { HasCause (E.faults err.old) (E.faults err.new) (is_err result) }
     ensures written { OnOk result (E.written err.new ≡ option_map (λ text. text ++ line_of_fault (Fault.NoChunk kind)) (E.written err.old)) }
+    ensures front { OnErr result (GrowsByFront (line_of_fault (Fault.NoChunk kind)) (E.written err.old) (E.written err.new)) }
 {
     write_all(err, b"luaris: chunk refused: kind ")?;
     write_end(err, u32::from(kind))
@@ -65,6 +70,7 @@ fn report_kind<E: Sink>(err: &mut E, kind: u8) -> Result<(), Failed>
 fn report_rule<E: Sink>(err: &mut E, function: u32, pc: u32, rule: u8) -> Result<(), Failed>
     ensures cause { HasCause (E.faults err.old) (E.faults err.new) (is_err result) }
     ensures written { OnOk result (E.written err.new ≡ option_map (λ text. text ++ line_of_fault (Fault.BrokenRule function pc rule)) (E.written err.old)) }
+    ensures front { OnErr result (GrowsByFront (line_of_fault (Fault.BrokenRule function pc rule)) (E.written err.old) (E.written err.new)) }
 {
     write_all(err, b"luaris: chunk refused: rule ")?;
     write_number(err, u32::from(rule))?;
@@ -78,6 +84,7 @@ fn report_rule<E: Sink>(err: &mut E, function: u32, pc: u32, rule: u8) -> Result
 fn report_image<E: Sink>(err: &mut E, kind: u8) -> Result<(), Failed>
     ensures cause { HasCause (E.faults err.old) (E.faults err.new) (is_err result) }
     ensures written { OnOk result (E.written err.new ≡ option_map (λ text. text ++ line_of_fault (Fault.NoImage kind)) (E.written err.old)) }
+    ensures front { OnErr result (GrowsByFront (line_of_fault (Fault.NoImage kind)) (E.written err.old) (E.written err.new)) }
 {
     write_all(err, b"luaris: image refused: kind ")?;
     write_end(err, u32::from(kind))
@@ -87,6 +94,7 @@ fn report_image<E: Sink>(err: &mut E, kind: u8) -> Result<(), Failed>
 fn report_permanent<E: Sink>(err: &mut E, kind: u8, key: &PermanentKey) -> Result<(), Failed>
     ensures cause { HasCause (E.faults err.old) (E.faults err.new) (is_err result) }
     ensures written { OnOk result (E.written err.new ≡ option_map (λ text. text ++ line_of_fault (Fault.NoPermanent kind key.now)) (E.written err.old)) }
+    ensures front { OnErr result (GrowsByFront (line_of_fault (Fault.NoPermanent kind key.now)) (E.written err.old) (E.written err.new)) }
 {
     write_all(err, b"luaris: image refused: kind ")?;
     write_number(err, u32::from(kind))?;
@@ -99,6 +107,7 @@ fn report_permanent<E: Sink>(err: &mut E, kind: u8, key: &PermanentKey) -> Resul
 fn write_key<E: Sink>(err: &mut E, key: &PermanentKey) -> Result<(), Failed>
     ensures cause { HasCause (E.faults err.old) (E.faults err.new) (is_err result) }
     ensures written { OnOk result (E.written err.new ≡ option_map (λ text. text ++ key_text key.now) (E.written err.old)) }
+    ensures front { OnErr result (GrowsByFront (key_text key.now) (E.written err.old) (E.written err.new)) }
 {
     match key {
         PermanentKey::Number(number) => write_all(err, Buffer::new().format(*number).as_bytes()),
@@ -110,6 +119,7 @@ fn write_key<E: Sink>(err: &mut E, key: &PermanentKey) -> Result<(), Failed>
 fn write_number<E: Sink>(err: &mut E, number: u32) -> Result<(), Failed>
     ensures cause { HasCause (E.faults err.old) (E.faults err.new) (is_err result) }
     ensures written { OnOk result (E.written err.new ≡ option_map (λ text. text ++ decimal number) (E.written err.old)) }
+    ensures front { OnErr result (GrowsByFront (decimal number) (E.written err.old) (E.written err.new)) }
 {
     write_all(err, Buffer::new().format(number).as_bytes())
 }
@@ -118,6 +128,7 @@ fn write_number<E: Sink>(err: &mut E, number: u32) -> Result<(), Failed>
 fn write_end<E: Sink>(err: &mut E, number: u32) -> Result<(), Failed>
     ensures cause { HasCause (E.faults err.old) (E.faults err.new) (is_err result) }
     ensures written { OnOk result (E.written err.new ≡ option_map (λ text. text ++ (decimal number ++ codes "\n")) (E.written err.old)) }
+    ensures front { OnErr result (GrowsByFront (decimal number ++ codes "\n") (E.written err.old) (E.written err.new)) }
 {
     write_number(err, number)?;
     write_all(err, b"\n")

@@ -10,11 +10,13 @@ ghost use Rattle.program.specs.Faults.{status_of};
 ghost use Rattle.program.specs.Outcomes.{IsNoSessionFor};
 ghost use Rattle.program.specs.Report.{ImageFits, is_quiet};
 ghost use Rattle.program.specs.Resuming.{IsResume};
+ghost use Rattle.source_builds.specs.Readings.{AsRead};
 ghost use Rattle.program.specs.Sessions.{functions_of};
 
 use crate::fault::Fault;
 use crate::refusing::fault_of_reading;
 use crate::saving::leave_session;
+use crate::session::{Session, state_at};
 use code_core::Checked;
 use io_edge::{Files, LineReader, Sink, Source};
 use lua_feed::feed_on;
@@ -34,8 +36,9 @@ pub fn resume_file<F: Files, S: Source, K: Sink>(
     files: &mut F,
     input: &mut S,
     out: &mut K,
+    last: &mut Option<Session>,
 ) -> Result<u8, Fault>
-    ensures resume { IsResume name.now budget (option_map (λ image. image.now) save.entry) (record { faults = F.faults files.old; faults' = F.faults files.new; content = F.held files.old; content' = F.held files.new }) (record { faults = S.faults input.old; faults' = S.faults input.new; content = S.left input.old; content' = S.left input.new }) (record { faults = K.faults out.old; faults' = K.faults out.new; content = K.written out.old; content' = K.written out.new }) (status_of result) }
+    ensures resume { AsRead (λ builds. IsResume builds name.now budget (option_map (λ image. image.now) save.entry) (record { faults = F.faults files.old; faults' = F.faults files.new; content = F.held files.old; content' = F.held files.new }) (record { faults = S.faults input.old; faults' = S.faults input.new; content = S.left input.old; content' = S.left input.new }) (record { faults = K.faults out.old; faults' = K.faults out.new; content = K.written out.old; content' = K.written out.new }) last.new (status_of result)) }
     ensures fits { (content : List ℕ) → Holds (F.held files.old) name.now content → IfErr result (λ fault. ImageFits content fault) }
     ensures quiet { IfOk result (λ status. is_quiet status ≡ true) }
 {
@@ -45,7 +48,12 @@ pub fn resume_file<F: Files, S: Source, K: Sink>(
     let mut world = session_in(alloc, prelude, content.as_slice())?;
     let mut reader = LineReader::new(alloc)?;
     let close = feed_on(&mut world, budget, &mut reader, input, out)?;
-    leave_session(&world, close, save, files)
+    let answer = leave_session(&world, close, save, files);
+    *last = Some(Session {
+        world,
+        state: state_at(close),
+    });
+    answer
 }
 
 /// The session whose image some bytes are.

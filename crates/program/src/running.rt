@@ -6,11 +6,13 @@ ghost use Rattle.program.specs.Faults.{status_of};
 ghost use Rattle.program.specs.Outcomes.{IsCodeIn, IsNoCodeFor};
 ghost use Rattle.program.specs.Report.{CodeFits, is_quiet};
 ghost use Rattle.program.specs.Running.{IsRun};
+ghost use Rattle.source_builds.specs.Readings.{AsRead};
 
-use crate::checking::checked_chunk;
+use crate::checking::{checked_chunk, rules_hold};
 use crate::compiling::source_name;
 use crate::fault::Fault;
 use crate::saving::leave_session;
+use crate::session::{Session, state_at};
 use code_core::Checked;
 use compile_chunk::{code_of, script_in};
 use io_edge::{Files, LineReader, Sink, Source};
@@ -30,9 +32,10 @@ pub fn run_file<F: Files, S: Source, K: Sink>(
     files: &mut F,
     input: &mut S,
     out: &mut K,
+    last: &mut Option<Session>,
 ) -> Result<u8, Fault>
     requires short { length name.now ≤ 65536 }
-    ensures run { IsRun name.now budget (option_map (λ image. image.now) save.entry) (record { faults = F.faults files.old; faults' = F.faults files.new; content = F.held files.old; content' = F.held files.new }) (record { faults = S.faults input.old; faults' = S.faults input.new; content = S.left input.old; content' = S.left input.new }) (record { faults = K.faults out.old; faults' = K.faults out.new; content = K.written out.old; content' = K.written out.new }) (status_of result) }
+    ensures run { AsRead (λ builds. IsRun builds name.now budget (option_map (λ image. image.now) save.entry) (record { faults = F.faults files.old; faults' = F.faults files.new; content = F.held files.old; content' = F.held files.new }) (record { faults = S.faults input.old; faults' = S.faults input.new; content = S.left input.old; content' = S.left input.new }) (record { faults = K.faults out.old; faults' = K.faults out.new; content = K.written out.old; content' = K.written out.new }) last.new (status_of result)) }
     ensures fits { (content : List ℕ) → Holds (F.held files.old) name.now content → IfErr result (λ fault. CodeFits content fault) }
     ensures quiet { IfOk result (λ status. is_quiet status ≡ true) }
 {
@@ -42,10 +45,16 @@ pub fn run_file<F: Files, S: Source, K: Sink>(
     let content = files.get(alloc, name)?;
     let prelude = prelude_code(alloc)?;
     let code = code_in(alloc, name, content.as_slice())?;
+    rules_hold(&code);
     let mut reader = LineReader::new(alloc)?;
     let mut world = start(alloc, prelude, code)?;
     let close = feed(&mut world, budget, &mut reader, input, out)?;
-    leave_session(&world, close, save, files)
+    let answer = leave_session(&world, close, save, files);
+    *last = Some(Session {
+        world,
+        state: state_at(close),
+    });
+    answer
 }
 
 /// The code in a file: that of the chunk with which its bytes begin, where the first of them is that of a chunk, and else that of the script in it, under

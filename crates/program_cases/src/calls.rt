@@ -39,6 +39,7 @@ fn call(alloc: Global, line: &str, name: &str, content: &[u8]) -> Result<Outcome
     let mut out = MemSink::new(alloc, no_failures(alloc));
     let mut err = MemSink::new(alloc, no_failures(alloc));
     let words = words(alloc, line)?;
+    let mut last = None;
     let status = luaris(
         alloc,
         words.as_slice(),
@@ -46,6 +47,7 @@ fn call(alloc: Global, line: &str, name: &str, content: &[u8]) -> Result<Outcome
         &mut input,
         &mut out,
         &mut err,
+        &mut last,
     );
     Ok(Outcome { status, out, err })
 }
@@ -156,7 +158,7 @@ fn limits_are_where_they_are_said_to_be(rt: HostRuntime) -> Result<(), Fail> {
 }
 
 /// Words that are no command, and files that are not there.
-static CALLS: [(&str, u8, &str); 22] = [
+static CALLS: [(&str, u8, &str); 30] = [
     ("", 2, "luaris: wrong words\n"),
     ("run", 2, "luaris: wrong words\n"),
     ("walk s.lua", 2, "luaris: wrong words\n"),
@@ -187,6 +189,14 @@ static CALLS: [(&str, u8, &str); 22] = [
         "luaris: wrong words\n",
     ),
     ("--budget 5 run s.lua", 2, "luaris: wrong words\n"),
+    ("work", 2, "luaris: wrong words\n"),
+    ("work 0", 2, "luaris: wrong words\n"),
+    ("work 10001", 2, "luaris: wrong words\n"),
+    ("work +3", 2, "luaris: wrong words\n"),
+    ("work 0000000000000003", 2, "luaris: wrong words\n"),
+    ("work 3 4", 2, "luaris: wrong words\n"),
+    ("work 3 --strip", 2, "luaris: wrong words\n"),
+    ("work --budget 5 3", 2, "luaris: wrong words\n"),
     ("run gone.lua", 11, "luaris: no such file\n"),
     ("run --budget=5 gone.lua", 11, "luaris: no such file\n"),
     (
@@ -207,6 +217,7 @@ fn words_and_files_decide_before_the_source(rt: HostRuntime) -> Result<(), Fail>
         let mut out = MemSink::new(alloc, no_failures(alloc));
         let mut err = MemSink::new(alloc, no_failures(alloc));
         let words = words(alloc, line)?;
+        let mut last = None;
         let answer = luaris(
             alloc,
             words.as_slice(),
@@ -214,6 +225,7 @@ fn words_and_files_decide_before_the_source(rt: HostRuntime) -> Result<(), Fail>
             &mut input,
             &mut out,
             &mut err,
+            &mut last,
         );
         check(
             &rt,
@@ -243,6 +255,7 @@ fn run_failing(
     let mut out = MemSink::new(alloc, failing(alloc, out_call)?);
     let mut err = MemSink::new(alloc, failing(alloc, err_call)?);
     let words = words(alloc, "run s.lua")?;
+    let mut last = None;
     let status = luaris(
         alloc,
         words.as_slice(),
@@ -250,6 +263,7 @@ fn run_failing(
         &mut input,
         &mut out,
         &mut err,
+        &mut last,
     );
     Ok(Outcome { status, out, err })
 }
@@ -273,6 +287,86 @@ fn failing_devices_are_told(rt: HostRuntime) -> Result<(), Fail> {
         "luaris: device fault\n",
     );
     check(&rt, &run_failing(alloc, 1, 9, 0)?, 6, "", "");
+    Ok(())
+}
+
+/// Words that ask for work, and what is written: the sum of the numbers, the end of the script, and the numbers of its functions and of its bytes.
+static WORKS: [(&str, &str); 5] = [
+    ("work 3", "6\nreturn\nwork 3 166\n"),
+    ("work -- 3", "6\nreturn\nwork 3 166\n"),
+    ("work 1", "1\nreturn\nwork 1 68\n"),
+    ("work 000000000000010", "55\nreturn\nwork 10 510\n"),
+    ("work 10000", "50005000\nreturn\nwork 10000 518913\n"),
+];
+
+#[test]
+fn work_is_done(rt: HostRuntime) -> Result<(), Fail> {
+    let alloc = rt.alloc();
+    for (line, printed) in WORKS.iter().copied() {
+        let outcome = call(alloc, line, "s.lua", b"")?;
+        check(&rt, &outcome, 0, printed, "");
+    }
+    Ok(())
+}
+
+/// Calls the program with the words of a line where a source is in `s.lua`, and one call of the output or of standard error fails.
+fn call_failing(
+    alloc: Global,
+    line: &str,
+    source: &[u8],
+    out_call: u64,
+    err_call: u64,
+) -> Result<Outcome, Fail> {
+    let mut files = MemFiles::new(alloc, no_failures(alloc));
+    files.put("s.lua", source)?;
+    let mut input = MemSource::new(Bytes::of(Vec::new(alloc)), no_failures(alloc));
+    let mut out = MemSink::new(alloc, failing(alloc, out_call)?);
+    let mut err = MemSink::new(alloc, failing(alloc, err_call)?);
+    let words = words(alloc, line)?;
+    let mut last = None;
+    let status = luaris(
+        alloc,
+        words.as_slice(),
+        &mut files,
+        &mut input,
+        &mut out,
+        &mut err,
+        &mut last,
+    );
+    Ok(Outcome { status, out, err })
+}
+
+#[test]
+fn failed_writes_leave_fronts(rt: HostRuntime) -> Result<(), Fail> {
+    let alloc = rt.alloc();
+    check(
+        &rt,
+        &call_failing(alloc, "work 3", b"", 0, 9)?,
+        6,
+        "",
+        "luaris: device fault\n",
+    );
+    check(
+        &rt,
+        &call_failing(alloc, "work 3", b"", 1, 9)?,
+        6,
+        "6\nreturn\n",
+        "luaris: device fault\n",
+    );
+    check(
+        &rt,
+        &call_failing(alloc, "run s.lua", b"x", 9, 1)?,
+        5,
+        "",
+        "luaris: source refused at line ",
+    );
+    check(
+        &rt,
+        &call_failing(alloc, "run s.lua", b"x", 9, 2)?,
+        5,
+        "",
+        "luaris: source refused at line 1",
+    );
     Ok(())
 }
 
@@ -351,6 +445,7 @@ fn compile(alloc: Global, line: &str, source: &[u8], files_call: u64) -> Result<
     let mut out = MemSink::new(alloc, no_failures(alloc));
     let mut err = MemSink::new(alloc, no_failures(alloc));
     let words = words(alloc, line)?;
+    let mut last = None;
     let status = luaris(
         alloc,
         words.as_slice(),
@@ -358,6 +453,7 @@ fn compile(alloc: Global, line: &str, source: &[u8], files_call: u64) -> Result<
         &mut input,
         &mut out,
         &mut err,
+        &mut last,
     );
     let chunk = match files.file("c.luac") {
         Some(bytes) => bytes.to_vec(alloc)?,

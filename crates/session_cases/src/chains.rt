@@ -39,6 +39,7 @@ fn call(alloc: Global, line: &str, files: &mut MemFiles, lines: &[u8]) -> Result
     let mut out = MemSink::new(alloc, no_failures(alloc));
     let mut err = MemSink::new(alloc, no_failures(alloc));
     let words = words(alloc, line)?;
+    let mut last = None;
     let status = luaris(
         alloc,
         words.as_slice(),
@@ -46,11 +47,12 @@ fn call(alloc: Global, line: &str, files: &mut MemFiles, lines: &[u8]) -> Result
         &mut input,
         &mut out,
         &mut err,
+        &mut last,
     );
     Ok(Outcome { status, out })
 }
 
-static CHAINS: [Chain; 8] = [
+static CHAINS: [Chain; 9] = [
     Chain {
         script: "local n=0 local function bump() n=n+1 return n end local a=coroutine.wrap(function() while true do coroutine.yield(bump()) end end) while true do coroutine.yield(a(),n) end",
         lines: "x\n|y\n",
@@ -91,6 +93,12 @@ static CHAINS: [Chain; 8] = [
         script: "local room,bag=\"hall\",{} while true do local c=coroutine.yield(room..\": \"..#bag..\" items\") local v,o=c:match(\"^(%a+)%s*(.*)$\") if v==\"go\" then room=o elseif v==\"take\" then table.insert(bag,o) elseif v==\"quit\" then return table.concat(bag,\",\") end end",
         lines: "|take lamp\n|go cellar\n|take rope\n|quit\n",
         out: "yield\thall: 0 items\n|yield\thall: 1 items\n|yield\tcellar: 1 items\n|yield\tcellar: 2 items\n|return\tlamp,rope\n",
+        status: 0,
+    },
+    Chain {
+        script: "local e={} local f=load(\"local n=0 x=coroutine.yield return function() n=n+1 return n end\",\"=f\",\"t\",setmetatable(e,{__index=_G}))() coroutine.yield(f()) print(f(),x==nil,e.x==coroutine.yield) print(load(\"return 1+\"..coroutine.yield())())",
+        lines: "|a\n|41\n",
+        out: "yield\t1\n|2\ttrue\ttrue\nyield\n|42\nreturn\n",
         status: 0,
     },
     Chain {

@@ -1,7 +1,7 @@
 // Images that are saved, and images that are altered. Expected values are worked out by hand from the format of images.
 use int_core::{Bytes, Numbers};
 use io_edge::{Files, MemFiles, MemSink, MemSource};
-use program::luaris;
+use program::{Session, SessionState, luaris};
 use std::alloc::{AllocError, Global};
 use std::process::Abort;
 use std::test::Fail;
@@ -12,6 +12,7 @@ struct Outcome {
     status: u8,
     out: MemSink,
     err: MemSink,
+    last: Option<Session>,
 }
 
 fn numbers(alloc: Global, calls: &[u64]) -> Result<Numbers, AllocError> {
@@ -39,6 +40,7 @@ fn call(
     let mut out = MemSink::new(alloc, numbers(alloc, failing_out)?);
     let mut err = MemSink::new(alloc, numbers(alloc, &[])?);
     let words = words(alloc, line)?;
+    let mut last = None;
     let status = luaris(
         alloc,
         words.as_slice(),
@@ -46,8 +48,14 @@ fn call(
         &mut input,
         &mut out,
         &mut err,
+        &mut last,
     );
-    Ok(Outcome { status, out, err })
+    Ok(Outcome {
+        status,
+        out,
+        err,
+        last,
+    })
 }
 
 /// Files with a script in `s.lua`, of which these calls fail.
@@ -181,6 +189,44 @@ fn nothing_is_saved_at_another_ending(rt: HostRuntime) -> Result<(), Fail> {
         let outcome = call(alloc, line, &mut files, b"x\n", &[])?;
         check(&rt, &outcome, status, out.as_bytes(), told);
         assert!(rt; files.file("img").is_none());
+    }
+    Ok(())
+}
+
+/// Words, the text of `s.lua`, the status, and the state of the session that is handed back.
+static ENDINGS: [(&str, &str, u8, Option<SessionState>); 7] = [
+    (
+        "run s.lua",
+        "coroutine.yield()",
+        3,
+        Some(SessionState::Suspended),
+    ),
+    (
+        "run s.lua --save img",
+        "coroutine.yield()",
+        3,
+        Some(SessionState::Suspended),
+    ),
+    ("run s.lua --save img", "", 0, Some(SessionState::Ended)),
+    ("run s.lua", "error()", 1, Some(SessionState::Ended)),
+    (
+        "run s.lua --budget 9",
+        "while true do end",
+        4,
+        Some(SessionState::Ended),
+    ),
+    ("run", "", 2, None),
+    ("run s.lua", "$", 5, None),
+];
+
+#[test]
+fn the_session_that_ran_is_handed_back(rt: HostRuntime) -> Result<(), Fail> {
+    let alloc = rt.alloc();
+    for (line, script, status, state) in ENDINGS.iter().copied() {
+        let mut files = files_with(alloc, script.as_bytes(), &[])?;
+        let outcome = call(alloc, line, &mut files, b"", &[])?;
+        assert_eq!(rt; outcome.status, status);
+        assert!(rt; outcome.last.as_ref().map(|session| session.state) == state);
     }
     Ok(())
 }

@@ -1,7 +1,8 @@
 use Rattle.std.proofs.Common.{rules, ◌≡◌, ◌⊎◌, ℕ, List, Err, refl, ap, subst}
 use Rattle.std.proofs.lemmas.Result.{err_from_is_err_and}
 use Rattle.machine_runs.specs.Runs.{Run}
-use Rattle.machine_step.specs.Step.{library}
+use Rattle.loaded_code.specs.Laws.{library}
+use Rattle.source_builds.proofs.Knowing.{read_all, read_map, read_both}
 use Rattle.lua_heap.specs.Plain.{plain}
 use Rattle.lua_feed.specs.Closes.{close_of}
 use Rattle.lua_feed.specs.Feeding.{GoesOn}
@@ -11,6 +12,7 @@ use Rattle.program.specs.declared.fault.Fault.TheVariants.{Memory}
 use Rattle.program.specs.Faults.{fault_of_file, fault_of_prelude, fault_of_feeding, status_of}
 use Rattle.program.specs.Outcomes.{IsNoSessionFor}
 use Rattle.program.specs.Sessions.{functions_of}
+use Rattle.program.proofs.Limited.{when_limited}
 use Rattle.program.proofs.Endings.{cut_ran, closed_ran, onward_once, limit_new, front_new, fed_new}
 use Rattle.program.proofs.ImageLemmas.{feeding_fits_image, image_tells}
 use Rattle.program.proofs.ResumeLemmas.{unread_resume, no_prelude_resume, no_session_resume, memory_resume, resume_of, resume_since, resume_before}
@@ -19,13 +21,13 @@ use Rattle.program.proofs.resuming.resume_file.Goals as goal
 pub returns-in_err-content-clause-resume : goal.returns-in_err-content-clause-resume
 returns-in_err-content-clause-resume g c =
     let is : c.from_residual.result ≡ Err (fault_of_file c.in_err-content.field-0.0) = search rules in
-    rw (ap status_of is) (unread_resume c.args.name.now c.args.budget _ _ _ _ _ _ _ _ _ c.in_err-content.field-0.0 c.in_err-content.ensures.cause c.in_err-content.ensures.absent c.in_err-content.ensures.lacking c.in_err-content.ensures.kept c.in_err-content.ensures.failed)
+    read_all (λ builds sources. rw (ap status_of is) (unread_resume c.args.name.now c.args.budget _ _ _ _ _ _ _ _ _ _ c.in_err-content.field-0.0 c.in_err-content.ensures.cause c.in_err-content.ensures.absent c.in_err-content.ensures.lacking c.in_err-content.ensures.kept c.in_err-content.ensures.failed))
 
 pub returns-in_err-prelude-clause-resume : goal.returns-in_err-prelude-clause-resume
 returns-in_err-prelude-clause-resume g c =
     let is : c.from_residual-in_err-prelude.result ≡ Err (fault_of_prelude c.in_err-prelude.field-0.0) = search rules in
-    resume_before c.args.name.now c.args.budget _ _ _ _ _ _ _ _ _ c.in_ok-content.ensures.cause.only c.in_ok-content.ensures.kept (ap status_of is)
-    (no_prelude_resume c.args.name.now c.in_ok-content.content.items c.args.budget _ _ _ _ _ _ _ c.in_err-prelude.field-0.0 c.in_ok-content.ensures.found c.in_err-prelude.ensures.refused)
+    read_all (λ builds sources. resume_before c.args.name.now c.args.budget _ _ _ _ _ _ _ _ _ _ c.in_ok-content.ensures.cause.only c.in_ok-content.ensures.kept (ap status_of is)
+    (no_prelude_resume c.args.name.now c.in_ok-content.content.items c.args.budget _ _ _ _ _ _ _ _ c.in_err-prelude.field-0.0 c.in_ok-content.ensures.found c.in_err-prelude.ensures.refused))
 
 pub returns-in_err-world-clause-resume : goal.returns-in_err-world-clause-resume
 returns-in_err-world-clause-resume g c =
@@ -33,9 +35,9 @@ returns-in_err-world-clause-resume g c =
     let is : c.from_residual-in_err-world.result ≡ Err c.in_err-world.field-0.0 = search rules in
     let answers : IsNoSessionFor prelude c.in_ok-content.content.items c.in_err-world.field-0.0 ⊎ (c.in_err-world.field-0.0 ≡ Memory)
     = subst (λ (s : List ℕ). IsNoSessionFor prelude s c.in_err-world.field-0.0 ⊎ (c.in_err-world.field-0.0 ≡ Memory)) c.as_slice.ensures.value c.in_err-world.ensures.refused in
-    resume_before c.args.name.now c.args.budget _ _ _ _ _ _ _ _ _ c.in_ok-content.ensures.cause.only c.in_ok-content.ensures.kept (ap status_of is)
-    (no_session_resume c.args.name.now c.in_ok-content.content.items c.args.budget _ prelude _ _ _ _ _ _ c.in_err-world.field-0.0 c.in_ok-content.ensures.found
-    (λ other is_prelude. prelude_once prelude other c.in_ok-prelude.ensures.code is_prelude) answers)
+    read_all (λ builds sources. resume_before c.args.name.now c.args.budget _ _ _ _ _ _ _ _ _ _ c.in_ok-content.ensures.cause.only c.in_ok-content.ensures.kept (ap status_of is)
+    (no_session_resume c.args.name.now c.in_ok-content.content.items c.args.budget _ prelude _ _ _ _ _ _ _ c.in_err-world.field-0.0 c.in_ok-content.ensures.found
+    (λ other is_prelude. prelude_once prelude other c.in_ok-prelude.ensures.code is_prelude) answers))
 
 pub returns-in_err-world-clause-fits : goal.returns-in_err-world-clause-fits
 returns-in_err-world-clause-fits g c =
@@ -49,8 +51,8 @@ pub returns-in_err-reader-clause-resume : goal.returns-in_err-reader-clause-resu
 returns-in_err-reader-clause-resume g c =
     let p = err_from_is_err_and c.from_residual-in_err-reader.result c.from_residual-in_err-reader.ensures.1 in
     let is : c.from_residual-in_err-reader.result ≡ Err Memory = rw (p.1, p.2) refl in
-    resume_before c.args.name.now c.args.budget _ _ _ _ _ _ _ _ _ c.in_ok-content.ensures.cause.only c.in_ok-content.ensures.kept (ap status_of is)
-    (memory_resume c.args.name.now c.in_ok-content.content.items c.args.budget _ _ _ _ _ _ _ c.in_ok-content.ensures.found)
+    read_all (λ builds sources. resume_before c.args.name.now c.args.budget _ _ _ _ _ _ _ _ _ _ c.in_ok-content.ensures.cause.only c.in_ok-content.ensures.kept (ap status_of is)
+    (memory_resume c.args.name.now c.in_ok-content.content.items c.args.budget _ _ _ _ _ _ _ _ c.in_ok-content.ensures.found))
 
 pub returns-in_err-reader-clause-fits : goal.returns-in_err-reader-clause-fits
 returns-in_err-reader-clause-fits g c =
@@ -65,25 +67,28 @@ returns-in_err-close-clause-resume g c =
     let prelude = c.in_ok-prelude.prelude in
     let session = plain c.in_ok-world.world 0 in
     let own : IsSession (functions_of prelude) c.in_ok-content.content.items session = subst (λ (s : List ℕ). IsSession (functions_of prelude) s session) c.as_slice.ensures.value c.in_ok-world.ensures.session in
-    let runs : List (List ℕ) → Run → Type 0 = GoesOn library session c.args.budget in
-    resume_before c.args.name.now c.args.budget _ _ _ _ _ _ _ _ _ c.in_ok-content.ensures.cause.only c.in_ok-content.ensures.kept (ap status_of is)
-    (resume_of c.args.name.now c.in_ok-content.content.items c.args.budget _ prelude session _ _ _ _
+    read_both (λ builds sources front limit.
+    let runs : List (List ℕ) → Run → Type 0 = GoesOn (library builds) session c.args.budget in
+    resume_before c.args.name.now c.args.budget _ _ _ _ _ _ _ _ _ _ c.in_ok-content.ensures.cause.only c.in_ok-content.ensures.kept (ap status_of is)
+    (resume_of c.args.name.now c.in_ok-content.content.items c.args.budget _ prelude session _ _ _ _ _
     c.in_ok-content.ensures.found c.in_ok-prelude.ensures.code (λ other is_prelude. prelude_once prelude other c.in_ok-prelude.ensures.code is_prelude) own c.in_ok-world.ensures.yielded
-    (cut_ran prelude c.in_ok-prelude.ensures.code runs (λ lines x y h k. onward_once c.runs_are_one.ensures.runs library session c.args.budget lines x y h k) _ _ _ _ c.in_err-close.field-0.0
-    (record { no_fault = refl; unwritten = refl }) c.in_err-close.ensures.input c.in_err-close.ensures.output (λ past. limit_new c.in_ok-reader.reader _ c.in_ok-reader.ensures (c.in_err-close.ensures.limit past))
-    (front_new c.in_ok-reader.reader runs _ _ _ c.in_ok-reader.ensures c.in_err-close.ensures.front) c.in_err-close.ensures.grows))
+    (cut_ran prelude c.in_ok-prelude.ensures.code runs (λ lines x y h k. onward_once c.runs_are_one.ensures.runs (library builds) session c.args.budget lines x y h k) _ _ _ _ _ c.in_err-close.field-0.0
+    (record { no_fault = refl; unwritten = refl }) c.in_err-close.ensures.input c.in_err-close.ensures.output (λ past. limit_new c.in_ok-reader.reader runs _ _ _ c.in_ok-reader.ensures (limit past))
+    (front_new c.in_ok-reader.reader runs _ _ _ c.in_ok-reader.ensures front) c.in_err-close.ensures.grows)))
+    c.in_err-close.ensures.front (when_limited (Err c.in_err-close.field-0.0) c.in_err-close.ensures.limit)
 
 pub returns-clause-resume : goal.returns-clause-resume
 returns-clause-resume g c =
     let prelude = c.in_ok-prelude.prelude in
     let session = plain c.in_ok-world.world 0 in
     let own : IsSession (functions_of prelude) c.in_ok-content.content.items session = subst (λ (s : List ℕ). IsSession (functions_of prelude) s session) c.as_slice.ensures.value c.in_ok-world.ensures.session in
-    let runs : List (List ℕ) → Run → Type 0 = GoesOn library session c.args.budget in
-    resume_since c.args.name.now c.args.budget _ _ _ _ _ _ _ _ _ _ _ c.in_ok-content.ensures.cause.only c.in_ok-content.ensures.kept refl
-    (resume_of c.args.name.now c.in_ok-content.content.items c.args.budget _ prelude session _ _ _ _
+    read_map (λ builds sources fed.
+    let runs : List (List ℕ) → Run → Type 0 = GoesOn (library builds) session c.args.budget in
+    resume_since c.args.name.now c.args.budget _ _ _ _ _ _ _ _ _ _ _ _ c.in_ok-content.ensures.cause.only c.in_ok-content.ensures.kept refl
+    (resume_of c.args.name.now c.in_ok-content.content.items c.args.budget _ prelude session _ _ _ _ _
     (rw c.in_ok-content.ensures.kept c.in_ok-content.ensures.found) c.in_ok-prelude.ensures.code (λ other is_prelude. prelude_once prelude other c.in_ok-prelude.ensures.code is_prelude) own c.in_ok-world.ensures.yielded
-    (closed_ran prelude c.in_ok-prelude.ensures.code runs (λ lines x y h k. onward_once c.runs_are_one.ensures.runs library session c.args.budget lines x y h k) _ _ _ _ c.feed_on.new.world (close_of c.in_ok-close.close) _
-    c.in_ok-close.ensures.input.only c.in_ok-close.ensures.output.only (fed_new c.in_ok-reader.reader runs _ _ _ (close_of c.in_ok-close.close) c.feed_on.new.world c.in_ok-reader.ensures c.in_ok-close.ensures.fed) c.leave_session.ensures.left))
+    (closed_ran prelude c.in_ok-prelude.ensures.code runs (λ lines x y h k. onward_once c.runs_are_one.ensures.runs (library builds) session c.args.budget lines x y h k) _ _ _ _ c.feed_on.new.world (close_of c.in_ok-close.close) c.state_at.result _
+    c.in_ok-close.ensures.input.only c.in_ok-close.ensures.output.only (fed_new c.in_ok-reader.reader runs _ _ _ (close_of c.in_ok-close.close) c.feed_on.new.world c.in_ok-reader.ensures fed) c.leave_session-answer.ensures.left c.state_at.ensures))) c.in_ok-close.ensures.fed
 
 pub returns-in_err-close-clause-fits : goal.returns-in_err-close-clause-fits
 returns-in_err-close-clause-fits g c =
@@ -92,4 +97,4 @@ returns-in_err-close-clause-fits g c =
     λ content has. rw is (feeding_fits_image content c.in_err-close.field-0.0)
 
 pub returns-clause-fits : goal.returns-clause-fits
-returns-clause-fits g c content has = c.leave_session.ensures.image content
+returns-clause-fits g c content has = c.leave_session-answer.ensures.image content

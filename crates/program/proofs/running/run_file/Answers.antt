@@ -2,16 +2,18 @@ use Rattle.std.proofs.Common.{rules, ◌≡◌, ◌⊎◌, ℕ, List, Option, Er
 use Rattle.std.proofs.lemmas.Result.{err_from_is_err_and}
 use Rattle.machine_core.specs.World.{World}
 use Rattle.machine_runs.specs.Runs.{Run}
-use Rattle.machine_step.specs.Step.{library}
+use Rattle.loaded_code.specs.Laws.{library}
+use Rattle.source_builds.proofs.Knowing.{read_all, read_map, read_both}
 use Rattle.io_edge.specs.Lines.{ahead}
 use Rattle.lua_feed.specs.Closes.{close_of}
-use Rattle.lua_feed.specs.Feeding.{Does, IsFedFront, IsFedTo}
+use Rattle.lua_feed.specs.Feeding.{Does, IsCutOff, IsFedFront, IsFedTo}
 use Rattle.lua_feed.specs.Running.{started}
 use Rattle.prelude_code.proofs.Preludes.{prelude_once}
 use Rattle.program.specs.declared.fault.Fault.TheVariants.{Memory}
 use Rattle.program.specs.Faults.{fault_of_file, fault_of_prelude, fault_of_feeding, status_of}
 use Rattle.program.specs.Outcomes.{IsCodeIn, IsNoCodeFor}
 use Rattle.program.proofs.CodeLemmas.{code_tells, memory_fits, feeding_fits}
+use Rattle.program.proofs.Limited.{when_limited}
 use Rattle.program.proofs.Endings.{cut_ran, closed_ran, limit_new, front_new, fed_new}
 use Rattle.program.proofs.RunLemmas.{unread_run, no_prelude_run, no_code_run, memory_run, run_of, run_since, run_before}
 use Rattle.program.proofs.running.run_file.Goals as goal
@@ -19,20 +21,20 @@ use Rattle.program.proofs.running.run_file.Goals as goal
 pub returns-in_err-content-clause-run : goal.returns-in_err-content-clause-run
 returns-in_err-content-clause-run g c =
     let is : c.from_residual.result ≡ Err (fault_of_file c.in_err-content.field-0.0) = search rules in
-    rw (ap status_of is) (unread_run c.args.name.now c.args.budget _ _ _ _ _ _ _ _ _ c.in_err-content.field-0.0 c.in_err-content.ensures.cause c.in_err-content.ensures.absent c.in_err-content.ensures.lacking c.in_err-content.ensures.kept c.in_err-content.ensures.failed)
+    read_all (λ builds sources. rw (ap status_of is) (unread_run c.args.name.now c.args.budget _ _ _ _ _ _ _ _ _ _ c.in_err-content.field-0.0 c.in_err-content.ensures.cause c.in_err-content.ensures.absent c.in_err-content.ensures.lacking c.in_err-content.ensures.kept c.in_err-content.ensures.failed))
 
 pub returns-in_err-prelude-clause-run : goal.returns-in_err-prelude-clause-run
 returns-in_err-prelude-clause-run g c =
     let is : c.from_residual-in_err-prelude.result ≡ Err (fault_of_prelude c.in_err-prelude.field-0.0) = search rules in
-    run_before c.args.name.now c.args.budget _ _ _ _ _ _ _ _ _ c.in_ok-content.ensures.cause.only c.in_ok-content.ensures.kept (ap status_of is)
-    (no_prelude_run c.args.name.now c.in_ok-content.content.items c.args.budget _ _ _ _ _ _ _ c.in_err-prelude.field-0.0 c.in_ok-content.ensures.found c.in_err-prelude.ensures.refused)
+    read_all (λ builds sources. run_before c.args.name.now c.args.budget _ _ _ _ _ _ _ _ _ _ c.in_ok-content.ensures.cause.only c.in_ok-content.ensures.kept (ap status_of is)
+    (no_prelude_run c.args.name.now c.in_ok-content.content.items c.args.budget _ _ _ _ _ _ _ _ c.in_err-prelude.field-0.0 c.in_ok-content.ensures.found c.in_err-prelude.ensures.refused))
 
 pub returns-in_err-code-clause-run : goal.returns-in_err-code-clause-run
 returns-in_err-code-clause-run g c =
     let is : c.from_residual-in_err-code.result ≡ Err c.in_err-code.field-0.0 = search rules in
     let answers : IsNoCodeFor c.in_ok-content.content.items c.in_err-code.field-0.0 ⊎ (c.in_err-code.field-0.0 ≡ Memory) = subst (λ (s : List ℕ). IsNoCodeFor s c.in_err-code.field-0.0 ⊎ (c.in_err-code.field-0.0 ≡ Memory)) c.as_slice.ensures.value c.in_err-code.ensures.refused in
-    run_before c.args.name.now c.args.budget _ _ _ _ _ _ _ _ _ c.in_ok-content.ensures.cause.only c.in_ok-content.ensures.kept (ap status_of is)
-    (no_code_run c.args.name.now c.in_ok-content.content.items c.args.budget _ _ _ _ _ _ _ c.in_err-code.field-0.0 c.in_ok-content.ensures.found answers)
+    read_all (λ builds sources. run_before c.args.name.now c.args.budget _ _ _ _ _ _ _ _ _ _ c.in_ok-content.ensures.cause.only c.in_ok-content.ensures.kept (ap status_of is)
+    (no_code_run c.args.name.now c.in_ok-content.content.items c.args.budget _ _ _ _ _ _ _ _ c.in_err-code.field-0.0 c.in_ok-content.ensures.found answers))
 
 pub returns-in_err-code-clause-fits : goal.returns-in_err-code-clause-fits
 returns-in_err-code-clause-fits g c =
@@ -44,8 +46,8 @@ pub returns-in_err-reader-clause-run : goal.returns-in_err-reader-clause-run
 returns-in_err-reader-clause-run g c =
     let p = err_from_is_err_and c.from_residual-in_err-reader.result c.from_residual-in_err-reader.ensures.1 in
     let is : c.from_residual-in_err-reader.result ≡ Err Memory = rw (p.1, p.2) refl in
-    run_before c.args.name.now c.args.budget _ _ _ _ _ _ _ _ _ c.in_ok-content.ensures.cause.only c.in_ok-content.ensures.kept (ap status_of is)
-    (memory_run c.args.name.now c.in_ok-content.content.items c.args.budget _ _ _ _ _ _ _ c.in_ok-content.ensures.found)
+    read_all (λ builds sources. run_before c.args.name.now c.args.budget _ _ _ _ _ _ _ _ _ _ c.in_ok-content.ensures.cause.only c.in_ok-content.ensures.kept (ap status_of is)
+    (memory_run c.args.name.now c.in_ok-content.content.items c.args.budget _ _ _ _ _ _ _ _ c.in_ok-content.ensures.found))
 
 pub returns-in_err-reader-clause-fits : goal.returns-in_err-reader-clause-fits
 returns-in_err-reader-clause-fits g c =
@@ -57,8 +59,8 @@ pub returns-in_err-world-clause-run : goal.returns-in_err-world-clause-run
 returns-in_err-world-clause-run g c =
     let p = err_from_is_err_and c.from_residual-in_err-world.result c.from_residual-in_err-world.ensures.1 in
     let is : c.from_residual-in_err-world.result ≡ Err Memory = rw (p.1, p.2) refl in
-    run_before c.args.name.now c.args.budget _ _ _ _ _ _ _ _ _ c.in_ok-content.ensures.cause.only c.in_ok-content.ensures.kept (ap status_of is)
-    (memory_run c.args.name.now c.in_ok-content.content.items c.args.budget _ _ _ _ _ _ _ c.in_ok-content.ensures.found)
+    read_all (λ builds sources. run_before c.args.name.now c.args.budget _ _ _ _ _ _ _ _ _ _ c.in_ok-content.ensures.cause.only c.in_ok-content.ensures.kept (ap status_of is)
+    (memory_run c.args.name.now c.in_ok-content.content.items c.args.budget _ _ _ _ _ _ _ _ c.in_ok-content.ensures.found))
 
 pub returns-in_err-world-clause-fits : goal.returns-in_err-world-clause-fits
 returns-in_err-world-clause-fits g c =
@@ -73,29 +75,33 @@ returns-in_err-close-clause-run g c =
     let prelude = c.in_ok-prelude.prelude in
     let code = c.in_ok-code.code in
     let own : IsCodeIn c.args.name.now c.in_ok-content.content.items code = subst (λ (s : List ℕ). IsCodeIn c.args.name.now s code) c.as_slice.ensures.value c.in_ok-code.ensures.code in
-    let runs : List (List ℕ) → Run → Type 0 = Does library (started prelude code) c.args.budget in
-    let fed : IsFedFront runs (ahead c.in_ok-reader.reader (g.S.Source.left c.args.input.now)) (g.K.Sink.written c.args.out.now) (g.K.Sink.written c.feed.new.out)
-    = subst (λ (W : World). IsFedFront (Does library W c.args.budget) (ahead c.in_ok-reader.reader (g.S.Source.left c.args.input.now)) (g.K.Sink.written c.args.out.now) (g.K.Sink.written c.feed.new.out)) c.in_ok-world.ensures.begun c.in_err-close.ensures.front in
-    run_before c.args.name.now c.args.budget _ _ _ _ _ _ _ _ _ c.in_ok-content.ensures.cause.only c.in_ok-content.ensures.kept (ap status_of is)
-    (run_of c.scripts_do_as_they_mean.ensures.does c.scripts_do_as_they_mean.ensures.means c.prelude_is_alike.ensures c.args.name.now c.in_ok-content.content.items c.args.budget _ prelude code _ _ _ _
-    c.requires.short c.in_ok-content.ensures.found c.in_ok-prelude.ensures.code (λ other is_prelude. prelude_once prelude other c.in_ok-prelude.ensures.code is_prelude) own
-    (cut_ran prelude c.in_ok-prelude.ensures.code runs (λ lines x y h k. c.runs_are_one.ensures.runs library (started prelude code) lines c.args.budget x y h k) _ _ _ _ c.in_err-close.field-0.0
-    (record { no_fault = refl; unwritten = refl }) c.in_err-close.ensures.input c.in_err-close.ensures.output (λ past. limit_new c.in_ok-reader.reader _ c.in_ok-reader.ensures (c.in_err-close.ensures.limit past))
-    (front_new c.in_ok-reader.reader runs _ _ _ c.in_ok-reader.ensures fed) c.in_err-close.ensures.grows))
+    read_both (λ builds sources front limit.
+    let runs : List (List ℕ) → Run → Type 0 = Does (library builds) (started prelude code) c.args.budget in
+    let fed : IsFedFront runs c.in_ok-reader.reader.taken (ahead c.in_ok-reader.reader (g.S.Source.left c.args.input.now)) (g.K.Sink.written c.args.out.now) (g.K.Sink.written c.feed.new.out)
+    = subst (λ (W : World). IsFedFront (Does (library builds) W c.args.budget) c.in_ok-reader.reader.taken (ahead c.in_ok-reader.reader (g.S.Source.left c.args.input.now)) (g.K.Sink.written c.args.out.now) (g.K.Sink.written c.feed.new.out)) c.in_ok-world.ensures.begun front in
+    run_before c.args.name.now c.args.budget _ _ _ _ _ _ _ _ _ _ c.in_ok-content.ensures.cause.only c.in_ok-content.ensures.kept (ap status_of is)
+    (run_of sources c.scripts_do_as_they_mean.ensures.does c.scripts_do_as_they_mean.ensures.means c.prelude_is_alike.ensures c.args.name.now c.in_ok-content.content.items c.args.budget _ prelude code _ _ _ _ _
+    c.requires.short c.in_ok-content.ensures.found c.in_ok-prelude.ensures.code (λ other is_prelude. prelude_once prelude other c.in_ok-prelude.ensures.code is_prelude) own c.rules_hold.ensures
+    (cut_ran prelude c.in_ok-prelude.ensures.code runs (λ lines x y h k. c.runs_are_one.ensures.runs (library builds) (started prelude code) lines c.args.budget x y h k) _ _ _ _ _ c.in_err-close.field-0.0
+    (record { no_fault = refl; unwritten = refl }) c.in_err-close.ensures.input c.in_err-close.ensures.output (λ past. limit_new c.in_ok-reader.reader runs _ _ _ c.in_ok-reader.ensures
+    (subst (λ (W : World). IsCutOff (Does (library builds) W c.args.budget) c.in_ok-reader.reader.taken (ahead c.in_ok-reader.reader (g.S.Source.left c.args.input.now)) (g.K.Sink.written c.args.out.now) (g.K.Sink.written c.feed.new.out)) c.in_ok-world.ensures.begun (limit past)))
+    (front_new c.in_ok-reader.reader runs _ _ _ c.in_ok-reader.ensures fed) c.in_err-close.ensures.grows)))
+    c.in_err-close.ensures.front (when_limited (Err c.in_err-close.field-0.0) c.in_err-close.ensures.limit)
 
 pub returns-clause-run : goal.returns-clause-run
 returns-clause-run g c =
     let prelude = c.in_ok-prelude.prelude in
     let code = c.in_ok-code.code in
     let own : IsCodeIn c.args.name.now c.in_ok-content.content.items code = subst (λ (s : List ℕ). IsCodeIn c.args.name.now s code) c.as_slice.ensures.value c.in_ok-code.ensures.code in
-    let runs : List (List ℕ) → Run → Type 0 = Does library (started prelude code) c.args.budget in
-    let fed : IsFedTo runs (ahead c.in_ok-reader.reader (g.S.Source.left c.args.input.now)) (g.K.Sink.written c.args.out.now) (g.K.Sink.written c.feed.new.out) (close_of c.in_ok-close.close) c.feed.new.world
-    = subst (λ (W : World). IsFedTo (Does library W c.args.budget) (ahead c.in_ok-reader.reader (g.S.Source.left c.args.input.now)) (g.K.Sink.written c.args.out.now) (g.K.Sink.written c.feed.new.out) (close_of c.in_ok-close.close) c.feed.new.world) c.in_ok-world.ensures.begun c.in_ok-close.ensures.fed in
-    run_since c.args.name.now c.args.budget _ _ _ _ _ _ _ _ _ _ _ c.in_ok-content.ensures.cause.only c.in_ok-content.ensures.kept refl
-    (run_of c.scripts_do_as_they_mean.ensures.does c.scripts_do_as_they_mean.ensures.means c.prelude_is_alike.ensures c.args.name.now c.in_ok-content.content.items c.args.budget _ prelude code _ _ _ _
-    c.requires.short (rw c.in_ok-content.ensures.kept c.in_ok-content.ensures.found) c.in_ok-prelude.ensures.code (λ other is_prelude. prelude_once prelude other c.in_ok-prelude.ensures.code is_prelude) own
-    (closed_ran prelude c.in_ok-prelude.ensures.code runs (λ lines x y h k. c.runs_are_one.ensures.runs library (started prelude code) lines c.args.budget x y h k) _ _ _ _ c.feed.new.world (close_of c.in_ok-close.close) _
-    c.in_ok-close.ensures.input.only c.in_ok-close.ensures.output.only (fed_new c.in_ok-reader.reader runs _ _ _ (close_of c.in_ok-close.close) c.feed.new.world c.in_ok-reader.ensures fed) c.leave_session.ensures.left))
+    read_map (λ builds sources feeds.
+    let runs : List (List ℕ) → Run → Type 0 = Does (library builds) (started prelude code) c.args.budget in
+    let fed : IsFedTo runs c.in_ok-reader.reader.taken (ahead c.in_ok-reader.reader (g.S.Source.left c.args.input.now)) (g.K.Sink.written c.args.out.now) (g.K.Sink.written c.feed.new.out) (close_of c.in_ok-close.close) c.feed.new.world
+    = subst (λ (W : World). IsFedTo (Does (library builds) W c.args.budget) c.in_ok-reader.reader.taken (ahead c.in_ok-reader.reader (g.S.Source.left c.args.input.now)) (g.K.Sink.written c.args.out.now) (g.K.Sink.written c.feed.new.out) (close_of c.in_ok-close.close) c.feed.new.world) c.in_ok-world.ensures.begun feeds in
+    run_since c.args.name.now c.args.budget _ _ _ _ _ _ _ _ _ _ _ _ c.in_ok-content.ensures.cause.only c.in_ok-content.ensures.kept refl
+    (run_of sources c.scripts_do_as_they_mean.ensures.does c.scripts_do_as_they_mean.ensures.means c.prelude_is_alike.ensures c.args.name.now c.in_ok-content.content.items c.args.budget _ prelude code _ _ _ _ _
+    c.requires.short (rw c.in_ok-content.ensures.kept c.in_ok-content.ensures.found) c.in_ok-prelude.ensures.code (λ other is_prelude. prelude_once prelude other c.in_ok-prelude.ensures.code is_prelude) own c.rules_hold.ensures
+    (closed_ran prelude c.in_ok-prelude.ensures.code runs (λ lines x y h k. c.runs_are_one.ensures.runs (library builds) (started prelude code) lines c.args.budget x y h k) _ _ _ _ c.feed.new.world (close_of c.in_ok-close.close) c.state_at.result _
+    c.in_ok-close.ensures.input.only c.in_ok-close.ensures.output.only (fed_new c.in_ok-reader.reader runs _ _ _ (close_of c.in_ok-close.close) c.feed.new.world c.in_ok-reader.ensures fed) c.leave_session-answer.ensures.left c.state_at.ensures))) c.in_ok-close.ensures.fed
 
 pub returns-in_err-close-clause-fits : goal.returns-in_err-close-clause-fits
 returns-in_err-close-clause-fits g c =
@@ -104,4 +110,4 @@ returns-in_err-close-clause-fits g c =
     λ content has. rw is (feeding_fits content c.in_err-close.field-0.0)
 
 pub returns-clause-fits : goal.returns-clause-fits
-returns-clause-fits g c content has = c.leave_session.ensures.code content
+returns-clause-fits g c content has = c.leave_session-answer.ensures.code content
