@@ -11,6 +11,7 @@ use Rattle.io_edge.specs.Content.{FileMap, with_file}
 use Rattle.io_edge.specs.Lines.{lines_of}
 use Rattle.machine_runs.specs.Runs.{Close, has_returned, has_failed, has_spent, is_suspended, Run}
 use Rattle.sessions_join.specs.Sessions.{IsSaved}
+use Rattle.program.specs.declared.session.Session.{Session}
 use Rattle.program.specs.Devices.{Device, Holds}
 use Rattle.program.specs.Meaning.{has_ended}
 use Rattle.program.specs.Sessions as session
@@ -33,19 +34,19 @@ grown before printed more had has is now by =
     let both : Some (before ++ more) ≡ Some (before ++ printed) = sym (by ∙ ap (λ (o : Option (List ℕ)). option_map (λ text. text ++ more) o) is) ∙ now in
     append_cancel_left before more printed (some_same (before ++ more) (before ++ printed) both)
 
-pub closed_so : (prelude : Prototype) (Runs : List (List ℕ) → Run → Type 0) (save : Option (List ℕ)) (files : Device FileMap) (input out : Device (List ℕ)) (status : ℕ) (text before printed : List ℕ)
-    → Ends prelude Runs save files input out status → has_ended status ≡ true → input.content ≡ Some text → out.content ≡ Some before → out.content' ≡ Some (before ++ printed)
+pub closed_so : (prelude : Prototype) (Runs : List (List ℕ) → Run → Type 0) (save : Option (List ℕ)) (files : Device FileMap) (input out : Device (List ℕ)) (last : Option Session) (status : ℕ) (text before printed : List ℕ)
+    → Ends prelude Runs save files input out last status → has_ended status ≡ true → input.content ≡ Some text → out.content ≡ Some before → out.content' ≡ Some (before ++ printed)
     → Closed prelude Runs save files text printed status
-closed_so prelude Runs save files input out status text before printed (session.closed lines are run runs written left) ended told had has =
+closed_so prelude Runs save files input out last status text before printed (session.closed lines are run runs written left handed) ended told had has =
     record {
       run = run;
       runs = subst (λ (l : List (List ℕ)). Runs l run) (told_lines input.content text lines are told) runs;
       prints = grown before printed run.printed out.content out.content' had has written;
       left = left;
     }
-closed_so prelude Runs save files input out status text before printed (session.failed rose is) ended told had has = absurd (not_ended status 6 is refl ended)
-closed_so prelude Runs save files input out status text before printed (session.past_limits past is) ended told had has = absurd (not_ended status 7 is refl ended)
-closed_so prelude Runs save files input out status text before printed (session.no_memory is) ended told had has = absurd (not_ended status 9 is refl ended)
+closed_so prelude Runs save files input out last status text before printed (session.failed rose is) ended told had has = absurd (not_ended status 6 is refl ended)
+closed_so prelude Runs save files input out last status text before printed (session.past_limits past is) ended told had has = absurd (not_ended status 7 is refl ended)
+closed_so prelude Runs save files input out last status text before printed (session.no_memory is) ended told had has = absurd (not_ended status 9 is refl ended)
 
 -- the status of such a run is that of its close
 pub status_so : (prelude : Prototype) (run : Run) (save : Option (List ℕ)) (files : Device FileMap) (status : ℕ) → IsLeft prelude run save files status → has_ended status ≡ true → status ≡ status_of_close run.close

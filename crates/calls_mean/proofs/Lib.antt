@@ -1,3 +1,5 @@
 pub mod Ended
 pub mod Chained
 pub mod Meant
+pub mod Taken
+pub mod Resumed

@@ -17,7 +17,10 @@ use Rattle.lua_meaning.specs.Meaning.{Meaning}
 use Rattle.lua_meaning.specs.Opening.{entries_of, prelude_of}
 use Rattle.machine_sound.specs.Sound.{Each}
 use Rattle.machine_sound.proofs.Lists.{each_none, each_cons, each_tail, each_front}
-use Rattle.machine_step.specs.Step.{library}
+use Rattle.loaded_code.specs.Laws.{library}
+use Rattle.load_rows.specs.Loading.{Builds}
+use Rattle.source_builds.specs.Builds.{BuildsSources}
+use Rattle.source_builds.proofs.Knowing.{read_map}
 use Rattle.images_joined.specs.Law.{SessionReaderKnows}
 use Rattle.lua_saving.specs.Saving.{session_reader, session_codes}
 use Rattle.scripts_mean.specs.Scripts.{IsRead, IsPrelude, functions_in, MeansSo, PreludeIsAlike}
@@ -39,7 +42,7 @@ lines_joined : (texts : List (List ℕ)) → joined.all_lines (map lines_of text
 lines_joined [] = refl
 lines_joined (text ∷ texts) = ap (λ ls. lines_of text ++ ls) (lines_joined texts)
 
-each_back : {A : Type 0} (P : A → Type 0) (xs ys : List A) → Each P (xs ++ ys) → Each P ys
+pub each_back : {A : Type 0} (P : A → Type 0) (xs ys : List A) → Each P (xs ++ ys) → Each P ys
 each_back P [] ys h = h
 each_back P (x ∷ xs) ys h = each_back P xs ys (each_tail P x (xs ++ ys) h)
 
@@ -59,57 +62,59 @@ entries_length [] fs h = refl
 entries_length (n ∷ names) [] h = absurd (omega (arith, h))
 entries_length (n ∷ names) (f ∷ fs) h = ap suc (entries_length names fs (omega (arith, h)))
 
-all_there : (prelude : Prototype) → IsPreludeCode prelude → length (functions_of prelude) ≡ length function_keys
+pub all_there : (prelude : Prototype) → IsPreludeCode prelude → length (functions_of prelude) ≡ length function_keys
 all_there prelude own = entries_length prelude_functions (list_of prelude.inner) own.functions ∙ sym (length-map prelude_functions (λ (f : List ℕ × Library). library_name f.1 ++ f.0))
 
 tree_of : (source : List ℕ) (tree : Block) → IsRead source tree → HasTree source tree
 tree_of source tree r = record { limited = r.limited; tokens = r.tokens; lexed = r.lexed; derived = r.derived }
 
-module _ (knows : SessionReaderKnows) (alike : PreludeIsAlike) (name content : List ℕ) (budget : ℕ) (texts : List (List ℕ)) (printed : List ℕ) (status : ℕ) (c : AreCalls name content budget texts printed status) where
-  chain : Chain name content budget texts printed status
-  chain = chain_of name content budget texts printed status c.calls
+module _
+    (knows : SessionReaderKnows) (alike : PreludeIsAlike) (name content : List ℕ) (budget : ℕ) (texts : List (List ℕ)) (printed : List ℕ) (status : ℕ) (c : AreCalls name content budget texts printed status)
+    (builds : Builds Body) (are : BuildsSources builds) (chain : Chain builds name content budget texts printed status)
+  where
+    made : IsCodeOf (source_name name) (script_in content) true chain.code
+    made = by_script (IsAccepted content chain.code) (IsCodeOf (source_name name) (script_in content) true chain.code) (begins_chunk content) c.is_script chain.holds
 
-  made : IsCodeOf (source_name name) (script_in content) true chain.code
-  made = by_script (IsAccepted content chain.code) (IsCodeOf (source_name name) (script_in content) true chain.code) (begins_chunk content) c.is_script chain.holds
+    sessions_of : (tree prelude : Block) → IsRead (script_in content) tree → IsRead prelude_text prelude → chain.code ≡ code_of (Some (source_name name)) (placed tree) → chain.prelude ≡ code_of None (placed prelude)
+        → AreSessions builds (script_in content) tree (prelude_of (functions_in (placed prelude))) (functions_of chain.prelude) (Some (source_name name)) budget (map lines_of texts) printed chain.close
+    sessions_of tree prelude read read_prelude code own = record {
+      read = read;
+      libraries = subst (λ p. IsPrelude (prelude_of (functions_in (placed prelude))) (functions_of p)) (sym own) (alike prelude read_prelude);
+      all_there = all_there chain.prelude chain.is_prelude;
+      name = name_is_short name c.short;
+      lines = short_lines texts c.lines;
+      reader = session_reader;
+      knows = knows;
+      code_named = session_codes (functions_of chain.prelude);
+      sessions = subst (λ code. Sessions session_reader (session_codes (functions_of chain.prelude)) (functions_of chain.prelude) (library builds) budget code (map lines_of texts) printed chain.close) code chain.sessions;
+    }
 
-  sessions_of : (tree prelude : Block) → IsRead (script_in content) tree → IsRead prelude_text prelude → chain.code ≡ code_of (Some (source_name name)) (placed tree) → chain.prelude ≡ code_of None (placed prelude)
-      → AreSessions (script_in content) tree (prelude_of (functions_in (placed prelude))) (functions_of chain.prelude) (Some (source_name name)) budget (map lines_of texts) printed chain.close
-  sessions_of tree prelude read read_prelude code own = record {
-    read = read;
-    libraries = subst (λ p. IsPrelude (prelude_of (functions_in (placed prelude))) (functions_of p)) (sym own) (alike prelude read_prelude);
-    all_there = all_there chain.prelude chain.is_prelude;
-    name = name_is_short name c.short;
-    lines = short_lines texts c.lines;
-    reader = session_reader;
-    knows = knows;
-    code_named = session_codes (functions_of chain.prelude);
-    sessions = subst (λ code. Sessions session_reader (session_codes (functions_of chain.prelude)) (functions_of chain.prelude) library budget code (map lines_of texts) printed chain.close) code chain.sessions;
-  }
+    as_meant : (m : Meaning Body State) → sessions.IsAsMeant m printed chain.close → IsAsMeant m printed status
+    as_meant m a = record { prints = a.prints; ends = subst (EndsWith m.outcome) (sym chain.answers) (ends_with chain.close m.outcome a.ends) }
 
-  as_meant : (m : Meaning Body State) → sessions.IsAsMeant m printed chain.close → IsAsMeant m printed status
-  as_meant m a = record { prints = a.prints; ends = subst (EndsWith m.outcome) (sym chain.answers) (ends_with chain.close m.outcome a.ends) }
+    does : SessionsMean → (m : Meaning Body State) × MeansOn builds name content (all_lines texts) budget m × IsAsMeant m printed status
+    does law =
+        let own = chain.is_prelude.compiled in
+        let read : IsRead prelude_text own.tree = read_of prelude_text own.tree own.is_source in
+        let k = law builds are (script_in content) made.tree (prelude_of (functions_in (placed own.tree))) (functions_of chain.prelude) (Some (source_name name)) budget (map lines_of texts) printed chain.close
+        (sessions_of made.tree own.tree (read_of (script_in content) made.tree made.is_source) read made.code_is own.code_is) in
+        let means : MeansSo builds made.tree (Some (source_name name)) (all_lines texts) budget (prelude_of (functions_in (placed own.tree))) k.0
+        = subst (λ ls. MeansSo builds made.tree (Some (source_name name)) ls budget (prelude_of (functions_in (placed own.tree))) k.0) (lines_joined texts) k.1 in
+        (k.0, record { is_script = c.is_script; tree = made.tree; is_source = made.is_source; prelude = own.tree; is_prelude = read; means = means }, as_meant k.0 k.2)
 
-  does : SessionsMean → (m : Meaning Body State) × MeansOn name content (all_lines texts) budget m × IsAsMeant m printed status
-  does law =
-      let own = chain.is_prelude.compiled in
-      let read : IsRead prelude_text own.tree = read_of prelude_text own.tree own.is_source in
-      let k = law (script_in content) made.tree (prelude_of (functions_in (placed own.tree))) (functions_of chain.prelude) (Some (source_name name)) budget (map lines_of texts) printed chain.close
-      (sessions_of made.tree own.tree (read_of (script_in content) made.tree made.is_source) read made.code_is own.code_is) in
-      let means : MeansSo made.tree (Some (source_name name)) (all_lines texts) budget (prelude_of (functions_in (placed own.tree))) k.0
-      = subst (λ ls. MeansSo made.tree (Some (source_name name)) ls budget (prelude_of (functions_in (placed own.tree))) k.0) (lines_joined texts) k.1 in
-      (k.0, record { is_script = c.is_script; tree = made.tree; is_source = made.is_source; prelude = own.tree; is_prelude = read; means = means }, as_meant k.0 k.2)
-
-  one : SessionsMeanOne → (m : Meaning Body State) → MeansOn name content (all_lines texts) budget m → IsAsMeant m printed status
-  one law m means =
-      let own = chain.is_prelude.compiled in
-      let code : chain.code ≡ code_of (Some (source_name name)) (placed means.tree) = made.code_is ∙ ap (λ t. code_of (Some (source_name name)) (placed t)) (means.is_source.only made.tree made.is_source.has_tree) in
-      let prelude : chain.prelude ≡ code_of None (placed means.prelude) = own.code_is ∙ ap (λ t. code_of None (placed t)) (sym (own.is_source.only means.prelude (tree_of prelude_text means.prelude means.is_prelude))) in
-      as_meant m (law (script_in content) means.tree (prelude_of (functions_in (placed means.prelude))) (functions_of chain.prelude) (Some (source_name name)) budget (map lines_of texts) printed chain.close
-      (sessions_of means.tree means.prelude (read_of (script_in content) means.tree means.is_source) means.is_prelude code prelude) m
-      (subst (λ ls. MeansSo means.tree (Some (source_name name)) ls budget (prelude_of (functions_in (placed means.prelude))) m) (sym (lines_joined texts)) means.means))
+    one : SessionsMeanOne → (m : Meaning Body State) → MeansOn builds name content (all_lines texts) budget m → IsAsMeant m printed status
+    one law m means =
+        let own = chain.is_prelude.compiled in
+        let code : chain.code ≡ code_of (Some (source_name name)) (placed means.tree) = made.code_is ∙ ap (λ t. code_of (Some (source_name name)) (placed t)) (means.is_source.only made.tree made.is_source.has_tree) in
+        let prelude : chain.prelude ≡ code_of None (placed means.prelude) = own.code_is ∙ ap (λ t. code_of None (placed t)) (sym (own.is_source.only means.prelude (tree_of prelude_text means.prelude means.is_prelude))) in
+        as_meant m (law builds are (script_in content) means.tree (prelude_of (functions_in (placed means.prelude))) (functions_of chain.prelude) (Some (source_name name)) budget (map lines_of texts) printed chain.close
+        (sessions_of means.tree means.prelude (read_of (script_in content) means.tree means.is_source) means.is_prelude code prelude) m
+        (subst (λ ls. MeansSo builds means.tree (Some (source_name name)) ls budget (prelude_of (functions_in (placed means.prelude))) m) (sym (lines_joined texts)) means.means))
 
 pub calls_mean : SessionReaderKnows → PreludeIsAlike → SessionsMean → CallsMean
-calls_mean knows alike law name content budget texts printed status c = does knows alike name content budget texts printed status c law
+calls_mean knows alike law name content budget texts printed status c =
+    read_map (λ builds are chain. does knows alike name content budget texts printed status c builds are chain law) (chain_of name content budget texts printed status c.calls)
 
 pub calls_mean_one : SessionReaderKnows → PreludeIsAlike → SessionsMeanOne → CallsMeanOne
-calls_mean_one knows alike law name content budget texts printed status c = one knows alike name content budget texts printed status c law
+calls_mean_one knows alike law name content budget texts printed status c =
+    read_map (λ builds are chain. one knows alike name content budget texts printed status c builds are chain law) (chain_of name content budget texts printed status c.calls)

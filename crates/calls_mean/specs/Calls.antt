@@ -1,17 +1,20 @@
 -- Calls of the program on one script, one after another: the first runs it, and each further one goes on with the session that the one before saved.
 use Rattle.std.specs.Prelude.{◌≡◌, ℕ, true, List, [], ◌∷◌, ◌++◌, Option, Some}
 use Rattle.io_edge.specs.Content.{FileMap}
+use Rattle.source_builds.specs.Readings.{AsRead}
 use Rattle.command_words.specs.Words.{Command, run, resume}
 use Rattle.program.specs.Devices.{Device, Holds}
 use Rattle.program.specs.Meaning.{has_ended}
 use Rattle.program.specs.Program.{IsCall}
+use Rattle.program.specs.declared.session.Session.{Session}
 
 -- a call of the program whose devices tell: the file of the name holds the content, the input the text, and the printed bytes go behind what the output held
 pub record Called (command : Command) (name content text printed : List ℕ) (status : ℕ) : Type 0 where
   pub files : Device FileMap
   pub input : Device (List ℕ)
   pub out : Device (List ℕ)
-  pub is_call : IsCall (Some command) files input out status
+  pub last : Option Session
+  pub is_call : AsRead (λ builds. IsCall builds (Some command) files input out last status)
   pub holds : Holds files.content name content
   pub reads : input.content ≡ Some text
   pub before : List ℕ
@@ -35,3 +38,11 @@ module _ (budget : ℕ) where
     first_call : (text printed image next : List ℕ) (texts : List (List ℕ)) (more : List ℕ) (status : ℕ)
         → (call : Called (run name budget (Some image)) name content text printed 3) → Holds call.files.content' image next → Resumed next texts more status
         → Calls name content (text ∷ texts) (printed ++ more) status
+
+  -- calls on it up to one that saved its session
+  pub data SavedCalls (name content : List ℕ) : (texts : List (List ℕ)) → (printed session : List ℕ) → Type 0 where
+    first_saves : (text printed image session : List ℕ)
+        → (call : Called (run name budget (Some image)) name content text printed 3) → Holds call.files.content' image session → SavedCalls name content (text ∷ []) printed session
+    next_saves : (texts : List (List ℕ)) (printed session other text more image next : List ℕ)
+        → SavedCalls name content texts printed session → (call : Called (resume other budget (Some image)) other session text more 3) → Holds call.files.content' image next
+        → SavedCalls name content (texts ++ text ∷ []) (printed ++ more) next

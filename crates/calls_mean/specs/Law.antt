@@ -5,6 +5,7 @@ use Rattle.tree_core.specs.Tree.{Body}
 use Rattle.tree_activation.specs.Work.{State}
 use Rattle.io_edge.specs.Lines.{lines_of}
 use Rattle.lua_meaning.specs.Meaning.{Meaning}
+use Rattle.source_builds.specs.Readings.{AsRead}
 use Rattle.program.specs.Checking.{begins_chunk}
 use Rattle.program.specs.Meaning.{MeansOn, EndsWith, AreShort}
 use Rattle.calls_mean.specs.Calls.{Calls}
@@ -25,14 +26,14 @@ pub record IsAsMeant (m : Meaning Body State) (printed : List ℕ) (status : ℕ
   pub prints : m.printed ≡ printed
   pub ends : EndsWith m.outcome status
 
--- what the calls write, joined, the script means on all lines, and the last status is that of its end
+-- What the calls write, joined, the script means on all lines, and the last status is that of its end. What the calls load is read in the meaning as in them
 abbrev pub CallsMean : Type 0
 CallsMean =
     (name content : List ℕ) (budget : ℕ) (texts : List (List ℕ)) (printed : List ℕ) (status : ℕ)
-    → AreCalls name content budget texts printed status → (m : Meaning Body State) × MeansOn name content (all_lines texts) budget m × IsAsMeant m printed status
+    → AreCalls name content budget texts printed status → AsRead (λ builds. (m : Meaning Body State) × MeansOn builds name content (all_lines texts) budget m × IsAsMeant m printed status)
 
 -- and it means nothing else
 abbrev pub CallsMeanOne : Type 0
 CallsMeanOne =
     (name content : List ℕ) (budget : ℕ) (texts : List (List ℕ)) (printed : List ℕ) (status : ℕ)
-    → AreCalls name content budget texts printed status → (m : Meaning Body State) → MeansOn name content (all_lines texts) budget m → IsAsMeant m printed status
+    → AreCalls name content budget texts printed status → AsRead (λ builds. (m : Meaning Body State) → MeansOn builds name content (all_lines texts) budget m → IsAsMeant m printed status)

@@ -1,13 +1,17 @@
-// The law of calls of the program on one script.
+// The laws of calls of the program on one script.
 ghost use Rattle.calls_mean.specs.Law.{CallsMean, CallsMeanOne};
+ghost use Rattle.calls_mean.specs.Resumes.{ResumesAsMeant, SavedGoesOn, SavedIsNotRefused};
 
 use images_joined::the_reader_knows;
+use loaded_code::loading_is_safe;
 use scripts_mean::prelude_is_alike;
+use sessions_load::saved_sessions_load;
 use sessions_mean::sessions_do_as_they_mean;
+use source_laws::code_of_sources_is_checked;
 
 /// For each script in a file, every budget, and calls of the program one after another, of which the first runs the script and each further one resumes the
 /// session that the one before saved: what the calls write, joined, is what the script means on the lines of all inputs by the letter of the manual, and the
-/// status of the last call is that of how the script ends by its meaning.
+/// status of the last call is that of how the script ends by its meaning. Sources that the script loads are read there as in the calls.
 pub fn calls_do_as_they_mean()
     ensures means { CallsMean }
     ensures one { CallsMeanOne }
@@ -15,4 +19,20 @@ pub fn calls_do_as_they_mean()
     the_reader_knows();
     prelude_is_alike();
     sessions_do_as_they_mean();
+}
+
+/// What a call of `run` or `resume` saved, no call of `resume` answers with 8: its session does something on any lines that strings can hold and with any
+/// budget, which by the clauses of `resume` is what is written and answered. So behind calls on a script, each of which resumed what the one before saved, a
+/// call whose words, files and devices are right and which keeps within the limits and its memory writes exactly what is left of what the script means on
+/// all lines, and its status is that of how the script ends by its meaning.
+pub fn saved_calls_resume()
+    ensures taken { SavedIsNotRefused }
+    ensures goes_on { SavedGoesOn }
+    ensures meant { ResumesAsMeant }
+{
+    calls_do_as_they_mean();
+    prelude_is_alike();
+    code_of_sources_is_checked();
+    loading_is_safe();
+    saved_sessions_load();
 }
