@@ -1,5 +1,6 @@
 pub mod Counts
 mod ShortExpressions
+mod Conditions
 pub mod ShortStatements
 pub mod ShortBodies
 pub mod Constants

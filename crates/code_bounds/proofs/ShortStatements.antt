@@ -16,6 +16,7 @@ use Rattle.tree_terms.specs.Levels.{level_after, levels_after, levels_in}
 use Rattle.code_of.specs.Parts.{marks_code, past_size, default_step, name_target, target_code, targets_code, name_store, store_code, stores_code, assign_code, call_last, method_last, values_last, return_code, pair_code, bounds_code, steps_code}
 use Rattle.code_of.specs.Sizes.{stat_size, arms_size, stats_size, block_size, open_size}
 use Rattle.tree_terms.specs.Weight.{weight, weight_of_arguments, weight_of_exps, weight_of_stat, weight_of_arms, weight_of_stats, weight_of_block}
+use Rattle.code_bounds.proofs.Conditions.{test_short}
 use Rattle.code_bounds.proofs.ShortExpressions.{loads_short, self_short, exp_short, arguments_short, exps_short}
 use Rattle.code_of.proofs.Sizes.{close_short}
 
@@ -136,10 +137,10 @@ module _ (cs : List Const) (back : ℕ) where
     stat_short (Assign line targets es) closing t j = omega (arith, assign_short cs targets es t j line)
     stat_short (CallStat line e) closing t j = omega (arith, exp_short cs e t j 1)
     stat_short (Do line block) closing t j = omega (arith, block_short block closing t t j)
-    stat_short (While line e block) closing t j = omega (arith, exp_short cs e t j 2, block_short block closing t t (j + made_by e))
+    stat_short (While line e block) closing t j = omega (arith, test_short cs e true 0 t j, block_short block closing t t (j + made_by e))
     stat_short (Repeat line block e) closing t j =
         let inner = levels_in block t in
-        omega (arith, open_short block closing t j, exp_short cs e inner (j + made_in_block block) 2, close_short t inner line)
+        omega (arith, open_short block closing t j, test_short cs e false 0 inner (j + made_in_block block), close_short t inner line)
     stat_short (If line arms) closing t j = omega (arith, arms_short arms 0 closing t j)
     stat_short (IfElse line arms block) closing t j =
         let otherwise = block_size cs back block closing t t (j + made_in_arms arms) in
@@ -158,7 +159,7 @@ module _ (cs : List Const) (back : ℕ) where
     arms_short EndArms rest closing t j = omega arith
     arms_short (MoreArms e block arms) rest closing t j =
         let k = j + made_by e + made_in_block block in
-        omega (arith, exp_short cs e t j 2, block_short block closing t t (j + made_by e), arms_short arms rest closing t k, past_short (arms_size cs back arms rest closing t k + rest))
+        omega (arith, test_short cs e true 0 t j, block_short block closing t t (j + made_by e), arms_short arms rest closing t k, past_short (arms_size cs back arms rest closing t k + rest))
 
     pub stats_short : (ss : Stats) (closing : Bool) (t j : ℕ) → stats_size cs back ss closing t j ≤ 6 * weight_of_stats ss
     stats_short EndStats closing t j = omega arith

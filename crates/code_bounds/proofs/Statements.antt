@@ -4,11 +4,12 @@ use Rattle.tree_core.specs.declared.name.Declared.{Declared}
 use Rattle.tree_core.specs.Tree.{Block, Falls, Returns, Body, Stats, EndStats, MoreStats, Stat, Empty, Local, LocalFunction, Assign, CallStat, Do, While, Repeat, If, IfElse, NumFor, NumForStep, GenFor, Label, Goto, Break, Arms, EndArms, MoreArms, Exp, Exps}
 use Rattle.tree_activation.specs.Activation.{line_of_end}
 use Rattle.tree_terms.specs.Bodies.{line_of_body}
-use Rattle.code_core.specs.declared.opcode.Opcode.TheVariants.{LoadI, LoadNil, Close, Test, Jmp, ForLoop, ForPrep, TForPrep, TForCall, TForLoop, Return, Closure}
+use Rattle.code_core.specs.declared.opcode.Opcode.TheVariants.{LoadI, LoadNil, Close, Jmp, ForLoop, ForPrep, TForPrep, TForCall, TForLoop, Return, Closure}
 use Rattle.code_core.specs.declared.proto.Const.{Const}
-use Rattle.code_core.specs.Instruction.{abc}
 use Rattle.code_of.specs.Coded.{Coded, with_abc, with_abx, jump_over, jump_back, leaving_by}
 use Rattle.code_of.specs.Expressions.{made_by, made_in, exp_code, exps_code}
+use Rattle.code_of.specs.Conditions.{test_code}
+use Rattle.code_bounds.proofs.Conditions.{test_room}
 use Rattle.code_of.specs.Jumps.{Reach, Visible, label_in, leads}
 use Rattle.code_of.specs.Levels.{made_by_stat, made_in_arms, made_in_stats, made_in_block, closing_after, closings_after}
 use Rattle.tree_terms.specs.Levels.{level_after, levels_after, levels_in}
@@ -22,8 +23,7 @@ use Rattle.scope_laws.specs.Finding.{three_hidden, four_hidden, ExpFinds, ExpsFi
 use Rattle.scope_laws.specs.Keeping.{StatKeeps, ArmsKeep, StatsKeep, BlockKeeps}
 use Rattle.code_bounds.specs.Registers.{StatHasRoom, ArmsHaveRoom, StatsHaveRoom, BlockHasRoom}
 use Rattle.code_bounds.proofs.Tops.{top, ax_is, one_a, one_nil, one_ax, one_behind, one_iterate, one_return}
-use Rattle.code_bounds.proofs.Expressions.{own_room}
-use Rattle.code_bounds.proofs.Holding.{same_count, some_held}
+use Rattle.code_bounds.proofs.Holding.{same_count}
 use Rattle.code_bounds.proofs.Room.{HasRoom, room_end, room_as, room_append, room_more, room_of_top}
 use Rattle.code_bounds.proofs.Simple.{marks_top, close_top, exp_room, exps_room, filled, return_room}
 use Rattle.code_bounds.proofs.Assigning.{assign_room}
@@ -39,31 +39,26 @@ module _ {stack : ℕ} where
   back_room : {Q : Type 0} (places line : ℕ) (rest : List Coded) → HasRoom stack rest Q → HasRoom stack (jump_back places line ∷ rest) ((0 ≤ stack) × Q)
   back_room places line rest h = room_more (jump_back places line) 0 rest (ax_is Jmp (16777215 - places) refl) (lit≤ tt) h
 
-  test_room : {Q : Type 0} (t line : ℕ) (k : Bool) (rest : List Coded) → t + 1 ≤ 250 → HasRoom stack rest Q → HasRoom stack ((abc Test t 0 0 k, line) ∷ rest) ((t + 1 ≤ stack) × Q)
-  test_room t line k rest few h = room_more (abc Test t 0 0 k, line) (t + 1) rest (one_a Test t 0 0 k refl (omega arith)) few h
+  while_room : {P Q : Type 0} (test : ℕ → List Coded) (block : List Coded) (line : ℕ) → HasRoom stack (test (length block + 1)) P → HasRoom stack block Q → HasRoom stack (while_code test block line) (P × Q)
+  while_room test block line h k =
+      let places = length (test (length block + 1)) + length block + 1 in
+      room_as (room_append (test (length block + 1)) _ h (room_append block (jump_back places line ∷ []) k (back_room places line [] room_end))) (λ all. (all.0, all.1.0))
 
-  while_room : {P Q : Type 0} (test block : List Coded) (t line : ℕ) → t + 1 ≤ 250 → HasRoom stack test P → HasRoom stack block Q → HasRoom stack (while_code test block t line) (P × Q)
-  while_room test block t line few h k =
-      let ends = jump_back (length test + length block + 3) line ∷ [] in
-      room_as (room_append test _ h (test_room t line false _ few (jump_room (length block + 1) line _ (room_append block ends k (back_room (length test + length block + 3) line [] room_end)))))
-      (λ all. (all.0, all.1.1.1.0))
-
-  repeat_room : {P Q : Type 0} (block test close : List Coded) (inner line : ℕ) → inner + 1 ≤ 250 → HasRoom stack block P → HasRoom stack test Q → top close ≤ 250 → HasRoom stack (repeat_code block test close inner line) (P × Q)
-  repeat_room block test close inner line few h k small =
+  repeat_room : {P Q : Type 0} (test : ℕ → List Coded) (block close : List Coded) (line : ℕ) → HasRoom stack block P → HasRoom stack (test (length close + 1)) Q → top close ≤ 250 → HasRoom stack (repeat_code test block close line) (P × Q)
+  repeat_room test block close line h k small =
       let closes : HasRoom stack close (top close ≤ stack) = room_of_top close small in
-      let ends = back_room (length block + length test + length close + 3) line close closes in
-      room_as (room_append block _ h (room_append test _ k (test_room inner line true _ few (jump_room (length close + 1) line _ (room_append close _ closes ends)))))
-      (λ all. (all.0, all.1.0))
+      let ends = back_room (length block + length (test (length close + 1)) + length close + 1) line close closes in
+      room_as (room_append block _ h (room_append (test (length close + 1)) _ k (room_append close _ closes ends))) (λ all. (all.0, all.1.0))
 
   past_room : (rest : List Coded) (line : ℕ) → HasRoom stack (past rest line) (0 ≤ stack)
   past_room [] line = room_as room_end (λ h. omega arith)
   past_room (x ∷ rest) line = room_as (jump_room (length (x ∷ rest)) line [] room_end) (λ h. h.0)
 
-  arm_room : {P Q R : Type 0} (test block rest : List Coded) (t line : ℕ) → t + 1 ≤ 250 → HasRoom stack test P → HasRoom stack block Q → HasRoom stack rest R → HasRoom stack (arm_code test block rest t line) (P × (Q × R))
-  arm_room test block rest t line few h k l =
-      room_as
-      (room_append test _ h (test_room t line false _ few (jump_room (length block + length (past rest line)) line _ (room_append block (past rest line ++ rest) k (room_append (past rest line) rest (past_room rest line) l)))))
-      (λ all. (all.0, (all.1.1.1.0, all.1.1.1.1.1)))
+  arm_room : {P Q R : Type 0} (test : ℕ → List Coded) (block rest : List Coded) (line : ℕ) → HasRoom stack (test (length block + length (past rest line))) P → HasRoom stack block Q → HasRoom stack rest R
+      → HasRoom stack (arm_code test block rest line) (P × (Q × R))
+  arm_room test block rest line h k l =
+      room_as (room_append (test (length block + length (past rest line))) _ h (room_append block (past rest line ++ rest) k (room_append (past rest line) rest (past_room rest line) l)))
+      (λ all. (all.0, (all.1.0, all.1.1.1)))
 
   counting_room : {P Q : Type 0} (start block : List Coded) (t line : ℕ) → t + 4 ≤ 250 → HasRoom stack start P → HasRoom stack block Q → HasRoom stack (counting_code start block t line) (P × ((t + 4 ≤ stack) × Q))
   counting_room start block t line few h k =
@@ -95,6 +90,16 @@ module _ {stack : ℕ} where
       let clears = one_nil t 0 (line_of_body body) (omega arith) (lit< tt) in
       let last = room_more (with_abx Closure t j (line_of_body body)) (t + 1) [] makes few room_end in
       room_as (room_more (with_abc LoadNil t 0 0 (line_of_body body)) (t + 0 + 1) _ clears (omega arith) last) (λ all. all.1.0)
+
+-- the locals of a block have registers
+
+stats_fit : (cs : List Const) (stack : ℕ) (ss : Stats) (t : ℕ) → StatsHaveRoom cs stack ss t → levels_after ss t ≤ stack
+stats_fit cs stack EndStats t h = h
+stats_fit cs stack (MoreStats s ss) t h = stats_fit cs stack ss (level_after s t) h.1.1
+
+levels_fit : (cs : List Const) (stack : ℕ) (block : Block) (t : ℕ) → BlockHasRoom cs stack block t → levels_in block t ≤ stack
+levels_fit cs stack (Falls ss tokens line) t h = stats_fit cs stack ss t h
+levels_fit cs stack (Returns ss es tokens line) t h = stats_fit cs stack ss t h.0
 
 module _ (cs : List Const) (stack : ℕ) where
   -- the values of a numeric `for`
@@ -192,25 +197,24 @@ module _ (cs : List Const) (stack : ℕ) where
           room_as (exp_room cs hidden ups stack e t t j 1 known (omega arith) holds (omega arith) (lit≤ tt)) (λ room within. omega (arith, room, within))
       stat_room (Do line block) hidden named loops closing t j pc reach known few holds level keeps low = block_room block hidden named loops closing t t j pc reach known few few keeps low
       stat_room (While line e block) hidden named loops closing t j pc reach known few holds level keeps low =
-          let test = exp_code cs e t j 2 in
+          let place = pc + length (test_code cs e true 0 t j) in
           let after = in_loop reach (pc + stat_size cs back (While line e block) closing t j) t in
+          let code = block_code cs back block closing t t (j + made_by e) place after in
           room_as
-          (while_room test (block_code cs back block closing t t (j + made_by e) (pc + length test + 2) after) t line (omega arith)
-          (exp_room cs hidden ups stack e t t j 2 known.0 (omega arith) holds (omega arith) (lit≤ tt))
-          (block_room block hidden named true closing t t (j + made_by e) (pc + length test + 2) after known.1 few few keeps.1 (loop_low reach _ t few low)))
+          (while_room (λ ahead. test_code cs e true ahead t j) code line
+          (test_room cs hidden ups stack e true (length code + 1) t t j known.0 (omega arith) holds)
+          (block_room block hidden named true closing t t (j + made_by e) place after known.1 few few keeps.1 (loop_low reach _ t few low)))
           (λ all within. let room = all.0 in (omega (arith, room, within), all.1 within))
       stat_room (Repeat line block e) hidden named loops closing t j pc reach known few holds level keeps low =
           let inner = levels_in block t in
-          let test = exp_code cs e inner (j + made_in_block block) 2 in
+          let close = close_code t inner (line_of_end block) in
           let after = in_loop reach (pc + stat_size cs back (Repeat line block e) closing t j) t in
-          let held_there = some_held e in
-          let some = own_room cs e in
           room_as
-          (repeat_room (open_code cs back block closing t j pc after) test (close_code t inner (line_of_end block)) inner line (omega (arith, keeps.1.0, held_there))
+          (repeat_room (λ ahead. test_code cs e false ahead inner (j + made_in_block block)) (open_code cs back block closing t j pc after) close line
           (open_room block hidden named true closing t j pc after known.0 few keeps.0 (loop_low reach _ t few low))
-          (exp_room cs hidden ups stack e inner inner (j + made_in_block block) 2 known.1 (omega arith) keeps.1.0 (omega (arith, keeps.1.0, held_there)) (lit≤ tt))
+          (test_room cs hidden ups stack e false (length close + 1) inner inner (j + made_in_block block) known.1 (omega arith) keeps.1.0)
           (close_top t inner (line_of_end block) few))
-          (λ all within. let room = all.1 in (all.0 within, omega (arith, room, some)))
+          (λ all within. let room = all.1 in let block_fits = all.0 within in let there = levels_fit cs stack block t block_fits in (block_fits, omega (arith, room, there)))
       stat_room (If line arms) hidden named loops closing t j pc reach known few holds level keeps low =
           room_as (arms_room arms hidden named loops [] closing t j pc line reach known few holds keeps low (omega arith)) (λ all within. all.0 within)
       stat_room (IfElse line arms block) hidden named loops closing t j pc reach known few holds level keeps low =
@@ -265,13 +269,14 @@ module _ (cs : List Const) (stack : ℕ) where
       arms_room : (arms : Arms) → ArmsRoom arms
       arms_room EndArms hidden named loops otherwise closing t j pc line reach known few holds keeps low h = room_as (room_of_top otherwise h) (λ p. ((λ within. tt), p))
       arms_room (MoreArms e block arms) hidden named loops otherwise closing t j pc line reach known few holds keeps low h =
-          let test = exp_code cs e t j 2 in
           let k = j + made_by e + made_in_block block in
-          let inner = pc + length test + 2 in
+          let inner = pc + length (test_code cs e true 0 t j) in
           let behind = inner + block_size cs back block closing t t (j + made_by e) + past_size (arms_size cs back arms (length otherwise) closing t k + length otherwise) in
+          let code = block_code cs back block closing t t (j + made_by e) inner reach in
+          let rest = arms_code cs back arms otherwise closing t k behind line reach in
           room_as
-          (arm_room test (block_code cs back block closing t t (j + made_by e) inner reach) (arms_code cs back arms otherwise closing t k behind line reach) t line (omega (arith, few))
-          (exp_room cs hidden ups stack e t t j 2 known.0 (omega arith) (omega (arith, holds)) (omega (arith, few)) (lit≤ tt))
+          (arm_room (λ ahead. test_code cs e true ahead t j) code rest line
+          (test_room cs hidden ups stack e true (length code + length (past rest line)) t t j known.0 (omega arith) (omega (arith, holds)))
           (block_room block hidden named loops closing t t (j + made_by e) inner reach known.1.0 few few keeps.1.0 low)
           (arms_room arms hidden named loops otherwise closing t k behind line reach known.1.1 few (omega (arith, holds)) keeps.1.1 low h))
           (λ all. ((λ within. let room = all.0 in (omega (arith, room, within), (all.1.0 within, all.1.1.0 within))), all.1.1.1))

@@ -9,7 +9,7 @@ use Rattle.code_core.specs.Prototype.{Prototype}
 use Rattle.code_of.specs.Expressions.{count}
 use Rattle.tree_terms.specs.Levels.{level_after, levels_after, levels_in}
 use Rattle.code_of.specs.CodeOf.{named_by, code_of}
-use Rattle.code_of.specs.Rooms.{room_of, room_of_list}
+use Rattle.code_of.specs.Rooms.{room_of, room_of_test, room_of_list}
 use Rattle.scope_laws.specs.Finding.{BodyFinds}
 use Rattle.scope_laws.specs.Keeping.{BodyKeeps}
 
@@ -34,8 +34,8 @@ module _ (constants : List Const) (stack : ℕ) where
         × ((t + 2 * count targets + room_of_list constants 0 es (Some (count targets)) ≤ stack) × (t + 2 * count targets + count targets ≤ stack))
     StatHasRoom (CallStat line e) t = t + room_of constants e 1 ≤ stack
     StatHasRoom (Do line block) t = BlockHasRoom block t
-    StatHasRoom (While line e block) t = (t + room_of constants e 2 ≤ stack) × BlockHasRoom block t
-    StatHasRoom (Repeat line block e) t = BlockHasRoom block t × (levels_in block t + room_of constants e 2 ≤ stack)
+    StatHasRoom (While line e block) t = (t + room_of_test constants e ≤ stack) × BlockHasRoom block t
+    StatHasRoom (Repeat line block e) t = BlockHasRoom block t × (levels_in block t + room_of_test constants e ≤ stack)
     StatHasRoom (If line arms) t = ArmsHaveRoom arms t
     StatHasRoom (IfElse line arms block) t = ArmsHaveRoom arms t × BlockHasRoom block t
     StatHasRoom (NumFor line name from limit block) t =
@@ -53,7 +53,7 @@ module _ (constants : List Const) (stack : ℕ) where
 
     pub ArmsHaveRoom : Arms → (t : ℕ) → Type 0
     ArmsHaveRoom EndArms t = Unit {0}
-    ArmsHaveRoom (MoreArms e block arms) t = (t + room_of constants e 2 ≤ stack) × (BlockHasRoom block t × ArmsHaveRoom arms t)
+    ArmsHaveRoom (MoreArms e block arms) t = (t + room_of_test constants e ≤ stack) × (BlockHasRoom block t × ArmsHaveRoom arms t)
 
     -- and the locals before each statement, and behind all of them
     pub StatsHaveRoom : Stats → (t : ℕ) → Type 0

@@ -1,6 +1,6 @@
 -- The lines of a tree's code fit, where those of the tree do.
 use Rattle.std.proofs.Common.{◌≡◌, ℕ, zero, suc, ◌+◌, ◌*◌, Bool, true, false, cond, ◌&&◌, List, [], ◌∷◌, ◌++◌, length, Option, Some, None, refl, ap₂}
-use Rattle.std.specs.Prelude.{ℤ, nat_lt, nat_le, nat_eq, ◌-◌}
+use Rattle.std.specs.Prelude.{ℤ, not, nat_lt, nat_le, nat_eq, ◌-◌}
 use Rattle.std.specs.List.{list_all}
 use Rattle.tree_core.specs.declared.name.Declared.{Declared}
 use Rattle.tree_core.specs.declared.name.Place.{Place}
@@ -18,6 +18,9 @@ use Rattle.code_of.specs.Coded.{Coded, lines, jump_over, jump_back}
 use Rattle.code_of.specs.Constants.{is_small, number_in, loads, loads_integer, of_block}
 use Rattle.code_of.specs.Operators.{name_code, self_code, operator_code}
 use Rattle.code_of.specs.Expressions.{made_by, made_in, count, Wanted, is_last_item, field_of, wanted_after, nils_code, set_list, exp_code, exps_code, fields_code}
+use Rattle.code_of.specs.Conditions.{line_of, is_not, compared, value_test, test_code}
+use Rattle.code_core.specs.declared.opcode.Opcode.{Opcode}
+use Rattle.code_core.specs.declared.opcode.Opcode.TheVariants.{Eq, Lt, Le}
 use Rattle.code_of.specs.Jumps.{Landing, Visible, Reach, label_in, leads}
 use Rattle.code_of.specs.Levels.{made_by_stat, made_in_arms, made_in_stats, made_in_block, closing_after, closings_after}
 use Rattle.tree_terms.specs.Levels.{level_after, levels_after, levels_in}
@@ -148,6 +151,74 @@ module _ (cs : List Const) where
 
   -- statements without blocks
 
+  -- conditions
+
+  line_fits : (e : Exp) → ExpIsWritten e → LineFits (line_of e)
+  line_fits (Nil line) w = w
+  line_fits (True line) w = w
+  line_fits (False line) w = w
+  line_fits (Int line n) w = w.0
+  line_fits (Str line bytes) w = w.0
+  line_fits (Vararg line) w = w
+  line_fits (Function line body) w = w.0
+  line_fits (Var line name) w = w.0
+  line_fits (Index line object key) w = w.0
+  line_fits (Call line f es) w = w.0
+  line_fits (Method line object name es) w = w.0
+  line_fits (Unary line op e) w = w.0
+  line_fits (Binary line op e d) w = w.0
+  line_fits (And line e d) w = w.0
+  line_fits (Or line e d) w = w.0
+  line_fits (Paren line e) w = w.0
+  line_fits (Table line fs) w = w.0
+
+  value_lines : (e : Exp) (k : Bool) (ahead t j : ℕ) → ExpIsWritten e → LinesFit (value_test cs e k ahead t j)
+  value_lines e k ahead t j w = lines_both (exp_code cs e t j 2) _ (exp_lines e t j 2 w) (line_fits e w, (line_fits e w, tt))
+
+  compared_lines : (op : BinOp) (other : List Coded) (by : Opcode → (swapped wanted : Bool) → List Coded) → LinesFit other → ((o : Opcode) (s w : Bool) → LinesFit (by o s w)) → LinesFit (compared op other by)
+  compared_lines Equal other by h g = g Eq false true
+  compared_lines Ne other by h g = g Eq false false
+  compared_lines Less other by h g = g Lt false true
+  compared_lines AtMost other by h g = g Le false true
+  compared_lines Gt other by h g = g Lt true true
+  compared_lines Ge other by h g = g Le true true
+  compared_lines Plus other by h g = h
+  compared_lines Minus other by h g = h
+  compared_lines Times other by h g = h
+  compared_lines Modulo other by h g = h
+  compared_lines Idiv other by h g = h
+  compared_lines Band other by h g = h
+  compared_lines Bor other by h g = h
+  compared_lines Bxor other by h g = h
+  compared_lines ShiftLeft other by h g = h
+  compared_lines ShiftRight other by h g = h
+  compared_lines Join other by h g = h
+
+  test_lines : (e : Exp) (k : Bool) (ahead t j : ℕ) → ExpIsWritten e → LinesFit (test_code cs e k ahead t j)
+  test_lines (Paren line e) k ahead t j w = test_lines e k ahead t j w.1
+  test_lines (Unary line op e) k ahead t j w = either (is_not op) _ _ (test_lines e (not k) ahead t j w.1) (value_lines (Unary line op e) k ahead t j w)
+  test_lines (And line e d) k ahead t j w =
+      let far = length (test_code cs d k ahead t (j + made_by e)) + cond k ahead 0 in
+      lines_both (test_code cs e true far t j) _ (test_lines e true far t j w.1.0) (test_lines d k ahead t (j + made_by e) w.1.1)
+  test_lines (Or line e d) k ahead t j w =
+      let far = length (test_code cs d k ahead t (j + made_by e)) + cond k 0 ahead in
+      lines_both (test_code cs e false far t j) _ (test_lines e false far t j w.1.0) (test_lines d k ahead t (j + made_by e) w.1.1)
+  test_lines (Binary line op e d) k ahead t j w =
+      compared_lines op _ _ (value_lines (Binary line op e d) k ahead t j w)
+      (λ o s q. lines_both (exp_code cs e t j 2) _ (exp_lines e t j 2 w.1.0) (lines_both (exp_code cs d (t + 1) (j + made_by e) 2) _ (exp_lines d (t + 1) (j + made_by e) 2 w.1.1) (w.0, (w.0, tt))))
+  test_lines (True line) k ahead t j w = either k _ _ tt (w, tt)
+  test_lines (Nil line) k ahead t j w = value_lines (Nil line) k ahead t j w
+  test_lines (False line) k ahead t j w = value_lines (False line) k ahead t j w
+  test_lines (Int line z) k ahead t j w = value_lines (Int line z) k ahead t j w
+  test_lines (Str line bytes) k ahead t j w = value_lines (Str line bytes) k ahead t j w
+  test_lines (Vararg line) k ahead t j w = value_lines (Vararg line) k ahead t j w
+  test_lines (Function line body) k ahead t j w = value_lines (Function line body) k ahead t j w
+  test_lines (Var line name) k ahead t j w = value_lines (Var line name) k ahead t j w
+  test_lines (Index line object key) k ahead t j w = value_lines (Index line object key) k ahead t j w
+  test_lines (Call line f es) k ahead t j w = value_lines (Call line f es) k ahead t j w
+  test_lines (Method line object name es) k ahead t j w = value_lines (Method line object name es) k ahead t j w
+  test_lines (Table line fs) k ahead t j w = value_lines (Table line fs) k ahead t j w
+
   marks_lines : (names : List Declared) (t : ℕ) → DeclaredFit names → LinesFit (marks_code names t)
   marks_lines [] t w = tt
   marks_lines (d ∷ names) t w = either (is_closed d.attrib) _ _ (w.1.0, marks_lines names (t + 1) w.1.1) (marks_lines names (t + 1) w.1.1)
@@ -213,16 +284,17 @@ module _ (cs : List Const) where
       stat_lines (CallStat line e) closing t j pc reach w = exp_lines e t j 1 w.1
       stat_lines (Do line block) closing t j pc reach w = block_lines block closing t t j pc reach w.1
       stat_lines (While line e block) closing t j pc reach w =
-          let test = exp_code cs e t j 2 in
+          let place = pc + length (test_code cs e true 0 t j) in
           let inner = in_loop reach (pc + stat_size cs back (While line e block) closing t j) t in
-          lines_both test _ (exp_lines e t j 2 w.1.0) (w.0, (w.0, lines_both (block_code cs back block closing t t (j + made_by e) (pc + length test + 2) inner) _ (block_lines block closing t t (j + made_by e) (pc + length test + 2) inner w.1.1) (w.0, tt)))
+          let code = block_code cs back block closing t t (j + made_by e) place inner in
+          lines_both (test_code cs e true (length code + 1) t j) _ (test_lines e true (length code + 1) t j w.1.0) (lines_both code _ (block_lines block closing t t (j + made_by e) place inner w.1.1) (w.0, tt))
       stat_lines (Repeat line block e) closing t j pc reach w =
           let within = levels_in block t in
           let inner = in_loop reach (pc + stat_size cs back (Repeat line block e) closing t j) t in
           let close = close_code t within (line_of_end block) in
           let closes = close_lines t within (line_of_end block) (block_line block w.1.0) in
           lines_both (open_code cs back block closing t j pc inner) _ (open_lines block closing t j pc inner w.1.0)
-          (lines_both (exp_code cs e within (j + made_in_block block) 2) _ (exp_lines e within (j + made_in_block block) 2 w.1.1) (w.0, (w.0, lines_both close _ closes (w.0, closes))))
+          (lines_both (test_code cs e false (length close + 1) within (j + made_in_block block)) _ (test_lines e false (length close + 1) within (j + made_in_block block) w.1.1) (lines_both close _ closes (w.0, closes)))
       stat_lines (If line arms) closing t j pc reach w = arms_lines arms [] closing t j pc line reach w.0 w.1 tt
       stat_lines (IfElse line arms block) closing t j pc reach w =
           let k = j + made_in_arms arms in
@@ -255,19 +327,13 @@ module _ (cs : List Const) where
       pub arms_lines : (arms : Arms) (otherwise : List Coded) (closing : Bool) (t j pc line : ℕ) (reach : Reach) → LineFits line → ArmsAreWritten arms → LinesFit otherwise → LinesFit (arms_code cs back arms otherwise closing t j pc line reach)
       arms_lines EndArms otherwise closing t j pc line reach h w others = others
       arms_lines (MoreArms e block arms) otherwise closing t j pc line reach h w others =
-          let test = exp_code cs e t j 2 in
           let k = j + made_by e + made_in_block block in
-          let inner = pc + length test + 2 in
+          let inner = pc + length (test_code cs e true 0 t j) in
           let next = inner + block_size cs back block closing t t (j + made_by e) + past_size (arms_size cs back arms (length otherwise) closing t k + length otherwise) in
+          let code = block_code cs back block closing t t (j + made_by e) inner reach in
           let behind = arms_code cs back arms otherwise closing t k next line reach in
-          lines_both test _ (exp_lines e t j 2 w.0) (
-            h,
-            (
-              h,
-              lines_both (block_code cs back block closing t t (j + made_by e) inner reach) _ (block_lines block closing t t (j + made_by e) inner reach w.1.0)
-                  (lines_both (past behind line) _ (past_lines behind line h) (arms_lines arms otherwise closing t k next line reach h w.1.1 others)),
-            ),
-          )
+          lines_both (test_code cs e true (length code + length (past behind line)) t j) _ (test_lines e true (length code + length (past behind line)) t j w.0)
+          (lines_both code _ (block_lines block closing t t (j + made_by e) inner reach w.1.0) (lines_both (past behind line) _ (past_lines behind line h) (arms_lines arms otherwise closing t k next line reach h w.1.1 others)))
 
       pub stats_lines : (ss : Stats) (falls closing : Bool) (outer t j pc : ℕ) (passed : List Visible) (reach : Reach) → StatsAreWritten ss → LinesFit (stats_code cs back ss falls closing outer t j pc passed reach)
       stats_lines EndStats falls closing outer t j pc passed reach w = tt

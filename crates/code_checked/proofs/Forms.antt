@@ -1,61 +1,59 @@
 -- The forms of statements with blocks are pieces, where their parts are. `q` is the place behind a statement.
-use Rattle.std.proofs.Common.{◌≡◌, ℕ, suc, ◌+◌, ◌<◌, ◌^◌, lit<, true, false, pos, ◌-ℤ◌, List, [], ◌∷◌, ◌++◌, length, Some, refl, sym, ap, subst, ◌∙◌, arith, length-append, append_assoc}
-use Rattle.code_core.specs.declared.opcode.Opcode.TheVariants.{Test, ForLoop, ForPrep, TForPrep, TForCall, TForLoop, Close}
+use Rattle.std.proofs.Common.{◌≡◌, ℕ, suc, ◌+◌, ◌<◌, ◌^◌, lit<, false, pos, ◌-ℤ◌, List, [], ◌∷◌, ◌++◌, length, Some, refl, sym, ap, subst, ◌∙◌, arith, length-append, append_assoc}
+use Rattle.code_core.specs.declared.opcode.Opcode.TheVariants.{ForLoop, ForPrep, TForPrep, TForCall, TForLoop, Close}
 use Rattle.code_core.specs.Instruction.{abc, abx}
 use Rattle.code_core.specs.Prototype.{Prototype}
 use Rattle.code_core.proofs.FieldLemmas.{opcode_of-abc, opcode_of-abx, a_of-abc, a_of-abx, bx_of-abx}
-use Rattle.code_of.specs.Coded.{Coded, with_abc, with_abx, jump_over, jump_back}
+use Rattle.code_of.specs.Coded.{Coded, with_abc, with_abx, jump_back}
 use Rattle.code_of.specs.Parts.{while_code, repeat_code, past, arm_code, counting_code, iterating_code}
 use Rattle.code_checked.proofs.Pieces.{closed, Land, Lands, Piece, both, nothing}
 use Rattle.code_checked.proofs.Units.{Single, one_jump, two_jump}
-use Rattle.code_checked.proofs.Words.{abc_fits, abx_fits, pair, simple, simple_close, first_test, first_iterate, last_iterate}
+use Rattle.code_checked.proofs.Words.{abc_fits, abx_fits, pair, simple, simple_close, first_iterate, last_iterate}
 use Rattle.code_checked.proofs.Loads.{Whole}
 use Rattle.code_checked.proofs.Seams.{alike, beginning, ending, three, back_to}
-use Rattle.code_checked.proofs.Jumping.{shortly, over_piece, back_piece, test_over}
+use Rattle.code_checked.proofs.Jumping.{shortly, over_piece, back_piece}
 use Rattle.std.proofs.Common.{eq-eqb}
 
 module _ (p : Prototype) (W : Whole p) where
-  pub while_piece : {G : Type 0} (test block : List Coded) (t line pc q : ℕ) → t < 2 ^ 8 → pc + length (while_code test block t line) ≡ q
-      → ((H : Type 0) → (H → G × Land p q) → Piece p H closed closed pc test) → ((H : Type 0) → (H → G × Land p q) → Piece p H closed closed (pc + length test + 2) block) → Piece p G closed closed pc (while_code test block t line)
-  while_piece {G} test block t line pc q tf e a b =
-      let n : ℕ = length test + length block + 3 in
+  pub while_piece : {G : Type 0} (test : ℕ → List Coded) (block : List Coded) (line pc q : ℕ) → pc + length (while_code test block line) ≡ q
+      → ((H : Type 0) → (H → length (test (length block + 1)) + (length block + 1) < 2 ^ 24) → (H → G × Land p q) → Piece p H closed closed pc (test (length block + 1)))
+      → ((H : Type 0) → (H → G × Land p q) → Piece p H closed closed (pc + length (test (length block + 1))) block) → Piece p G closed closed pc (while_code test block line)
+  while_piece {G} test block line pc q e a b =
+      let first : List Coded = test (length block + 1) in
+      let n : ℕ = length first + length block + 1 in
       let back : List Coded = jump_back n line ∷ [] in
-      let s1 = length-append test (with_abc Test t 0 0 line ∷ jump_over (length block + 1) line ∷ (block ++ back)) in
+      let s1 = length-append first (block ++ back) in
       let s2 = length-append block back in
-      let H : Type 0 = ((G × Land p q) × Land p pc) × (length (while_code test block t line) < 2 ^ 24) in
-      let inner : Piece p H closed closed pc (while_code test block t line) =
-      both p (a H (λ h. h.0.0))
-      (both p (test_over p Test (first_test p) t 0 false (length block + 1) (pc + length test) q line tf (lit< tt) (λ h. let f = h.1 in omega (arith, f, s1, s2)) (omega (arith, e, s1, s2)) (λ h. h.0.0.1))
-      (both p (b H (λ h. h.0.0)) (back_piece p n (pc + length test + 2 + length block) pc line (λ h. let f = h.1 in omega (arith, f, s1, s2)) (omega arith) (λ h. h.0.1)))) in
+      let H : Type 0 = ((G × Land p q) × Land p pc) × (length (while_code test block line) < 2 ^ 24) in
+      let inner : Piece p H closed closed pc (while_code test block line) =
+      both p (a H (λ h. let f = h.1 in omega (arith, f, s1, s2)) (λ h. h.0.0))
+      (both p (b H (λ h. h.0.0)) (back_piece p n (pc + length first + length block) pc line (λ h. let f = h.1 in omega (arith, f, s1, s2)) (omega arith) (λ h. h.0.1))) in
       ending p q e (beginning p (shortly p W inner))
 
-  pub repeat_piece : {G : Type 0} (block test close : List Coded) (within line pc q : ℕ) → within < 2 ^ 8 → pc + length (repeat_code block test close within line) ≡ q
-      → ((H : Type 0) → (H → G × Land p q) → Piece p H closed closed pc block) → ((H : Type 0) → (H → G × Land p q) → Piece p H closed closed (pc + length block) test) → ((H : Type 0) (r : ℕ) → Piece p H closed closed r close)
-      → Piece p G closed closed pc (repeat_code block test close within line)
-  repeat_piece {G} block test close within line pc q wf e a b c =
-      let n : ℕ = length block + length test + length close + 3 in
-      let x : Coded = (abc Test within 0 0 true, line) in
-      let y : Coded = jump_over (length close + 1) line in
+  pub repeat_piece : {G : Type 0} (test : ℕ → List Coded) (block close : List Coded) (line pc q : ℕ) → pc + length (repeat_code test block close line) ≡ q
+      → ((H : Type 0) → (H → G × Land p q) → Piece p H closed closed pc block)
+      → ((H : Type 0) (r : ℕ) → (H → length (test (length close + 1)) + (length close + 1) < 2 ^ 24) → r ≡ pc + length block + length (test (length close + 1)) + (length close + 1) → (H → Land p r) → Piece p H closed closed (pc + length block) (test (length close + 1)))
+      → ((H : Type 0) (r : ℕ) → Piece p H closed closed r close) → Piece p G closed closed pc (repeat_code test block close line)
+  repeat_piece {G} test block close line pc q e a b c =
+      let final : List Coded = test (length close + 1) in
+      let n : ℕ = length block + length final + length close + 1 in
       let back : Coded = jump_back n line in
-      let front : List Coded = block ++ (test ++ x ∷ y ∷ []) in
+      let front : List Coded = block ++ final in
       let middle : List Coded = close ++ back ∷ [] in
-      let same : front ++ (middle ++ close) ≡ repeat_code block test close within line =
-      append_assoc block (test ++ x ∷ y ∷ []) (middle ++ close) ∙ ap (λ l. block ++ l) (append_assoc test (x ∷ y ∷ []) (middle ++ close)) ∙ ap (λ l. block ++ (test ++ x ∷ y ∷ l)) (append_assoc close (back ∷ []) close) in
-      let s1 = length-append block (test ++ x ∷ y ∷ []) in
-      let s2 = length-append test (x ∷ y ∷ []) in
+      let same : front ++ (middle ++ close) ≡ repeat_code test block close line =
+      append_assoc block final (middle ++ close) ∙ ap (λ l. block ++ (final ++ l)) (append_assoc close (back ∷ []) close) in
+      let s1 = length-append block final in
       let s3 = length-append close (back ∷ []) in
       let s4 = length-append front (middle ++ close) in
       let s5 = length-append middle close in
-      let all : length (front ++ (middle ++ close)) ≡ length (repeat_code block test close within line) = ap length same in
+      let all : length (front ++ (middle ++ close)) ≡ length (repeat_code test block close line) = ap length same in
       let begin : ℕ = pc + length front in
       let last : ℕ = begin + length middle in
       let H : Type 0 = (((G × Land p q) × Land p pc) × (length (front ++ (middle ++ close)) < 2 ^ 24)) × Land p begin × Land p last in
       let inner : Piece p (((G × Land p q) × Land p pc) × (length (front ++ (middle ++ close)) < 2 ^ 24)) closed closed pc (front ++ (middle ++ close)) =
       three p begin last refl refl
-      (both p (a H (λ h. h.0.0.0))
-      (both p (b H (λ h. h.0.0.0))
-      (test_over p Test (first_test p) within 0 true (length close + 1) (pc + length block + length test) last line wf (lit< tt) (λ h. let f = h.0.1 in omega (arith, f, s3, s4, s5)) (omega (arith, s1, s2, s3)) (λ h. h.2))))
-      (both p (c H begin) (back_piece p n (begin + length close) pc line (λ h. let f = h.0.1 in omega (arith, f, s1, s2, s3, s4, s5)) (omega (arith, s1, s2)) (λ h. h.0.0.1)))
+      (both p (a H (λ h. h.0.0.0)) (b H last (λ h. let f = h.0.1 in omega (arith, f, s1, s3, s4, s5)) (omega (arith, s1, s3)) (λ h. h.2)))
+      (both p (c H begin) (back_piece p n (begin + length close) pc line (λ h. let f = h.0.1 in omega (arith, f, s1, s3, s4, s5)) (omega (arith, s1)) (λ h. h.0.0.1)))
       (c H last) in
       ending p q e (beginning p (alike p same (shortly p W inner)))
 
@@ -63,32 +61,29 @@ module _ (p : Prototype) (W : Whole p) where
   past_piece [] line pc q e short to = nothing p
   past_piece (x ∷ rest) line pc q e short to = over_piece p (length (x ∷ rest)) pc q line short e to
 
-  pub arm_piece : {G : Type 0} (test block rest : List Coded) (t line pc : ℕ) → t < 2 ^ 8
-      → ((H : Type 0) → (H → G) → Piece p H closed closed pc test) → ((H : Type 0) → (H → G) → Piece p H closed closed (pc + length test + 2) block)
-      → ((H : Type 0) → (H → G) → Piece p H closed closed (pc + length test + 2 + length block + length (past rest line)) rest)
-      → Piece p G closed closed pc (arm_code test block rest t line)
-  arm_piece {G} test block rest t line pc tf a b c =
+  pub arm_piece : {G : Type 0} (test : ℕ → List Coded) (block rest : List Coded) (line pc : ℕ)
+      → ((H : Type 0) (r : ℕ) → (H → length (test (length block + length (past rest line))) + (length block + length (past rest line)) < 2 ^ 24)
+      → r ≡ pc + length (test (length block + length (past rest line))) + (length block + length (past rest line)) → (H → G × Land p r) → Piece p H closed closed pc (test (length block + length (past rest line))))
+      → ((H : Type 0) → (H → G) → Piece p H closed closed (pc + length (test (length block + length (past rest line)))) block)
+      → ((H : Type 0) → (H → G) → Piece p H closed closed (pc + length (test (length block + length (past rest line))) + length block + length (past rest line)) rest)
+      → Piece p G closed closed pc (arm_code test block rest line)
+  arm_piece {G} test block rest line pc a b c =
       let over : List Coded = past rest line in
-      let n : ℕ = length block + length over in
-      let x : Coded = with_abc Test t 0 0 line in
-      let y : Coded = jump_over n line in
-      let front : List Coded = test ++ x ∷ y ∷ [] in
+      let first : List Coded = test (length block + length over) in
       let middle : List Coded = block ++ over in
-      let same : front ++ (middle ++ rest) ≡ arm_code test block rest t line =
-      append_assoc test (x ∷ y ∷ []) (middle ++ rest) ∙ ap (λ l. test ++ x ∷ y ∷ l) (append_assoc block over rest) in
-      let s1 = length-append test (x ∷ y ∷ []) in
+      let same : first ++ (middle ++ rest) ≡ arm_code test block rest line = ap (λ l. first ++ l) (append_assoc block over rest) in
       let s2 = length-append block over in
-      let s4 = length-append front (middle ++ rest) in
+      let s4 = length-append first (middle ++ rest) in
       let s5 = length-append middle rest in
-      let all : length (front ++ (middle ++ rest)) ≡ length (arm_code test block rest t line) = ap length same in
-      let begin : ℕ = pc + length test + 2 in
+      let all : length (first ++ (middle ++ rest)) ≡ length (arm_code test block rest line) = ap length same in
+      let begin : ℕ = pc + length first in
       let last : ℕ = begin + length block + length over in
-      let q : ℕ = pc + length (front ++ (middle ++ rest)) in
-      let H : Type 0 = ((G × Land p q) × (length (front ++ (middle ++ rest)) < 2 ^ 24)) × Land p begin × Land p last in
-      let inner : Piece p ((G × Land p q) × (length (front ++ (middle ++ rest)) < 2 ^ 24)) closed closed pc (front ++ (middle ++ rest)) =
-      three p begin last (omega (arith, s1)) (omega (arith, s2))
-      (both p (a H (λ h. h.0.0.0)) (test_over p Test (first_test p) t 0 false n (pc + length test) last line tf (lit< tt) (λ h. let f = h.0.1 in omega (arith, f, s2, s4, s5)) (omega arith) (λ h. h.2)))
-      (both p (b H (λ h. h.0.0.0)) (past_piece rest line (begin + length block) q (omega (arith, s1, s2, s4, s5)) (λ h. let f = h.0.1 in omega (arith, f, s4, s5)) (λ h. h.0.0.1)))
+      let q : ℕ = pc + length (first ++ (middle ++ rest)) in
+      let H : Type 0 = ((G × Land p q) × (length (first ++ (middle ++ rest)) < 2 ^ 24)) × Land p begin × Land p last in
+      let inner : Piece p ((G × Land p q) × (length (first ++ (middle ++ rest)) < 2 ^ 24)) closed closed pc (first ++ (middle ++ rest)) =
+      three p begin last refl (omega (arith, s2))
+      (a H last (λ h. let f = h.0.1 in omega (arith, f, s2, s4, s5)) (omega arith) (λ h. (h.0.0.0, h.2)))
+      (both p (b H (λ h. h.0.0.0)) (past_piece rest line (begin + length block) q (omega (arith, s2, s4, s5)) (λ h. let f = h.0.1 in omega (arith, f, s4, s5)) (λ h. h.0.0.1)))
       (c H (λ h. h.0.0.0)) in
       alike p same (ending p q refl (shortly p W inner))
 

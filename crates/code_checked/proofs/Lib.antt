@@ -11,6 +11,7 @@ mod Lists
 mod ExpForms
 mod Jumping
 mod Exps
+mod Conditions
 mod Forms
 mod Reaching
 mod StatForms

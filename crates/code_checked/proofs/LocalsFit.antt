@@ -8,7 +8,8 @@ use Rattle.code_core.specs.declared.proto.Const.{Const}
 use Rattle.code_core.specs.declared.proto.LocVar.{LocVar}
 use Rattle.code_core.specs.Writable.{name_fits, local_fits}
 use Rattle.code_of.specs.Constants.{of_block}
-use Rattle.code_of.specs.Expressions.{made_by, made_in, exp_code, exps_code}
+use Rattle.code_of.specs.Expressions.{made_by, made_in, exps_code}
+use Rattle.code_of.specs.Conditions.{test_code}
 use Rattle.code_of.specs.Levels.{made_by_stat, made_in_arms, made_in_block, closing_after}
 use Rattle.tree_terms.specs.Levels.{level_after}
 use Rattle.code_of.specs.Parts.{past_size, bounds_code, steps_code}
@@ -65,7 +66,7 @@ module _ (cs : List Const) (back n : ℕ) where
     stat_fit (Assign line targets es) closing t j pc w le = tt
     stat_fit (CallStat line e) closing t j pc w le = tt
     stat_fit (Do line block) closing t j pc w le = block_fit block closing t t j pc w.1 le
-    stat_fit (While line e block) closing t j pc w le = block_fit block closing t t (j + made_by e) (pc + length (exp_code cs e t j 2) + 2) w.1.1 (omega (arith, le))
+    stat_fit (While line e block) closing t j pc w le = block_fit block closing t t (j + made_by e) (pc + length (test_code cs e true 0 t j)) w.1.1 (omega (arith, le))
     stat_fit (Repeat line block e) closing t j pc w le = open_fit block closing t j pc (pc + stat_size cs back (Repeat line block e) closing t j) w.1.0 (omega (arith, le)) le
     stat_fit (If line arms) closing t j pc w le = arms_fit arms 0 closing t j pc w.1 le
     stat_fit (IfElse line arms block) closing t j pc w le =
@@ -99,7 +100,7 @@ module _ (cs : List Const) (back n : ℕ) where
     arms_fit EndArms rest closing t j pc w le = tt
     arms_fit (MoreArms e block arms) rest closing t j pc w le =
         let k = j + made_by e + made_in_block block in
-        let inner = pc + length (exp_code cs e t j 2) + 2 in
+        let inner = pc + length (test_code cs e true 0 t j) in
         let next = inner + block_size cs back block closing t t (j + made_by e) + past_size (arms_size cs back arms rest closing t k + rest) in
         locals_both n (within_block cs back block closing t t (j + made_by e) inner) _ (block_fit block closing t t (j + made_by e) inner w.1.0 (omega (arith, le))) (arms_fit arms rest closing t k next w.1.1 (omega (arith, le)))
 

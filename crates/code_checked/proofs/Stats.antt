@@ -11,6 +11,7 @@ use Rattle.std.specs.Prelude.{pos}
 use Rattle.code_of.specs.Coded.{Coded}
 use Rattle.code_of.specs.Constants.{small_field, of_exp, of_exps, of_stat, of_arms, of_stats, of_block}
 use Rattle.code_of.specs.Expressions.{made_by, made_in, exp_code, exps_code}
+use Rattle.code_of.specs.Conditions.{test_code}
 use Rattle.code_of.specs.Jumps.{Visible, Reach, label_in}
 use Rattle.code_of.specs.Levels.{made_in_arms, made_in_stats, made_in_block, closings_after}
 use Rattle.tree_terms.specs.Levels.{levels_after, levels_in}
@@ -19,14 +20,14 @@ use Rattle.code_of.specs.Sizes.{stat_size, arms_size, block_size}
 use Rattle.code_of.specs.Statements.{in_loop, labels_ahead, stat_code, arms_code, stats_code, block_code, open_code}
 use Rattle.code_of.specs.CodeOf.{back_field, from_exp, from_exps, from_stat, from_arms, from_stats, from_block}
 use Rattle.code_checked.specs.Near.{IsRegister, ExpIsNear, ResultIsNear, StatIsNear, ArmsAreNear, StatsAreNear, BlockIsNear}
-use Rattle.code_checked.proofs.Pieces.{closed, returned, Front, There, Land, Has, Piece, both, nothing}
+use Rattle.code_checked.proofs.Pieces.{closed, returned, Front, There, Land, Has, Piece, both, nothing, placed_at}
 use Rattle.code_checked.proofs.Words.{simple_wide, simple_load_i}
 use Rattle.code_checked.proofs.Found.{Grows, grows_then}
 use Rattle.code_checked.proofs.Loads.{Whole, Functions}
 use Rattle.code_checked.proofs.Growing.{grows_exp, grows_exps, grows_arms, grows_block, after_exp, after_exps, after_arms, after_stats, after_block}
-use Rattle.code_checked.proofs.ExpForms.{exp_register}
 use Rattle.code_checked.proofs.Exps.{exp_law, one_law}
-use Rattle.code_of.proofs.Sizes.{stat_sized, arms_sized, block_sized, past_sized}
+use Rattle.code_checked.proofs.Conditions.{test_law}
+use Rattle.code_of.proofs.Sizes.{test_sized, stat_sized, arms_sized, block_sized, past_sized}
 use Rattle.code_checked.proofs.Forms.{while_piece, repeat_piece, arm_piece, counting_piece, iterating_piece}
 use Rattle.code_checked.proofs.Reaching.{AllStand, Reaches, label_stands, leads_piece}
 use Rattle.code_checked.proofs.StatForms.{marks_piece, close_piece, as_closed, function_piece, values_piece, assign_piece, return_law}
@@ -103,11 +104,16 @@ module _ (p : Prototype) (W : Whole p) (source : Option (List ℕ)) where
   pub while_law : (line : ℕ) (e : Exp) (block : Block) → BlockLaw block → StatLaw (While line e block)
   while_law line e block law G closing t j pc reach cs rest to near r g fs =
       let q : ℕ = pc + stat_size p.own.constants back (While line e block) closing t j in
-      let test = exp_code p.own.constants e t j 2 in
+      let place : ℕ = pc + length (test_code p.own.constants e true 0 t j) in
+      let code = block_code p.own.constants back block closing t t (j + made_by e) place (in_loop reach q t) in
       let first = of_exp e cs in
-      while_piece p W test (block_code p.own.constants back block closing t t (j + made_by e) (pc + length test + 2) (in_loop reach q t)) t line pc q (omega (arith, r)) (ap (λ n. pc + n) (stat_sized p.own.constants back (While line e block) closing t j pc reach))
-      (λ H h. one_law p W source e H t j pc t cs (from_block source block rest) near.0 (omega arith) (grows_then first (of_block block first) p.own.constants (grows_block block first) g) fs)
-      (λ H h. law H closing t t (j + made_by e) (pc + length test + 2) (in_loop reach q t) first rest (λ x. let y = h x in in_loop_reaches reach q t (omega (arith, r)) (to y.0, y.1)) near.1 r (omega arith) g (after_exp source p e j (from_block source block rest) fs))
+      let size = block_sized p.own.constants back block closing t t (j + made_by e) place (in_loop reach q t) in
+      let tested = test_sized p.own.constants e true (length code + 1) t j in
+      while_piece p W (λ ahead. test_code p.own.constants e true ahead t j) code line pc q (ap (λ n. pc + n) (stat_sized p.own.constants back (While line e block) closing t j pc reach))
+      (λ H short h. test_law p W source e H true (length code + 1) t j pc t q cs (from_block source block rest) near.0 (omega arith) (grows_then first (of_block block first) p.own.constants (grows_block block first) g) fs
+      short (omega (arith, size, tested)) (λ x. (h x).1))
+      (λ H h. placed_at p (ap (λ n. pc + n) (sym tested))
+      (law H closing t t (j + made_by e) place (in_loop reach q t) first rest (λ x. let y = h x in in_loop_reaches reach q t (omega (arith, r)) (to y.0, y.1)) near.1 r (omega arith) g (after_exp source p e j (from_block source block rest) fs)))
 
   pub repeat_law : (line : ℕ) (block : Block) (e : Exp) → OpenLaw block → StatLaw (Repeat line block e)
   repeat_law line block e law G closing t j pc reach cs rest to near r g fs =
@@ -115,11 +121,11 @@ module _ (p : Prototype) (W : Whole p) (source : Option (List ℕ)) where
       let inner = levels_in block t in
       let k = j + made_in_block block in
       let first = of_block block cs in
-      let ri = exp_register source p e inner inner near.1 in
-      repeat_piece p W (open_code p.own.constants back block closing t j pc (in_loop reach q t)) (exp_code p.own.constants e inner k 2) (close_code t inner (line_of_end block)) inner line pc q (omega (arith, ri))
+      let code = open_code p.own.constants back block closing t j pc (in_loop reach q t) in
+      repeat_piece p W (λ ahead. test_code p.own.constants e false ahead inner k) code (close_code t inner (line_of_end block)) line pc q
       (ap (λ n. pc + n) (stat_sized p.own.constants back (Repeat line block e) closing t j pc reach))
       (λ H h. law H closing t j pc (in_loop reach q t) cs (from_exp source e rest) (λ x. let y = h x in in_loop_reaches reach q t (omega (arith, r)) (to y.0, y.1)) near.0 r (grows_then first (of_exp e first) p.own.constants (grows_exp e first) g) fs)
-      (λ H h. one_law p W source e H inner k _ inner first rest near.1 (omega arith) g (after_block source p block j (from_exp source e rest) fs))
+      (λ H end short place h. test_law p W source e H false (length (close_code t inner (line_of_end block)) + 1) inner k (pc + length code) inner end first rest near.1 (omega arith) g (after_block source p block j (from_exp source e rest) fs) short place h)
       (λ H place. close_piece p t inner (line_of_end block) place (omega (arith, r)))
 
   pub if_law : (line : ℕ) (arms : Arms) → ArmsLaw arms → StatLaw (If line arms)
@@ -144,9 +150,9 @@ module _ (p : Prototype) (W : Whole p) (source : Option (List ℕ)) where
   pub more_arms : (e : Exp) (block : Block) (arms : Arms) → BlockLaw block → ArmsLaw arms → ArmsLaw (MoreArms e block arms)
   more_arms e block arms block_law law G otherwise closing t j pc line reach cs rest to near r g fs behind =
       let cst = p.own.constants in
-      let test = exp_code cst e t j 2 in
+      let lt = length (test_code cst e true 0 t j) in
       let k = j + made_by e + made_in_block block in
-      let inner = pc + length test + 2 in
+      let inner = pc + lt in
       let size = block_size cst back block closing t t (j + made_by e) in
       let others = arms_size cst back arms (length otherwise) closing t k in
       let next = inner + size + past_size (others + length otherwise) in
@@ -160,13 +166,15 @@ module _ (p : Prototype) (W : Whole p) (source : Option (List ℕ)) where
       let s1 : length code ≡ size = block_sized cst back block closing t t (j + made_by e) inner reach in
       let s2 : length after ≡ others + length otherwise = arms_sized cst back arms otherwise closing t k next line reach in
       let s3 : length (past after line) ≡ past_size (others + length otherwise) = past_sized after line ∙ ap past_size s2 in
-      let place : next ≡ pc + length test + 2 + length code + length (past after line) = omega (arith, s1, s3) in
-      arm_piece p W test code after t line pc (omega (arith, r))
-      (λ H h. one_law p W source e H t j pc t cs (from_block source block (from_arms source arms rest)) near.0 (omega arith) (grows_then first second cst (grows_block block first) known) fs)
-      (λ H h. block_law H closing t t (j + made_by e) inner reach first (from_arms source arms rest) (λ x. to (h x)) near.1.0 r (omega arith) known fs1)
+      let ahead : ℕ = length code + length (past after line) in
+      let tested : length (test_code cst e true ahead t j) ≡ lt = test_sized cst e true ahead t j in
+      let place : next ≡ pc + length (test_code cst e true ahead t j) + length code + length (past after line) = omega (arith, s1, s3, tested) in
+      arm_piece p W (λ ahead. test_code cst e true ahead t j) code after line pc
+      (λ H end short at h. test_law p W source e H true ahead t j pc t end cs (from_block source block (from_arms source arms rest)) near.0 (omega arith) (grows_then first second cst (grows_block block first) known) fs short at (λ x. (h x).1))
+      (λ H h. placed_at p (ap (λ n. pc + n) (sym tested)) (block_law H closing t t (j + made_by e) inner reach first (from_arms source arms rest) (λ x. to (h x)) near.1.0 r (omega arith) known fs1))
       (λ H h. subst (λ q. Piece p H closed closed q after) place
       (law H otherwise closing t k next line reach second rest (λ x. to (h x)) near.1.1 r g fs2
-      (λ K k'. let e2 : next + others ≡ pc + (length test + (size + (past_size (others + length otherwise) + others + 2))) = omega arith in subst (λ q. Piece p K closed closed q otherwise) (sym e2) (behind K (λ x. h (k' x))))))
+      (λ K k'. let e2 : next + others ≡ pc + (lt + (size + (past_size (others + length otherwise) + others))) = omega arith in subst (λ q. Piece p K closed closed q otherwise) (sym e2) (behind K (λ x. h (k' x))))))
 
   -- the values of a numeric `for`
 

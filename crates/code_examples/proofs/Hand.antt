@@ -39,5 +39,9 @@ hand params vararg stack constants outers variables inner words = record {
 abbrev pub Compiles : Body → Prototype → Type 0
 Compiles b p = code_of (Some source) b ≡ p
 
+-- the instructions alone
+abbrev pub Lists : Body → List Instruction → Type 0
+Lists b words = (code_of (Some source) b).own.code ≡ words
+
 abbrev pub word : ℕ → Instruction
 word n = record { 0 = n }

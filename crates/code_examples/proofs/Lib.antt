@@ -2,5 +2,6 @@ mod Hand
 mod Vectors
 mod MoreVectors
 mod LoopVectors
+mod LuacListings
 mod Allowed
 mod ClosedCells

@@ -3,7 +3,7 @@ use Rattle.std.proofs.Common.{true, false, [], ◌∷◌, refl}
 use Rattle.std.specs.Prelude.{negsuc}
 use Rattle.std.specs.Int.{int_wrap}
 use Rattle.code_core.specs.Opcode.{opcodes, number_of}
-use Rattle.code_core.specs.declared.opcode.Opcode.TheVariants.{Move, LFalseSkip, LoadTrue, LoadNil, GetUpval, SetUpval, Add, MmBin, Not, Close, Tbc, Eq, Test, Call, Return, ForLoop, ForPrep, TForPrep, TForCall, TForLoop, Closure}
+use Rattle.code_core.specs.declared.opcode.Opcode.TheVariants.{Move, LoadNil, GetUpval, SetUpval, Add, MmBin, Close, Tbc, Eq, Test, Call, Return, ForLoop, ForPrep, TForPrep, TForCall, TForLoop, Closure}
 use Rattle.code_core.specs.Instruction.{abc, abx}
 use Rattle.code_core.specs.Prototype.{Prototype}
 use Rattle.int_core.specs.Value.{known, nil, boolean, integer, object, a_table}
@@ -18,11 +18,11 @@ use Rattle.code_examples.proofs.Hand.{hand, Compiles}
 use Rattle.code_means.proofs.Pairs.{one, repeats, breaks_out, continues}
 
 abbrev pub repeats_code : Prototype
-repeats_code = hand 1 false 5 [] [] (variable "f" 0 16 ∷ variable "x" 2 15 ∷ variable "g" 3 15 ∷ [])
+repeats_code = hand 1 false 5 [] [] (variable "f" 0 15 ∷ variable "x" 2 14 ∷ variable "g" 3 14 ∷ [])
     (hand 0 false 1 [] (("x", 1) ∷ []) [] [] (abc GetUpval 0 0 0 false ∷ abc Return 0 2 0 false ∷ []) ∷ [])
     (abc Move 1 0 0 false ∷ abc Call 1 1 2 false ∷ abx Closure 2 0
-    ∷ abc Move 3 1 0 false ∷ abc Test 3 0 0 false ∷ jump 4 ∷ abc Move 3 0 0 false ∷ abc Move 4 2 0 false ∷ abc Call 3 2 2 false ∷ abc Not 3 3 0 false
-    ∷ abc Test 3 0 0 true ∷ jump 2 ∷ abc Close 1 0 0 false ∷ jump_back 14 ∷ abc Close 1 0 0 false ∷ abc Return 1 1 0 true ∷ [])
+    ∷ abc Move 3 1 0 false ∷ abc Test 3 0 0 false ∷ jump 5 ∷ abc Move 3 0 0 false ∷ abc Move 4 2 0 false ∷ abc Call 3 2 2 false
+    ∷ abc Test 3 0 0 false ∷ jump 2 ∷ abc Close 1 0 0 false ∷ jump_back 13 ∷ abc Close 1 0 0 false ∷ abc Return 1 1 0 true ∷ [])
 
 repeat_code : Compiles repeats repeats_code
 unfolding opcodes number_of
@@ -30,12 +30,11 @@ repeat_code = refl
 
 abbrev pub breaks_out_code : Prototype
 breaks_out_code = hand 1 false 9 [] []
-    (variable "it" 0 21 ∷ hidden 4 20 ∷ hidden 4 20 ∷ hidden 4 20 ∷ hidden 4 20 ∷ variable "k" 5 17 ∷ variable "g" 6 17 ∷ [])
+    (variable "it" 0 17 ∷ hidden 4 16 ∷ hidden 4 16 ∷ hidden 4 16 ∷ hidden 4 16 ∷ variable "k" 5 13 ∷ variable "g" 6 13 ∷ [])
     (hand 0 false 1 [] (("k", 5) ∷ []) [] [] (abc GetUpval 0 0 0 false ∷ abc Return 0 2 0 false ∷ []) ∷ [])
-    (abc Move 1 0 0 false ∷ load_int 2 1 ∷ load_int 3 2 ∷ abc LoadNil 4 0 0 false ∷ abx TForPrep 1 12
-    ∷ abx Closure 6 0 ∷ abc Move 7 5 0 false ∷ load_int 8 3 ∷ abc Eq 7 8 0 true ∷ jump 1 ∷ abc LFalseSkip 7 0 0 false ∷ abc LoadTrue 7 0 0 false
-    ∷ abc Test 7 0 0 false ∷ jump 2 ∷ abc Close 1 0 0 false ∷ jump 4
-    ∷ abc Close 5 0 0 false ∷ abc TForCall 1 0 1 false ∷ abx TForLoop 1 14 ∷ abc Close 1 0 0 false ∷ abc Return 1 1 0 true ∷ [])
+    (abc Move 1 0 0 false ∷ load_int 2 1 ∷ load_int 3 2 ∷ abc LoadNil 4 0 0 false ∷ abx TForPrep 1 8
+    ∷ abx Closure 6 0 ∷ abc Move 7 5 0 false ∷ load_int 8 3 ∷ abc Eq 7 8 0 false ∷ jump 2 ∷ abc Close 1 0 0 false ∷ jump 4
+    ∷ abc Close 5 0 0 false ∷ abc TForCall 1 0 1 false ∷ abx TForLoop 1 10 ∷ abc Close 1 0 0 false ∷ abc Return 1 1 0 true ∷ [])
 
 generic_for_code : Compiles breaks_out breaks_out_code
 unfolding opcodes number_of
@@ -68,13 +67,12 @@ unfolding opcodes number_of int_wrap
 closed_after_generic_for = (refl, refl)
 
 abbrev pub continues_code : Prototype
-continues_code = hand 0 false 7 [] [] (hidden 3 19 ∷ hidden 3 19 ∷ hidden 3 19 ∷ variable "i" 4 18 ∷ variable "j" 5 18 ∷ [])
+continues_code = hand 0 false 7 [] [] (hidden 3 15 ∷ hidden 3 15 ∷ hidden 3 15 ∷ variable "i" 4 14 ∷ variable "j" 5 14 ∷ [])
     (hand 0 false 4 [] (("i", 3) ∷ ("j", 4) ∷ []) [] []
     (abc GetUpval 2 0 0 false ∷ abc GetUpval 3 1 0 false ∷ abc Add 2 2 3 false ∷ abc MmBin 2 3 6 false ∷ abc SetUpval 2 0 0 false ∷ abc Return 0 1 0 false ∷ []) ∷ [])
-    (load_int 0 1 ∷ load_int 1 2 ∷ load_int 2 1 ∷ abx ForPrep 0 14
-    ∷ abc Move 4 3 0 false ∷ abc Move 5 4 0 false ∷ load_int 6 1 ∷ abc Eq 5 6 0 true ∷ jump 1 ∷ abc LFalseSkip 5 0 0 false ∷ abc LoadTrue 5 0 0 false
-    ∷ abc Test 5 0 0 false ∷ jump 2 ∷ abc Close 3 0 0 false ∷ jump 2
-    ∷ abx Closure 5 0 ∷ abc Call 5 1 1 false ∷ abc Close 3 0 0 false ∷ abx ForLoop 0 15 ∷ abc Return 0 1 0 false ∷ [])
+    (load_int 0 1 ∷ load_int 1 2 ∷ load_int 2 1 ∷ abx ForPrep 0 10
+    ∷ abc Move 4 3 0 false ∷ abc Move 5 4 0 false ∷ load_int 6 1 ∷ abc Eq 5 6 0 false ∷ jump 2 ∷ abc Close 3 0 0 false ∷ jump 2
+    ∷ abx Closure 5 0 ∷ abc Call 5 1 1 false ∷ abc Close 3 0 0 false ∷ abx ForLoop 0 11 ∷ abc Return 0 1 0 false ∷ [])
 
 numeric_for_code : Compiles continues continues_code
 unfolding opcodes number_of
@@ -88,11 +86,10 @@ jumps_about = fun ("a" ∷ []) [] (block (
     ∷ when (bin Equal (loc "i" 4) (int 2)) (Goto 1 (no_variable "found") ∷ []) ∷ [])) ∷ []))
 
 abbrev pub jumps_about_code : Prototype
-jumps_about_code = hand 1 false 7 [] [] (variable "a" 0 21 ∷ hidden 3 20 ∷ hidden 3 20 ∷ hidden 3 20 ∷ variable "i" 4 19 ∷ []) []
-    (load_int 1 3 ∷ load_int 2 1 ∷ abc Move 3 0 0 false ∷ abx ForPrep 1 15
-    ∷ abc Close 5 0 0 false ∷ jump 2 ∷ abc Close 1 0 0 false ∷ jump 12
-    ∷ abc Move 5 4 0 false ∷ load_int 6 2 ∷ abc Eq 5 6 0 true ∷ jump 1 ∷ abc LFalseSkip 5 0 0 false ∷ abc LoadTrue 5 0 0 false
-    ∷ abc Test 5 0 0 false ∷ jump 2 ∷ abc Close 5 0 0 false ∷ jump_back 12 ∷ abc Close 4 0 0 false ∷ abx ForLoop 1 16 ∷ abc Return 1 1 0 true ∷ [])
+jumps_about_code = hand 1 false 7 [] [] (variable "a" 0 17 ∷ hidden 3 16 ∷ hidden 3 16 ∷ hidden 3 16 ∷ variable "i" 4 15 ∷ []) []
+    (load_int 1 3 ∷ load_int 2 1 ∷ abc Move 3 0 0 false ∷ abx ForPrep 1 11
+    ∷ abc Close 5 0 0 false ∷ jump 2 ∷ abc Close 1 0 0 false ∷ jump 8
+    ∷ abc Move 5 4 0 false ∷ load_int 6 2 ∷ abc Eq 5 6 0 false ∷ jump 2 ∷ abc Close 5 0 0 false ∷ jump_back 8 ∷ abc Close 4 0 0 false ∷ abx ForLoop 1 12 ∷ abc Return 1 1 0 true ∷ [])
 
 jump_code : Compiles jumps_about jumps_about_code
 unfolding opcodes number_of
@@ -121,10 +118,10 @@ leaves_scopes = fun ("f" ∷ "v" ∷ []) [] (block (
     ∷ Label 1 (no_variable "done") ∷ [])) ∷ []))
 
 abbrev pub leaves_scopes_code : Prototype
-leaves_scopes_code = hand 2 false 5 [] [] (variable "f" 0 19 ∷ variable "v" 0 19 ∷ variable "x" 1 18 ∷ variable "y" 4 17 ∷ []) []
+leaves_scopes_code = hand 2 false 5 [] [] (variable "f" 0 17 ∷ variable "v" 0 17 ∷ variable "x" 1 16 ∷ variable "y" 4 15 ∷ []) []
     (abc Move 2 1 0 false ∷ abc Tbc 2 0 0 false ∷ abc Move 3 0 0 false ∷ abc Call 3 1 2 false
-    ∷ abc Move 4 3 0 false ∷ abc Test 4 0 0 false ∷ jump 2 ∷ abc Close 2 0 0 false ∷ jump_back 9 ∷ abc Close 2 0 0 false ∷ jump 6
-    ∷ abc LoadTrue 4 0 0 false ∷ abc Test 4 0 0 true ∷ jump 2 ∷ abc Close 3 0 0 false ∷ jump_back 14 ∷ abc Close 3 0 0 false
+    ∷ abc Move 4 3 0 false ∷ abc Test 4 0 0 false ∷ jump 2 ∷ abc Close 2 0 0 false ∷ jump_back 9 ∷ abc Close 2 0 0 false ∷ jump 4
+    ∷ jump 2 ∷ abc Close 3 0 0 false ∷ jump_back 12 ∷ abc Close 3 0 0 false
     ∷ abc Close 2 0 0 false ∷ abc Return 2 1 0 true ∷ [])
 
 leaving_code : Compiles leaves_scopes leaves_scopes_code

@@ -3,15 +3,15 @@ use Rattle.std.proofs.Common.{true, false, [], ◌∷◌, refl}
 use Rattle.std.specs.Prelude.{pos, negsuc}
 use Rattle.std.specs.Int.{int_wrap}
 use Rattle.code_core.specs.Opcode.{opcodes, number_of}
-use Rattle.code_core.specs.declared.opcode.Opcode.TheVariants.{Move, LoadI, LoadK, LFalseSkip, LoadTrue, GetUpval, GetTabUp, GetTable, SetTable, NewTable, OpSelf, Sub, MmBin, Unm, Not, Len, Concat, Lt, Le, Test, Call, TailCall, Return, SetList, VarArg, VarArgPrep, ExtraArg}
+use Rattle.code_core.specs.declared.opcode.Opcode.TheVariants.{Eq, Move, LoadI, LoadK, LFalseSkip, LoadTrue, GetUpval, GetTabUp, GetTable, SetTable, NewTable, OpSelf, Sub, MmBin, Unm, Not, Len, Concat, Lt, Le, Test, Call, TailCall, Return, SetList, VarArg, VarArgPrep, ExtraArg}
 use Rattle.code_core.specs.declared.proto.Const.TheVariants.{Int as IntConst}
 use Rattle.code_core.specs.Instruction.{abc, abx, op_ax}
 use Rattle.code_core.specs.Prototype.{Prototype}
 use Rattle.int_core.specs.Value.{known, boolean, object, a_table}
 use Rattle.int_core.specs.Ask.{values}
-use Rattle.tree_core.specs.declared.operator.BinOp.TheVariants.{Sub as Minus, Concat as Join, Le as AtMost, Gt}
+use Rattle.tree_core.specs.declared.operator.BinOp.TheVariants.{Sub as Minus, Concat as Join, Le as AtMost, Lt as Less, Ne, Gt}
 use Rattle.tree_core.specs.declared.operator.UnOp.TheVariants.{Not as Negation, Neg, Len as Length}
-use Rattle.tree_core.specs.Tree.{Body, Int, Vararg, Unary, And, Or, Method, IfElse, arms, exps}
+use Rattle.tree_core.specs.Tree.{Body, If, Int, Vararg, Unary, And, Or, Method, IfElse, arms, exps}
 use Rattle.code_means.proofs.Traces.{number}
 use Rattle.tree_terms.proofs.Forms.{no_variable, of_local, loc, global, int, call, bin, block, returning, assigns, assign, fun, vararg_fun}
 use Rattle.code_means.proofs.Forms.{text, variable, load_int, jump, AskAlike, tree_asks, code_asks}
@@ -65,8 +65,8 @@ chooses = fun ("a" ∷ []) [] (returning (
     (loc "a" 0 ∷ []))
 
 abbrev pub chooses_code : Prototype
-chooses_code = hand 1 false 4 [] [] (variable "a" 0 21 ∷ []) []
-    (abc Move 1 0 0 false ∷ load_int 2 1 ∷ abc Lt 2 1 0 true ∷ jump 1 ∷ abc LFalseSkip 1 0 0 false ∷ abc LoadTrue 1 0 0 false ∷ abc Test 1 0 0 false ∷ jump 3
+chooses_code = hand 1 false 4 [] [] (variable "a" 0 17 ∷ []) []
+    (abc Move 1 0 0 false ∷ load_int 2 1 ∷ abc Lt 2 1 0 false ∷ jump 3
     ∷ load_int 1 1 ∷ abc Return 1 2 0 true ∷ jump 8 ∷ abc Move 1 0 0 false ∷ abc Test 1 0 0 false ∷ jump 3 ∷ load_int 3 2 ∷ abc Move 0 3 0 false ∷ jump 2
     ∷ load_int 3 3 ∷ abc Move 0 3 0 false ∷ abc Move 1 0 0 false ∷ abc Return 1 2 0 true ∷ [])
 
@@ -85,6 +85,29 @@ second_arm = (refl, refl)
 no_arm : AskAlike 2 (tree_asks chooses [] (values [] ∷ [])) (code_asks chooses_code [] (values [] ∷ []))
 unfolding opcodes number_of int_wrap
 no_arm = (refl, refl)
+
+-- function(a,b) if not a or a<b and b~=1 then return a end end
+abbrev tests : Body
+tests = fun ("a" ∷ "b" ∷ []) [] (block (
+    If 1 (arms ((Or 1 (Unary 1 Negation (loc "a" 0)) (And 1 (bin Less (loc "a" 0) (loc "b" 1)) (bin Ne (loc "b" 1) (int 1))), returning [] (loc "a" 0 ∷ [])) ∷ [])) ∷ []))
+
+abbrev pub tests_code : Prototype
+tests_code = hand 2 false 4 [] [] (variable "a" 0 14 ∷ variable "b" 0 14 ∷ []) []
+    (abc Move 2 0 0 false ∷ abc Test 2 0 0 false ∷ jump 8 ∷ abc Move 2 0 0 false ∷ abc Move 3 1 0 false ∷ abc Lt 2 3 0 false ∷ jump 6
+    ∷ abc Move 2 1 0 false ∷ load_int 3 1 ∷ abc Eq 2 3 0 true ∷ jump 2 ∷ abc Move 2 0 0 false ∷ abc Return 2 2 0 true ∷ abc Return 2 1 0 true ∷ [])
+
+conditions_code : Compiles tests tests_code
+unfolding opcodes number_of
+conditions_code = refl
+
+first_decides : AskAlike 1 (tree_asks tests [] []) (code_asks tests_code [] [])
+unfolding opcodes number_of int_wrap
+first_decides = (refl, refl)
+
+all_decide : AskAlike 3 (tree_asks tests (number 1 ∷ number 2 ∷ []) (one (known (boolean true)) ∷ one (known (boolean false)) ∷ []))
+    (code_asks tests_code (number 1 ∷ number 2 ∷ []) (one (known (boolean true)) ∷ one (known (boolean false)) ∷ []))
+unfolding opcodes number_of int_wrap
+all_decide = (refl, refl)
 
 -- function(o,...) return #o..-o, o:m(1,...) end
 abbrev calls_method : Body

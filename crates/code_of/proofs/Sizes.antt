@@ -1,10 +1,13 @@
 -- The code of a statement has as many instructions as its size says, wherever it stands and its jumps lead.
-use Rattle.std.proofs.Common.{◌≡◌, ℕ, ◌+◌, Bool, true, false, List, [], ◌∷◌, ◌++◌, length, Option, Some, None, refl, ap, ◌∙◌, arith, length-append, ◌≤◌, cond}
-use Rattle.tree_core.specs.Tree.{Block, Falls, Returns, Stats, EndStats, MoreStats, Stat, Empty, Local, LocalFunction, Assign, CallStat, Do, While, Repeat, If, IfElse, NumFor, NumForStep, GenFor, Label, Goto, Break, Arms, EndArms, MoreArms}
+use Rattle.std.proofs.Common.{◌≡◌, ℕ, ◌+◌, Bool, true, false, List, [], ◌∷◌, ◌++◌, length, Option, Some, None, refl, sym, ap, ap₂, ◌∙◌, arith, length-append, ◌≤◌, cond}
+use Rattle.tree_core.specs.Tree.{Block, Falls, Returns, Stats, EndStats, MoreStats, Stat, Empty, Local, LocalFunction, Assign, CallStat, Do, While, Repeat, If, IfElse, NumFor, NumForStep, GenFor, Label, Goto, Break, Arms, EndArms, MoreArms, Exp, Nil, True, False, Int, Str, Vararg, Function, Var, Index, Call, Method, Unary, Binary, And, Or, Paren, Table}
+use Rattle.tree_core.specs.declared.operator.BinOp.{BinOp}
+use Rattle.tree_core.specs.declared.operator.BinOp.TheVariants.{Add as Plus, Sub as Minus, Mul as Times, Mod as Modulo, Idiv, Band, Bor, Bxor, Shl as ShiftLeft, Shr as ShiftRight, Concat as Join, Eq as Equal, Ne, Lt as Less, Le as AtMost, Gt, Ge}
+use Rattle.code_core.specs.declared.opcode.Opcode.{Opcode}
 use Rattle.tree_activation.specs.Activation.{line_of_end}
-use Rattle.code_core.specs.declared.opcode.Opcode.TheVariants.{Close, Test, ForLoop, ForPrep, TForPrep, TForCall, TForLoop, Return}
+use Rattle.code_core.specs.declared.opcode.Opcode.TheVariants.{Close, Eq, Lt, Le, ForLoop, ForPrep, TForPrep, TForCall, TForLoop, Return}
 use Rattle.code_core.specs.declared.proto.Const.{Const}
-use Rattle.code_core.specs.Instruction.{abc}
+use Rattle.code_of.specs.Conditions.{compared, is_not, value_test, test_code}
 use Rattle.code_of.specs.Coded.{Coded, with_abc, with_abx, jump_over, jump_back, leaving_by}
 use Rattle.code_of.specs.Expressions.{made_by, made_in, exp_code, exps_code}
 use Rattle.code_of.specs.Jumps.{Landing, Visible, Reach, label_in, leads}
@@ -13,38 +16,119 @@ use Rattle.tree_terms.specs.Levels.{level_after, levels_after, levels_in}
 use Rattle.code_of.specs.Parts.{marks_code, close_code, while_code, repeat_code, past_size, past, arm_code, counting_code, iterating_code, return_code, bounds_code, steps_code}
 use Rattle.code_of.specs.Sizes.{stat_size, arms_size, stats_size, block_size, open_size}
 use Rattle.code_of.specs.Statements.{in_loop, passed_after, labels_ahead, stat_code, arms_code, stats_code, block_code, open_code, whole_code}
-use Rattle.std.specs.Prelude.{cond, nat_eq}
+use Rattle.std.specs.Prelude.{cond, not, nat_eq}
+
+-- a condition is as long wherever it leads
+
+compared_sized : (op : BinOp) (other other' : List Coded) (by by' : Opcode → (swapped wanted : Bool) → List Coded) → length other ≡ length other' → ((o : Opcode) (s w : Bool) → length (by o s w) ≡ length (by' o s w))
+    → length (compared op other by) ≡ length (compared op other' by')
+compared_sized op other other' by by' e is = each op
+  where
+    each : (op : BinOp) → length (compared op other by) ≡ length (compared op other' by')
+    each Equal = is Eq false true
+    each Ne = is Eq false false
+    each Less = is Lt false true
+    each AtMost = is Le false true
+    each Gt = is Lt true true
+    each Ge = is Le true true
+    each Plus = e
+    each Minus = e
+    each Times = e
+    each Modulo = e
+    each Idiv = e
+    each Band = e
+    each Bor = e
+    each Bxor = e
+    each ShiftLeft = e
+    each ShiftRight = e
+    each Join = e
+
+both_sized : (xs ys xs' ys' : List Coded) → length xs ≡ length xs' → length ys ≡ length ys' → length (xs ++ ys) ≡ length (xs' ++ ys')
+both_sized xs ys xs' ys' e d = length-append xs ys ∙ ap₂ (λ m n. m + n) e d ∙ sym (length-append xs' ys')
+
+module _ (cs : List Const) where
+  abbrev pub TestSized : Exp → Type 0
+  TestSized e = (k : Bool) (ahead t j : ℕ) → length (test_code cs e k ahead t j) ≡ length (test_code cs e k 0 t j)
+
+  value_sized : (e : Exp) (k : Bool) (ahead t j : ℕ) → length (value_test cs e k ahead t j) ≡ length (value_test cs e k 0 t j)
+  value_sized e k ahead t j = both_sized (exp_code cs e t j 2) _ (exp_code cs e t j 2) _ refl refl
+
+  anywhere : (e : Exp) → TestSized e → (k : Bool) (a b t j : ℕ) → length (test_code cs e k a t j) ≡ length (test_code cs e k b t j)
+  anywhere e sized k a b t j = sized k a t j ∙ sym (sized k b t j)
+
+  prefix_sized : (b : Bool) (e whole : Exp) → TestSized e → (k : Bool) (ahead t j : ℕ)
+      → length (cond b (test_code cs e (not k) ahead t j) (value_test cs whole k ahead t j)) ≡ length (cond b (test_code cs e (not k) 0 t j) (value_test cs whole k 0 t j))
+  prefix_sized true e whole sized k ahead t j = sized (not k) ahead t j
+  prefix_sized false e whole sized k ahead t j = value_sized whole k ahead t j
+
+  true_sized : (k : Bool) (ahead line : ℕ) → length (cond k [] (jump_over ahead line ∷ [])) ≡ length (cond k [] (jump_over 0 line ∷ []))
+  true_sized true ahead line = refl
+  true_sized false ahead line = refl
+
+  pub test_sized : (e : Exp) → TestSized e
+  test_sized (Paren line e) k ahead t j = test_sized e k ahead t j
+  test_sized (Unary line op e) k ahead t j = prefix_sized (is_not op) e (Unary line op e) (test_sized e) k ahead t j
+  test_sized (And line e d) k ahead t j =
+      both_sized (test_code cs e true (length (test_code cs d k ahead t (j + made_by e)) + cond k ahead 0) t j) (test_code cs d k ahead t (j + made_by e))
+      (test_code cs e true (length (test_code cs d k 0 t (j + made_by e)) + cond k 0 0) t j) (test_code cs d k 0 t (j + made_by e))
+      (anywhere e (test_sized e) true _ _ t j) (test_sized d k ahead t (j + made_by e))
+  test_sized (Or line e d) k ahead t j =
+      both_sized (test_code cs e false (length (test_code cs d k ahead t (j + made_by e)) + cond k 0 ahead) t j) (test_code cs d k ahead t (j + made_by e))
+      (test_code cs e false (length (test_code cs d k 0 t (j + made_by e)) + cond k 0 0) t j) (test_code cs d k 0 t (j + made_by e))
+      (anywhere e (test_sized e) false _ _ t j) (test_sized d k ahead t (j + made_by e))
+  test_sized (Binary line op e d) k ahead t j =
+      compared_sized op _ _ _ _ (value_sized (Binary line op e d) k ahead t j)
+      (λ o s w. both_sized (exp_code cs e t j 2) _ (exp_code cs e t j 2) _ refl (both_sized (exp_code cs d (t + 1) (j + made_by e) 2) _ (exp_code cs d (t + 1) (j + made_by e) 2) _ refl refl))
+  test_sized (True line) k ahead t j = true_sized k ahead line
+  test_sized (Nil line) k ahead t j = value_sized (Nil line) k ahead t j
+  test_sized (False line) k ahead t j = value_sized (False line) k ahead t j
+  test_sized (Int line n) k ahead t j = value_sized (Int line n) k ahead t j
+  test_sized (Str line bytes) k ahead t j = value_sized (Str line bytes) k ahead t j
+  test_sized (Vararg line) k ahead t j = value_sized (Vararg line) k ahead t j
+  test_sized (Function line body) k ahead t j = value_sized (Function line body) k ahead t j
+  test_sized (Var line name) k ahead t j = value_sized (Var line name) k ahead t j
+  test_sized (Index line object key) k ahead t j = value_sized (Index line object key) k ahead t j
+  test_sized (Call line f es) k ahead t j = value_sized (Call line f es) k ahead t j
+  test_sized (Method line object name es) k ahead t j = value_sized (Method line object name es) k ahead t j
+  test_sized (Table line fs) k ahead t j = value_sized (Table line fs) k ahead t j
 
 -- the forms of statements, where their parts have these sizes
 
-pub while_sized : (test block : List Coded) (t line m : ℕ) → length block ≡ m → length (while_code test block t line) ≡ length test + (m + 3)
-while_sized test block t line m e =
-    let back = jump_back (length test + length block + 3) line ∷ [] in
-    let a = length-append test (with_abc Test t 0 0 line ∷ jump_over (length block + 1) line ∷ (block ++ back)) in
+pub while_sized : (test : ℕ → List Coded) (block : List Coded) (line l m : ℕ) → ((ahead : ℕ) → length (test ahead) ≡ l) → length block ≡ m → length (while_code test block line) ≡ l + (m + 1)
+while_sized test block line l m is e =
+    let first = test (length block + 1) in
+    let back = jump_back (length first + length block + 1) line ∷ [] in
+    let a = length-append first (block ++ back) in
     let b = length-append block back in
-    omega (arith, a, b, e)
+    let f = is (length block + 1) in
+    omega (arith, a, b, e, f)
 
-pub repeat_sized : (block test close : List Coded) (inner line m : ℕ) → length block ≡ m → length (repeat_code block test close inner line) ≡ m + (length test + (length close + length close + 3))
-repeat_sized block test close inner line m e =
-    let back = jump_back (length block + length test + length close + 3) line ∷ close in
-    let ends = (abc Test inner 0 0 true, line) ∷ jump_over (length close + 1) line ∷ (close ++ back) in
-    let a = length-append block (test ++ ends) in
-    let b = length-append test ends in
+pub repeat_sized : (test : ℕ → List Coded) (block close : List Coded) (line l m : ℕ) → ((ahead : ℕ) → length (test ahead) ≡ l) → length block ≡ m
+    → length (repeat_code test block close line) ≡ m + (l + (length close + length close + 1))
+repeat_sized test block close line l m is e =
+    let last = test (length close + 1) in
+    let back = jump_back (length block + length last + length close + 1) line ∷ close in
+    let a = length-append block (last ++ (close ++ back)) in
+    let b = length-append last (close ++ back) in
     let c = length-append close back in
-    omega (arith, a, b, c, e)
+    let f = is (length close + 1) in
+    omega (arith, a, b, c, e, f)
 
 pub past_sized : (rest : List Coded) (line : ℕ) → length (past rest line) ≡ past_size (length rest)
 past_sized [] line = refl
 past_sized (x ∷ rest) line = refl
 
-pub arm_sized : (test block rest : List Coded) (t line m n : ℕ) → length block ≡ m → length rest ≡ n → length (arm_code test block rest t line) ≡ length test + (m + (past_size n + n + 2))
-arm_sized test block rest t line m n e d =
+pub arm_sized : (test : ℕ → List Coded) (block rest : List Coded) (line l m n : ℕ) → ((ahead : ℕ) → length (test ahead) ≡ l) → length block ≡ m → length rest ≡ n
+    → length (arm_code test block rest line) ≡ l + (m + (past_size n + n))
+arm_sized test block rest line l m n is e d =
     let p = past rest line in
-    let a = length-append test (with_abc Test t 0 0 line ∷ jump_over (length block + length p) line ∷ (block ++ (p ++ rest))) in
+    let first = test (length block + length p) in
+    let a = length-append first (block ++ (p ++ rest)) in
     let b = length-append block (p ++ rest) in
     let c = length-append p rest in
     let s = past_sized rest line ∙ ap past_size d in
-    omega (arith, a, b, c, e, d, s)
+    let f = is (length block + length p) in
+    omega (arith, a, b, c, e, d, s, f)
 
 pub counting_sized : (start block : List Coded) (t line m : ℕ) → length block ≡ m → length (counting_code start block t line) ≡ length start + (m + 2)
 counting_sized start block t line m e =
@@ -81,16 +165,18 @@ module _ (cs : List Const) (back : ℕ) where
     stat_sized (CallStat line e) closing t j pc reach = refl
     stat_sized (Do line block) closing t j pc reach = block_sized block closing t t j pc reach
     stat_sized (While line e block) closing t j pc reach =
-        let test = exp_code cs e t j 2 in
+        let place = pc + length (test_code cs e true 0 t j) in
         let inner = in_loop reach (pc + stat_size cs back (While line e block) closing t j) t in
-        while_sized test (block_code cs back block closing t t (j + made_by e) (pc + length test + 2) inner) t line _ (block_sized block closing t t (j + made_by e) (pc + length test + 2) inner)
+        while_sized (λ ahead. test_code cs e true ahead t j) (block_code cs back block closing t t (j + made_by e) place inner) line _ _
+        (λ ahead. test_sized cs e true ahead t j) (block_sized block closing t t (j + made_by e) place inner)
     stat_sized (Repeat line block e) closing t j pc reach =
         let within = levels_in block t in
-        let test = exp_code cs e within (j + made_in_block block) 2 in
+        let size = length (test_code cs e false 0 within (j + made_in_block block)) in
         let inner = in_loop reach (pc + stat_size cs back (Repeat line block e) closing t j) t in
         let same = close_sized t within (line_of_end block) line in
-        let whole = repeat_sized (open_code cs back block closing t j pc inner) test (close_code t within (line_of_end block)) within line _ (open_sized block closing t j pc inner) in
-        whole ∙ ap (λ c. open_size cs back block closing t j + (length test + (c + c + 3))) same
+        let whole = repeat_sized (λ ahead. test_code cs e false ahead within (j + made_in_block block)) (open_code cs back block closing t j pc inner) (close_code t within (line_of_end block)) line _ _
+        (λ ahead. test_sized cs e false ahead within (j + made_in_block block)) (open_sized block closing t j pc inner) in
+        whole ∙ ap (λ c. open_size cs back block closing t j + (size + (c + c + 1))) same
     stat_sized (If line arms) closing t j pc reach = let a = arms_sized arms [] closing t j pc line reach in omega (arith, a)
     stat_sized (IfElse line arms block) closing t j pc reach =
         let k = j + made_in_arms arms in
@@ -121,13 +207,12 @@ module _ (cs : List Const) (back : ℕ) where
         → length (arms_code cs back arms otherwise closing t j pc line reach) ≡ arms_size cs back arms (length otherwise) closing t j + length otherwise
     arms_sized EndArms otherwise closing t j pc line reach = omega arith
     arms_sized (MoreArms e block arms) otherwise closing t j pc line reach =
-        let test = exp_code cs e t j 2 in
         let k = j + made_by e + made_in_block block in
-        let inner = pc + length test + 2 in
+        let inner = pc + length (test_code cs e true 0 t j) in
         let others = arms_size cs back arms (length otherwise) closing t k in
         let behind = inner + block_size cs back block closing t t (j + made_by e) + past_size (others + length otherwise) in
-        let a = arm_sized test (block_code cs back block closing t t (j + made_by e) inner reach) (arms_code cs back arms otherwise closing t k behind line reach) t line _ _
-        (block_sized block closing t t (j + made_by e) inner reach) (arms_sized arms otherwise closing t k behind line reach) in
+        let a = arm_sized (λ ahead. test_code cs e true ahead t j) (block_code cs back block closing t t (j + made_by e) inner reach) (arms_code cs back arms otherwise closing t k behind line reach) line _ _ _
+        (λ ahead. test_sized cs e true ahead t j) (block_sized block closing t t (j + made_by e) inner reach) (arms_sized arms otherwise closing t k behind line reach) in
         omega (arith, a)
 
     pub stats_sized : (ss : Stats) (falls closing : Bool) (outer t j pc : ℕ) (passed : List Visible) (reach : Reach)

@@ -2,6 +2,7 @@ pub mod Coded
 pub mod Constants
 pub mod Operators
 pub mod Expressions
+pub mod Conditions
 pub mod Levels
 pub mod Jumps
 pub mod Parts

@@ -1,16 +1,15 @@
 -- The code of statements that have no block, and the forms of those that have some (Lua 5.4 manual, 3.3), where t locals are in scope:
 -- these stand in the registers below t.
-use Rattle.std.specs.Prelude.{ℕ, zero, suc, ◌+◌, ◌*◌, pos, Bool, true, false, cond, List, [], ◌∷◌, ◌++◌, length, nat_eq, Some, None}
+use Rattle.std.specs.Prelude.{ℕ, zero, suc, ◌+◌, ◌*◌, pos, Bool, false, cond, List, [], ◌∷◌, ◌++◌, length, nat_eq, Some, None}
 use Rattle.tree_core.specs.declared.name.Declared.{Declared}
 use Rattle.tree_core.specs.declared.name.Place.{Place}
 use Rattle.tree_core.specs.declared.name.Place.TheVariants.{Unset, Upvalue, GlobalIn, GlobalOf, Local as LocalPlace}
 use Rattle.tree_core.specs.Tree.{Body, Exp, Var, Index, Call, Method, Exps, EndExps, MoreExps}
 use Rattle.tree_terms.specs.Bodies.{line_of_body}
 use Rattle.tree_activation.specs.Statements.{is_closed}
-use Rattle.code_core.specs.declared.opcode.Opcode.TheVariants.{Move, LoadI, LoadNil, GetUpval, SetUpval, SetTable, Close, Tbc, Test, TailCall, Return, ForLoop, ForPrep, TForPrep, TForCall, TForLoop, Closure}
+use Rattle.code_core.specs.declared.opcode.Opcode.TheVariants.{Move, LoadI, LoadNil, GetUpval, SetUpval, SetTable, Close, Tbc, TailCall, Return, ForLoop, ForPrep, TForPrep, TForCall, TForLoop, Closure}
 use Rattle.code_core.specs.declared.proto.Const.{Const}
 use Rattle.code_core.specs.declared.proto.Const.TheVariants.{Str as StrConst}
-use Rattle.code_core.specs.Instruction.{abc}
 use Rattle.code_of.specs.Coded.{Coded, with_abc, with_abx, jump_over, jump_back, leaving_by}
 use Rattle.code_of.specs.Constants.{small_field, loads}
 use Rattle.code_of.specs.Operators.{self_code}
@@ -28,16 +27,17 @@ close_code before after line = cond (nat_eq before after) [] (with_abc Close bef
 abbrev pub function_code : Body → (t j : ℕ) → List Coded
 function_code body t j = with_abc LoadNil t 0 0 (line_of_body body) ∷ with_abx Closure t j (line_of_body body) ∷ []
 
--- a loop: the test, a jump past the end, the block and a jump back to the test
-abbrev pub while_code : (test block : List Coded) → (t line : ℕ) → List Coded
-while_code test block t line =
-    test ++ (with_abc Test t 0 0 line ∷ jump_over (length block + 1) line ∷ (block ++ jump_back (length test + length block + 3) line ∷ []))
+-- a loop: the test, which leads past the end, the block and a jump back to the test
+abbrev pub while_code : (test : (ahead : ℕ) → List Coded) → (block : List Coded) → (line : ℕ) → List Coded
+while_code test block line =
+    let first = test (length block + 1) in
+    first ++ (block ++ jump_back (length first + length block + 1) line ∷ [])
 
--- the test sees the locals of the block, of which there are `inner` at its end; they are closed whatever it came to
-abbrev pub repeat_code : (block test close : List Coded) → (inner line : ℕ) → List Coded
-repeat_code block test close inner line =
-    block ++ (test ++ ((abc Test inner 0 0 true, line) ∷ jump_over (length close + 1) line
-    ∷ (close ++ (jump_back (length block + length test + length close + 3) line ∷ close))))
+-- the test sees the locals of the block; they are closed whatever it came to
+abbrev pub repeat_code : (test : (ahead : ℕ) → List Coded) → (block close : List Coded) → (line : ℕ) → List Coded
+repeat_code test block close line =
+    let last = test (length close + 1) in
+    block ++ (last ++ (close ++ (jump_back (length block + length last + length close + 1) line ∷ close)))
 
 -- a test with its block, and what else is to be done; where there is nothing else no jump leads past it
 
@@ -49,9 +49,8 @@ abbrev pub past : (rest : List Coded) → (line : ℕ) → List Coded
 past [] line = []
 past (x ∷ rest) line = jump_over (length (x ∷ rest)) line ∷ []
 
-abbrev pub arm_code : (test block rest : List Coded) → (t line : ℕ) → List Coded
-arm_code test block rest t line =
-    test ++ (with_abc Test t 0 0 line ∷ jump_over (length block + length (past rest line)) line ∷ (block ++ (past rest line ++ rest)))
+abbrev pub arm_code : (test : (ahead : ℕ) → List Coded) → (block rest : List Coded) → (line : ℕ) → List Coded
+arm_code test block rest line = test (length block + length (past rest line)) ++ (block ++ (past rest line ++ rest))
 
 -- a numeric `for`: the index, the limit or the count of rounds to come, and the step stand in registers of their own, and the variable behind them
 

@@ -2,11 +2,12 @@
 use Rattle.std.specs.Prelude.{ℕ, zero, suc, ◌+◌, max, cond, List, Some, None, nat_lt}
 use Rattle.tree_core.specs.declared.name.Place.{Place}
 use Rattle.tree_core.specs.declared.name.Place.TheVariants.{GlobalOf}
-use Rattle.tree_core.specs.Tree.{Exp, Vararg, Var, Index, Call, Method, Unary, Binary, And, Or, Paren, Table, Exps, EndExps, MoreExps, Fields, EndFields, MoreFields, Item, Keyed}
+use Rattle.tree_core.specs.Tree.{Exp, True, Vararg, Var, Index, Call, Method, Unary, Binary, And, Or, Paren, Table, Exps, EndExps, MoreExps, Fields, EndFields, MoreFields, Item, Keyed}
 use Rattle.code_core.specs.declared.proto.Const.{Const}
 use Rattle.code_core.specs.declared.proto.Const.TheVariants.{Str as StrConst}
 use Rattle.code_of.specs.Constants.{number_in}
 use Rattle.code_of.specs.Expressions.{Wanted, field_of, wanted_after, is_last_item}
+use Rattle.code_of.specs.Conditions.{is_not}
 
 abbrev pub room_of_values : (field : ℕ) → ℕ
 room_of_values zero = 1
@@ -51,3 +52,12 @@ module _ (cs : List Const) where
     room_of_fields EndFields = 0
     room_of_fields (MoreFields (Item e) fs) = max (room_of e (cond (is_last_item e fs) 0 2)) (room_of_fields fs)
     room_of_fields (MoreFields (Keyed line e d) fs) = max (max (room_of e 2) (1 + room_of d 2)) (room_of_fields fs)
+
+  -- a condition, of which only the truth is wanted
+  abbrev pub room_of_test : Exp → ℕ
+  room_of_test (Paren line e) = room_of_test e
+  room_of_test (Unary line op e) = cond (is_not op) (room_of_test e) (room_of e 2)
+  room_of_test (And line e d) = max (room_of_test e) (room_of_test d)
+  room_of_test (Or line e d) = max (room_of_test e) (room_of_test d)
+  room_of_test (True line) = 0
+  room_of_test e = room_of e 2

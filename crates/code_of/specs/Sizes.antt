@@ -1,8 +1,9 @@
 -- How many instructions a statement has. It does not hang on where its jumps lead.
-use Rattle.std.specs.Prelude.{ℕ, ◌+◌, Bool, true, List, length, Some}
+use Rattle.std.specs.Prelude.{ℕ, ◌+◌, Bool, true, false, List, length, Some}
 use Rattle.tree_core.specs.Tree.{Block, Falls, Returns, Stats, EndStats, MoreStats, Stat, Empty, Local, LocalFunction, Assign, CallStat, Do, While, Repeat, If, IfElse, NumFor, NumForStep, GenFor, Label, Goto, Break, Arms, EndArms, MoreArms}
 use Rattle.code_core.specs.declared.proto.Const.{Const}
 use Rattle.code_of.specs.Expressions.{made_by, made_in, exp_code, exps_code}
+use Rattle.code_of.specs.Conditions.{test_code}
 use Rattle.code_of.specs.Levels.{made_by_stat, made_in_arms, made_in_stats, made_in_block, closing_after, closings_after}
 use Rattle.tree_terms.specs.Levels.{level_after, levels_after, levels_in}
 use Rattle.code_of.specs.Parts.{marks_code, close_code, past_size, assign_code, return_code, bounds_code, steps_code}
@@ -16,11 +17,11 @@ module _ (constants : List Const) (back : ℕ) where
     stat_size (Assign line targets es) closing t j = length (assign_code constants targets es t j line)
     stat_size (CallStat line e) closing t j = length (exp_code constants e t j 1)
     stat_size (Do line block) closing t j = block_size block closing t t j
-    stat_size (While line e block) closing t j = length (exp_code constants e t j 2) + (block_size block closing t t (j + made_by e) + 3)
+    stat_size (While line e block) closing t j = length (test_code constants e true 0 t j) + (block_size block closing t t (j + made_by e) + 1)
     stat_size (Repeat line block e) closing t j =
         let inner = levels_in block t in
         let close = length (close_code t inner line) in
-        open_size block closing t j + (length (exp_code constants e inner (j + made_in_block block) 2) + (close + close + 3))
+        open_size block closing t j + (length (test_code constants e false 0 inner (j + made_in_block block)) + (close + close + 1))
     stat_size (If line arms) closing t j = arms_size arms 0 closing t j
     stat_size (IfElse line arms block) closing t j =
         let otherwise = block_size block closing t t (j + made_in_arms arms) in
@@ -41,7 +42,7 @@ module _ (constants : List Const) (back : ℕ) where
     arms_size EndArms rest closing t j = 0
     arms_size (MoreArms e block arms) rest closing t j =
         let others = arms_size arms rest closing t (j + made_by e + made_in_block block) in
-        length (exp_code constants e t j 2) + (block_size block closing t t (j + made_by e) + (past_size (others + rest) + others + 2))
+        length (test_code constants e true 0 t j) + (block_size block closing t t (j + made_by e) + (past_size (others + rest) + others))
 
     pub stats_size : Stats → (closing : Bool) → (t j : ℕ) → ℕ
     stats_size EndStats closing t j = 0

@@ -7,6 +7,7 @@ use Rattle.code_core.specs.declared.opcode.Opcode.TheVariants.{Return}
 use Rattle.code_core.specs.declared.proto.Const.{Const}
 use Rattle.code_of.specs.Coded.{Coded, leaving_by}
 use Rattle.code_of.specs.Expressions.{made_by, made_in, exp_code, exps_code}
+use Rattle.code_of.specs.Conditions.{test_code}
 use Rattle.code_of.specs.Jumps.{Visible, Reach, label_in, leads}
 use Rattle.code_of.specs.Levels.{made_by_stat, made_in_arms, made_in_stats, made_in_block, closing_after, closings_after}
 use Rattle.tree_terms.specs.Levels.{level_after, levels_after, levels_in}
@@ -44,14 +45,15 @@ module _ (constants : List Const) (back : ℕ) where
     stat_code (CallStat line e) closing t j pc reach = exp_code constants e t j 1
     stat_code (Do line block) closing t j pc reach = block_code block closing t t j pc reach
     stat_code (While line e block) closing t j pc reach =
-        let test = exp_code constants e t j 2 in
-        while_code test
-        (block_code block closing t t (j + made_by e) (pc + length test + 2) (in_loop reach (pc + stat_size constants back (While line e block) closing t j) t))
-        t line
+        while_code (λ ahead. test_code constants e true ahead t j)
+        (block_code block closing t t (j + made_by e) (pc + length (test_code constants e true 0 t j))
+        (in_loop reach (pc + stat_size constants back (While line e block) closing t j) t))
+        line
     stat_code (Repeat line block e) closing t j pc reach =
         let inner = levels_in block t in
-        repeat_code (open_code block closing t j pc (in_loop reach (pc + stat_size constants back (Repeat line block e) closing t j) t))
-        (exp_code constants e inner (j + made_in_block block) 2) (close_code t inner (line_of_end block)) inner line
+        repeat_code (λ ahead. test_code constants e false ahead inner (j + made_in_block block))
+        (open_code block closing t j pc (in_loop reach (pc + stat_size constants back (Repeat line block e) closing t j) t))
+        (close_code t inner (line_of_end block)) line
     stat_code (If line arms) closing t j pc reach = arms_code arms [] closing t j pc line reach
     stat_code (IfElse line arms block) closing t j pc reach =
         let k = j + made_in_arms arms in
@@ -83,12 +85,12 @@ module _ (constants : List Const) (back : ℕ) where
     pub arms_code : Arms → (otherwise : List Coded) → (closing : Bool) → (t j pc line : ℕ) → Reach → List Coded
     arms_code EndArms otherwise closing t j pc line reach = otherwise
     arms_code (MoreArms e block arms) otherwise closing t j pc line reach =
-        let test = exp_code constants e t j 2 in
         let k = j + made_by e + made_in_block block in
-        let inner = pc + length test + 2 in
+        let inner = pc + length (test_code constants e true 0 t j) in
         let behind = inner + block_size constants back block closing t t (j + made_by e)
         + past_size (arms_size constants back arms (length otherwise) closing t k + length otherwise) in
-        arm_code test (block_code block closing t t (j + made_by e) inner reach) (arms_code arms otherwise closing t k behind line reach) t line
+        arm_code (λ ahead. test_code constants e true ahead t j) (block_code block closing t t (j + made_by e) inner reach)
+        (arms_code arms otherwise closing t k behind line reach) line
 
     -- of a block, with the labels that were passed in it; `outer` locals are in scope around it
     pub stats_code : Stats → (falls closing : Bool) → (outer t j pc : ℕ) → (passed : List Visible) → Reach → List Coded

@@ -5,7 +5,8 @@ use Rattle.tree_core.specs.declared.name.Declared.{Declared}
 use Rattle.tree_core.specs.Tree.{Block, Falls, Returns, Stats, EndStats, MoreStats, Stat, Empty, Local, LocalFunction, Assign, CallStat, Do, While, Repeat, If, IfElse, NumFor, NumForStep, GenFor, Label, Goto, Break, Arms, EndArms, MoreArms}
 use Rattle.code_core.specs.declared.proto.Const.{Const}
 use Rattle.code_core.specs.declared.proto.LocVar.{LocVar}
-use Rattle.code_of.specs.Expressions.{made_by, made_in, exp_code, exps_code}
+use Rattle.code_of.specs.Expressions.{made_by, made_in, exps_code}
+use Rattle.code_of.specs.Conditions.{test_code}
 use Rattle.code_of.specs.Levels.{made_by_stat, made_in_arms, made_in_block, closing_after}
 use Rattle.tree_terms.specs.Levels.{level_after}
 use Rattle.code_of.specs.Parts.{past_size, bounds_code, steps_code}
@@ -45,7 +46,7 @@ module _ (constants : List Const) (back : ℕ) where
     within_stat (Assign line targets es) closing t j pc = []
     within_stat (CallStat line e) closing t j pc = []
     within_stat (Do line block) closing t j pc = within_block block closing t t j pc
-    within_stat (While line e block) closing t j pc = within_block block closing t t (j + made_by e) (pc + length (exp_code constants e t j 2) + 2)
+    within_stat (While line e block) closing t j pc = within_block block closing t t (j + made_by e) (pc + length (test_code constants e true 0 t j))
     within_stat (Repeat line block e) closing t j pc = within_open block closing t j pc (pc + stat_size constants back (Repeat line block e) closing t j)
     within_stat (If line arms) closing t j pc = within_arms arms 0 closing t j pc
     within_stat (IfElse line arms block) closing t j pc =
@@ -78,7 +79,7 @@ module _ (constants : List Const) (back : ℕ) where
     within_arms EndArms rest closing t j pc = []
     within_arms (MoreArms e block arms) rest closing t j pc =
         let k = j + made_by e + made_in_block block in
-        let inner = pc + length (exp_code constants e t j 2) + 2 in
+        let inner = pc + length (test_code constants e true 0 t j) in
         let behind = inner + block_size constants back block closing t t (j + made_by e) + past_size (arms_size constants back arms rest closing t k + rest) in
         within_block block closing t t (j + made_by e) inner ++ within_arms arms rest closing t k behind
 

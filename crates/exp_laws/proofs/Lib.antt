@@ -25,3 +25,4 @@ pub mod Loads
 pub mod Prefixes
 pub mod Tests
 pub mod Comparisons
+pub mod Conditions

@@ -46,6 +46,10 @@ next_mono R R' Q Q' f g _ _ e = absurd e
 known_go : {F S : Type 0} (lines : Bool) (x : Next F S) (k : S → Next F S) (s : S) → x ≡ goes_on s → as_known lines (on_from x k) ≡ as_known lines (k s)
 known_go lines x k s e = ap (λ y. as_known lines (on_from y k)) e
 
+pub runs_from : {F S : Type 0} (steps : S → Next F S) (j : ℕ) (s t : S) → steps s ≡ steps t → runs steps j s ≡ runs steps j t
+runs_from steps zero s t e = e
+runs_from steps (suc j) s t e = ap (λ x. on_from x (runs steps j)) e
+
 module _ (S : Setting) where
   -- both talk alike through n asks
   abbrev pub Agree : ℕ → tree.State → code.State → Type 0
@@ -72,6 +76,11 @@ module _ (S : Setting) where
   go_right zero s t t' e h = tt
   go_right (suc n) s t t' e h =
       (h.0, suc h.1, subst (λ x. NextAgree n (as_known S.lines (runs step h.0 s)) (on_from x (runs (talk_step S.code) h.1))) (sym e) h.2)
+
+  -- another state of the code, from which the same is done
+  pub as_code : (n : ℕ) (s : tree.State) (t t' : code.State) → talk_step S.code t ≡ talk_step S.code t' → Agree n s t' → Agree n s t
+  as_code zero s t t' e h = tt
+  as_code (suc n) s t t' e h = (h.0, h.1, subst (λ x. NextAgree n (as_known S.lines (runs step h.0 s)) x) (sym (runs_from (talk_step S.code) h.1 t t' e)) h.2)
 
   both_say : (n : ℕ) (s : tree.State) (t : code.State) (x : Next Body tree.State) (y : Next Prototype code.State) → step s ≡ x → talk_step S.code t ≡ y → NextAgree n (as_known S.lines x) y → Agree (suc n) s t
   both_say n s t x y e d h =

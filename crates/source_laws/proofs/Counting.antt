@@ -7,7 +7,8 @@ use Rattle.tree_core.specs.Tree.{Block, Falls, Returns, BodyOf, Stats, EndStats,
 use Rattle.code_core.specs.declared.proto.Const.{Const}
 use Rattle.code_of.specs.Constants.{of_block}
 use Rattle.code_of.specs.CodeOf.{back_field, body_code, variables_of, code_of}
-use Rattle.code_of.specs.Expressions.{count, made_by, made_in, exp_code, exps_code}
+use Rattle.code_of.specs.Expressions.{count, made_by, made_in, exps_code}
+use Rattle.code_of.specs.Conditions.{test_code}
 use Rattle.tree_terms.specs.Levels.{level_after, levels_after}
 use Rattle.code_of.specs.Levels.{made_by_stat, made_in_arms, made_in_block, closing_after}
 use Rattle.code_of.specs.Parts.{past_size, bounds_code, steps_code}
@@ -93,7 +94,7 @@ module _ (cs : List Const) (back : ℕ) where
     stat_few (Assign line targets es) closing t j pc end = omega arith
     stat_few (CallStat line e) closing t j pc end = omega arith
     stat_few (Do line block) closing t j pc end = let h = block_few block closing t t j pc in omega (arith, h)
-    stat_few (While line e block) closing t j pc end = let h = block_few block closing t t (j + made_by e) (pc + length (exp_code cs e t j 2) + 2) in omega (arith, h)
+    stat_few (While line e block) closing t j pc end = let h = block_few block closing t t (j + made_by e) (pc + length (test_code cs e true 0 t j)) in omega (arith, h)
     stat_few (Repeat line block e) closing t j pc end = let h = open_few block closing t j pc (pc + stat_size cs back (Repeat line block e) closing t j) in omega (arith, h)
     stat_few (If line arms) closing t j pc end = let h = arms_few arms 0 closing t j pc in omega (arith, h)
     stat_few (IfElse line arms block) closing t j pc end =
@@ -139,7 +140,7 @@ module _ (cs : List Const) (back : ℕ) where
     arms_few EndArms rest closing t j pc = omega arith
     arms_few (MoreArms e block arms) rest closing t j pc =
         let k = j + made_by e + made_in_block block in
-        let inner = pc + length (exp_code cs e t j 2) + 2 in
+        let inner = pc + length (test_code cs e true 0 t j) in
         let next = inner + block_size cs back block closing t t (j + made_by e) + past_size (arms_size cs back arms rest closing t k + rest) in
         let a = block_few block closing t t (j + made_by e) inner in
         let b = arms_few arms rest closing t k next in

@@ -1,23 +1,17 @@
 -- Blocks, and the statements that have some: `do`, `if` and `while`.
-use Rattle.std.proofs.Common.{◌≡◌, ℕ, zero, suc, ◌+◌, ◌<◌, ◌≤◌, max, Bool, true, false, cond, List, [], ◌∷◌, ◌++◌, length, Option, Some, None, refl, sym, ap, subst, ◌∙◌, arith, append_assoc}
-use Rattle.int_core.specs.Value.{Value, known, nil, nth, shape, holds, same_truth}
+use Rattle.std.proofs.Common.{◌≡◌, ℕ, zero, suc, ◌+◌, ◌<◌, ◌≤◌, Bool, true, false, cond, List, [], ◌∷◌, ◌++◌, length, Option, Some, None, refl, sym, ap, subst, ◌∙◌, arith, append_assoc}
+use Rattle.int_core.specs.Value.{Value, known, nil, shape, holds}
 use Rattle.int_core.specs.Ask.{Captured}
-use Rattle.tree_core.specs.Tree.{Block, Falls, Stats, EndStats, Empty, Do, While, If, IfElse, Label, Goto, Break, Arms, EndArms, MoreArms, Exp, Nil, True, False, Int, Str, Vararg, Function, Var, Index, Call, Method, Unary, Binary, And, Or, Paren, Table}
+use Rattle.tree_core.specs.Tree.{Block, Falls, Stats, EndStats, Empty, Do, While, If, IfElse, Label, Goto, Break, Arms, EndArms, MoreArms, Exp}
 use Rattle.tree_activation.specs.Work.{complete, choose, evaluate, give, run, leave_scope, Work, Pending, Passed, falls_off, if_test, while_test, looping, Activation, State}
 use Rattle.tree_activation.specs.Work as tree
 use Rattle.tree_activation.specs.Asking.{first, go}
 use Rattle.tree_activation.specs.Statements.{point_of, begins}
 use Rattle.tree_activation.specs.Jumps.{goes_to, breaks}
-use Rattle.code_core.specs.declared.opcode.Opcode.TheVariants.{Test, Jmp}
-use Rattle.std.specs.Prelude.{nat_lt}
-use Rattle.tree_core.specs.declared.name.Place.{Place}
-use Rattle.tree_core.specs.declared.name.Place.TheVariants.{Unset, Upvalue, GlobalIn, GlobalOf, Local as LocalPlace}
-use Rattle.code_core.specs.declared.proto.Const.TheVariants.{Str as StrConst}
-use Rattle.code_of.specs.Constants.{number_in}
-use Rattle.code_core.specs.Instruction.{abc, op_ax}
 use Rattle.machine_core.specs.Talk.{before}
-use Rattle.code_of.specs.Coded.{Coded, with_abc, jump_over, jump_back}
-use Rattle.code_of.specs.Expressions.{made_by, is_open, exp_code}
+use Rattle.code_of.specs.Coded.{Coded, jump_over, jump_back}
+use Rattle.code_of.specs.Expressions.{made_by}
+use Rattle.code_of.specs.Conditions.{test_code}
 use Rattle.code_of.specs.Jumps.{Reach}
 use Rattle.code_of.specs.Levels.{made_in_arms, made_in_block}
 use Rattle.tree_terms.specs.Levels.{levels_after}
@@ -30,82 +24,24 @@ use Rattle.exp_laws.specs.Setting.{Setting}
 use Rattle.exp_laws.proofs.Talking.{Agree, go_left, go_right, of_tree, of_code}
 use Rattle.exp_laws.proofs.Placing.{HasAt, has_front, has_back}
 use Rattle.exp_laws.specs.Placed.{IsPlaced}
-use Rattle.code_of.specs.Rooms.{room_of, room_of_name, room_of_list, room_of_values}
-use Rattle.exp_laws.proofs.Going.{Goes, next_there}
-use Rattle.exp_laws.proofs.Tests.{test_on, test_past, jump_step}
+use Rattle.exp_laws.proofs.Conditions.{TestSame, truth_is}
+use Rattle.exp_laws.proofs.Going.{next_there}
+use Rattle.exp_laws.proofs.Tests.{jump_step}
+use Rattle.tree_activation.specs.Activation.{step}
 use Rattle.stat_laws.proofs.Closing.{AllBelow, ends_goes}
 use Rattle.stat_laws.proofs.Standing.{strong, numbers, AllFrom, from_lower, from_more, part, ascends_under, Standing, GoesOn, goes_fewer, goes_from, back_goes, lands_ahead, below_higher}
 use Rattle.stat_laws.proofs.Naming.{BlockIsNamed, ArmsAreNamed}
 use Rattle.tree_terms.specs.Labels.{Named}
 use Rattle.stat_laws.specs.Scoped.{ArmsArePlaced, BlockIsPlaced}
-use Rattle.code_of.proofs.Sizes.{past_sized, block_sized, arms_sized, stats_sized}
+use Rattle.code_of.proofs.Sizes.{test_sized, past_sized, block_sized, arms_sized, stats_sized}
 use Rattle.stat_laws.proofs.Labels.{Jumps, jumps_within}
 use Rattle.stat_laws.proofs.Blocks.{has_some, Added, added_all, added_none, closeds_after, StatLaw, StatsLaw}
 use Rattle.tree_terms.proofs.Levels.{levels_rise}
 
 module _ (S : Setting) where
-  -- the law of expressions
-  abbrev pub ExpLaw : Type 0
-  ExpLaw =
-      (pending : List Pending) (e : Exp) (t j n pc opened : ℕ) (env regs : List Value) (c : Captured) (k : List Work) → n ≤ S.bound → HasAt S pc (exp_code S.code.own.constants e t j 2) → IsPlaced S e (length env) j
-      → pc + length (exp_code S.code.own.constants e t j 2) < length S.code.own.code → length env ≤ t → t + room_of S.code.own.constants e 2 ≤ S.code.own.stack → Rel S.hidden S.code.own.stack pending env c regs
-      → Goes S pending n (is_open e) t env regs (pc + length (exp_code S.code.own.constants e t j 2)) k
-      → Agree S n (tree.at (evaluate e) (of_tree S pending env c) k) (before (of_code S pending pc regs opened) c)
-
-  or_max : (a b : ℕ) → 1 ≤ a → 1 ≤ max a b
-  or_max a b h = omega (arith, h)
-
-  -- an expression of which a value is wanted takes a register
-  pub room_any : (e : Exp) (field : ℕ) → 1 ≤ room_of_values field → 1 ≤ room_of S.code.own.constants e field
-  room_any (Nil l) field some = omega arith
-  room_any (True l) field some = omega arith
-  room_any (False l) field some = omega arith
-  room_any (Int l z) field some = omega arith
-  room_any (Str l bytes) field some = omega arith
-  room_any (Vararg l) field some = some
-  room_any (Function l body) field some = omega arith
-  room_any (Var l name) field some = room_of_some name.place name.text
-    where
-      global_some : (b : Bool) → 1 ≤ cond b 1 2
-      global_some true = omega arith
-      global_some false = omega arith
-
-      room_of_some : (place : Place) (text : List ℕ) → 1 ≤ room_of_name S.code.own.constants place text
-      room_of_some Unset text = omega arith
-      room_of_some (LocalPlace m) text = omega arith
-      room_of_some (Upvalue u) text = omega arith
-      room_of_some (GlobalIn m) text = omega arith
-      room_of_some (GlobalOf u) text = global_some (nat_lt (number_in S.code.own.constants (StrConst text)) 256)
-  room_any (Index l o key) field some = or_max (room_of S.code.own.constants o 2) (1 + room_of S.code.own.constants key 2) (room_any o 2 (omega arith))
-  room_any (Call l f es) field some = or_max (room_of S.code.own.constants f 2) (max (room_of_list S.code.own.constants 1 es None) (room_of_values field)) (room_any f 2 (omega arith))
-  room_any (Method l o name es) field some = or_max (room_of S.code.own.constants o 2) _ (room_any o 2 (omega arith))
-  room_any (Unary l op e) field some = room_any e 2 (omega arith)
-  room_any (Binary l op e d) field some = or_max (room_of S.code.own.constants e 2) (1 + room_of S.code.own.constants d 2) (room_any e 2 (omega arith))
-  room_any (And l e d) field some = or_max (room_of S.code.own.constants e 2) (room_of S.code.own.constants d 2) (room_any e 2 (omega arith))
-  room_any (Or l e d) field some = or_max (room_of S.code.own.constants e 2) (room_of S.code.own.constants d 2) (room_any e 2 (omega arith))
-  room_any (Paren l e) field some = room_any e 2 (omega arith)
-  room_any (Table l fs) field some = omega arith
-
-  pub room_some : (e : Exp) → 1 ≤ room_of S.code.own.constants e 2
-  room_some e = room_any e 2 (omega arith)
-
-  -- a test of register t and the jump behind it
-
-  module _ (n : ℕ) (k : Bool) (t m line pc : ℕ) (more : List Coded) (ps : List Pending) (regs : List Value) (c : Captured) (opened : ℕ) (s : State)
-      (has : HasAt S pc ((abc Test t 0 0 k, line) ∷ jump_over m line ∷ more)) (room : t < S.code.own.stack) (width : S.code.own.stack ≤ length regs) where
-    pub past_test : pc + 2 < length S.code.own.code → same_truth (holds (shape (nth regs t))) k ≡ false → Agree S n s (before (of_code S ps (pc + 2) regs opened) c) → Agree S n s (before (of_code S ps pc regs opened) c)
-    past_test inside e h =
-        let there = next_there S (pc + 2) inside in
-        go_right S n s _ (before (of_code S ps (pc + 2) regs opened) c) (test_past S.code (of_code S ps pc regs opened) c t k there.0 has.0 (omega (arith, room, S.small)) (omega (arith, room, width)) e there.1) h
-
-    pub by_test : pc + 2 + m < length S.code.own.code → same_truth (holds (shape (nth regs t))) k ≡ true → Agree S n s (before (of_code S ps (pc + 2 + m) regs opened) c) → Agree S n s (before (of_code S ps pc regs opened) c)
-    by_test inside e h =
-        let far : pc + 1 + (m + 1) ≡ pc + 2 + m = omega arith in
-        let there = next_there S (pc + 1 + (m + 1)) (omega (arith, inside)) in
-        go_right S n s _ (before (of_code S ps (pc + 1) regs opened) c)
-        (test_on S.code (of_code S ps pc regs opened) c t k (op_ax Jmp (16777215 + m)) has.0 (omega (arith, room, S.small)) (omega (arith, room, width)) e has.1.1.0)
-        (go_right S n s _ (before (of_code S ps (pc + 1 + (m + 1)) regs opened) c) (jump_step S.code (of_code S ps (pc + 1) regs opened) c m there.0 has.1.1.0 (omega (arith, inside, S.short)) there.1)
-        (subst (λ q. Agree S n s (before (of_code S ps q regs opened) c)) (sym far) h))
+  -- the law of conditions
+  abbrev pub TestLaw : Type 0
+  TestLaw = (ps : List Pending) (e : Exp) → TestSame S ps e
 
   -- a jump past some code
   pub jump_past : (n m line pc : ℕ) (more : List Coded) (ps : List Pending) (regs : List Value) (c : Captured) (opened : ℕ) (s : State) → HasAt S pc (jump_over m line ∷ more) → pc + 1 + m < length S.code.own.code
@@ -123,22 +59,23 @@ module _ (S : Setting) where
   arms_behind back (MoreArms e block arms) code closing t j pc line reach has =
       let cs = S.code.own.constants in
       let i = j + made_by e + made_in_block block in
-      let test = exp_code S.code.own.constants e t j 2 in
-      let lt = length test in
-      let lb = block_size S.code.own.constants back block closing t t (j + made_by e) in
-      let lo = arms_size S.code.own.constants back arms (length code) closing t i in
+      let lt = length (test_code cs e true 0 t j) in
+      let lb = block_size cs back block closing t t (j + made_by e) in
+      let lo = arms_size cs back arms (length code) closing t i in
       let skip = past_size (lo + length code) in
-      let inner = block_code S.code.own.constants back block closing t t (j + made_by e) (pc + lt + 2) reach in
-      let rest = arms_code S.code.own.constants back arms code closing t i (pc + lt + 2 + lb + skip) line reach in
-      let a = block_sized S.code.own.constants back block closing t t (j + made_by e) (pc + lt + 2) reach in
-      let b = arms_sized S.code.own.constants back arms code closing t i (pc + lt + 2 + lb + skip) line reach in
+      let inner = block_code cs back block closing t t (j + made_by e) (pc + lt) reach in
+      let rest = arms_code cs back arms code closing t i (pc + lt + lb + skip) line reach in
+      let test = test_code cs e true (length inner + length (past rest line)) t j in
+      let a = block_sized cs back block closing t t (j + made_by e) (pc + lt) reach in
+      let b = arms_sized cs back arms code closing t i (pc + lt + lb + skip) line reach in
       let d = past_sized rest line ∙ ap past_size b in
-      let at_test = has_back S pc test (with_abc Test t 0 0 line ∷ jump_over (length inner + length (past rest line)) line ∷ (inner ++ (past rest line ++ rest))) has in
-      let at_past = has_back S (pc + lt + 1 + 1) inner (past rest line ++ rest) at_test.1.1.1.1 in
-      let at_rest = has_back S (pc + lt + 1 + 1 + length inner) (past rest line) rest at_past in
-      let same : pc + lt + 1 + 1 + length inner + length (past rest line) ≡ pc + lt + 2 + lb + skip = omega (arith, a, d) in
-      let there : pc + lt + 2 + lb + skip + lo ≡ pc + (lt + (lb + (skip + lo + 2))) = omega arith in
-      subst (λ q. HasAt S q code) there (arms_behind back arms code closing t i (pc + lt + 2 + lb + skip) line reach (subst (λ q. HasAt S q rest) same at_rest))
+      let l = test_sized cs e true (length inner + length (past rest line)) t j in
+      let at_both = has_back S pc test (inner ++ (past rest line ++ rest)) has in
+      let at_past = has_back S (pc + length test) inner (past rest line ++ rest) at_both in
+      let at_rest = has_back S (pc + length test + length inner) (past rest line) rest at_past in
+      let same : pc + length test + length inner + length (past rest line) ≡ pc + lt + lb + skip = omega (arith, a, d, l) in
+      let there : pc + lt + lb + skip + lo ≡ pc + (lt + (lb + (skip + lo))) = omega arith in
+      subst (λ q. HasAt S q code) there (arms_behind back arms code closing t i (pc + lt + lb + skip) line reach (subst (λ q. HasAt S q rest) same at_rest))
 
   module _ (back : ℕ) where
     abbrev pub BlockLaw : Block → Type 0
@@ -263,87 +200,85 @@ module _ (S : Setting) where
               (from_more t extra more from (from_lower t outer more low up)) under (omega arith) rel complete (omega arith) (st ∙ ends line (of_tree S ps env c)) (goes_fewer S m n t closed complete k exit fewer done);
         }
 
-    module _ (exps : ExpLaw) where
+    module _ (tests : TestLaw) where
       -- `while`: each round is paid for, so the law at fewer asks serves the rounds to come
       pub while_goes : (line : ℕ) (e : Exp) (block : Block) → BlockLaw block → StatLaw S back (While line e block)
       while_goes line e block law n closing closed t j pc named loops reach k fewer has placed titles inside under clear plain jumps done ps env regs c opened s st standing =
           go_left S n s (tree.at (evaluate e) (of_tree S ps env c) (while_test line e block ∷ k)) _ st (strong Loop round n (omega arith) ps env regs c opened standing)
         where
           lt : ℕ
-          lt = length (exp_code S.code.own.constants e t j 2)
+          lt = length (test_code S.code.own.constants e true 0 t j)
 
           lb : ℕ
           lb = block_size S.code.own.constants back block closing t t (j + made_by e)
 
           exit : ℕ
-          exit = pc + (lt + (lb + 3))
+          exit = pc + (lt + (lb + 1))
 
           around : Reach
-          around = in_loop reach (pc + (lt + (lb + 3))) t
+          around = in_loop reach (pc + (lt + (lb + 1))) t
 
           inner : List Coded
-          inner = block_code S.code.own.constants back block closing t t (j + made_by e) (pc + lt + 2) around
+          inner = block_code S.code.own.constants back block closing t t (j + made_by e) (pc + lt) around
 
           sized : length inner ≡ lb
-          sized = block_sized S.code.own.constants back block closing t t (j + made_by e) (pc + lt + 2) around
+          sized = block_sized S.code.own.constants back block closing t t (j + made_by e) (pc + lt) around
 
           test : List Coded
-          test = exp_code S.code.own.constants e t j 2
+          test = test_code S.code.own.constants e true (length inner + 1) t j
+
+          tested : length test ≡ lt
+          tested = test_sized S.code.own.constants e true (length inner + 1) t j
 
           ends : List Coded
-          ends = jump_back (lt + length inner + 3) line ∷ []
+          ends = jump_back (length test + length inner + 1) line ∷ []
 
-          at_test : HasAt S (pc + lt) (with_abc Test t 0 0 line ∷ jump_over (length inner + 1) line ∷ (inner ++ ends))
-          at_test = has_back S pc test (with_abc Test t 0 0 line ∷ jump_over (length inner + 1) line ∷ (inner ++ ends)) has
+          at_both : HasAt S (pc + lt) (inner ++ ends)
+          at_both = subst (λ q. HasAt S (pc + q) (inner ++ ends)) tested (has_back S pc test (inner ++ ends) has)
 
-          two : pc + lt + 1 + 1 ≡ pc + lt + 2
-          two = omega arith
+          at_block : HasAt S (pc + lt) inner
+          at_block = has_front S (pc + lt) inner ends at_both
 
-          at_block : HasAt S (pc + lt + 2) inner
-          at_block = subst (λ q. HasAt S q inner) two (has_front S (pc + lt + 1 + 1) inner ends at_test.1.1.1.1)
-
-          at_end : HasAt S (pc + lt + 2 + lb) ends
-          at_end = let same : pc + lt + 1 + 1 + length inner ≡ pc + lt + 2 + lb = omega (arith, sized) in subst (λ q. HasAt S q ends) same (has_back S (pc + lt + 1 + 1) inner ends at_test.1.1.1.1)
+          at_end : HasAt S (pc + lt + lb) ends
+          at_end = subst (λ q. HasAt S (pc + lt + q) ends) sized (has_back S (pc + lt) inner ends at_both)
 
           Loop : ℕ → Type 0
           Loop m = m ≤ n → (ps : List Pending) (env regs : List Value) (c : Captured) (opened : ℕ) → Standing S t closed ps env c regs
               → Agree S m (tree.at (evaluate e) (of_tree S ps env c) (while_test line e block ∷ k)) (before (of_code S ps pc regs opened) c)
 
           -- the block is done: the way back is paid for
-          again : (m : ℕ) → m ≤ n → ((l : ℕ) → l < m → Loop l) → GoesOn S m t closed complete (looping line e block t ∷ k) (pc + lt + 2 + lb)
+          again : (m : ℕ) → m ≤ n → ((l : ℕ) → l < m → Loop l) → GoesOn S m t closed complete (looping line e block t ∷ k) (pc + lt + lb)
           again m le loop zero less ps env regs c opened st = tt
           again m le loop (suc l) less ps env regs c opened st =
               go_left S (suc l) _ (tree.at (tree.pay line (evaluate e)) (of_tree S ps env c) (while_test line e block ∷ k)) _ refl
-              (back_goes S (lt + length inner + 3) pc line (pc + lt + 2 + lb) ps (omega arith) (omega (arith, sized, inside, S.short)) (omega (arith, sized)) at_end (omega (arith, inside)) l _ (evaluate e) env regs c opened (while_test line e block ∷ k) refl st.rel
+              (back_goes S (length test + length inner + 1) pc line (pc + lt + lb) ps (omega arith) (omega (arith, tested, sized, inside, S.short)) (omega (arith, tested, sized)) at_end (omega (arith, inside)) l _ (evaluate e) env regs c opened (while_test line e block ∷ k) refl st.rel
               (λ env1 regs1 c1 size1 rel1. loop l (omega arith) (omega arith) ps env1 regs1 c1 opened (record { numbered = st.numbered; size = size1 ∙ st.size; rel = rel1 })))
 
-          in_block : (m : ℕ) → m ≤ n → Jumps S back m (pc + lt + 2) (pc + lt + 2 + lb) t closed named true around (looping line e block t ∷ k)
+          in_block : (m : ℕ) → m ≤ n → Jumps S back m (pc + lt) (pc + lt + lb) t closed named true around (looping line e block t ∷ k)
           in_block m le =
-              subst (λ l. Jumps S back m (pc + lt + 2) (pc + lt + 2 + lb) t l named true around (looping line e block t ∷ k)) (append_nil closed)
-              (loop_jumps (looping line e block t) m pc exit (pc + lt + 2) (pc + lt + 2 + lb) t t exit closed [] named loops reach k (λ name line a. refl) (λ line a. refl) (omega arith) (omega arith) (omega arith) inside (omega arith) tt under
+              subst (λ l. Jumps S back m (pc + lt) (pc + lt + lb) t l named true around (looping line e block t ∷ k)) (append_nil closed)
+              (loop_jumps (looping line e block t) m pc exit (pc + lt) (pc + lt + lb) t t exit closed [] named loops reach k (λ name line a. refl) (λ line a. refl) (omega arith) (omega arith) (omega arith) inside (omega arith) tt under
               (subst (λ l. Jumps S back m pc exit t l named loops reach k) (append_nil closed) (jumps_within S back n m pc exit pc exit t t closed [] named loops reach k le (omega arith) (omega arith) (omega arith) tt (jumps refl)))
               (goes_fewer S m n t closed complete k exit le done))
 
-          turn : (m : ℕ) → m ≤ n → ((l : ℕ) → l < m → Loop l) → (b : Bool) (vs : List Value) (ps : List Pending) (env regs : List Value) (c : Captured) (opened : ℕ) → Standing S t closed ps env c regs → nth regs t ≡ first vs → t < S.code.own.stack
-              → holds (shape (first vs)) ≡ b → Agree S m (tree.at (give vs) (of_tree S ps env c) (while_test line e block ∷ k)) (before (of_code S ps (pc + lt) regs opened) c)
-          turn m le loop false vs ps env regs c opened st eq room is =
-              go_left S m _ (tree.at complete (of_tree S ps env c) k) _ (ap (λ b. cond b (begins block (of_tree S ps env c) (looping line e block (length env) ∷ k)) (go complete (of_tree S ps env c) k)) is)
-              (by_test m false t (length inner + 1) line (pc + lt) (inner ++ ends) ps regs c opened _ at_test room st.rel.room (omega (arith, sized, inside)) (ap (λ v. same_truth (holds (shape v)) false) eq ∙ ap (λ b. same_truth b false) is)
-              (let out : pc + lt + 2 + (length inner + 1) ≡ exit = omega (arith, sized) in
-              subst (λ q. Agree S m (tree.at complete (of_tree S ps env c) k) (before (of_code S ps q regs opened) c)) (sym out) (done m le ps env regs c opened st)))
-          turn m le loop true vs ps env regs c opened st eq room is =
-              go_left S m _ (tree.at (run (point_of block (length env))) (of_tree S ps env c) (looping line e block (length env) ∷ k)) _ (ap (λ b. cond b (begins block (of_tree S ps env c) (looping line e block (length env) ∷ k)) (go complete (of_tree S ps env c) k)) is)
-              (past_test m false t (length inner + 1) line (pc + lt) (inner ++ ends) ps regs c opened _ at_test room st.rel.room (omega (arith, inside)) (ap (λ v. same_truth (holds (shape v)) false) eq ∙ ap (λ b. same_truth b false) is)
-              (subst (λ u. Agree S m (tree.at (run (point_of block u)) (of_tree S ps env c) (looping line e block u ∷ k)) (before (of_code S ps (pc + lt + 2) regs opened) c)) (sym st.size)
-              (law m closing closed t t (j + made_by e) (pc + lt + 2) named true around (looping line e block t ∷ k) (omega (arith, fewer, le)) at_block placed.1.1 titles (omega (arith, inside)) under clear (omega arith) plain (in_block m le) (again m le loop) m (omega arith) ps env regs c opened st)))
+          decides : (vs : List Value) (b : Bool) (ps : List Pending) (env : List Value) (c : Captured) → holds (shape (first vs)) ≡ b
+              → step (tree.at (give vs) (of_tree S ps env c) (while_test line e block ∷ k)) ≡ cond b (begins block (of_tree S ps env c) (looping line e block (length env) ∷ k)) (go complete (of_tree S ps env c) k)
+          decides vs b ps env c is = ap (λ b. cond b (begins block (of_tree S ps env c) (looping line e block (length env) ∷ k)) (go complete (of_tree S ps env c) k)) is
 
           round : (m : ℕ) → ((l : ℕ) → l < m → Loop l) → Loop m
           round m loop le ps env regs c opened st =
               let size = st.size in
-              let room = room_some e in
-              exps ps e t j m pc opened env regs c (while_test line e block ∷ k) (omega (arith, fewer, le)) (has_front S pc test (with_abc Test t 0 0 line ∷ jump_over (length inner + 1) line ∷ (inner ++ ends)) has)
-              (subst (λ u. IsPlaced S e u j) (sym st.size) placed.0) (omega (arith, inside)) (omega arith) placed.1.0 st.rel
-              (λ vs env1 regs1 c1 opened1 af eq one. turn m le loop (holds (shape (first vs))) vs ps env1 regs1 c1 opened1 (record { numbered = st.numbered; size = af.size ∙ size; rel = af.rel }) eq (omega (arith, placed.1.0, room)) refl)
+              tests ps e true (length inner + 1) t j m pc opened env regs c (while_test line e block ∷ k) (omega (arith, fewer, le)) (has_front S pc test (inner ++ ends) has)
+              (subst (λ u. IsPlaced S e u j) (sym st.size) placed.0) (omega (arith, inside, tested, sized)) (omega arith) placed.1.0 st.rel
+              (λ vs env1 regs1 c1 o1 af is. go_left S m _ (tree.at (run (point_of block (length env1))) (of_tree S ps env1 c1) (looping line e block (length env1) ∷ k)) _ (decides vs true ps env1 c1 (truth_is S ps _ true is))
+              (subst (λ u. Agree S m (tree.at (run (point_of block u)) (of_tree S ps env1 c1) (looping line e block u ∷ k)) (before (of_code S ps (pc + length test) regs1 o1) c1)) (sym (af.size ∙ size))
+              (subst (λ q. Agree S m (tree.at (run (point_of block t)) (of_tree S ps env1 c1) (looping line e block t ∷ k)) (before (of_code S ps (pc + q) regs1 o1) c1)) (sym tested)
+              (law m closing closed t t (j + made_by e) (pc + lt) named true around (looping line e block t ∷ k) (omega (arith, fewer, le)) at_block placed.1.1 titles (omega (arith, inside)) under clear (omega arith) plain
+              (in_block m le) (again m le loop) m (omega arith) ps env1 regs1 c1 o1 (record { numbered = st.numbered; size = af.size ∙ size; rel = af.rel })))))
+              (λ vs env1 regs1 c1 o1 af is. go_left S m _ (tree.at complete (of_tree S ps env1 c1) k) _ (decides vs false ps env1 c1 (truth_is S ps _ false is))
+              (let out : pc + length test + (length inner + 1) ≡ exit = omega (arith, tested, sized) in
+              subst (λ q. Agree S m (tree.at complete (of_tree S ps env1 c1) k) (before (of_code S ps q regs1 o1) c1)) (sym out)
+              (done m le ps env1 regs1 c1 o1 (record { numbered = st.numbered; size = af.size ∙ size; rel = af.rel }))))
 
       -- `if`: the arms one after another, and then what stands behind them
 
@@ -372,17 +307,25 @@ module _ (S : Setting) where
       pub more_arms_goes : (e : Exp) (block : Block) (arms : Arms) → BlockLaw block → ArmsLaw arms → ArmsLaw (MoreArms e block arms)
       more_arms_goes e block arms law more otherwise code n closing closed t j pc line named loops reach k fewer has placed titles inside under clear plain jumps done others m le ps env regs c opened st =
           let size = st.size in
-          let room = room_some e in
           go_left S m _ (tree.at (evaluate e) (of_tree S ps env c) (if_test block arms otherwise ∷ k)) _ refl
-          (exps ps e t j m pc opened env regs c (if_test block arms otherwise ∷ k) (omega (arith, fewer, le)) (has_front S pc test behind_test has)
-          (subst (λ u. IsPlaced S e u j) (sym st.size) placed.0) (omega (arith, inside)) (omega arith) placed.1.0 st.rel
-          (λ vs env1 regs1 c1 opened1 af eq one. turn m le (holds (shape (first vs))) vs ps env1 regs1 c1 opened1 (record { numbered = st.numbered; size = af.size ∙ size; rel = af.rel }) eq (omega (arith, placed.1.0, room)) refl))
+          (tests ps e true (length inner + length (past rest line)) t j m pc opened env regs c (if_test block arms otherwise ∷ k) (omega (arith, fewer, le)) (has_front S pc test (inner ++ (past rest line ++ rest)) has)
+          (subst (λ u. IsPlaced S e u j) (sym st.size) placed.0) (omega (arith, inside, tested, inner_sized, skip_sized)) (omega arith) placed.1.0 st.rel
+          (λ vs env1 regs1 c1 o1 af is. go_left S m _ (tree.at (run (point_of block (length env1))) (of_tree S ps env1 c1) k) _ (decides vs true ps env1 c1 (truth_is S ps _ true is))
+          (subst (λ u. Agree S m (tree.at (run (point_of block u)) (of_tree S ps env1 c1) k) (before (of_code S ps (pc + length test) regs1 o1) c1)) (sym (af.size ∙ size))
+          (subst (λ q. Agree S m (tree.at (run (point_of block t)) (of_tree S ps env1 c1) k) (before (of_code S ps (pc + q) regs1 o1) c1)) (sym tested)
+          (law m closing closed t t (j + made_by e) (pc + lt) named loops reach k (omega (arith, fewer, le)) at_block placed.1.1.0 titles.0 (omega (arith, inside)) under clear (omega arith) plain (within m (pc + lt) (pc + lt + lb) le (omega arith) (omega arith))
+          (goes_fewer S m n t closed complete k (pc + lt + lb) le done_block) m (omega arith) ps env1 regs1 c1 o1 (record { numbered = st.numbered; size = af.size ∙ size; rel = af.rel })))))
+          (λ vs env1 regs1 c1 o1 af is. go_left S m _ (tree.at (choose arms otherwise) (of_tree S ps env1 c1) k) _ (decides vs false ps env1 c1 (truth_is S ps _ false is))
+          (let there : pc + length test + (length inner + length (past rest line)) ≡ pc + lt + lb + skip = omega (arith, tested, inner_sized, skip_sized) in
+          subst (λ q. Agree S m (tree.at (choose arms otherwise) (of_tree S ps env1 c1) k) (before (of_code S ps q regs1 o1) c1)) (sym there)
+          (more otherwise code m closing closed t (j + made_by e + made_in_block block) (pc + lt + lb + skip) line named loops reach k (omega (arith, fewer, le)) at_rest placed.1.1.1 titles.1 (omega (arith, inside)) under clear plain
+          (within m (pc + lt + lb + skip) (pc + lt + lb + skip + (lo + length code)) le (omega arith) (omega arith))
+          (goes_from S m t closed complete k exit (pc + lt + lb + skip + (lo + length code)) exit_rest (goes_fewer S m n t closed complete k exit le done))
+          (goes_from S m t closed (choose EndArms otherwise) k (pc + (lt + (lb + (skip + lo)))) (pc + lt + lb + skip + lo) others_at (goes_fewer S m n t closed (choose EndArms otherwise) k (pc + (lt + (lb + (skip + lo)))) le others))
+          m (omega arith) ps env1 regs1 c1 o1 (record { numbered = st.numbered; size = af.size ∙ size; rel = af.rel })))))
         where
-          i : ℕ
-          i = j + made_by e + made_in_block block
-
           lt : ℕ
-          lt = length (exp_code S.code.own.constants e t j 2)
+          lt = length (test_code S.code.own.constants e true 0 t j)
 
           lb : ℕ
           lb = block_size S.code.own.constants back block closing t t (j + made_by e)
@@ -393,78 +336,60 @@ module _ (S : Setting) where
           skip : ℕ
           skip = past_size (arms_size S.code.own.constants back arms (length code) closing t (j + made_by e + made_in_block block) + length code)
 
-          test : List Coded
-          test = exp_code S.code.own.constants e t j 2
-
           inner : List Coded
-          inner = block_code S.code.own.constants back block closing t t (j + made_by e) (pc + lt + 2) reach
+          inner = block_code S.code.own.constants back block closing t t (j + made_by e) (pc + lt) reach
 
           rest : List Coded
-          rest = arms_code S.code.own.constants back arms code closing t (j + made_by e + made_in_block block) (pc + lt + 2 + lb + skip) line reach
+          rest = arms_code S.code.own.constants back arms code closing t (j + made_by e + made_in_block block) (pc + lt + lb + skip) line reach
 
-          behind_test : List Coded
-          behind_test = with_abc Test t 0 0 line ∷ jump_over (length inner + length (past rest line)) line ∷ (inner ++ (past rest line ++ rest))
+          test : List Coded
+          test = test_code S.code.own.constants e true (length inner + length (past rest line)) t j
+
+          tested : length test ≡ lt
+          tested = test_sized S.code.own.constants e true (length inner + length (past rest line)) t j
 
           inner_sized : length inner ≡ lb
-          inner_sized = block_sized S.code.own.constants back block closing t t (j + made_by e) (pc + lt + 2) reach
+          inner_sized = block_sized S.code.own.constants back block closing t t (j + made_by e) (pc + lt) reach
 
           rest_sized : length rest ≡ lo + length code
-          rest_sized = arms_sized S.code.own.constants back arms code closing t (j + made_by e + made_in_block block) (pc + lt + 2 + lb + skip) line reach
+          rest_sized = arms_sized S.code.own.constants back arms code closing t (j + made_by e + made_in_block block) (pc + lt + lb + skip) line reach
 
           skip_sized : length (past rest line) ≡ skip
           skip_sized = past_sized rest line ∙ ap past_size rest_sized
 
-          at_test : HasAt S (pc + lt) behind_test
-          at_test = has_back S pc test behind_test has
+          at_both : HasAt S (pc + lt) (inner ++ (past rest line ++ rest))
+          at_both = subst (λ q. HasAt S (pc + q) (inner ++ (past rest line ++ rest))) tested (has_back S pc test (inner ++ (past rest line ++ rest)) has)
 
-          two : pc + lt + 1 + 1 ≡ pc + lt + 2
-          two = omega arith
+          at_block : HasAt S (pc + lt) inner
+          at_block = has_front S (pc + lt) inner (past rest line ++ rest) at_both
 
-          at_block : HasAt S (pc + lt + 2) inner
-          at_block = subst (λ q. HasAt S q inner) two (has_front S (pc + lt + 1 + 1) inner (past rest line ++ rest) at_test.1.1.1.1)
+          at_past : HasAt S (pc + lt + lb) (past rest line ++ rest)
+          at_past = subst (λ q. HasAt S (pc + lt + q) (past rest line ++ rest)) inner_sized (has_back S (pc + lt) inner (past rest line ++ rest) at_both)
 
-          at_past : HasAt S (pc + lt + 2 + lb) (past rest line ++ rest)
-          at_past = let same : pc + lt + 1 + 1 + length inner ≡ pc + lt + 2 + lb = omega (arith, inner_sized) in subst (λ q. HasAt S q (past rest line ++ rest)) same (has_back S (pc + lt + 1 + 1) inner (past rest line ++ rest) at_test.1.1.1.1)
-
-          at_rest : HasAt S (pc + lt + 2 + lb + skip) rest
-          at_rest = subst (λ q. HasAt S (pc + lt + 2 + lb + q) rest) skip_sized (has_back S (pc + lt + 2 + lb) (past rest line) rest at_past)
+          at_rest : HasAt S (pc + lt + lb + skip) rest
+          at_rest = subst (λ q. HasAt S (pc + lt + lb + q) rest) skip_sized (has_back S (pc + lt + lb) (past rest line) rest at_past)
 
           exit : ℕ
-          exit = pc + (lt + (lb + (skip + lo + 2)) + length code)
+          exit = pc + (lt + (lb + (skip + lo)) + length code)
 
-          exit_past : pc + (lt + (lb + (skip + lo + 2)) + length code) ≡ pc + lt + 2 + lb + (length (past rest line) + length rest)
+          exit_past : pc + (lt + (lb + (skip + lo)) + length code) ≡ pc + lt + lb + (length (past rest line) + length rest)
           exit_past = omega (arith, skip_sized, rest_sized)
 
-          exit_rest : pc + (lt + (lb + (skip + lo + 2)) + length code) ≡ pc + lt + 2 + lb + skip + (lo + length code)
+          exit_rest : pc + (lt + (lb + (skip + lo)) + length code) ≡ pc + lt + lb + skip + (lo + length code)
           exit_rest = omega arith
 
-          others_at : pc + (lt + (lb + (skip + lo + 2))) ≡ pc + lt + 2 + lb + skip + lo
+          others_at : pc + (lt + (lb + (skip + lo))) ≡ pc + lt + lb + skip + lo
           others_at = omega arith
 
-          done_block : GoesOn S n t closed complete k (pc + lt + 2 + lb)
-          done_block = past_goes rest n t line (pc + lt + 2 + lb) closed k at_past (omega (arith, inside, exit_past)) (goes_from S n t closed complete k exit (pc + lt + 2 + lb + (length (past rest line) + length rest)) exit_past done)
+          done_block : GoesOn S n t closed complete k (pc + lt + lb)
+          done_block = past_goes rest n t line (pc + lt + lb) closed k at_past (omega (arith, inside, exit_past)) (goes_from S n t closed complete k exit (pc + lt + lb + (length (past rest line) + length rest)) exit_past done)
 
           within : (m from to : ℕ) → m ≤ n → pc ≤ from → to ≤ exit → Jumps S back m from to t closed named loops reach k
           within m from to le a b = subst (λ l. Jumps S back m from to t l named loops reach k) (append_nil closed) (jumps_within S back n m pc exit from to t t closed [] named loops reach k le a b (omega arith) tt jumps)
 
-          turn : (m : ℕ) → m ≤ n → (b : Bool) (vs : List Value) (ps : List Pending) (env regs : List Value) (c : Captured) (opened : ℕ) → Standing S t closed ps env c regs → nth regs t ≡ first vs → t < S.code.own.stack
-              → holds (shape (first vs)) ≡ b → Agree S m (tree.at (give vs) (of_tree S ps env c) (if_test block arms otherwise ∷ k)) (before (of_code S ps (pc + lt) regs opened) c)
-          turn m le true vs ps env regs c opened st eq room is =
-              go_left S m _ (tree.at (run (point_of block (length env))) (of_tree S ps env c) k) _ (ap (λ b. cond b (begins block (of_tree S ps env c) k) (go (choose arms otherwise) (of_tree S ps env c) k)) is)
-              (past_test m false t (length inner + length (past rest line)) line (pc + lt) (inner ++ (past rest line ++ rest)) ps regs c opened _ at_test room st.rel.room (omega (arith, inside)) (ap (λ v. same_truth (holds (shape v)) false) eq ∙ ap (λ b. same_truth b false) is)
-              (subst (λ u. Agree S m (tree.at (run (point_of block u)) (of_tree S ps env c) k) (before (of_code S ps (pc + lt + 2) regs opened) c)) (sym st.size)
-              (law m closing closed t t (j + made_by e) (pc + lt + 2) named loops reach k (omega (arith, fewer, le)) at_block placed.1.1.0 titles.0 (omega (arith, inside)) under clear (omega arith) plain (within m (pc + lt + 2) (pc + lt + 2 + lb) le (omega arith) (omega arith))
-              (goes_fewer S m n t closed complete k (pc + lt + 2 + lb) le done_block) m (omega arith) ps env regs c opened st)))
-          turn m le false vs ps env regs c opened st eq room is =
-              go_left S m _ (tree.at (choose arms otherwise) (of_tree S ps env c) k) _ (ap (λ b. cond b (begins block (of_tree S ps env c) k) (go (choose arms otherwise) (of_tree S ps env c) k)) is)
-              (by_test m false t (length inner + length (past rest line)) line (pc + lt) (inner ++ (past rest line ++ rest)) ps regs c opened _ at_test room st.rel.room (omega (arith, inner_sized, skip_sized, inside)) (ap (λ v. same_truth (holds (shape v)) false) eq ∙ ap (λ b. same_truth b false) is)
-              (let there : pc + lt + 2 + (length inner + length (past rest line)) ≡ pc + lt + 2 + lb + skip = omega (arith, inner_sized, skip_sized) in
-              subst (λ q. Agree S m (tree.at (choose arms otherwise) (of_tree S ps env c) k) (before (of_code S ps q regs opened) c)) (sym there)
-              (more otherwise code m closing closed t (j + made_by e + made_in_block block) (pc + lt + 2 + lb + skip) line named loops reach k (omega (arith, fewer, le)) at_rest placed.1.1.1 titles.1 (omega (arith, inside)) under clear plain
-              (within m (pc + lt + 2 + lb + skip) (pc + lt + 2 + lb + skip + (lo + length code)) le (omega arith) (omega arith))
-              (goes_from S m t closed complete k exit (pc + lt + 2 + lb + skip + (lo + length code)) exit_rest (goes_fewer S m n t closed complete k exit le done))
-              (goes_from S m t closed (choose EndArms otherwise) k (pc + (lt + (lb + (skip + lo + 2)))) (pc + lt + 2 + lb + skip + lo) others_at (goes_fewer S m n t closed (choose EndArms otherwise) k (pc + (lt + (lb + (skip + lo + 2)))) le others))
-              m (omega arith) ps env regs c opened st)))
+          decides : (vs : List Value) (b : Bool) (ps : List Pending) (env : List Value) (c : Captured) → holds (shape (first vs)) ≡ b
+              → step (tree.at (give vs) (of_tree S ps env c) (if_test block arms otherwise ∷ k)) ≡ cond b (begins block (of_tree S ps env c) k) (go (choose arms otherwise) (of_tree S ps env c) k)
+          decides vs b ps env c is = ap (λ b. cond b (begins block (of_tree S ps env c) k) (go (choose arms otherwise) (of_tree S ps env c) k)) is
 
       pub if_goes : (line : ℕ) (arms : Arms) → ArmsLaw arms → StatLaw S back (If line arms)
       if_goes line arms law n closing closed t j pc named loops reach k fewer has placed titles inside under clear plain jumps done ps env regs c opened s st standing =

@@ -5,7 +5,8 @@ use Rattle.tree_core.specs.Tree.{Block, Falls, Returns, Stats, EndStats, MoreSta
 use Rattle.tree_activation.specs.Statements.{is_closed}
 use Rattle.code_core.specs.Prototype.{Prototype}
 use Rattle.machine_core.specs.InstructionRows.{variable_name}
-use Rattle.code_of.specs.Expressions.{made_by, made_in, exp_code, exps_code}
+use Rattle.code_of.specs.Expressions.{made_by, made_in, exps_code}
+use Rattle.code_of.specs.Conditions.{test_code}
 use Rattle.code_of.specs.Levels.{made_by_stat, made_in_arms, made_in_block, closing_after}
 use Rattle.tree_terms.specs.Levels.{level_after}
 use Rattle.code_of.specs.Parts.{past_size, bounds_code, steps_code}
@@ -26,7 +27,7 @@ module _ (lines : Bool) (p : Prototype) where
       pub StatIsNamed : Stat → (closing : Bool) → (t j pc : ℕ) → Type 0
       StatIsNamed (Local line names es) closing t j pc = AreNamed names t (pc + length (exps_code p.own.constants es (Some (length names)) t j line))
       StatIsNamed (Do line block) closing t j pc = BlockIsNamed block closing t t j pc
-      StatIsNamed (While line e block) closing t j pc = BlockIsNamed block closing t t (j + made_by e) (pc + length (exp_code p.own.constants e t j 2) + 2)
+      StatIsNamed (While line e block) closing t j pc = BlockIsNamed block closing t t (j + made_by e) (pc + length (test_code p.own.constants e true 0 t j))
       StatIsNamed (Repeat line block e) closing t j pc = OpenIsNamed block closing t j pc
       StatIsNamed (If line arms) closing t j pc = ArmsAreNamed arms 0 closing t j pc
       StatIsNamed (IfElse line arms block) closing t j pc =
@@ -44,9 +45,9 @@ module _ (lines : Bool) (p : Prototype) where
       pub ArmsAreNamed : Arms → (rest : ℕ) → (closing : Bool) → (t j pc : ℕ) → Type 0
       ArmsAreNamed EndArms rest closing t j pc = Unit {0}
       ArmsAreNamed (MoreArms e block arms) rest closing t j pc =
-          BlockIsNamed block closing t t (j + made_by e) (pc + length (exp_code p.own.constants e t j 2) + 2)
+          BlockIsNamed block closing t t (j + made_by e) (pc + length (test_code p.own.constants e true 0 t j))
           × ArmsAreNamed arms rest closing t (j + made_by e + made_in_block block)
-          (pc + length (exp_code p.own.constants e t j 2) + 2 + block_size p.own.constants back block closing t t (j + made_by e)
+          (pc + length (test_code p.own.constants e true 0 t j) + block_size p.own.constants back block closing t t (j + made_by e)
           + past_size (arms_size p.own.constants back arms rest closing t (j + made_by e + made_in_block block) + rest))
 
       pub StatsAreNamed : Stats → (closing : Bool) → (t j pc : ℕ) → Type 0

@@ -6,7 +6,8 @@ use Rattle.tree_core.specs.Tree.{Block, Falls, Returns, BodyOf, Stats, EndStats,
 use Rattle.code_core.specs.declared.proto.Const.{Const}
 use Rattle.code_core.specs.declared.proto.LocVar.{LocVar}
 use Rattle.code_core.specs.Prototype.{Prototype}
-use Rattle.code_of.specs.Expressions.{made_by, made_in, exp_code, exps_code}
+use Rattle.code_of.specs.Expressions.{made_by, made_in, exps_code}
+use Rattle.code_of.specs.Conditions.{test_code}
 use Rattle.code_of.specs.Levels.{made_by_stat, made_in_arms, made_in_block, closing_after}
 use Rattle.tree_terms.specs.Levels.{level_after}
 use Rattle.code_of.specs.Parts.{past_size, bounds_code, steps_code}
@@ -57,7 +58,7 @@ module _ (cs : List Const) (back : ℕ) where
     stat_ended (CallStat l e) closing t j pc = tt
     stat_ended (Do l block) closing t j pc = block_ended block closing t t j pc
     stat_ended (While l e block) closing t j pc =
-        let place = pc + length (exp_code cs e t j 2) + 2 in
+        let place = pc + length (test_code cs e true 0 t j) in
         ended_by (within_block cs back block closing t t (j + made_by e) place) (place + block_size cs back block closing t t (j + made_by e)) (pc + stat_size cs back (While l e block) closing t j) (omega arith) (block_ended block closing t t (j + made_by e) place)
     stat_ended (Repeat l block e) closing t j pc = open_ended block closing t j pc (pc + stat_size cs back (Repeat l block e) closing t j) (omega arith)
     stat_ended (If l arms) closing t j pc = arms_ended arms 0 closing t j pc
@@ -96,7 +97,7 @@ module _ (cs : List Const) (back : ℕ) where
     arms_ended EndArms rest closing t j pc = tt
     arms_ended (MoreArms e block arms) rest closing t j pc =
         let k = j + made_by e + made_in_block block in
-        let inner = pc + length (exp_code cs e t j 2) + 2 in
+        let inner = pc + length (test_code cs e true 0 t j) in
         let size = block_size cs back block closing t t (j + made_by e) in
         let others = arms_size cs back arms rest closing t k in
         let behind = inner + size + past_size (others + rest) in
@@ -180,7 +181,7 @@ module _ (lines : Bool) (p : Prototype) (back : ℕ) where
     stat_named (Do l block) closing t j pc end front after le h =
         block_named block closing t t j pc front after (narrow lines p front (within_block p.own.constants back block closing t t j pc) after t pc end pc (pc + block_size p.own.constants back block closing t t j) (omega arith) le h)
     stat_named (While l e block) closing t j pc end front after le h =
-        let place = pc + length (exp_code p.own.constants e t j 2) + 2 in
+        let place = pc + length (test_code p.own.constants e true 0 t j) in
         block_named block closing t t (j + made_by e) place front after
         (narrow lines p front (within_block p.own.constants back block closing t t (j + made_by e) place) after t pc end place (place + block_size p.own.constants back block closing t t (j + made_by e)) (omega arith) (omega arith) h)
     stat_named (Repeat l block e) closing t j pc end front after le h =
@@ -232,7 +233,7 @@ module _ (lines : Bool) (p : Prototype) (back : ℕ) where
     arms_named EndArms rest closing t j pc front after h = tt
     arms_named (MoreArms e block arms) rest closing t j pc front after h =
         let k = j + made_by e + made_in_block block in
-        let inner = pc + length (exp_code p.own.constants e t j 2) + 2 in
+        let inner = pc + length (test_code p.own.constants e true 0 t j) in
         let size = block_size p.own.constants back block closing t t (j + made_by e) in
         let others = arms_size p.own.constants back arms rest closing t k in
         let behind = inner + size + past_size (others + rest) in

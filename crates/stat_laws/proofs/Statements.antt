@@ -5,9 +5,9 @@ use Rattle.tree_activation.specs.Work.{Work, End, falls_off, returns_list, until
 use Rattle.tree_terms.specs.Labels.{are_void}
 use Rattle.tree_activation.specs.Jumps.{is_at_end}
 use Rattle.exp_laws.specs.Setting.{Setting, hiding}
-use Rattle.exp_laws.proofs.Exps.{exp_same}
+use Rattle.exp_laws.proofs.Conditions.{test_same}
 use Rattle.stat_laws.proofs.Blocks.{StatLaw, StatsLaw, none_goes, label_goes, more_goes}
-use Rattle.stat_laws.proofs.Forms.{ExpLaw, BlockLaw, falls_goes, do_goes, goto_goes, break_goes, empty_stat_goes, label_stat_goes, while_goes, ArmsLaw, no_arms_goes, more_arms_goes, if_goes, if_else_goes}
+use Rattle.stat_laws.proofs.Forms.{TestLaw, BlockLaw, falls_goes, do_goes, goto_goes, break_goes, empty_stat_goes, label_stat_goes, while_goes, ArmsLaw, no_arms_goes, more_arms_goes, if_goes, if_else_goes}
 use Rattle.stat_laws.proofs.Loops.{repeat_goes}
 use Rattle.stat_laws.proofs.Returns.{returns_goes, repeat_returns_goes}
 use Rattle.stat_laws.proofs.Iterating.{iterating_goes}
@@ -15,8 +15,8 @@ use Rattle.stat_laws.proofs.Bounds.{numeric_goes, stepped_goes}
 use Rattle.stat_laws.proofs.Assigning.{assign_goes}
 use Rattle.stat_laws.proofs.Values.{local_goes, function_goes, call_goes}
 
-abbrev pub exps : (S : Setting) → ExpLaw S
-exps S pending e t j n pc opened env regs c k fewer has fine inside le room rel goes = exp_same S pending e t j n pc opened env regs c k fewer has fine inside le room rel goes
+abbrev pub tests : (S : Setting) → TestLaw S
+tests S ps e = test_same S ps e
 
 module _ (back : ℕ) where
   mutual
@@ -27,11 +27,11 @@ module _ (back : ℕ) where
     stat_goes S (Assign l targets es) = assign_goes S back l targets es
     stat_goes S (CallStat l e) = call_goes S back l e
     stat_goes S (Do l block) = do_goes S back l block (block_goes S block)
-    stat_goes S (While l e block) = while_goes S back (exps S) l e block (block_goes S block)
-    stat_goes S (Repeat l (Falls ss tokens last) e) = repeat_goes S back (exps S) l ss tokens last e (λ outer closed k. stats_goes S ss (until last e) false outer closed k (λ more. refl))
+    stat_goes S (While l e block) = while_goes S back (tests S) l e block (block_goes S block)
+    stat_goes S (Repeat l (Falls ss tokens last) e) = repeat_goes S back (tests S) l ss tokens last e (λ outer closed k. stats_goes S ss (until last e) false outer closed k (λ more. refl))
     stat_goes S (Repeat l (Returns ss es tokens last) e) = repeat_returns_goes S back l ss es tokens last e (λ outer closed k. stats_goes S ss (returns_list last es) false outer closed k (λ more. refl))
-    stat_goes S (If l arms) = if_goes S back (exps S) l arms (arms_goes S arms)
-    stat_goes S (IfElse l arms block) = if_else_goes S back (exps S) l arms block (arms_goes S arms) (block_goes S block)
+    stat_goes S (If l arms) = if_goes S back (tests S) l arms (arms_goes S arms)
+    stat_goes S (IfElse l arms block) = if_else_goes S back (tests S) l arms block (arms_goes S arms) (block_goes S block)
     stat_goes S (NumFor l name from limit block) = numeric_goes S back l name from limit block (λ t. block_goes (hiding S t) block)
     stat_goes S (NumForStep l name from limit step block) = stepped_goes S back l name from limit step block (λ t. block_goes (hiding S t) block)
     stat_goes S (GenFor l names es block) = iterating_goes S back l names es block (block_goes S block)
@@ -43,9 +43,9 @@ module _ (back : ℕ) where
     block_goes S (Falls ss tokens line) = falls_goes S back ss tokens line (λ outer closed k. stats_goes S ss (falls_off line) true outer closed k (λ more. refl))
     block_goes S (Returns ss es tokens line) = returns_goes S back ss es tokens line (λ outer closed k. stats_goes S ss (returns_list line es) false outer closed k (λ more. refl))
 
-    pub arms_goes : (S : Setting) (arms : Arms) → ArmsLaw S back (exps S) arms
-    arms_goes S EndArms = no_arms_goes S back (exps S)
-    arms_goes S (MoreArms e block arms) = more_arms_goes S back (exps S) e block arms (block_goes S block) (arms_goes S arms)
+    pub arms_goes : (S : Setting) (arms : Arms) → ArmsLaw S back (tests S) arms
+    arms_goes S EndArms = no_arms_goes S back (tests S)
+    arms_goes S (MoreArms e block arms) = more_arms_goes S back (tests S) e block arms (block_goes S block) (arms_goes S arms)
 
     pub stats_goes : (S : Setting) (ss : Stats) (ending : End) (falls : Bool) (outer : ℕ) (base : List ℕ) (k : List Work) (ending_is : (more : Stats) → is_at_end ending more ≡ (falls && are_void more)) → StatsLaw S back ending falls outer base k ending_is ss
     stats_goes S EndStats ending falls outer base k ending_is = none_goes S back ending falls outer base k ending_is

@@ -16,7 +16,7 @@ use Rattle.exp_laws.specs.Setting.{Setting, hiding}
 use Rattle.code_of.specs.Constants.{Found}
 use Rattle.exp_laws.specs.Placed.{Inner, Captures, IsPlaced, ArePlaced}
 use Rattle.tree_terms.specs.Hidden.{IsNoneOf}
-use Rattle.code_of.specs.Rooms.{room_of, room_of_list, room_of_self}
+use Rattle.code_of.specs.Rooms.{room_of, room_of_test, room_of_list, room_of_self}
 
 -- what can be assigned: a name, though no hidden local has one, or an index
 abbrev pub MayAssign : (hidden : List ℕ) → Place → Type 0
@@ -74,9 +74,9 @@ abbrev mutual
   StatIsPlaced S (CallStat line e) closing t j named loops = (is_open e ≡ true) × (IsPlaced S e t j × (t + room_of S.code.own.constants e 1 ≤ S.code.own.stack))
   StatIsPlaced S (Do line block) closing t j named loops = BlockIsPlaced S block closing t j named loops
   StatIsPlaced S (While line e block) closing t j named loops =
-      IsPlaced S e t j × ((t + room_of S.code.own.constants e 2 ≤ S.code.own.stack) × BlockIsPlaced S block closing t (j + made_by e) named true)
+      IsPlaced S e t j × ((t + room_of_test S.code.own.constants e ≤ S.code.own.stack) × BlockIsPlaced S block closing t (j + made_by e) named true)
   StatIsPlaced S (Repeat line block e) closing t j named loops =
-      OpenIsPlaced S block closing t j named true × (IsPlaced S e (levels_in block t) (j + made_in_block block) × (levels_in block t + room_of S.code.own.constants e 2 ≤ S.code.own.stack))
+      OpenIsPlaced S block closing t j named true × (IsPlaced S e (levels_in block t) (j + made_in_block block) × (levels_in block t + room_of_test S.code.own.constants e ≤ S.code.own.stack))
   StatIsPlaced S (If line arms) closing t j named loops = ArmsArePlaced S arms closing t j named loops
   StatIsPlaced S (IfElse line arms block) closing t j named loops = ArmsArePlaced S arms closing t j named loops × BlockIsPlaced S block closing t (j + made_in_arms arms) named loops
   StatIsPlaced S (NumFor line name from limit block) closing t j named loops =
@@ -96,7 +96,7 @@ abbrev mutual
   pub ArmsArePlaced : Setting → Arms → (closing : Bool) → (t j : ℕ) → List Named → (loops : Bool) → Type 0
   ArmsArePlaced S EndArms closing t j named loops = Unit {0}
   ArmsArePlaced S (MoreArms e block arms) closing t j named loops =
-      IsPlaced S e t j × ((t + room_of S.code.own.constants e 2 ≤ S.code.own.stack)
+      IsPlaced S e t j × ((t + room_of_test S.code.own.constants e ≤ S.code.own.stack)
       × (BlockIsPlaced S block closing t (j + made_by e) named loops × ArmsArePlaced S arms closing t (j + made_by e + made_in_block block) named loops))
 
   pub StatsArePlaced : Setting → Stats → (falls closing : Bool) → (t j : ℕ) → (names named : List Named) → (loops : Bool) → Type 0

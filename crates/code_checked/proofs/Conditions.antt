@@ -1,0 +1,154 @@
+-- The code of each condition is a piece, where its jumps lead to a place that may be landed on.
+use Rattle.std.proofs.Common.{◌≡◌, ℕ, ◌+◌, ◌<◌, ◌≤◌, ◌^◌, lit<, Bool, true, false, not, List, ◌++◌, length, Option, refl, arith, length-append}
+use Rattle.tree_core.specs.declared.operator.UnOp.{UnOp}
+use Rattle.tree_core.specs.declared.operator.UnOp.TheVariants.{Neg, BitNot, Not as Negation, Len as Length}
+use Rattle.tree_core.specs.declared.operator.BinOp.{BinOp}
+use Rattle.tree_core.specs.declared.operator.BinOp.TheVariants.{Add as Plus, Sub as Minus, Mul as Times, Mod as Modulo, Idiv, Band, Bor, Bxor, Shl as ShiftLeft, Shr as ShiftRight, Concat as Join, Eq as Equal, Ne, Lt as Less, Le as AtMost, Gt, Ge}
+use Rattle.tree_core.specs.Tree.{Exp, Nil, True, False, Int, Str, Vararg, Function, Var, Index, Call, Method, Unary, Binary, And, Or, Paren, Table}
+use Rattle.code_core.specs.declared.opcode.Opcode.{Opcode}
+use Rattle.code_core.specs.declared.opcode.Opcode.TheVariants.{Jmp, Test, Eq, Lt, Le}
+use Rattle.code_core.specs.declared.proto.Const.{Const}
+use Rattle.code_core.specs.Prototype.{Prototype, Prototypes}
+use Rattle.code_of.specs.Coded.{Coded}
+use Rattle.code_of.specs.Constants.{of_exp}
+use Rattle.code_of.specs.Expressions.{made_by, exp_code}
+use Rattle.code_of.specs.Conditions.{jump_if, pick, line_of, value_test, test_code}
+use Rattle.code_of.specs.CodeOf.{from_exp}
+use Rattle.code_checked.specs.Near.{ExpIsNear}
+use Rattle.code_checked.proofs.Pieces.{closed, Land, Piece, both, nothing}
+use Rattle.code_checked.proofs.Words.{IsFirst, first_test, first_eq, first_lt, first_le}
+use Rattle.code_checked.proofs.Found.{Grows, grows_then}
+use Rattle.code_checked.proofs.Loads.{Whole, Functions}
+use Rattle.code_checked.proofs.Seams.{ending}
+use Rattle.code_checked.proofs.Jumping.{over_piece, test_over}
+use Rattle.code_checked.proofs.Growing.{grows_exp, after_exp}
+use Rattle.code_checked.proofs.ExpForms.{exp_register}
+use Rattle.code_checked.proofs.Exps.{one_law}
+
+picked : (second : Bool) (x y : ℕ) → x < 2 ^ 8 → y < 2 ^ 8 → pick second x y < 2 ^ 8
+picked true x y h g = g
+picked false x y h g = h
+
+module _ (p : Prototype) (W : Whole p) (source : Option (List ℕ)) where
+  -- code whose jumps lead to place q, which is `ahead` places past its end
+  abbrev pub Leads : (code : ℕ → List Coded) → Exp → (H : Type 0) → (ahead t j pc : ℕ) → Type 0
+  Leads code e H ahead t j pc =
+      (size q : ℕ) (cs : List Const) (rest : Prototypes) → ExpIsNear source p e size t → size ≤ t → Grows (of_exp e cs) p.own.constants → Functions p j (from_exp source e rest)
+      → (H → length (code ahead) + ahead < 2 ^ 24) → q ≡ pc + length (code ahead) + ahead → (H → Land p q) → Piece p H closed closed pc (code ahead)
+
+  abbrev pub TestLaw : Exp → Type 1
+  TestLaw e = (H : Type 0) (k : Bool) (ahead t j pc : ℕ) → Leads (λ ahead. test_code p.own.constants e k ahead t j) e H ahead t j pc
+
+  value_law : (e : Exp) (H : Type 0) (k : Bool) (ahead t j pc : ℕ) → Leads (λ ahead. value_test p.own.constants e k ahead t j) e H ahead t j pc
+  value_law e H k ahead t j pc size q cs rest near le g fs short place to =
+      let value = exp_code p.own.constants e t j 2 in
+      let sum = length-append value (jump_if Test t 0 (not k) ahead (line_of e)) in
+      let r = exp_register source p e size t near in
+      both p (one_law p W source e H t j pc size cs rest near le g fs)
+      (test_over p Test (first_test p) t 0 (not k) ahead (pc + length value) q (line_of e) (omega (arith, r)) (lit< tt) (λ h. let f = short h in omega (arith, f)) (omega (arith, place, sum)) to)
+
+  not_law : (line : ℕ) (op : UnOp) (e : Exp) → TestLaw e → TestLaw (Unary line op e)
+  not_law line Negation e law H k ahead t j pc size q cs rest near le g fs short place to = law H (not k) ahead t j pc size q cs rest near.1 le g fs short place to
+  not_law line Neg e law H k ahead t j pc size q cs rest near le g fs short place to = value_law (Unary line Neg e) H k ahead t j pc size q cs rest near le g fs short place to
+  not_law line BitNot e law H k ahead t j pc size q cs rest near le g fs short place to = value_law (Unary line BitNot e) H k ahead t j pc size q cs rest near le g fs short place to
+  not_law line Length e law H k ahead t j pc size q cs rest near le g fs short place to = value_law (Unary line Length e) H k ahead t j pc size q cs rest near le g fs short place to
+
+  -- both operands lead to one place, or the first one leads past the second
+  module _ (e d : Exp) (law_e : TestLaw e) (law_d : TestLaw d) where
+    abbrev second_of : (k : Bool) → (ahead t j : ℕ) → List Coded
+    second_of k ahead t j = test_code p.own.constants d k ahead t (j + made_by e)
+
+    away_law : (first_wants k : Bool) (H : Type 0) (ahead t j pc size q : ℕ) (cs : List Const) (rest : Prototypes) → ExpIsNear source p e size t → ExpIsNear source p d size t → size ≤ t → Grows (of_exp d (of_exp e cs)) p.own.constants → Functions p j (from_exp source e (from_exp source d rest))
+        → (H → length (test_code p.own.constants e first_wants (length (second_of k ahead t j) + ahead) t j ++ second_of k ahead t j) + ahead < 2 ^ 24)
+        → q ≡ pc + length (test_code p.own.constants e first_wants (length (second_of k ahead t j) + ahead) t j ++ second_of k ahead t j) + ahead → (H → Land p q)
+        → Piece p H closed closed pc (test_code p.own.constants e first_wants (length (second_of k ahead t j) + ahead) t j ++ second_of k ahead t j)
+    away_law first_wants k H ahead t j pc size q cs rest near_e near_d le g fs short place to =
+        let second = second_of k ahead t j in
+        let first = test_code p.own.constants e first_wants (length second + ahead) t j in
+        let sum = length-append first second in
+        both p (law_e H first_wants (length second + ahead) t j pc size q cs (from_exp source d rest) near_e le (grows_then (of_exp e cs) (of_exp d (of_exp e cs)) p.own.constants (grows_exp d (of_exp e cs)) g) fs (λ h. let f = short h in omega (arith, f, sum)) (omega (arith, place, sum)) to)
+        (law_d H k ahead t (j + made_by e) (pc + length first) size q (of_exp e cs) rest near_d le g (after_exp source p e j (from_exp source d rest) fs) (λ h. let f = short h in omega (arith, f, sum)) (omega (arith, place, sum)) to)
+
+    past_law : (first_wants k : Bool) (H : Type 0) (ahead t j pc size q : ℕ) (cs : List Const) (rest : Prototypes) → ExpIsNear source p e size t → ExpIsNear source p d size t → size ≤ t → Grows (of_exp d (of_exp e cs)) p.own.constants → Functions p j (from_exp source e (from_exp source d rest))
+        → (H → length (test_code p.own.constants e first_wants (length (second_of k ahead t j) + 0) t j ++ second_of k ahead t j) + ahead < 2 ^ 24)
+        → q ≡ pc + length (test_code p.own.constants e first_wants (length (second_of k ahead t j) + 0) t j ++ second_of k ahead t j) + ahead → (H → Land p q)
+        → Piece p H closed closed pc (test_code p.own.constants e first_wants (length (second_of k ahead t j) + 0) t j ++ second_of k ahead t j)
+    past_law first_wants k H ahead t j pc size q cs rest near_e near_d le g fs short place to =
+        let second = second_of k ahead t j in
+        let first = test_code p.own.constants e first_wants (length second + 0) t j in
+        let sum = length-append first second in
+        let end : ℕ = pc + length (first ++ second) in
+        let G : Type 0 = H × Land p end in
+        let inner : Piece p G closed closed pc (first ++ second) =
+        both p (law_e G first_wants (length second + 0) t j pc size end cs (from_exp source d rest) near_e le (grows_then (of_exp e cs) (of_exp d (of_exp e cs)) p.own.constants (grows_exp d (of_exp e cs)) g) fs (λ h. let f = short h.0 in omega (arith, f, sum)) (omega (arith, sum)) (λ h. h.1))
+        (law_d G k ahead t (j + made_by e) (pc + length first) size q (of_exp e cs) rest near_d le g (after_exp source p e j (from_exp source d rest) fs) (λ h. let f = short h.0 in omega (arith, f, sum)) (omega (arith, place, sum)) (λ h. to h.0)) in
+        ending p end refl inner
+
+    and_law : (line : ℕ) → TestLaw (And line e d)
+    and_law line H true ahead t j pc size q cs rest near le g fs short place to = away_law true true H ahead t j pc size q cs rest near.1.0 near.1.1 le g fs short place to
+    and_law line H false ahead t j pc size q cs rest near le g fs short place to = past_law true false H ahead t j pc size q cs rest near.1.0 near.1.1 le g fs short place to
+
+    or_law : (line : ℕ) → TestLaw (Or line e d)
+    or_law line H true ahead t j pc size q cs rest near le g fs short place to = past_law false true H ahead t j pc size q cs rest near.1.0 near.1.1 le g fs short place to
+    or_law line H false ahead t j pc size q cs rest near le g fs short place to = away_law false false H ahead t j pc size q cs rest near.1.0 near.1.1 le g fs short place to
+
+  -- comparisons
+  module _ (line : ℕ) (op : BinOp) (e d : Exp) where
+    abbrev compared_code : Opcode → (swapped field : Bool) → (ahead t j : ℕ) → List Coded
+    compared_code opcode swapped field ahead t j =
+        exp_code p.own.constants e t j 2 ++ (exp_code p.own.constants d (t + 1) (j + made_by e) 2 ++ jump_if opcode (pick swapped t (t + 1)) (pick swapped (t + 1) t) field ahead line)
+
+    compare_law : (opcode : Opcode) → IsFirst p opcode Jmp → (swapped field : Bool) → (H : Type 0) (ahead t j pc : ℕ) → Leads (λ ahead. compared_code opcode swapped field ahead t j) (Binary line op e d) H ahead t j pc
+    compare_law opcode is_first swapped field H ahead t j pc size q cs rest near le g fs short place to =
+        let first = exp_code p.own.constants e t j 2 in
+        let second = exp_code p.own.constants d (t + 1) (j + made_by e) 2 in
+        let last = jump_if opcode (pick swapped t (t + 1)) (pick swapped (t + 1) t) field ahead line in
+        let a = length-append first (second ++ last) in
+        let b = length-append second last in
+        let r = near.0 in
+        both p (one_law p W source e H t j pc size cs (from_exp source d rest) near.1.0 le (grows_then (of_exp e cs) (of_exp d (of_exp e cs)) p.own.constants (grows_exp d (of_exp e cs)) g) fs)
+        (both p (one_law p W source d H (t + 1) (j + made_by e) (pc + length first) size (of_exp e cs) rest near.1.1 (omega (arith, le)) g (after_exp source p e j (from_exp source d rest) fs))
+        (test_over p opcode is_first (pick swapped t (t + 1)) (pick swapped (t + 1) t) field ahead (pc + length first + length second) q line (picked swapped t (t + 1) (omega (arith, r)) (omega (arith, r))) (picked swapped (t + 1) t (omega (arith, r)) (omega (arith, r)))
+        (λ h. let f = short h in omega (arith, f)) (omega (arith, place, a, b)) to))
+
+  binary_law : (line : ℕ) (op : BinOp) (e d : Exp) → TestLaw (Binary line op e d)
+  binary_law line Equal e d H k ahead t j pc = compare_law line Equal e d Eq (first_eq p) false (not k) H ahead t j pc
+  binary_law line Ne e d H k ahead t j pc = compare_law line Ne e d Eq (first_eq p) false k H ahead t j pc
+  binary_law line Less e d H k ahead t j pc = compare_law line Less e d Lt (first_lt p) false (not k) H ahead t j pc
+  binary_law line AtMost e d H k ahead t j pc = compare_law line AtMost e d Le (first_le p) false (not k) H ahead t j pc
+  binary_law line Gt e d H k ahead t j pc = compare_law line Gt e d Lt (first_lt p) true (not k) H ahead t j pc
+  binary_law line Ge e d H k ahead t j pc = compare_law line Ge e d Le (first_le p) true (not k) H ahead t j pc
+  binary_law line Plus e d H k ahead t j pc = value_law (Binary line Plus e d) H k ahead t j pc
+  binary_law line Minus e d H k ahead t j pc = value_law (Binary line Minus e d) H k ahead t j pc
+  binary_law line Times e d H k ahead t j pc = value_law (Binary line Times e d) H k ahead t j pc
+  binary_law line Modulo e d H k ahead t j pc = value_law (Binary line Modulo e d) H k ahead t j pc
+  binary_law line Idiv e d H k ahead t j pc = value_law (Binary line Idiv e d) H k ahead t j pc
+  binary_law line Band e d H k ahead t j pc = value_law (Binary line Band e d) H k ahead t j pc
+  binary_law line Bor e d H k ahead t j pc = value_law (Binary line Bor e d) H k ahead t j pc
+  binary_law line Bxor e d H k ahead t j pc = value_law (Binary line Bxor e d) H k ahead t j pc
+  binary_law line ShiftLeft e d H k ahead t j pc = value_law (Binary line ShiftLeft e d) H k ahead t j pc
+  binary_law line ShiftRight e d H k ahead t j pc = value_law (Binary line ShiftRight e d) H k ahead t j pc
+  binary_law line Join e d H k ahead t j pc = value_law (Binary line Join e d) H k ahead t j pc
+
+  true_law : (line : ℕ) → TestLaw (True line)
+  true_law line H true ahead t j pc size q cs rest near le g fs short place to = nothing p
+  true_law line H false ahead t j pc size q cs rest near le g fs short place to = over_piece p ahead pc q line (λ h. let f = short h in omega (arith, f)) place to
+
+  pub test_law : (e : Exp) → TestLaw e
+  test_law (Paren line e) H k ahead t j pc size q cs rest near le g fs short place to = test_law e H k ahead t j pc size q cs rest near.1 le g fs short place to
+  test_law (Unary line op e) H k ahead t j pc size q cs rest near le g fs short place to = not_law line op e (test_law e) H k ahead t j pc size q cs rest near le g fs short place to
+  test_law (And line e d) H k ahead t j pc size q cs rest near le g fs short place to = and_law e d (test_law e) (test_law d) line H k ahead t j pc size q cs rest near le g fs short place to
+  test_law (Or line e d) H k ahead t j pc size q cs rest near le g fs short place to = or_law e d (test_law e) (test_law d) line H k ahead t j pc size q cs rest near le g fs short place to
+  test_law (Binary line op e d) H k ahead t j pc size q cs rest near le g fs short place to = binary_law line op e d H k ahead t j pc size q cs rest near le g fs short place to
+  test_law (True line) H k ahead t j pc size q cs rest near le g fs short place to = true_law line H k ahead t j pc size q cs rest near le g fs short place to
+  test_law (Nil line) H k ahead t j pc size q cs rest near le g fs short place to = value_law (Nil line) H k ahead t j pc size q cs rest near le g fs short place to
+  test_law (False line) H k ahead t j pc size q cs rest near le g fs short place to = value_law (False line) H k ahead t j pc size q cs rest near le g fs short place to
+  test_law (Int line z) H k ahead t j pc size q cs rest near le g fs short place to = value_law (Int line z) H k ahead t j pc size q cs rest near le g fs short place to
+  test_law (Str line bytes) H k ahead t j pc size q cs rest near le g fs short place to = value_law (Str line bytes) H k ahead t j pc size q cs rest near le g fs short place to
+  test_law (Vararg line) H k ahead t j pc size q cs rest near le g fs short place to = value_law (Vararg line) H k ahead t j pc size q cs rest near le g fs short place to
+  test_law (Function line body) H k ahead t j pc size q cs rest near le g fs short place to = value_law (Function line body) H k ahead t j pc size q cs rest near le g fs short place to
+  test_law (Var line name) H k ahead t j pc size q cs rest near le g fs short place to = value_law (Var line name) H k ahead t j pc size q cs rest near le g fs short place to
+  test_law (Index line object key) H k ahead t j pc size q cs rest near le g fs short place to = value_law (Index line object key) H k ahead t j pc size q cs rest near le g fs short place to
+  test_law (Call line f es) H k ahead t j pc size q cs rest near le g fs short place to = value_law (Call line f es) H k ahead t j pc size q cs rest near le g fs short place to
+  test_law (Method line object name es) H k ahead t j pc size q cs rest near le g fs short place to = value_law (Method line object name es) H k ahead t j pc size q cs rest near le g fs short place to
+  test_law (Table line fields) H k ahead t j pc size q cs rest near le g fs short place to = value_law (Table line fields) H k ahead t j pc size q cs rest near le g fs short place to
