@@ -9,19 +9,10 @@ use std::alloc::{AllocError, Global};
 use std::test::Fail;
 
 // Sources without constants, and the words of their code.
-static WORDS: [(&[u8], &[u32]); 8] = [
+static WORDS: [(&[u8], &[u32]); 13] = [
     (
         b"while true do break end",
-        &[
-            0x51,
-            0x07,
-            0x42,
-            0x8000_0138,
-            0x36,
-            0x8000_0038,
-            0x7fff_fcb8,
-            0x0101_0046,
-        ],
+        &[0x51, 0x36, 0x8000_0038, 0x7fff_fe38, 0x0101_0046],
     ),
     (
         b"for i = 1, 2 do end",
@@ -80,6 +71,61 @@ static WORDS: [(&[u8], &[u32]); 8] = [
             0x0101_80c6,
         ],
     ),
+    // no instruction tests what is always true, and none stands for an arm without code
+    (b"if true then end", &[0x51, 0x0101_0046]),
+    (
+        b"repeat until true",
+        &[0x51, 0x8000_0038, 0x7fff_feb8, 0x0101_0046],
+    ),
+    // LT leads to its jump where it comes to false
+    (
+        b"local a, b while a < b do end",
+        &[
+            0x51,
+            0x0001_0008,
+            0x0100,
+            0x0001_0180,
+            0x0003_013a,
+            0x8000_0038,
+            0x7fff_fd38,
+            0x0101_8146,
+        ],
+    ),
+    // the first operand leads into the block, and the second one past it
+    (
+        b"local a, b if a == b or a > b then b = a end",
+        &[
+            0x51,
+            0x0001_0008,
+            0x0100,
+            0x0001_0180,
+            0x0003_8139,
+            0x8000_01b8,
+            0x0100,
+            0x0001_0180,
+            0x0002_01ba,
+            0x8000_00b8,
+            0x0200,
+            0x0004_0080,
+            0x0101_8146,
+        ],
+    ),
+    (
+        b"local a, b if not (a and b) then b = a end",
+        &[
+            0x51,
+            0x0001_0008,
+            0x0100,
+            0x0142,
+            0x8000_0138,
+            0x0001_0100,
+            0x8142,
+            0x8000_00b8,
+            0x0200,
+            0x0004_0080,
+            0x0101_8146,
+        ],
+    ),
     (
         b"local f return f()",
         &[0x51, 0x08, 0x80, 0x0101_80c5, 0x0100_80c6],
@@ -125,7 +171,7 @@ static VARIABLES: [(&[u8], &[u32]); 6] = [
     // the first arm has a jump behind its CLOSE
     (
         b"if true then local a else local b end",
-        &[0x61, 5, 6, 0x62, 8, 9],
+        &[0x61, 2, 3, 0x62, 5, 6],
     ),
 ];
 

@@ -4,3 +4,5 @@ pub mod Rows
 pub mod Ends
 pub mod Going
 pub mod Patching
+pub mod Leading
+pub mod Testing

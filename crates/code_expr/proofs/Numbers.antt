@@ -1,5 +1,5 @@
 -- Constants that are looked up, and one that is added.
-use Rattle.std.proofs.Common.{arith, ℕ, suc, Bool, ◌++◌, refl, sym, ◌+◌, ◌≡◌, ◌≤◌, ◌<◌, ℤ, pos, true, false, List, [], ◌∷◌, ap, ◌∙◌, subst, cond, length, length-append, Option, Some, None, nat_eq}
+use Rattle.std.proofs.Common.{arith, ℕ, suc, Bool, ◌++◌, refl, sym, ◌≡◌, ◌≤◌, ◌<◌, ℤ, pos, true, false, List, [], ◌∷◌, ap, ◌∙◌, subst, cond, length, length-append, Option, Some, None, nat_eq}
 use Rattle.std.specs.Cmp.{signed_Decides}
 use Rattle.std.specs.Cmp.Lexicographic.{pointwise, nat_list_eq_equiv}
 use Rattle.std.specs.Ordering.{int_eq}

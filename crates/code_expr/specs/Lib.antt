@@ -1,4 +1,6 @@
 pub mod Indexed
+pub mod Leading
 pub mod Listing
 pub mod Parts
 pub mod Patches
+pub mod Testing

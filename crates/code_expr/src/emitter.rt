@@ -1,10 +1,11 @@
 // The code of a function while it is written.
-ghost use Rattle.std.specs.Prelude.{◌≡◌, ◌+◌, ◌-◌, ℕ, List, false, [], ◌∷◌, OnOk, IfOk, length};
+ghost use Rattle.std.specs.Prelude.{◌≡◌, ◌+◌, ◌-◌, ℕ, List, false, [], ◌∷◌, OnOk, IfOk, length, slice_index_or};
 ghost use Rattle.code_core.specs.declared.opcode.Opcode.TheVariants.{Closure};
 ghost use Rattle.code_core.specs.Instruction.{abc, op_ax};
 ghost use Rattle.code_of.specs.Coded.{Coded, with_abc, with_abx, jump_over, jump_back};
 ghost use Rattle.code_expr.specs.Listing.{Listing, listed, followed, put};
 ghost use Rattle.code_expr.specs.Patches.{set, replaced, jump_to};
+ghost use Rattle.code_expr.specs.Leading.{no_step, led_on};
 
 use crate::constants::Constants;
 use crate::word::{word_abc, word_abx, word_ax};
@@ -28,6 +29,7 @@ pub struct Emitter {
     steps: Vec<Step>,
     /// How many functions the code makes.
     made: usize,
+    alloc: Global,
 }
 
 impl Model for Emitter {
@@ -63,6 +65,7 @@ impl Emitter {
             constants,
             steps: Vec::new(alloc),
             made: 0,
+            alloc,
         }
     }
 
@@ -71,6 +74,11 @@ impl Emitter {
         ensures { result.now ≡ self.now.constants }
     {
         &self.constants
+    }
+
+    /// The allocator of the code.
+    pub(crate) fn alloc(&self) -> Global {
+        self.alloc
     }
 
     /// The code so far.
@@ -221,6 +229,37 @@ impl Emitter {
         }
         let places = 16777215usize.saturating_sub(behind - to);
         self.set(place, word_ax(Opcode::Jmp, places), line);
+        Ok(())
+    }
+
+    /// The line of the instruction at a place, or 0 where none stands.
+    fn line_at(&self, place: usize) -> u32
+        ensures { result ≡ (slice_index_or self.now.steps place no_step).line }
+    {
+        if place < self.steps.len() {
+            return self.steps[place].line;
+        }
+        0
+    }
+
+    /// Lets the jump at a place lead to another one further on.
+    fn lead_one(&mut self, place: usize, to: usize) -> Result<(), AllocError>
+        ensures { OnOk result (self.new ≡ led_on self.old (place ∷ []) to) }
+    {
+        let line = self.line_at(place);
+        let places = to.saturating_sub(next(place)?);
+        let field = places.checked_add(16777215).ok_or(AllocError)?;
+        self.set(place, word_ax(Opcode::Jmp, field), line);
+        Ok(())
+    }
+
+    /// Lets the jumps at some places lead to another one further on.
+    pub fn lead(&mut self, places: &Vec<usize>, to: usize) -> Result<(), AllocError>
+        ensures { OnOk result (self.new ≡ led_on self.old places.now.items to) }
+    {
+        for place in places.iter() {
+            self.lead_one(*place, to)?;
+        }
         Ok(())
     }
 

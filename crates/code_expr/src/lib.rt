@@ -2,6 +2,7 @@
 #![tactic(auto)]
 
 mod collecting;
+mod conditions;
 mod constants;
 mod emitter;
 mod expressions;

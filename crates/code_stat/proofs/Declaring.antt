@@ -7,11 +7,12 @@ use Rattle.tree_core.specs.declared.name.Declared.{Declared}
 use Rattle.tree_core.specs.declared.tree.Stat as Rust
 use Rattle.tree_core.specs.Tree.{Block, Falls, Returns, Stats, MoreStats, Stat, Exp, Exps, Arms, EndArms, MoreArms, Local, Repeat, IfElse, GenFor, stats}
 use Rattle.tree_core.specs.Plain.{num_for_of, plain_stat}
-use Rattle.code_core.specs.declared.opcode.Opcode.TheVariants.{Test, Close, ForLoop, TForCall, TForLoop}
+use Rattle.code_core.specs.declared.opcode.Opcode.TheVariants.{Close, ForLoop, TForCall, TForLoop}
 use Rattle.code_core.specs.declared.proto.Const.{Const}
 use Rattle.code_core.specs.declared.proto.LocVar.{LocVar}
-use Rattle.code_of.specs.Coded.{Coded, with_abc, with_abx, jump_over}
-use Rattle.code_of.specs.Expressions.{made_by, made_in, exp_code, exps_code}
+use Rattle.code_of.specs.Coded.{Coded, with_abc, with_abx}
+use Rattle.code_of.specs.Conditions.{test_code}
+use Rattle.code_of.specs.Expressions.{made_by, made_in, exps_code}
 use Rattle.code_of.specs.Jumps.{Reach}
 use Rattle.code_of.specs.Levels.{made_by_stat, made_in_arms, made_in_block, closing_after}
 use Rattle.tree_terms.specs.Levels.{level_after}
@@ -20,8 +21,10 @@ use Rattle.code_of.specs.Sizes.{stat_size, arms_size, block_size}
 use Rattle.code_of.specs.Statements.{in_loop, stat_code, block_code}
 use Rattle.code_of.specs.Variables.{variables, hidden, looped, within_stat, within_arms, within_stats, within_open, within_block}
 use Rattle.code_of.proofs.Sizes.{stat_sized, block_sized}
+use Rattle.code_expr.specs.Leading.{Opened}
 use Rattle.code_expr.specs.Listing.{Listing, followed, listed}
-use Rattle.code_expr.proofs.Joining.{none_made, listed_after}
+use Rattle.code_expr.proofs.Joining.{none_made}
+use Rattle.code_expr.proofs.Leading.{opened_long}
 use Rattle.code_parts.specs.declared.variables.Variable.{Variable}
 use Rattle.code_parts.specs.Scopes.{begun, over, hidden_from, ended_from, begun_by, begun_in}
 use Rattle.code_parts.proofs.Ending.{ended_over, ended_append, over_append, ended_behind, names_ended, loop_ended, block_ended}
@@ -30,10 +33,9 @@ use Rattle.code_stat.specs.Declares.{Declares, DeclaresStat, DeclaresStats, Decl
 use Rattle.code_stat.specs.Drafts.{Wrote, WroteStat, WroteBlock}
 use Rattle.code_stat.specs.Forms.{choice, counted_code, iterated_code, range_code, made_in_range}
 use Rattle.code_stat.proofs.Going.{front}
-use Rattle.code_stat.proofs.Drafting.{draft_sized, written_sized}
+use Rattle.code_stat.proofs.Drafting.{draft_sized, stands_at, written_sized}
 use Rattle.code_stat.proofs.Blocks.{moved, nowhere}
-use Rattle.code_stat.proofs.Looping.{while_front}
-use Rattle.code_stat.proofs.Choosing.{first_arm, begun_long, front_long, places}
+use Rattle.code_stat.proofs.Choosing.{open_jump, first_past, places}
 use Rattle.code_stat.proofs.Undeclared.{stat_without}
 
 -- how long the code of a piece is
@@ -139,9 +141,6 @@ open_ended k back before (Falls ss tokens line) closing t j pc place = block_end
 open_ended k back before (Returns ss es tokens line) closing t j pc place = block_ended k back before ss closing t j pc place
 
 -- loops
-
-further : (pc n : ℕ) → pc + (n + 2) ≡ pc + n + 2
-further pc n = omega arith
 
 pub repeat_declares :
     (a q b : Writer) (block : Block) (e : Exp) (closing : Bool) (t line first place : ℕ)
@@ -302,12 +301,12 @@ module _ (k : List Const) (back : ℕ) where
   pub choice_left :
       (line : ℕ) (e : Exp) (block : Block) (arms : Arms) (o : Option Block) (closing : Bool) (t j pc : ℕ)
       → left_by k back (choice line (MoreArms e block arms) o) closing t j pc
-      ≡ map over (within_block k back block closing t t (j + made_by e) (pc + length (exp_code k e t j 2) + 2))
+      ≡ map over (within_block k back block closing t t (j + made_by e) (pc + length (test_code k e true 0 t j)))
       ++ left_by k back (choice line arms o) closing t (j + made_by e + made_in_block block)
-      (pc + length (exp_code k e t j 2) + 2 + block_size k back block closing t t (j + made_by e) + past_size (stat_size k back (choice line arms o) closing t (j + made_by e + made_in_block block)))
+      (pc + length (test_code k e true 0 t j) + block_size k back block closing t t (j + made_by e) + past_size (stat_size k back (choice line arms o) closing t (j + made_by e + made_in_block block)))
   choice_left line e block arms None closing t j pc =
       let m = j + made_by e + made_in_block block in
-      let inner = pc + length (exp_code k e t j 2) + 2 in
+      let inner = pc + length (test_code k e true 0 t j) in
       let first = within_block k back block closing t t (j + made_by e) inner in
       let behind : ℕ → ℕ = λ n. inner + block_size k back block closing t t (j + made_by e) + past_size n in
       over_append first (within_arms k back arms 0 closing t m (behind (arms_size k back arms 0 closing t m + 0)))
@@ -317,12 +316,12 @@ module _ (k : List Const) (back : ℕ) where
       let later : ℕ = m + made_in_arms arms in
       let number : j + made_in_arms (MoreArms e block arms) ≡ later = omega arith in
       let size = block_size k back other closing t t later in
-      let inner = pc + length (exp_code k e t j 2) + 2 in
+      let inner = pc + length (test_code k e true 0 t j) in
       let first = within_block k back block closing t t (j + made_by e) inner in
       let others = arms_size k back arms size closing t m in
       let behind : ℕ = inner + block_size k back block closing t t (j + made_by e) + past_size (others + size) in
       let rest = within_arms k back arms size closing t m behind in
-      let there : pc + arms_size k back (MoreArms e block arms) size closing t j ≡ behind + others = places (length (exp_code k e t j 2)) (block_size k back block closing t t (j + made_by e)) (past_size (others + size)) others pc in
+      let there : pc + arms_size k back (MoreArms e block arms) size closing t j ≡ behind + others = places (length (test_code k e true 0 t j)) (block_size k back block closing t t (j + made_by e)) (past_size (others + size)) others pc in
       ap (λ n. map over (within_arms k back (MoreArms e block arms) (block_size k back other closing t t n) closing t j pc ++ within_block k back other closing t t n (pc + arms_size k back (MoreArms e block arms) (block_size k back other closing t t n) closing t j))) number
       ∙ ap (λ n. map over ((first ++ rest) ++ within_block k back other closing t t later n)) there
       ∙ ap (map over) (append_assoc first rest (within_block k back other closing t t later (behind + others)))
@@ -345,62 +344,49 @@ otherwise_declares a b block closing t line d =
 -- the others stand behind a jump, or they have no code and no variables
 left_past :
     (k : List Const) (back line : ℕ) (arms : Arms) (o : Option Block) (closing : Bool) (t j pc n size others : ℕ) → stat_size k back (choice line arms o) closing t j ≡ others
-    → left_by k back (choice line arms o) closing t j (pc + (n + 2 + size + 1)) ≡ left_by k back (choice line arms o) closing t j (pc + n + 2 + size + past_size others)
+    → left_by k back (choice line arms o) closing t j (pc + (n + size + 1)) ≡ left_by k back (choice line arms o) closing t j (pc + n + size + past_size others)
 left_past k back line arms o closing t j pc n size zero h =
-    choice_without k back line arms o closing t j (pc + (n + 2 + size + 1)) h ∙ sym (choice_without k back line arms o closing t j (pc + n + 2 + size + past_size zero) h)
+    choice_without k back line arms o closing t j (pc + (n + size + 1)) h ∙ sym (choice_without k back line arms o closing t j (pc + n + size + past_size zero) h)
 left_past k back line arms o closing t j pc n size (suc others) h = ap (left_by k back (choice line arms o) closing t j) (at_one pc n size)
   where
-    at_one : (p n s : ℕ) → p + (n + 2 + s + 1) ≡ p + n + 2 + s + 1
+    at_one : (p n s : ℕ) → p + (n + s + 1) ≡ p + n + s + 1
     at_one p n s = omega arith
 
 -- the first arm, and what the others come to, whether they have code or none
 
 pub arm_declares :
-    (a p q r u b : Writer) (s1 s2 s4 : Listing) (e : Exp) (block : Block) (arms : Arms) (o : Option Block) (closing : Bool) (t line place : ℕ)
-    → s1 ≡ followed a.emitter (exp_code a.emitter.constants e t a.emitter.made 2) (made_by e)
-    → s2 ≡ listed s1 (with_abc Test t 0 0 line ∷ []) → p.emitter ≡ listed s2 (jump_over 0 line ∷ []) → place ≡ length s2.steps
-    → p.variables ≡ a.variables → p.back ≡ a.back
+    (a p q r u b : Writer) (e : Exp) (block : Block) (arms : Arms) (o : Option Block) (closing : Bool) (t line : ℕ) (away : List ℕ)
+    → Opened a.emitter p.emitter (λ ahead. test_code a.emitter.constants e true ahead t a.emitter.made) (made_by e) away → p.variables ≡ a.variables → p.back ≡ a.back
     → WroteBlock p q block closing t t → DeclaresBlock p q block closing t t
-    → s4 ≡ listed q.emitter (jump_over 0 line ∷ [])
-    → ((before : Listing) (line : ℕ) (code : List Coded) (made : ℕ) → place ≡ length before.steps → s4 ≡ followed (listed before (jump_over 0 line ∷ [])) code made → r.emitter ≡ followed before (jump_over (length code) line ∷ code) made)
-    → r.variables ≡ q.variables → r.back ≡ q.back
+    → r.emitter ≡ listed q.emitter (open_jump line) → r.variables ≡ q.variables → r.back ≡ q.back
     → DeclaresStat r u (choice line arms o) closing t
     → b.variables ≡ u.variables
     → DeclaresStat a b (choice line (MoreArms e block arms) o) closing t
-arm_declares a p q r u b s1 s2 s4 e block arms o closing t line place e1 e2 e3 place_is pv pb w d e4 lands rv rb d2 bv =
+arm_declares a p q r u b e block arms o closing t line away opened pv pb w d r_is rv rb d2 bv =
     let k = a.emitter.constants in
     let j = a.emitter.made in
     let pc = length a.emitter.steps in
-    let test : List Coded = exp_code k e t j 2 in
+    let test : ℕ → List Coded = λ ahead. test_code k e true ahead t j in
     let m = made_in_block block in
     let size = block_size k a.back block closing t t (j + made_by e) in
-    let x = while_front test (length w.draft + 1) t line in
-    let last = jump_over 0 line ∷ [] in
-    let begun_is = begun_long a p s1 s2 e t line e1 e2 e3 in
-    let p_long : length p.emitter.steps ≡ pc + (length test + 2) = written_sized a.emitter p.emitter (while_front test 0 t line) (made_by e) begun_is ∙ ap (λ n. pc + n) (front_long test 0 t line) in
+    let gone = first_past a p q r test (made_by e) m line (λ reach. block_code p.emitter.constants p.back block closing t t p.emitter.made (length p.emitter.steps) reach) away opened pb w r_is rb in
     let q_long = written_sized p.emitter q.emitter w.draft m w.emitter_is in
     let q_ends = block_ends p q block closing t t w in
+    let p_long = opened_long a.emitter p.emitter test (made_by e) away opened in
     let size_is : block_size p.emitter.constants p.back block closing t t p.emitter.made ≡ size =
-    moved (λ k back j pc. block_size k back block closing t t j) a p (while_front test 0 t line) (made_by e) (length test + 2) begun_is pb (front_long test 0 t line) in
+    stands_at (λ k back j pc. block_size k back block closing t t j) p k a.back (j + made_by e) (pc + length (test 0)) opened.constants_is pb opened.made_is p_long in
     let draft_long : length w.draft ≡ size = omega (arith, q_long, q_ends, size_is) in
-    let r_is : r.emitter ≡ followed a.emitter ((x ++ w.draft) ++ last) (made_by e + m) =
-    first_arm a p q s1 s2 s4 r.emitter e block closing t line place e1 e2 e3 place_is w e4 lands ∙ listed_after a.emitter (x ++ w.draft) (made_by e + m) last in
-    let parts = length-append (x ++ w.draft) last in
-    let parts2 = length-append x w.draft in
-    let x_long = front_long test (length w.draft + 1) t line in
-    let r_code : length ((x ++ w.draft) ++ last) ≡ length test + 2 + size + 1 = omega (arith, parts, parts2, x_long, draft_long) in
-    let r_back : r.back ≡ a.back = rb ∙ w.back_is ∙ pb in
     let number : j + (made_by e + m) ≡ j + made_by e + m = omega arith in
     let others = stat_size k a.back (choice line arms o) closing t (j + made_by e + m) in
-    let first : r.variables ≡ a.variables ++ map over (within_block k a.back block closing t t (j + made_by e) (pc + length test + 2)) =
-    rv ∙ declared_at (λ k back j pc. map over (within_block k back block closing t t j pc)) a p q (while_front test 0 t line) (made_by e) (length test + 2) begun_is pb (front_long test 0 t line) d
-    ∙ ap₂ (λ l n. l ++ map over (within_block k a.back block closing t t (j + made_by e) n)) pv (further pc (length test)) in
-    let here : u.variables ≡ r.variables ++ left_by k a.back (choice line arms o) closing t (j + made_by e + m) (pc + (length test + 2 + size + 1)) =
-    declared_at (λ k back j pc. left_by k back (choice line arms o) closing t j pc) a r u ((x ++ w.draft) ++ last) (made_by e + m) (length test + 2 + size + 1) r_is r_back r_code d2
-    ∙ ap (λ i. r.variables ++ left_by k a.back (choice line arms o) closing t i (pc + (length test + 2 + size + 1))) number in
-    let behind = pc + length test + 2 + size + past_size others in
-    let same : left_by k a.back (choice line arms o) closing t (j + made_by e + m) (pc + (length test + 2 + size + 1)) ≡ left_by k a.back (choice line arms o) closing t (j + made_by e + m) behind =
-    left_past k a.back line arms o closing t (j + made_by e + m) pc (length test) size others refl in
-    bv ∙ here ∙ ap₂ (λ xs ys. xs ++ ys) first same
-    ∙ append_assoc a.variables (map over (within_block k a.back block closing t t (j + made_by e) (pc + length test + 2))) (left_by k a.back (choice line arms o) closing t (j + made_by e + m) behind)
+    let behind = pc + length (test 0) + size + past_size others in
+    let first : r.variables ≡ a.variables ++ map over (within_block k a.back block closing t t (j + made_by e) (pc + length (test 0))) =
+    rv ∙ d ∙ ap₂ (λ l v. l ++ map over v) pv
+    (stands_at (λ k back j pc. within_block k back block closing t t j pc) p k a.back (j + made_by e) (pc + length (test 0)) opened.constants_is pb opened.made_is p_long) in
+    let r_long : length r.emitter.steps ≡ pc + (length (test 0) + size + 1) = (let y = gone.long in omega (arith, y, draft_long)) in
+    let here : u.variables ≡ r.variables ++ left_by k a.back (choice line arms o) closing t (j + made_by e + m) behind =
+    d2 ∙ ap (λ l. r.variables ++ l)
+    (stands_at (λ k back j pc. left_by k back (choice line arms o) closing t j pc) r k a.back (j + made_by e + m) (pc + (length (test 0) + size + 1)) gone.constants_is gone.back_is (gone.made_is ∙ number) r_long
+    ∙ left_past k a.back line arms o closing t (j + made_by e + m) pc (length (test 0)) size others refl) in
+    bv ∙ here ∙ ap (λ xs. xs ++ left_by k a.back (choice line arms o) closing t (j + made_by e + m) behind) first
+    ∙ append_assoc a.variables (map over (within_block k a.back block closing t t (j + made_by e) (pc + length (test 0)))) (left_by k a.back (choice line arms o) closing t (j + made_by e + m) behind)
     ∙ ap (λ l. a.variables ++ l) (sym (choice_left k a.back line e block arms o closing t j pc))

@@ -7,7 +7,9 @@ use Rattle.code_of.specs.Coded.{Coded}
 use Rattle.code_of.specs.Jumps.{Landing, Reach}
 use Rattle.code_expr.specs.declared.emitter.Step.{Step}
 use Rattle.code_expr.specs.Listing.{Listing, followed, step, steps}
+use Rattle.code_expr.specs.Leading.{Opened}
 use Rattle.code_expr.proofs.Joining.{after}
+use Rattle.code_expr.proofs.Leading.{opened_long}
 use Rattle.code_stat.specs.declared.jumps.Jump.{Jump}
 use Rattle.code_stat.specs.declared.writer.Writer.{Writer}
 use Rattle.code_stat.specs.Drafts.{arrives, fill, Wrote}
@@ -106,6 +108,28 @@ pub then_formed :
     → Wrote a c (m + n) (λ reach. f reach ++ g a.emitter.constants a.back (a.emitter.made + m) (length a.emitter.steps + size) reach)
 then_formed a b c m n size f g w h v =
     recoded a c (m + n) (λ reach. f reach ++ formed g b reach) _ (then_wrote a b c m n f (formed g b) w v) (λ reach. ap (λ l. f reach ++ l) (form_moved g a b m f size w h reach))
+
+-- what hangs on a writer's place is the same at an equal one
+
+pub stands_at :
+    {X : Type 0} (g : List Const → (back made place : ℕ) → X) (a : Writer) (k : List Const) (back j pc : ℕ) → a.emitter.constants ≡ k → a.back ≡ back → a.emitter.made ≡ j → length a.emitter.steps ≡ pc
+    → g a.emitter.constants a.back a.emitter.made (length a.emitter.steps) ≡ g k back j pc
+stands_at g a k back j pc k_is back_is j_is pc_is = ap₂ (λ c n. g c n a.emitter.made (length a.emitter.steps)) k_is back_is ∙ ap₂ (g k back) j_is pc_is
+
+-- what is written behind other code of the same length, with the same constants and functions
+abbrev pub behind_other :
+    (a p q : Writer) (code : ℕ → List Coded) (m n : ℕ) (places : List ℕ) (g : Form) (w : Wrote p q n (formed g p)) → Opened a.emitter p.emitter code m places
+    → Wrote (record p { emitter = followed a.emitter (code 0) m }) (record q { emitter = followed (followed a.emitter (code 0) m) w.draft n }) n (formed g (record p { emitter = followed a.emitter (code 0) m }))
+behind_other a p q code m n places g w o = record {
+  draft = w.draft;
+  jumps = w.jumps;
+  emitter_is = refl;
+  jumps_are = w.jumps_are;
+  back_is = w.back_is;
+  fills = λ reach front more h.
+      let long = opened_long a.emitter p.emitter code m places o ∙ sym (front_sized a.emitter.steps (code 0) (length a.emitter.steps) refl) in
+      w.fills reach front more (h ∙ sym long) ∙ ap (λ c. front ++ (steps c ++ more)) (stands_at (λ k back j pc. g k back j pc reach) p a.emitter.constants p.back (a.emitter.made + m) (length (a.emitter.steps ++ steps (code 0))) o.constants_is refl o.made_is long);
+}
 
 -- code around code
 

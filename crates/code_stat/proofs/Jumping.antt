@@ -1,16 +1,17 @@
 -- What is written for jumps, and for the end of a `repeat`.
-use Rattle.std.proofs.Common.{arith, ℕ, ◌+◌, ◌-◌, ◌≡◌, true, false, List, [], ◌∷◌, ◌++◌, sym, ap, ap₂, ◌∙◌, append_assoc, length, cond, Option, Some, None}
+use Rattle.std.proofs.Common.{arith, ℕ, ◌+◌, ◌-◌, ◌≡◌, false, List, [], ◌∷◌, ◌++◌, sym, ap, ap₂, ◌∙◌, append_assoc, length, cond, Option, Some, None}
 use Rattle.std.specs.Prelude.{slice_set, nat_le}
 use Rattle.std.proofs.lemmas.List.{length_push, length-append}
 use Rattle.std.proofs.Math.Seq.{set-append_seam}
-use Rattle.code_core.specs.declared.opcode.Opcode.TheVariants.{Close, Test}
-use Rattle.code_core.specs.Instruction.{abc}
+use Rattle.code_core.specs.declared.opcode.Opcode.TheVariants.{Close}
 use Rattle.code_of.specs.Coded.{Coded, with_abc, jump_over, jump_back}
 use Rattle.code_of.specs.Jumps.{Landing, leads}
 use Rattle.code_expr.specs.declared.emitter.Step.{Step}
 use Rattle.code_expr.specs.Listing.{Listing, followed, listed, step, steps}
 use Rattle.code_expr.specs.Patches.{jump_to}
-use Rattle.code_expr.proofs.Joining.{jumped, none_made, both_listed, listed_after}
+use Rattle.code_expr.specs.Leading.{led_on, Opened}
+use Rattle.code_expr.proofs.Joining.{none_made, both_listed, listed_after}
+use Rattle.code_expr.proofs.Leading.{opened_led, opened_long}
 use Rattle.code_stat.specs.declared.jumps.Jump.{Jump}
 use Rattle.code_stat.specs.declared.writer.Writer.{Writer}
 use Rattle.code_stat.specs.Drafts.{Wrote, beyond, or_nowhere}
@@ -59,38 +60,27 @@ jump_wrote a b s1 label place line place_is e1 e2 jumps back = record {
       ∙ ap (λ code. front ++ (steps code ++ more)) (led o (length a.emitter.steps) line);
 }
 
-until_form :
-    (test close : List Coded) (t : Coded) (d places line : ℕ) → d ≡ length close + 1
-    → (test ++ (t ∷ jump_over d line ∷ (close ++ jump_back places line ∷ []))) ++ close ≡ test ++ (t ∷ jump_over (length close + 1) line ∷ (close ++ (jump_back places line ∷ close)))
-until_form test close t d places line e =
-    append_assoc test (t ∷ jump_over d line ∷ (close ++ jump_back places line ∷ [])) close
-    ∙ ap₂ (λ n l. test ++ (t ∷ jump_over n line ∷ l)) e (append_assoc close (jump_back places line ∷ []) close)
+until_form : (test close : List Coded) (places line : ℕ) → (test ++ (close ++ jump_back places line ∷ [])) ++ close ≡ test ++ (close ++ (jump_back places line ∷ close))
+until_form test close places line = append_assoc test (close ++ jump_back places line ∷ []) close ∙ ap (λ l. test ++ l) (append_assoc close (jump_back places line ∷ []) close)
 
 pub until_wrote :
-    (s0 s1 s2 s3 s4 s5 s6 s7 : Listing) (test close : List Coded) (m inner place start line : ℕ)
-    → s1 ≡ followed s0 test m → s2 ≡ listed s1 ((abc Test inner 0 0 true, line) ∷ []) → s3 ≡ listed s2 (jump_over 0 line ∷ []) → place ≡ length s2.steps
-    → s4 ≡ listed s3 close → s5 ≡ listed s4 (jump_back (length s4.steps + 1 - start) line ∷ [])
-    → ((before : Listing) (line : ℕ) (code : List Coded) (made : ℕ) → place ≡ length before.steps → s5 ≡ followed (listed before (jump_over 0 line ∷ [])) code made → s6 ≡ followed before (jump_over (length code) line ∷ code) made)
-    → s7 ≡ listed s6 close
-    → s7 ≡ followed s0 (until_code test close (length s0.steps + length test + length close + 3 - start) inner line) m
-until_wrote s0 s1 s2 s3 s4 s5 s6 s7 test close m inner place start line e1 e2 e3 place_is e4 e5 lands e7 =
-    let tests : Coded = (abc Test inner 0 0 true, line) in
-    let places = length s0.steps + length test + length close + 3 - start in
-    let none2 = e2 ∙ sym (none_made s1 (tests ∷ [])) in
-    let none3 = e3 ∙ sym (none_made s2 (jump_over 0 line ∷ [])) in
-    let none4 = e4 ∙ sym (none_made s3 close) in
-    let long1 = written_sized s0 s1 test m e1 in
-    let long2 = written_sized s1 s2 (tests ∷ []) 0 none2 in
-    let long3 = written_sized s2 s3 (jump_over 0 line ∷ []) 0 none3 in
-    let long4 = written_sized s3 s4 close 0 none4 in
-    let back : length s4.steps + 1 - start ≡ places = omega (arith, long1, long2, long3, long4) in
-    let rest = close ++ jump_back (length s4.steps + 1 - start) line ∷ [] in
-    let five : s5 ≡ followed s3 rest 0 =
-    e5 ∙ ap (λ s. listed s (jump_back (length s4.steps + 1 - start) line ∷ [])) e4 ∙ both_listed s3 close (jump_back (length s4.steps + 1 - start) line ∷ []) ∙ sym (none_made s3 rest) in
-    let six = jumped s0 s1 s2 s3 s5 s6 test m tests line (λ k j. rest) 0 place e1 e2 e3 place_is five lands in
-    let size : length rest ≡ length close + 1 = length-append close (jump_back (length s4.steps + 1 - start) line ∷ []) in
-    e7 ∙ ap (λ s. listed s close) six ∙ listed_after s0 (test ++ (tests ∷ jump_over (length rest) line ∷ rest)) (m + 0) close
-    ∙ ap₂ (followed s0) (until_form test close tests (length rest) (length s4.steps + 1 - start) line size ∙ ap (λ n. until_code test close n inner line) back) (none_more m)
+    (s0 s1 s2 s3 s4 s5 : Listing) (test : ℕ → List Coded) (close : List Coded) (m start end line : ℕ) (away : List ℕ)
+    → Opened s0 s1 test m away → s2 ≡ listed s1 close → s3 ≡ listed s2 (jump_back (length s2.steps + 1 - start) line ∷ []) → end ≡ length s3.steps → s4 ≡ led_on s3 away end → s5 ≡ listed s4 close
+    → s5 ≡ followed s0 (until_code test close (length s0.steps + length (test 0) + length close + 1 - start) line) m
+until_wrote s0 s1 s2 s3 s4 s5 test close m start end line away o e2 e3 end_is led e5 =
+    let d = length close + 1 in
+    let back = length s2.steps + 1 - start in
+    let rest = close ++ jump_back back line ∷ [] in
+    let long1 = opened_long s0 s1 test m away o in
+    let long2 = written_sized s1 s2 close 0 (e2 ∙ sym (none_made s1 close)) in
+    let places : back ≡ length s0.steps + length (test 0) + length close + 1 - start = omega (arith, long1, long2) in
+    let three : s3 ≡ followed s1 rest 0 = e3 ∙ ap (λ s. listed s (jump_back back line ∷ [])) e2 ∙ both_listed s1 close (jump_back back line ∷ []) ∙ sym (none_made s1 rest) in
+    let long3 = written_sized s1 s3 rest 0 three in
+    let size : length rest ≡ d = length-append close (jump_back back line ∷ []) in
+    let there : end ≡ length s1.steps + d = omega (arith, end_is, long3, size) in
+    let four : s4 ≡ followed s0 (test d ++ rest) (m + 0) = opened_led s0 s1 s3 s4 test m away rest 0 end d o three there led in
+    e5 ∙ ap (λ s. listed s close) four ∙ listed_after s0 (test d ++ rest) (m + 0) close
+    ∙ ap₂ (followed s0) (until_form (test d) close back line ∙ ap (λ n. until_code test close n line) places) (none_more m)
   where
     none_more : (n : ℕ) → n + 0 ≡ n
     none_more n = omega arith

@@ -1,16 +1,16 @@
 -- Loops: a block between the code in front of it and the code behind it, whose `break`s lead to a place behind.
-use Rattle.std.proofs.Common.{arith, ℕ, ◌+◌, ◌-◌, ◌≡◌, Bool, true, List, [], ◌∷◌, ◌++◌, refl, sym, ap, ap₂, ◌∙◌, subst, append_assoc, length, take, drop, Option, Some, None}
+use Rattle.std.proofs.Common.{arith, ℕ, ◌+◌, ◌-◌, ◌≡◌, Bool, true, false, List, [], ◌∷◌, ◌++◌, refl, sym, ap, ap₂, ◌∙◌, subst, append_assoc, length, take, drop, Option, Some, None}
 use Rattle.std.proofs.lemmas.List.{length-append}
 use Rattle.std.proofs.Math.Seq.{set-append_seam}
 use Rattle.tree_core.specs.declared.name.Name.{Name}
 use Rattle.tree_core.specs.Tree.{Block, Exp, Exps, While, Repeat, NumFor, NumForStep, GenFor}
 use Rattle.tree_core.specs.Plain.{num_for_of}
 use Rattle.tree_activation.specs.Activation.{line_of_end}
-use Rattle.code_core.specs.declared.opcode.Opcode.TheVariants.{Test, Close, ForLoop, ForPrep, TForPrep, TForCall, TForLoop}
+use Rattle.code_core.specs.declared.opcode.Opcode.TheVariants.{Close, ForLoop, ForPrep, TForPrep, TForCall, TForLoop}
 use Rattle.code_core.specs.declared.proto.Const.{Const}
-use Rattle.code_core.specs.Instruction.{abc}
-use Rattle.code_of.specs.Coded.{Coded, with_abc, with_abx, jump_over, jump_back}
-use Rattle.code_of.specs.Expressions.{made_by, made_in, exp_code, exps_code}
+use Rattle.code_of.specs.Coded.{Coded, with_abc, with_abx, jump_back}
+use Rattle.code_of.specs.Conditions.{test_code}
+use Rattle.code_of.specs.Expressions.{made_by, made_in, exps_code}
 use Rattle.code_of.specs.Jumps.{Reach}
 use Rattle.code_of.specs.Levels.{made_in_block}
 use Rattle.tree_terms.specs.Levels.{levels_in}
@@ -20,15 +20,17 @@ use Rattle.code_of.specs.Statements.{in_loop, stat_code, block_code, open_code}
 use Rattle.code_expr.specs.declared.emitter.Step.{Step}
 use Rattle.code_expr.specs.Listing.{Listing, followed, listed, step, steps}
 use Rattle.code_expr.specs.Patches.{replaced}
-use Rattle.code_expr.proofs.Joining.{listing, jumped, after, both_listed, none_made, listed_after, then_listed}
+use Rattle.code_expr.specs.Leading.{led_on, Opened}
+use Rattle.code_expr.proofs.Joining.{listing, after, both_listed, none_made, listed_after}
+use Rattle.code_expr.proofs.Leading.{opened_led, opened_long}
 use Rattle.code_stat.specs.declared.writer.Writer.{Writer}
 use Rattle.code_stat.specs.Drafts.{arrives, fill, Wrote, WroteStat, WroteBlock, WroteOpen}
 use Rattle.code_stat.specs.Forms.{until_code, counted_code, iterated_code, range_code, made_in_range}
-use Rattle.code_of.proofs.Sizes.{block_sized, open_sized, close_sized}
+use Rattle.code_of.proofs.Sizes.{test_sized, block_sized, open_sized, close_sized}
 use Rattle.code_stat.proofs.Going.{two_listed, nothing}
 use Rattle.code_stat.proofs.Blocks.{nowhere}
 use Rattle.code_stat.proofs.Ends.{range_wrote}
-use Rattle.code_stat.proofs.Drafting.{Form, formed, draft_sized, recoded, enclosed, led_anew, behind_seam, written_sized}
+use Rattle.code_stat.proofs.Drafting.{Form, formed, draft_sized, recoded, behind_other, enclosed, led_anew, behind_seam, written_sized}
 
 pub form_at :
     (g : Form) (a p : Writer) (m : ℕ) (code : List Coded) (n : ℕ) → p.emitter ≡ followed a.emitter code m → p.back ≡ a.back → length code ≡ n
@@ -83,74 +85,63 @@ block_long a p q m x n block closing outer t code w e k h =
 
 -- `while`
 
-abbrev pub while_front : (test : List Coded) → (places t line : ℕ) → List Coded
-while_front test places t line = test ++ (with_abc Test t 0 0 line ∷ jump_over places line ∷ [])
-
 while_form :
-    (test block : List Coded) (t line d places : ℕ) → d ≡ length block + 1 → places ≡ length test + length block + 3
-    → while_front test d t line ++ (block ++ jump_back places line ∷ []) ≡ while_code test block t line
-while_form test block t line d places d_is places_is =
-    append_assoc test (with_abc Test t 0 0 line ∷ jump_over d line ∷ []) (block ++ jump_back places line ∷ [])
-    ∙ ap₂ (λ u v. test ++ (with_abc Test t 0 0 line ∷ jump_over u line ∷ (block ++ jump_back v line ∷ []))) d_is places_is
+    (test : ℕ → List Coded) (block : List Coded) (line d places : ℕ) → d ≡ length block + 1 → places ≡ length (test (length block + 1)) + length block + 1
+    → test d ++ (block ++ jump_back places line ∷ []) ≡ while_code test block line
+while_form test block line d places d_is places_is = ap₂ (λ u v. test u ++ (block ++ jump_back v line ∷ [])) d_is places_is
 
 while_is :
     (k : List Const) (back : ℕ) (e : Exp) (block : Block) (closing : Bool) (t line j pc d x places end : ℕ) (reach : Reach)
-    → x ≡ length (exp_code k e t j 2) + 2 → d ≡ block_size k back block closing t t (j + made_by e) + 1
-    → places ≡ length (exp_code k e t j 2) + block_size k back block closing t t (j + made_by e) + 3
-    → end ≡ pc + (length (exp_code k e t j 2) + (block_size k back block closing t t (j + made_by e) + 3))
-    → while_front (exp_code k e t j 2) d t line ++ (block_code k back block closing t t (j + made_by e) (pc + x) (in_loop reach end t) ++ jump_back places line ∷ []) ≡ stat_code k back (While line e block) closing t j pc reach
+    → x ≡ length (test_code k e true 0 t j) → d ≡ block_size k back block closing t t (j + made_by e) + 1
+    → places ≡ length (test_code k e true 0 t j) + block_size k back block closing t t (j + made_by e) + 1
+    → end ≡ pc + (length (test_code k e true 0 t j) + (block_size k back block closing t t (j + made_by e) + 1))
+    → test_code k e true d t j ++ (block_code k back block closing t t (j + made_by e) (pc + x) (in_loop reach end t) ++ jump_back places line ∷ []) ≡ stat_code k back (While line e block) closing t j pc reach
 while_is k back e block closing t line j pc d x places end reach x_is d_is places_is end_is =
-    let test = exp_code k e t j 2 in
-    let inner : List Coded = block_code k back block closing t t (j + made_by e) (pc + length test + 2) (in_loop reach (pc + stat_size k back (While line e block) closing t j) t) in
-    let size : length inner ≡ block_size k back block closing t t (j + made_by e) = block_sized k back block closing t t (j + made_by e) (pc + length test + 2) (in_loop reach (pc + stat_size k back (While line e block) closing t j) t) in
-    let place : pc + x ≡ pc + length test + 2 = omega (arith, x_is) in
-    ap₂ (λ n m. while_front test d t line ++ (block_code k back block closing t t (j + made_by e) n (in_loop reach m t) ++ jump_back places line ∷ [])) place end_is
-    ∙ while_form test inner t line d places (d_is ∙ ap (λ n. n + 1) (sym size)) (places_is ∙ ap (λ n. length test + n + 3) (sym size))
+    let test : ℕ → List Coded = λ ahead. test_code k e true ahead t j in
+    let inner : List Coded = block_code k back block closing t t (j + made_by e) (pc + length (test 0)) (in_loop reach (pc + stat_size k back (While line e block) closing t j) t) in
+    let size : length inner ≡ block_size k back block closing t t (j + made_by e) = block_sized k back block closing t t (j + made_by e) (pc + length (test 0)) (in_loop reach (pc + stat_size k back (While line e block) closing t j) t) in
+    let long = test_sized k e true (length inner + 1) t j in
+    ap₂ (λ n m. test d ++ (block_code k back block closing t t (j + made_by e) (pc + n) (in_loop reach m t) ++ jump_back places line ∷ [])) x_is end_is
+    ∙ while_form test inner line d places (d_is ∙ ap (λ n. n + 1) (sym size)) (places_is ∙ ap₂ (λ m n. m + n + 1) (sym long) (sym size))
 
 pub while_wrote :
-    (a p q b : Writer) (s1 s2 s5 s6 : Listing) (e : Exp) (block : Block) (closing : Bool) (t line place start first : ℕ)
+    (a p q b : Writer) (s5 s6 : Listing) (e : Exp) (block : Block) (closing : Bool) (t line start there first : ℕ) (away : List ℕ)
     → start ≡ length a.emitter.steps → first ≡ length a.jumps.items
-    → s1 ≡ followed a.emitter (exp_code a.emitter.constants e t a.emitter.made 2) (made_by e)
-    → s2 ≡ listed s1 (with_abc Test t 0 0 line ∷ [])
-    → p.emitter ≡ listed s2 (jump_over 0 line ∷ []) → place ≡ length s2.steps → p.jumps.items ≡ a.jumps.items → p.back ≡ a.back
+    → Opened a.emitter p.emitter (λ ahead. test_code a.emitter.constants e true ahead t a.emitter.made) (made_by e) away → p.jumps.items ≡ a.jumps.items → p.back ≡ a.back
     → WroteBlock p q block closing t t
-    → s5 ≡ listed q.emitter (jump_back (length q.emitter.steps + 1 - start) line ∷ [])
-    → ((before : Listing) (line : ℕ) (code : List Coded) (made : ℕ) → place ≡ length before.steps → s5 ≡ followed (listed before (jump_over 0 line ∷ [])) code made → s6 ≡ followed before (jump_over (length code) line ∷ code) made)
+    → s5 ≡ listed q.emitter (jump_back (length q.emitter.steps + 1 - start) line ∷ []) → there ≡ length s5.steps → s6 ≡ led_on s5 away there
     → Ended q b s6 first t
     → WroteStat a b (While line e block) closing t
-while_wrote a p q b s1 s2 s5 s6 e block closing t line place start first start_is first_is e1 e2 e3 place_is jumps back w e5 lands end =
+while_wrote a p q b s5 s6 e block closing t line start there first away start_is first_is o jumps back w e5 there_is led end =
     let k = a.emitter.constants in
     let j = a.emitter.made in
     let pc = length a.emitter.steps in
-    let test = exp_code k e t j 2 in
-    let size = block_size k a.back block closing t t (j + made_by e) in
+    let test : ℕ → List Coded = λ ahead. test_code k e true ahead t j in
     let m = made_in_block block in
+    let s0 : Listing = followed a.emitter (test 0) (made_by e) in
+    let p0 : Writer = record p { emitter = s0 } in
+    let q0 : Writer = record q { emitter = followed s0 w.draft m } in
+    let w0 : WroteBlock p0 q0 block closing t t = behind_other a p q test (made_by e) m away (block_form block closing t t) w o in
+    let size = block_size k a.back block closing t t (j + made_by e) in
     let places = length q.emitter.steps + 1 - start in
     let behind = jump_back places line ∷ [] in
     let d = length w.draft + 1 in
-    let tests = with_abc Test t 0 0 line in
-    let p_is : p.emitter ≡ followed a.emitter (while_front test 0 t line) (made_by e) =
-    then_listed a.emitter s1 p.emitter test (made_by e) (λ k. tests ∷ jump_over 0 line ∷ []) e1 (two_listed s1 s2 p.emitter tests (jump_over 0 line) e2 e3) in
-    let x_long : length (while_front test d t line) ≡ length test + 2 = length-append test (tests ∷ jump_over d line ∷ []) in
-    let same : length (while_front test 0 t line) ≡ length (while_front test d t line) = length-append test (tests ∷ jump_over 0 line ∷ []) ∙ sym x_long in
     let five : s5 ≡ followed p.emitter (w.draft ++ behind) m = e5 ∙ ap (λ s. listed s behind) w.emitter_is ∙ listed_after p.emitter w.draft m behind in
-    let whole : s6 ≡ followed a.emitter (test ++ (tests ∷ jump_over (length (w.draft ++ behind)) line ∷ (w.draft ++ behind))) (made_by e + m) =
-    jumped a.emitter s1 s2 p.emitter s5 s6 test (made_by e) tests line (λ k j. w.draft ++ behind) m place e1 e2 e3 place_is five lands in
-    let placed : s6 ≡ followed a.emitter (while_front test d t line ++ (w.draft ++ behind)) (made_by e + m) =
-    whole
-    ∙ ap (λ n. followed a.emitter (test ++ (tests ∷ jump_over n line ∷ (w.draft ++ behind))) (made_by e + m)) (length-append w.draft behind)
-    ∙ ap (λ c. followed a.emitter c (made_by e + m)) (sym (append_assoc test (tests ∷ jump_over d line ∷ []) (w.draft ++ behind))) in
-    let long : length w.draft ≡ size = block_long a p q (made_by e) (length (while_front test d t line)) m block closing t t (while_front test 0 t line) w p_is back same in
-    let p_long = written_sized a.emitter p.emitter (while_front test 0 t line) (made_by e) p_is in
+    let five_long = written_sized p.emitter s5 (w.draft ++ behind) m five in
+    let s_ends : length (w.draft ++ behind) ≡ d = length-append w.draft behind in
+    let placed : s6 ≡ followed a.emitter (test d ++ (w.draft ++ behind)) (made_by e + m) = opened_led a.emitter p.emitter s5 s6 test (made_by e) away (w.draft ++ behind) m there d o five (omega (arith, there_is, five_long, s_ends)) led in
+    let sized : length (test d) ≡ length (test 0) = test_sized k e true d t j in
+    let long : length w.draft ≡ size = block_long a p0 q0 (made_by e) (length (test 0)) m block closing t t (test 0) w0 refl back refl in
+    let p_long = opened_long a.emitter p.emitter test (made_by e) away o in
     let q_long = written_sized p.emitter q.emitter w.draft m w.emitter_is in
-    let s_long = written_sized a.emitter s6 (while_front test d t line ++ (w.draft ++ behind)) (made_by e + m) placed in
-    let s_parts = length-append (while_front test d t line) (w.draft ++ behind) in
-    let s_ends : length (w.draft ++ behind) ≡ length w.draft + 1 = length-append w.draft behind in
-    let ends : length s6.steps ≡ pc + (length test + (size + 3)) = omega (arith, s_long, s_parts, s_ends, x_long, long) in
-    let goes_back : places ≡ length test + size + 3 = omega (arith, start_is, p_long, q_long, same, x_long, long) in
+    let s_long = written_sized a.emitter s6 (test d ++ (w.draft ++ behind)) (made_by e + m) placed in
+    let s_parts = length-append (test d) (w.draft ++ behind) in
+    let ends : length s6.steps ≡ pc + (length (test 0) + (size + 1)) = omega (arith, s_long, s_parts, s_ends, sized, long) in
+    let goes_back : places ≡ length (test 0) + size + 1 = omega (arith, start_is, p_long, q_long, long) in
     recoded a b (made_by e + m) _ _
-    (looped a p q b s6 (made_by e) m (made_by e + m) first t (block_form block closing t t) w (while_front test 0 t line) (while_front test d t line) behind p_is same jumps back placed first_is end)
-    (λ reach. while_is k a.back e block closing t line j pc d (length (while_front test d t line)) places (length s6.steps) reach x_long (ap (λ n. n + 1) long) goes_back ends)
+    (looped a p0 q0 b s6 (made_by e) m (made_by e + m) first t (block_form block closing t t) w0 (test 0) (test d) behind refl (sym sized) jumps back placed first_is
+    (record { emitter_is = end.emitter_is; back_is = end.back_is; front = end.front; leads = end.leads }))
+    (λ reach. while_is k a.back e block closing t line j pc d (length (test d)) places (length s6.steps) reach sized (ap (λ n. n + 1) long) goes_back ends)
 
 -- `repeat`
 
@@ -160,40 +151,42 @@ open_form block closing t k back j pc reach = open_code k back block closing t j
 repeat_is :
     (k : List Const) (back : ℕ) (e : Exp) (block : Block) (closing : Bool) (t line end_line j pc inner places end : ℕ) (reach : Reach)
     → inner ≡ levels_in block t → end_line ≡ line_of_end block
-    → places ≡ open_size k back block closing t j + length (exp_code k e inner (j + made_in_block block) 2) + length (close_code t inner end_line) + 3
-    → end ≡ pc + (open_size k back block closing t j + (length (exp_code k e inner (j + made_in_block block) 2) + (length (close_code t inner end_line) + length (close_code t inner end_line) + 3)))
-    → open_code k back block closing t j pc (in_loop reach end t) ++ until_code (exp_code k e inner (j + made_in_block block) 2) (close_code t inner end_line) places inner line
+    → places ≡ open_size k back block closing t j + length (test_code k e false 0 inner (j + made_in_block block)) + length (close_code t inner end_line) + 1
+    → end ≡ pc + (open_size k back block closing t j + (length (test_code k e false 0 inner (j + made_in_block block)) + (length (close_code t inner end_line) + length (close_code t inner end_line) + 1)))
+    → open_code k back block closing t j pc (in_loop reach end t) ++ until_code (λ ahead. test_code k e false ahead inner (j + made_in_block block)) (close_code t inner end_line) places line
     ≡ stat_code k back (Repeat line block e) closing t j pc reach
 repeat_is k back e block closing t line end_line j pc inner places end reach inner_is line_is places_is end_is =
     subst (λ i. (l : ℕ) → l ≡ line_of_end block
-    → places ≡ open_size k back block closing t j + length (exp_code k e i (j + made_in_block block) 2) + length (close_code t i l) + 3
-    → end ≡ pc + (open_size k back block closing t j + (length (exp_code k e i (j + made_in_block block) 2) + (length (close_code t i l) + length (close_code t i l) + 3)))
-    → open_code k back block closing t j pc (in_loop reach end t) ++ until_code (exp_code k e i (j + made_in_block block) 2) (close_code t i l) places i line ≡ stat_code k back (Repeat line block e) closing t j pc reach)
+    → places ≡ open_size k back block closing t j + length (test_code k e false 0 i (j + made_in_block block)) + length (close_code t i l) + 1
+    → end ≡ pc + (open_size k back block closing t j + (length (test_code k e false 0 i (j + made_in_block block)) + (length (close_code t i l) + length (close_code t i l) + 1)))
+    → open_code k back block closing t j pc (in_loop reach end t) ++ until_code (λ ahead. test_code k e false ahead i (j + made_in_block block)) (close_code t i l) places line ≡ stat_code k back (Repeat line block e) closing t j pc reach)
     (sym inner_is) at_level end_line line_is places_is end_is
   where
     at_level : (l : ℕ) → l ≡ line_of_end block
-        → places ≡ open_size k back block closing t j + length (exp_code k e (levels_in block t) (j + made_in_block block) 2) + length (close_code t (levels_in block t) l) + 3
-        → end ≡ pc + (open_size k back block closing t j + (length (exp_code k e (levels_in block t) (j + made_in_block block) 2) + (length (close_code t (levels_in block t) l) + length (close_code t (levels_in block t) l) + 3)))
-        → open_code k back block closing t j pc (in_loop reach end t) ++ until_code (exp_code k e (levels_in block t) (j + made_in_block block) 2) (close_code t (levels_in block t) l) places (levels_in block t) line ≡ stat_code k back (Repeat line block e) closing t j pc reach
+        → places ≡ open_size k back block closing t j + length (test_code k e false 0 (levels_in block t) (j + made_in_block block)) + length (close_code t (levels_in block t) l) + 1
+        → end ≡ pc + (open_size k back block closing t j + (length (test_code k e false 0 (levels_in block t) (j + made_in_block block)) + (length (close_code t (levels_in block t) l) + length (close_code t (levels_in block t) l) + 1)))
+        → open_code k back block closing t j pc (in_loop reach end t) ++ until_code (λ ahead. test_code k e false ahead (levels_in block t) (j + made_in_block block)) (close_code t (levels_in block t) l) places line ≡ stat_code k back (Repeat line block e) closing t j pc reach
     at_level l l_is p_is e_is =
         let within = levels_in block t in
-        let test = exp_code k e within (j + made_in_block block) 2 in
+        let test : ℕ → List Coded = λ ahead. test_code k e false ahead within (j + made_in_block block) in
         let close = close_code t within (line_of_end block) in
-        let place : end ≡ pc + stat_size k back (Repeat line block e) closing t j =
-        e_is ∙ ap (λ n. pc + (open_size k back block closing t j + (length test + (n + n + 3)))) (close_sized t within l line) in
-        let size = open_sized k back block closing t j pc (in_loop reach (pc + stat_size k back (Repeat line block e) closing t j) t) in
-        let back_is : places ≡ length (open_code k back block closing t j pc (in_loop reach (pc + stat_size k back (Repeat line block e) closing t j) t)) + length test + length close + 3 =
-        p_is ∙ ap₂ (λ m n. m + length test + n + 3) (sym size) (close_sized t within l (line_of_end block)) in
-        ap (λ m. open_code k back block closing t j pc (in_loop reach m t) ++ until_code test (close_code t within l) places within line) place
-        ∙ ap₂ (λ m n. open_code k back block closing t j pc (in_loop reach (pc + stat_size k back (Repeat line block e) closing t j) t) ++ until_code test (close_code t within m) n within line) l_is back_is
+        let behind : ℕ = pc + stat_size k back (Repeat line block e) closing t j in
+        let place : end ≡ behind = e_is ∙ ap (λ n. pc + (open_size k back block closing t j + (length (test 0) + (n + n + 1)))) (close_sized t within l line) in
+        let size = open_sized k back block closing t j pc (in_loop reach behind t) in
+        let long = test_sized k e false (length close + 1) within (j + made_in_block block) in
+        let back_is : places ≡ length (open_code k back block closing t j pc (in_loop reach behind t)) + length (test (length close + 1)) + length close + 1 =
+        p_is ∙ ap₂ (λ m n. m + length (test 0) + n + 1) (sym size) (close_sized t within l (line_of_end block))
+        ∙ ap (λ n. length (open_code k back block closing t j pc (in_loop reach behind t)) + n + length close + 1) (sym long) in
+        ap (λ m. open_code k back block closing t j pc (in_loop reach m t) ++ until_code test (close_code t within l) places line) place
+        ∙ ap₂ (λ m n. open_code k back block closing t j pc (in_loop reach behind t) ++ until_code test (close_code t within m) n line) l_is back_is
 
 -- the place where a `repeat` begins is the place of its block
 pub repeat_wrote :
     (a q b : Writer) (s6 : Listing) (e : Exp) (block : Block) (closing : Bool) (t line end_line inner start first : ℕ)
     → start ≡ length a.emitter.steps → first ≡ length a.jumps.items
     → WroteOpen a q block closing t → inner ≡ levels_in block t → end_line ≡ line_of_end block
-    → s6 ≡ followed q.emitter (until_code (exp_code q.emitter.constants e inner q.emitter.made 2) (close_code t inner end_line)
-    (length q.emitter.steps + length (exp_code q.emitter.constants e inner q.emitter.made 2) + length (close_code t inner end_line) + 3 - start) inner line) (made_by e)
+    → s6 ≡ followed q.emitter (until_code (λ ahead. test_code q.emitter.constants e false ahead inner q.emitter.made) (close_code t inner end_line)
+    (length q.emitter.steps + length (test_code q.emitter.constants e false 0 inner q.emitter.made) + length (close_code t inner end_line) + 1 - start) line) (made_by e)
     → Ended q b s6 first t
     → WroteStat a b (Repeat line block e) closing t
 repeat_wrote a q b s6 e block closing t line end_line inner start first start_is first_is w inner_is line_is e6 end =
@@ -201,30 +194,31 @@ repeat_wrote a q b s6 e block closing t line end_line inner start first start_is
     let j = a.emitter.made in
     let pc = length a.emitter.steps in
     let m = made_in_block block in
-    let test = exp_code k e inner (j + m) 2 in
+    let test : ℕ → List Coded = λ ahead. test_code k e false ahead inner (j + m) in
     let close = close_code t inner end_line in
     let size = open_size k a.back block closing t j in
-    let places = length q.emitter.steps + length test + length close + 3 - start in
-    let ends = until_code test close places inner line in
+    let places = length q.emitter.steps + length (test 0) + length close + 1 - start in
+    let ends = until_code test close places line in
     let a_is : a.emitter ≡ followed a.emitter [] 0 = nothing a.emitter ∙ sym (none_made a.emitter []) in
     let six : s6 ≡ followed q.emitter ends (made_by e) =
-    e6 ∙ ap (λ s. followed q.emitter (until_code (exp_code s.constants e inner s.made 2) close (length q.emitter.steps + length (exp_code s.constants e inner s.made 2) + length close + 3 - start) inner line) (made_by e)) w.emitter_is in
+    e6 ∙ ap (λ s. followed q.emitter (until_code (λ ahead. test_code s.constants e false ahead inner s.made) close (length q.emitter.steps + length (test_code s.constants e false 0 inner s.made) + length close + 1 - start) line) (made_by e)) w.emitter_is in
     let placed : s6 ≡ followed a.emitter (w.draft ++ ends) (m + made_by e) = six ∙ ap (λ s. followed s ends (made_by e)) w.emitter_is ∙ after a.emitter w.draft m ends (made_by e) in
     let long : length w.draft ≡ size = sym (draft_sized a q m (formed (open_form block closing t) a) w nowhere) ∙ open_sized k a.back block closing t j pc nowhere in
     let q_long = written_sized a.emitter q.emitter w.draft m w.emitter_is in
     let s_long = written_sized a.emitter s6 (w.draft ++ ends) (m + made_by e) placed in
     let s_parts = length-append w.draft ends in
-    let s_ends = until_sized test close places inner line in
-    let goes_back : places ≡ size + length test + length close + 3 = omega (arith, start_is, q_long, long) in
-    let end_is : length s6.steps ≡ pc + (size + (length test + (length close + length close + 3))) = omega (arith, s_long, s_parts, s_ends, long) in
+    let s_ends = until_sized test close places line in
+    let sized = test_sized k e false (length close + 1) inner (j + m) in
+    let goes_back : places ≡ size + length (test 0) + length close + 1 = omega (arith, start_is, q_long, long) in
+    let end_is : length s6.steps ≡ pc + (size + (length (test 0) + (length close + length close + 1))) = omega (arith, s_long, s_parts, s_ends, sized, long) in
     recoded a b (m + made_by e) _ _
     (looped a a q b s6 0 m (m + made_by e) first t (open_form block closing t) w [] [] ends a_is refl refl refl placed first_is end)
     (λ reach. ap₂ (λ i n. open_code k a.back block closing t i n (in_loop reach (length s6.steps) t) ++ ends) (none_more j) (none_more pc) ∙ repeat_is k a.back e block closing t line end_line j pc inner places (length s6.steps) reach inner_is line_is goes_back end_is)
   where
-    until_sized : (test close : List Coded) (places inner line : ℕ) → length (until_code test close places inner line) ≡ length test + (length close + length close + 3)
-    until_sized test close places inner line =
+    until_sized : (test : ℕ → List Coded) (close : List Coded) (places line : ℕ) → length (until_code test close places line) ≡ length (test (length close + 1)) + (length close + length close + 1)
+    until_sized test close places line =
         let behind = jump_back places line ∷ close in
-        let x = length-append test ((abc Test inner 0 0 true, line) ∷ jump_over (length close + 1) line ∷ (close ++ behind)) in
+        let x = length-append (test (length close + 1)) (close ++ behind) in
         let y = length-append close behind in
         omega (arith, x, y)
 

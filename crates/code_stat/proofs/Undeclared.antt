@@ -6,9 +6,11 @@ use Rattle.tree_core.specs.Tree.{Block, Falls, Returns, Stats, EndStats, MoreSta
 use Rattle.code_core.specs.declared.opcode.Opcode.TheVariants.{Close}
 use Rattle.code_core.specs.declared.proto.Const.{Const}
 use Rattle.code_of.specs.Coded.{with_abc}
-use Rattle.code_of.specs.Levels.{made_by_stat, made_in_arms, made_in_stats, closing_after, closings_after}
+use Rattle.code_of.specs.Expressions.{made_by}
+use Rattle.code_of.specs.Conditions.{test_code}
+use Rattle.code_of.specs.Levels.{made_by_stat, made_in_arms, made_in_stats, made_in_block, closing_after, closings_after}
 use Rattle.tree_terms.specs.Levels.{level_after, levels_after}
-use Rattle.code_of.specs.Parts.{close_code, return_code}
+use Rattle.code_of.specs.Parts.{close_code, past_size, return_code}
 use Rattle.code_of.specs.Sizes.{stat_size, arms_size, stats_size, block_size}
 use Rattle.code_of.specs.Variables.{declared_by, within_stat, within_arms, within_stats, within_block}
 use Rattle.code_stat.proofs.Returning.{return_some}
@@ -93,7 +95,14 @@ module _ (k : List Const) (back : ℕ) where
 
     arms_without : (arms : Arms) (rest : ℕ) (closing : Bool) (t j pc : ℕ) → arms_size k back arms rest closing t j ≡ 0 → within_arms k back arms rest closing t j pc ≡ []
     arms_without EndArms rest closing t j pc h = refl
-    arms_without (MoreArms e block arms) rest closing t j pc h = absurd (omega (arith, h))
+    arms_without (MoreArms e block arms) rest closing t j pc h =
+        let m = j + made_by e + made_in_block block in
+        let inner = pc + length (test_code k e true 0 t j) in
+        let others = arms_size k back arms rest closing t m in
+        let behind = inner + block_size k back block closing t t (j + made_by e) + past_size (others + rest) in
+        let here : block_size k back block closing t t (j + made_by e) ≡ 0 = omega (arith, h) in
+        let none : others ≡ 0 = omega (arith, h) in
+        ap₂ (λ xs ys. xs ++ ys) (block_without block closing t (j + made_by e) inner here) (arms_without arms rest closing t m behind none)
 
     stats_without : (ss : Stats) (closing : Bool) (t j pc end : ℕ) → stats_size k back ss closing t j ≡ 0 → levels_after ss t ≡ t → within_stats k back ss closing t j pc end ≡ []
     stats_without EndStats closing t j pc end h same = refl

@@ -28,9 +28,8 @@ abbrev pub level_at : Stats → (falls : Bool) → (outer level : ℕ) → ℕ
 level_at ss falls outer level = cond (falls && are_void ss) outer level
 
 -- the end of a `repeat`, which leads so many places back
-abbrev pub until_code : (test close : List Coded) → (places inner line : ℕ) → List Coded
-until_code test close places inner line =
-    test ++ ((abc Test inner 0 0 true, line) ∷ jump_over (length close + 1) line ∷ (close ++ (jump_back places line ∷ close)))
+abbrev pub until_code : (test : (ahead : ℕ) → List Coded) → (close : List Coded) → (places line : ℕ) → List Coded
+until_code test close places line = test (length close + 1) ++ (close ++ (jump_back places line ∷ close))
 
 -- the values of a numeric `for`, with or without a step
 

@@ -1,9 +1,10 @@
 // Statements that have no block, and the parts without one of those that have.
-ghost use Rattle.std.specs.Prelude.{◌≡◌, ◌+◌, ◌-◌, Bool, ℕ, length, map, OnOk};
+ghost use Rattle.std.specs.Prelude.{◌≡◌, ◌+◌, ◌-◌, Bool, false, ℕ, length, map, OnOk};
 ghost use Rattle.std.specs.Option.{option_map};
 ghost use Rattle.tree_core.specs.Tree.{exps, Empty, Label, Local, LocalFunction, Assign, CallStat, Goto};
 ghost use Rattle.tree_core.specs.Plain.{plain_exp, plain_exps, plain_stat, plain_body};
-ghost use Rattle.code_of.specs.Expressions.{exp_code, exps_code, made_by, made_in};
+ghost use Rattle.code_of.specs.Conditions.{test_code};
+ghost use Rattle.code_of.specs.Expressions.{made_by, made_in};
 ghost use Rattle.code_of.specs.Parts.{close_code};
 ghost use Rattle.code_expr.specs.Listing.{followed};
 ghost use Rattle.code_stat.specs.Declares.{DeclaresStat};
@@ -14,7 +15,6 @@ use crate::marks::{write_close, write_marks};
 use crate::ranges::{write_bounds, write_steps};
 use crate::simple::{write_assign, write_call, write_local_function};
 use crate::writer::Writer;
-use code_core::Opcode;
 use code_expr::{Emitter, next};
 use int_core::Bytes;
 use std::alloc::AllocError;
@@ -47,14 +47,13 @@ pub(crate) fn write_until(
     end_line: u32,
     line: u32,
 ) -> Result<(), AllocError>
-    ensures { OnOk result (emitter.new ≡ followed emitter.old (until_code (exp_code emitter.old.constants (plain_exp test.now) inner emitter.old.made 2) (close_code level inner end_line) (length emitter.old.steps + length (exp_code emitter.old.constants (plain_exp test.now) inner emitter.old.made 2) + length (close_code level inner end_line) + 3 - start) inner line) (made_by (plain_exp test.now))) }
+    ensures { OnOk result (emitter.new ≡ followed emitter.old (until_code (λ ahead. test_code emitter.old.constants (plain_exp test.now) false ahead inner emitter.old.made) (close_code level inner end_line) (length emitter.old.steps + length (test_code emitter.old.constants (plain_exp test.now) false 0 inner emitter.old.made) + length (close_code level inner end_line) + 1 - start) line) (made_by (plain_exp test.now))) }
 {
-    emitter.expression(test, inner, 2)?;
-    emitter.put_flagged(Opcode::Test, inner, 0, 0, true, line)?;
-    let jump = emitter.put_open_jump(line)?;
+    let away = emitter.condition(test, false, inner)?;
     write_close(emitter, level, inner, end_line)?;
     emitter.put_jump_back(start, line)?;
-    emitter.land(jump);
+    let end = emitter.steps().len();
+    emitter.lead(&away, end)?;
     write_close(emitter, level, inner, end_line)?;
     Ok(())
 }

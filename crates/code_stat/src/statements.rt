@@ -188,12 +188,11 @@ impl Writer {
     {
         let start = self.place();
         let first = self.jumps.len();
-        self.emitter.expression(test, level, 2)?;
-        self.emitter.put_abc(Opcode::Test, level, 0, 0, line)?;
-        let jump = self.emitter.put_open_jump(line)?;
+        let away = self.emitter.condition(test, true, level)?;
         self.block(block, closing, level, level)?;
         self.emitter.put_jump_back(start, line)?;
-        self.emitter.land(jump);
+        let end = self.place();
+        self.emitter.lead(&away, end)?;
         self.end_loop(first, level);
         Ok(())
     }
@@ -317,22 +316,20 @@ impl Writer {
             return Ok(());
         }
         let arm = &list[at];
-        self.emitter.expression(&arm.test, level, 2)?;
-        self.emitter.put_abc(Opcode::Test, level, 0, 0, line)?;
-        let jump = self.emitter.put_open_jump(line)?;
+        let away = self.emitter.condition(&arm.test, true, level)?;
         self.block(&arm.block, closing, level, level)?;
         let past = self.emitter.put_open_jump(line)?;
-        self.emitter.land(jump);
         let first = self.jumps.len();
         let place = self.place();
         self.arms(list, at + 1, otherwise, closing, level, line)?;
         let end = self.place();
         if end > place {
             self.emitter.land(past);
+            self.emitter.lead(&away, place)?;
             return Ok(());
         }
         self.emitter.cut(past);
-        self.emitter.set_jump(jump, past, line)?;
+        self.emitter.lead(&away, past)?;
         self.jumps.truncate(first);
         Ok(())
     }

@@ -10,6 +10,7 @@ use Rattle.code_core.specs.declared.opcode.Opcode.TheVariants.{ForPrep, TForPrep
 use Rattle.code_of.specs.Coded.{with_abc, with_abx}
 use Rattle.code_of.specs.Sizes.{block_size}
 use Rattle.code_parts.specs.Scopes.{begun, ended_from}
+use Rattle.code_expr.specs.Leading.{led_on}
 use Rattle.code_expr.specs.Listing.{listed}
 use Rattle.code_expr.specs.Patches.{replaced}
 use Rattle.code_stat.specs.declared.writer.Writer.{Writer}
@@ -127,9 +128,9 @@ statements-returns-clause-code t c =
 pub while_loop-returns-clause-code : goal.while_loop-returns-clause-code
 while_loop-returns-clause-code t c =
     let first : c.len-first.result ≡ length c.args.self.now.jumps.items = search rules in
-    while_wrote c.args.self.now (record c.args.self.now { emitter = c.put_open_jump.new.self }) c.block.new.self c.end_loop.new.self
-    c.expression.new.self c.put_abc.new.self c.put_jump_back.new.self c.land.new.self (plain_exp c.args.test.now) (plain_block c.args.block.now) c.args.closing c.args.level c.args.line c.in_ok-jump.jump c.place-start.result c.len-first.result
-    c.place-start.ensures first c.in_ok-expression.ensures c.in_ok-put_abc.ensures c.in_ok-jump.ensures.jump c.in_ok-jump.ensures.place refl refl c.in_ok-block.ensures.code c.in_ok-put_jump_back.ensures c.land.ensures
+    while_wrote c.args.self.now (record c.args.self.now { emitter = c.condition.new.self }) c.block.new.self c.end_loop.new.self
+    c.put_jump_back.new.self c.lead.new.self (plain_exp c.args.test.now) (plain_block c.args.block.now) c.args.closing c.args.level c.args.line c.place-start.result c.place-end.result c.len-first.result c.in_ok-away.away.items
+    c.place-start.ensures first c.in_ok-away.ensures refl refl c.in_ok-block.ensures.code c.in_ok-put_jump_back.ensures c.place-end.ensures c.in_ok-lead.ensures
     (record { emitter_is = c.end_loop.ensures.emitter; back_is = c.end_loop.ensures.back; front = c.end_loop.ensures.front; leads = c.end_loop.ensures.leads })
 
 pub repeat_loop-returns-clause-code : goal.repeat_loop-returns-clause-code
@@ -213,35 +214,37 @@ arms-returns-then-end-place-clause-code t c =
     let arm = c.index-arm.result.now in
     let others = tree.arms (map plain_arm (drop (c.args.at + 1) c.args.list.now.items)) in
     let o = option_map (λ b. plain_block b.value) c.args.otherwise.now in
-    let after : Writer = record c.arms.new.self { emitter = c.land-then-end-place.new.self } in
+    let after : Writer = record c.arms.new.self { emitter = c.lead.new.self } in
     let inside : c.args.at < length c.args.list.now.items = search rules in
     let is : arm ≡ slice_index_or c.args.list.now.items c.args.at arm = search rules in
-    let more : length c.land.new.self.steps < length c.arms.new.self.emitter.steps = search rules in
+    let more : length c.put_open_jump.new.self.steps < length c.arms.new.self.emitter.steps = search rules in
+    let led : c.lead.new.self ≡ led_on c.land.new.self c.in_ok-away.away.items c.place-place.result = search rules in
     subst (λ l. WroteStat c.args.self.now after (choice c.args.line l o) c.args.closing c.args.level) (sym (arms_front c.args.list.now.items c.args.at arm inside is))
-    (full_wrote c.args.self.now (record c.args.self.now { emitter = c.put_open_jump.new.self }) c.block.new.self (record c.block.new.self { emitter = c.land.new.self }) c.arms.new.self after
-    c.expression.new.self c.put_abc.new.self c.put_open_jump-2.new.self (plain_exp (out-Arm arm).test) (plain_block (out-Arm arm).block) others o c.args.closing c.args.level c.args.line c.in_ok-jump.jump c.in_ok-past.past
-    (length c.arms.new.self.emitter.steps - length c.land.new.self.steps - 1)
-    c.in_ok-expression.ensures c.in_ok-put_abc.ensures c.in_ok-jump.ensures.jump c.in_ok-jump.ensures.place refl refl c.in_ok-block.ensures.code c.in_ok-past.ensures.jump c.in_ok-past.ensures.place c.land.ensures refl refl c.in_ok-arms.ensures.code
-    (omega (arith, more)) c.land-then-end-place.ensures refl refl)
+    (full_wrote c.args.self.now (record c.args.self.now { emitter = c.condition.new.self }) c.block.new.self (record c.block.new.self { emitter = c.put_open_jump.new.self }) c.arms.new.self after
+    c.land.new.self (plain_exp (out-Arm arm).test) (plain_block (out-Arm arm).block) others o c.args.closing c.args.level c.args.line c.in_ok-past.past c.place-place.result
+    (length c.arms.new.self.emitter.steps - length c.put_open_jump.new.self.steps - 1) c.in_ok-away.away.items
+    c.in_ok-away.ensures refl refl c.in_ok-block.ensures.code c.in_ok-past.ensures.jump c.in_ok-past.ensures.place refl refl c.place-place.ensures c.in_ok-arms.ensures.code
+    (omega (arith, more)) c.land.ensures led refl refl)
 
 pub arms-returns-clause-code : goal.arms-returns-clause-code
 arms-returns-clause-code t c =
     let arm = c.index-arm.result.now in
     let others = tree.arms (map plain_arm (drop (c.args.at + 1) c.args.list.now.items)) in
     let o = option_map (λ b. plain_block b.value) c.args.otherwise.now in
-    let before : Writer = record c.block.new.self { emitter = c.land.new.self } in
-    let after : Writer = record c.arms.new.self { emitter = c.set_jump.new.self; jumps = c.truncate.new.self } in
+    let before : Writer = record c.block.new.self { emitter = c.put_open_jump.new.self } in
+    let after : Writer = record c.arms.new.self { emitter = c.lead-2.new.self; jumps = c.truncate.new.self } in
     let inside : c.args.at < length c.args.list.now.items = search rules in
     let is : arm ≡ slice_index_or c.args.list.now.items c.args.at arm = search rules in
-    let most : length c.arms.new.self.emitter.steps ≤ length c.land.new.self.steps = search rules in
+    let most : length c.arms.new.self.emitter.steps ≤ length c.put_open_jump.new.self.steps = search rules in
     let first : c.len-first.result ≡ length c.block.new.self.jumps.items = search rules in
     let kept : c.truncate.new.self.items ≡ take c.len-first.result c.arms.new.self.jumps.items = search rules in
-    let grown : length c.arms.new.self.emitter.steps ≡ length c.land.new.self.steps + length c.in_ok-arms.ensures.code.draft = written_sized c.land.new.self c.arms.new.self.emitter c.in_ok-arms.ensures.code.draft _ c.in_ok-arms.ensures.code.emitter_is in
+    let led : c.lead-2.new.self ≡ led_on c.cut.new.self c.in_ok-away.away.items c.in_ok-past.past = search rules in
+    let grown : length c.arms.new.self.emitter.steps ≡ length c.put_open_jump.new.self.steps + length c.in_ok-arms.ensures.code.draft = written_sized c.put_open_jump.new.self c.arms.new.self.emitter c.in_ok-arms.ensures.code.draft _ c.in_ok-arms.ensures.code.emitter_is in
     subst (λ l. WroteStat c.args.self.now after (choice c.args.line l o) c.args.closing c.args.level) (sym (arms_front c.args.list.now.items c.args.at arm inside is))
-    (empty_wrote c.args.self.now (record c.args.self.now { emitter = c.put_open_jump.new.self }) c.block.new.self before c.arms.new.self after
-    c.expression.new.self c.put_abc.new.self c.put_open_jump-2.new.self c.cut.new.self (plain_exp (out-Arm arm).test) (plain_block (out-Arm arm).block) others o c.args.closing c.args.level c.args.line c.in_ok-jump.jump c.in_ok-past.past c.len-first.result
-    c.in_ok-expression.ensures c.in_ok-put_abc.ensures c.in_ok-jump.ensures.jump c.in_ok-jump.ensures.place refl refl c.in_ok-block.ensures.code c.in_ok-past.ensures.jump c.in_ok-past.ensures.place c.land.ensures refl refl first c.in_ok-arms.ensures.code
-    (omega (arith, most, grown)) c.cut.ensures c.in_ok-set_jump.ensures kept refl)
+    (empty_wrote c.args.self.now (record c.args.self.now { emitter = c.condition.new.self }) c.block.new.self before c.arms.new.self after
+    c.cut.new.self (plain_exp (out-Arm arm).test) (plain_block (out-Arm arm).block) others o c.args.closing c.args.level c.args.line c.in_ok-past.past c.len-first.result c.in_ok-away.away.items
+    c.in_ok-away.ensures refl refl c.in_ok-block.ensures.code c.in_ok-past.ensures.jump c.in_ok-past.ensures.place refl refl first c.in_ok-arms.ensures.code
+    (omega (arith, most, grown)) c.cut.ensures led kept refl)
 
 -- calls go down the tree
 
@@ -420,25 +423,23 @@ arms-returns-then-end-place-clause-variables t c =
     let arm = c.index-arm.result.now in
     let others = tree.arms (map plain_arm (drop (c.args.at + 1) c.args.list.now.items)) in
     let o = option_map (λ b. plain_block b.value) c.args.otherwise.now in
-    let after : Writer = record c.arms.new.self { emitter = c.land-then-end-place.new.self } in
+    let after : Writer = record c.arms.new.self { emitter = c.lead.new.self } in
     let inside : c.args.at < length c.args.list.now.items = search rules in
     let is : arm ≡ slice_index_or c.args.list.now.items c.args.at arm = search rules in
     subst (λ l. DeclaresStat c.args.self.now after (choice c.args.line l o) c.args.closing c.args.level) (sym (arms_front c.args.list.now.items c.args.at arm inside is))
-    (arm_declares c.args.self.now (record c.args.self.now { emitter = c.put_open_jump.new.self }) c.block.new.self (record c.block.new.self { emitter = c.land.new.self }) c.arms.new.self after
-    c.expression.new.self c.put_abc.new.self c.put_open_jump-2.new.self (plain_exp (out-Arm arm).test) (plain_block (out-Arm arm).block) others o c.args.closing c.args.level c.args.line c.in_ok-jump.jump
-    c.in_ok-expression.ensures c.in_ok-put_abc.ensures c.in_ok-jump.ensures.jump c.in_ok-jump.ensures.place refl refl c.in_ok-block.ensures.code c.in_ok-block.ensures.variables c.in_ok-past.ensures.jump c.land.ensures refl refl
-    c.in_ok-arms.ensures.variables refl)
+    (arm_declares c.args.self.now (record c.args.self.now { emitter = c.condition.new.self }) c.block.new.self (record c.block.new.self { emitter = c.put_open_jump.new.self }) c.arms.new.self after
+    (plain_exp (out-Arm arm).test) (plain_block (out-Arm arm).block) others o c.args.closing c.args.level c.args.line c.in_ok-away.away.items
+    c.in_ok-away.ensures refl refl c.in_ok-block.ensures.code c.in_ok-block.ensures.variables c.in_ok-past.ensures.jump refl refl c.in_ok-arms.ensures.variables refl)
 
 pub arms-returns-clause-variables : goal.arms-returns-clause-variables
 arms-returns-clause-variables t c =
     let arm = c.index-arm.result.now in
     let others = tree.arms (map plain_arm (drop (c.args.at + 1) c.args.list.now.items)) in
     let o = option_map (λ b. plain_block b.value) c.args.otherwise.now in
-    let after : Writer = record c.arms.new.self { emitter = c.set_jump.new.self; jumps = c.truncate.new.self } in
+    let after : Writer = record c.arms.new.self { emitter = c.lead-2.new.self; jumps = c.truncate.new.self } in
     let inside : c.args.at < length c.args.list.now.items = search rules in
     let is : arm ≡ slice_index_or c.args.list.now.items c.args.at arm = search rules in
     subst (λ l. DeclaresStat c.args.self.now after (choice c.args.line l o) c.args.closing c.args.level) (sym (arms_front c.args.list.now.items c.args.at arm inside is))
-    (arm_declares c.args.self.now (record c.args.self.now { emitter = c.put_open_jump.new.self }) c.block.new.self (record c.block.new.self { emitter = c.land.new.self }) c.arms.new.self after
-    c.expression.new.self c.put_abc.new.self c.put_open_jump-2.new.self (plain_exp (out-Arm arm).test) (plain_block (out-Arm arm).block) others o c.args.closing c.args.level c.args.line c.in_ok-jump.jump
-    c.in_ok-expression.ensures c.in_ok-put_abc.ensures c.in_ok-jump.ensures.jump c.in_ok-jump.ensures.place refl refl c.in_ok-block.ensures.code c.in_ok-block.ensures.variables c.in_ok-past.ensures.jump c.land.ensures refl refl
-    c.in_ok-arms.ensures.variables refl)
+    (arm_declares c.args.self.now (record c.args.self.now { emitter = c.condition.new.self }) c.block.new.self (record c.block.new.self { emitter = c.put_open_jump.new.self }) c.arms.new.self after
+    (plain_exp (out-Arm arm).test) (plain_block (out-Arm arm).block) others o c.args.closing c.args.level c.args.line c.in_ok-away.away.items
+    c.in_ok-away.ensures refl refl c.in_ok-block.ensures.code c.in_ok-block.ensures.variables c.in_ok-past.ensures.jump refl refl c.in_ok-arms.ensures.variables refl)

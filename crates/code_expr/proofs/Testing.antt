@@ -1,0 +1,133 @@
+-- Conditions by their forms.
+use Rattle.std.proofs.Common.{◌≡◌, ℕ, ◌+◌, Bool, true, false, List, ◌++◌, length, Option, Some, None, Result, Vec, Global, refl, sym, ap, ap₂, ◌∙◌, cond, arith, append_assoc}
+use Rattle.std.specs.Prelude.{not, IfOk}
+use Rattle.std.specs.declared.alloc.AllocError.{AllocError}
+use Rattle.std.proofs.lemmas.Result.{IfOk-weaker}
+use Rattle.tree_core.specs.declared.operator.BinOp.{BinOp}
+use Rattle.tree_core.specs.Tree.{Exp, Nil, True, False, Int, Str, Vararg, Function, Var, Index, Call, Method, Unary, Binary, And, Or, Paren, Table}
+use Rattle.code_core.specs.declared.opcode.Opcode.{Opcode}
+use Rattle.code_core.specs.declared.opcode.Opcode.TheVariants.{Test}
+use Rattle.code_core.specs.declared.proto.Const.{Const}
+use Rattle.code_of.specs.Coded.{Coded}
+use Rattle.code_of.specs.Conditions.{jump_if, pick, compared, is_not, line_of, value_test, test_code}
+use Rattle.code_of.specs.Expressions.{exp_code, made_by}
+use Rattle.code_expr.specs.declared.conditions.Comparison.{Comparison}
+use Rattle.code_expr.specs.Leading.{led_on, Opened}
+use Rattle.code_expr.specs.Listing.{Listing, followed}
+use Rattle.code_expr.specs.Testing.{is_valued, compared_by, either_test, Tests}
+use Rattle.code_expr.proofs.Leading.{opened_remade, opened_coded, opened_behind, opened_from, decided_here, decided_away}
+use Rattle.code_expr.proofs.Joining.{then_made}
+
+abbrev Places : Type 0
+Places = Result (Vec ℕ Global) AllocError
+
+abbrev Compares : Option Comparison → BinOp → Type 0
+Compares o op = (other : List Coded) (by : Opcode → Bool → Bool → List Coded) → compared op other by ≡ compared_by o other by
+
+abbrev pub compared_code : Listing → (w : Bool) → (t : ℕ) → Comparison → (line : ℕ) → (e d : Exp) → (ahead : ℕ) → List Coded
+compared_code s w t c line e d ahead =
+    exp_code s.constants e t s.made 2 ++ (exp_code s.constants d (t + 1) (s.made + made_by e) 2
+    ++ jump_if c.opcode (pick c.swapped t (t + 1)) (pick c.swapped (t + 1) t) (cond c.wanted (not w) w) ahead line)
+
+module _ (s q : Listing) (w : Bool) (t : ℕ) (r : Places) where
+  pub by_value_tests :
+      (e : Exp) → ((ahead : ℕ) → value_test s.constants e w ahead t s.made ≡ test_code s.constants e w ahead t s.made)
+      → IfOk r (λ places. Opened s q (λ ahead. value_test s.constants e w ahead t s.made) (made_by e) places.items) → IfOk r (λ places. Tests s q e w t places.items)
+  by_value_tests e same = IfOk-weaker r (λ places. Opened s q (λ ahead. value_test s.constants e w ahead t s.made) (made_by e) places.items) (λ places. Tests s q e w t places.items)
+      (λ places o. opened_coded s q _ _ (made_by e) places.items same o)
+
+  abbrev by_comparison : (line : ℕ) → (e d : Exp) → (ahead : ℕ) → Opcode → Bool → Bool → List Coded
+  by_comparison line e d ahead opcode swapped wanted =
+      exp_code s.constants e t s.made 2 ++ (exp_code s.constants d (t + 1) (s.made + made_by e) 2
+      ++ jump_if opcode (pick swapped t (t + 1)) (pick swapped (t + 1) t) (cond wanted (not w) w) ahead line)
+
+  pub comparison_tests :
+      (op : BinOp) (o : Option Comparison) (c : Comparison) (line : ℕ) (e d : Exp) → Compares o op → o ≡ Some c
+      → IfOk r (λ places. Opened s q (compared_code s w t c line e d) (made_by e + made_by d) places.items) → IfOk r (λ places. Tests s q (Binary line op e d) w t places.items)
+  comparison_tests op o c line e d is o_is = IfOk-weaker r (λ places. Opened s q (compared_code s w t c line e d) (made_by e + made_by d) places.items) (λ places. Tests s q (Binary line op e d) w t places.items)
+      (λ places x. opened_coded s q _ _ (made_by e + made_by d) places.items
+      (λ ahead. sym (is (value_test s.constants (Binary line op e d) w ahead t s.made) (by_comparison line e d ahead)
+      ∙ ap (λ p. compared_by p (value_test s.constants (Binary line op e d) w ahead t s.made) (by_comparison line e d ahead)) o_is)) x)
+
+  pub other_tests :
+      (op : BinOp) (o : Option Comparison) (line : ℕ) (e d : Exp) → Compares o op → o ≡ None
+      → IfOk r (λ places. Opened s q (λ ahead. value_test s.constants (Binary line op e d) w ahead t s.made) (made_by e + made_by d) places.items) → IfOk r (λ places. Tests s q (Binary line op e d) w t places.items)
+  other_tests op o line e d is o_is = by_value_tests (Binary line op e d)
+      (λ ahead. sym (is (value_test s.constants (Binary line op e d) w ahead t s.made) (by_comparison line e d ahead)
+      ∙ ap (λ p. compared_by p (value_test s.constants (Binary line op e d) w ahead t s.made) (by_comparison line e d ahead)) o_is))
+
+-- an expression that is tested by its value
+
+valued_prefix : (b : Bool) (x y : List Coded) → not b ≡ true → y ≡ cond b x y
+valued_prefix true x y h = absurd (cc)
+valued_prefix false x y h = refl
+
+pub valued_is : (cs : List Const) (e : Exp) (w : Bool) (t j : ℕ) → is_valued e ≡ true → (ahead : ℕ) → value_test cs e w ahead t j ≡ test_code cs e w ahead t j
+valued_is cs (Nil line) w t j h ahead = refl
+valued_is cs (False line) w t j h ahead = refl
+valued_is cs (Int line n) w t j h ahead = refl
+valued_is cs (Str line bytes) w t j h ahead = refl
+valued_is cs (Vararg line) w t j h ahead = refl
+valued_is cs (Function line body) w t j h ahead = refl
+valued_is cs (Var line name) w t j h ahead = refl
+valued_is cs (Index line object key) w t j h ahead = refl
+valued_is cs (Call line f es) w t j h ahead = refl
+valued_is cs (Method line object name es) w t j h ahead = refl
+valued_is cs (Table line fs) w t j h ahead = refl
+valued_is cs (Unary line op e) w t j h ahead = valued_prefix (is_not op) (test_code cs e (not w) ahead t j) (value_test cs (Unary line op e) w ahead t j) h
+valued_is cs (True line) w t j h ahead = absurd (cc)
+valued_is cs (Binary line op e d) w t j h ahead = absurd (cc)
+valued_is cs (And line e d) w t j h ahead = absurd (cc)
+valued_is cs (Or line e d) w t j h ahead = absurd (cc)
+valued_is cs (Paren line e) w t j h ahead = absurd (cc)
+
+-- a value that is tested, and two that are compared
+
+pub value_opened :
+    (s r q : Listing) (e : Exp) (w : Bool) (t line : ℕ) (places : List ℕ) → line ≡ line_of e → r ≡ followed s (exp_code s.constants e t s.made 2) (made_by e)
+    → Opened r q (λ ahead. jump_if Test t 0 (not w) ahead line) 0 places → Opened s q (λ ahead. value_test s.constants e w ahead t s.made) (made_by e) places
+value_opened s r q e w t line places line_is e1 o =
+    let value = exp_code s.constants e t s.made 2 in
+    opened_remade s q (λ ahead. value_test s.constants e w ahead t s.made) (made_by e + 0) (made_by e) places (omega arith)
+    (opened_coded s q (λ ahead. value ++ jump_if Test t 0 (not w) ahead line) (λ ahead. value_test s.constants e w ahead t s.made) (made_by e + 0) places
+    (λ ahead. ap (λ n. value ++ jump_if Test t 0 (not w) ahead n) line_is)
+    (opened_behind s r q value (made_by e) (λ ahead. jump_if Test t 0 (not w) ahead line) 0 places e1 o))
+
+pub compared_opened :
+    (s r q u : Listing) (c : Comparison) (w : Bool) (t above x y : ℕ) (k : Bool) (line : ℕ) (e d : Exp) (places : List ℕ)
+    → above ≡ t + 1 → r ≡ followed s (exp_code s.constants e t s.made 2) (made_by e) → q ≡ followed r (exp_code r.constants d above r.made 2) (made_by d)
+    → x ≡ pick c.swapped t above → y ≡ pick c.swapped above t → k ≡ cond c.wanted (not w) w
+    → Opened q u (λ ahead. jump_if c.opcode x y k ahead line) 0 places
+    → Opened s u (compared_code s w t c line e d) (made_by e + made_by d) places
+compared_opened s r q u c w t above x y k line e d places above_is e1 e2 x_is y_is k_is o =
+    let left = exp_code s.constants e t s.made 2 in
+    let right = exp_code s.constants d (t + 1) (s.made + made_by e) 2 in
+    let both : q ≡ followed s (left ++ right) (made_by e + made_by d) =
+    then_made s r q left (made_by e) (λ c j. exp_code c d above j 2) (made_by d) e1 e2 ∙ ap (λ n. followed s (left ++ exp_code s.constants d n (s.made + made_by e) 2) (made_by e + made_by d)) above_is in
+    let first : x ≡ pick c.swapped t (t + 1) = x_is ∙ ap (pick c.swapped t) above_is in
+    let second : y ≡ pick c.swapped (t + 1) t = y_is ∙ ap (λ n. pick c.swapped n t) above_is in
+    opened_remade s u (compared_code s w t c line e d) (made_by e + made_by d + 0) (made_by e + made_by d) places (omega arith)
+    (opened_coded s u (λ ahead. (left ++ right) ++ jump_if c.opcode x y k ahead line) (compared_code s w t c line e d) (made_by e + made_by d + 0) places
+    (λ ahead. append_assoc left right (jump_if c.opcode x y k ahead line)
+    ∙ ap₂ (λ m n. left ++ (right ++ jump_if c.opcode m n k ahead line)) first second
+    ∙ ap (λ b. left ++ (right ++ jump_if c.opcode (pick c.swapped t (t + 1)) (pick c.swapped (t + 1) t) b ahead line)) k_is)
+    (opened_behind s q u (left ++ right) (made_by e + made_by d) (λ ahead. jump_if c.opcode x y k ahead line) 0 places both o))
+
+-- `and` and `or`, of which the second operand is what the first one's place makes it
+
+second_opened : (s r q : Listing) (w : Bool) (t : ℕ) (e d : Exp) (ps qs : List ℕ) (k : Bool) → Tests s r e k t ps → Tests r q d w t qs → Opened r q (λ ahead. test_code s.constants d w ahead t (s.made + made_by e)) (made_by d) qs
+second_opened s r q w t e d ps qs k o u = opened_from r q (λ c j ahead. test_code c d w ahead t j) (made_by d) qs s.constants (s.made + made_by e) o.constants_is o.made_is u
+
+pub either_here :
+    (s r q p : Listing) (decides w : Bool) (t there : ℕ) (e d : Exp) (ps qs : List ℕ) → decides ≡ w → Tests s r e (not decides) t ps → Tests r q d w t qs → there ≡ length q.steps → p ≡ led_on q ps there
+    → Opened s p (λ ahead. either_test s.constants decides e d w ahead t s.made) (made_by e + made_by d) qs
+either_here s r q p decides w t there e d ps qs is o u there_is led =
+    decided_here decides w s r q p (λ n. test_code s.constants e (not decides) n t s.made) (λ ahead. test_code s.constants d w ahead t (s.made + made_by e)) (made_by e) (made_by d) ps qs is o
+    (second_opened s r q w t e d ps qs (not decides) o u) (led ∙ ap (led_on q ps) there_is)
+
+pub either_away :
+    (s r q : Listing) (decides w : Bool) (t : ℕ) (e d : Exp) (ps qs : List ℕ) → (decides ≡ w → ⊥) → Tests s r e (not decides) t ps → Tests r q d w t qs
+    → Opened s q (λ ahead. either_test s.constants decides e d w ahead t s.made) (made_by e + made_by d) (qs ++ ps)
+either_away s r q decides w t e d ps qs differ o u =
+    decided_away decides w s r q (λ n. test_code s.constants e (not decides) n t s.made) (λ ahead. test_code s.constants d w ahead t (s.made + made_by e)) (made_by e) (made_by d) ps qs differ o
+    (second_opened s r q w t e d ps qs (not decides) o u)

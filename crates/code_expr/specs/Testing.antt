@@ -1,0 +1,40 @@
+-- Conditions as they are written, form by form.
+use Rattle.std.specs.Prelude.{ℕ, ◌+◌, Bool, true, false, cond, not, List, ◌++◌, length, Option, Some, None}
+use Rattle.tree_core.specs.Tree.{Exp, True, Unary, Binary, And, Or, Paren}
+use Rattle.code_core.specs.declared.opcode.Opcode.{Opcode}
+use Rattle.code_core.specs.declared.proto.Const.{Const}
+use Rattle.code_of.specs.Coded.{Coded}
+use Rattle.code_of.specs.Conditions.{is_not, test_code}
+use Rattle.code_of.specs.Expressions.{made_by}
+use Rattle.code_expr.specs.declared.conditions.Comparison.{Comparison}
+use Rattle.code_expr.specs.Leading.{Opened}
+use Rattle.code_expr.specs.Listing.{Listing}
+
+-- expressions that are tested by their values, whatever these are
+abbrev pub is_valued : Exp → Bool
+is_valued (True line) = false
+is_valued (Unary line op e) = not (is_not op)
+is_valued (Binary line op e d) = false
+is_valued (And line e d) = false
+is_valued (Or line e d) = false
+is_valued (Paren line e) = false
+is_valued _ = true
+
+-- what is done with a comparison, or with something else
+abbrev pub compared_by : Option Comparison → List Coded → (Opcode → (swapped wanted : Bool) → List Coded) → List Coded
+compared_by None other by = other
+compared_by (Some c) other by = by c.opcode c.swapped c.wanted
+
+-- how far past the second operand the first one leads, where its truth is `decides`
+abbrev pub far : (decides wanted : Bool) → (ahead : ℕ) → ℕ
+far decides wanted ahead = cond decides (cond wanted 0 ahead) (cond wanted ahead 0)
+
+-- `and` and `or`, of which the first operand decides where its truth is `decides`
+abbrev pub either_test : List Const → (decides : Bool) → (e d : Exp) → (wanted : Bool) → (ahead t j : ℕ) → List Coded
+either_test constants decides e d wanted ahead t j =
+    let second = test_code constants d wanted ahead t (j + made_by e) in
+    test_code constants e (not decides) (length second + far decides wanted ahead) t j ++ second
+
+-- the code of a condition stands behind, of which the jumps at these places lead away
+abbrev pub Tests : Listing → Listing → Exp → (wanted : Bool) → (t : ℕ) → List ℕ → Type 0
+Tests before after e wanted t places = Opened before after (λ ahead. test_code before.constants e wanted ahead t before.made) (made_by e) places
