@@ -1,5 +1,5 @@
 -- A source has one code, and so has the prelude's text.
-use Rattle.std.proofs.Common.{◌≡◌, ◌≢◌, ℕ, suc, Bool, false, List, [], ◌∷◌, ◌++◌, length, map, Bor, refl, sym, ap, ◌∙◌}
+use Rattle.std.proofs.Common.{◌≡◌, ◌≢◌, ℕ, suc, Bool, true, false, List, [], ◌∷◌, ◌++◌, length, map, Bor, refl, sym, ap, ◌∙◌}
 use Rattle.std.proofs.lemmas.List.{length-map}
 use Rattle.code_core.specs.Prototype.{Prototype, prototypes, list_of}
 use Rattle.code_of.specs.CodeOf.{code_of}
@@ -8,6 +8,7 @@ use Rattle.compiler.specs.Source.{name_where}
 use Rattle.library_rows.specs.Library.{Library, library_name}
 use Rattle.library_rows.specs.PreludeText.{function_keys, prelude_functions, prelude_text}
 use Rattle.scope_core.specs.Places.{placed}
+use Rattle.prelude_guard.specs.Checks.{all_guarded}
 use Rattle.prelude_code.specs.Prelude.{IsPreludeCode}
 
 pub code_once : (name source : List ℕ) (lines : Bool) (a b : Prototype) → IsCodeOf name source lines a → IsCodeOf name source lines b → a ≡ b
@@ -21,6 +22,13 @@ prelude_once code other first second = code_once [] prelude_text false code othe
 -- where the code has another number of functions, no code of the text is that of a prelude
 pub no_prelude : (code : Prototype) → IsCodeOf [] prelude_text false code → length (list_of code.inner) ≢ length prelude_functions → (other : Prototype) → IsPreludeCode other → ⊥
 no_prelude code compiled differ other own = differ (ap (λ p. length (list_of p.inner)) (code_once [] prelude_text false code other compiled own.compiled) ∙ own.functions)
+
+-- and where a function does not keep its environment to itself
+pub no_guard : (code : Prototype) → IsCodeOf [] prelude_text false code → all_guarded code ≡ false → (other : Prototype) → IsPreludeCode other → ⊥
+no_guard code compiled unguarded other own =
+    let same = code_once [] prelude_text false code other compiled own.compiled in
+    let both : true ≡ false = sym own.guarded ∙ sym (ap all_guarded same) ∙ unguarded in
+    cc
 
 listed_count : (ps : List Prototype) → length (list_of (prototypes ps)) ≡ length ps
 listed_count [] = refl

@@ -8,7 +8,8 @@ use thiserror::Error;
 /// Why there is no code of the prelude.
 #[derive(Debug, Drop, Error)]
 pub enum PreludeFault {
-    /// Its text is no source, or has not a function for each of the names; a test shows that it is one and has.
+    /// Its text is no source, has not a function for each of the names, or has one that does not keep its environment to itself; a test shows that it is one, and
+    /// that all do.
     #[error("prelude refused")]
     Refused,
     /// Memory ran out.

@@ -1,0 +1,5 @@
+// The prelude's code keeps its environment to itself.
+#![tactic(auto)]
+
+#[cfg(test)]
+mod guard;
