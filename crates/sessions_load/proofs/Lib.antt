@@ -1,3 +1,4 @@
 mod Known
 mod Loaded
 mod Saved
+mod Staying

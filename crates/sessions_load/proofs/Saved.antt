@@ -28,13 +28,13 @@ yields_left build fit budget count W V w e =
     let y = turn_suspends build fit.silent (length all_entries) fit.safe count W budget V w.sound w.may e in
     record { main = y.main; is_main = y.is_main; frames = y.frames; yielded = y.there }
 
-begins : (build : Row) (fit : IsFit build) (budget : ℕ) (prelude : List (Entry Prototype)) → IsLibrary prelude → (code : Prototype) → IsChecked code → Waits build fit budget (begun (opening prelude) code)
+pub begins : (build : Row) (fit : IsFit build) (budget : ℕ) (prelude : List (Entry Prototype)) → IsLibrary prelude → (code : Prototype) → IsChecked code → Waits build fit budget (begun (opening prelude) code)
 begins build fit budget prelude library code checked = record {
   sound = begun_sound (length all_entries) (opening prelude) code (opening_sound prelude library.ok) (opening_idle prelude) checked;
   may = begun_may_turn (opening prelude) code (opening_idle prelude);
 }
 
-waits_so : (build : Row) (fit : IsFit build) (budget : ℕ) (prelude : List (Entry Prototype)) (image : List ℕ) (session : World) → IsSession prelude image session → Waits build fit budget session
+pub waits_so : (build : Row) (fit : IsFit build) (budget : ℕ) (prelude : List (Entry Prototype)) (image : List ℕ) (session : World) → IsSession prelude image session → Waits build fit budget session
 waits_so build fit budget prelude image session holds = record { sound = holds.sound; may = holds.waits }
 
 module _ (accept : SessionsAccepted) (can : SavedCanResume) (agrees : SessionAgrees) (knows : KnowsLibraries session_reader) (codes : PreludesAreKnown) where

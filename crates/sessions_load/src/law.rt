@@ -1,10 +1,12 @@
 // The laws of sessions that are loaded again.
-ghost use Rattle.sessions_load.specs.Law.{LoadedGoesOn, OnwardIsLoadable, PreludesAreKnown, RunIsLoadable};
+ghost use Rattle.sessions_load.specs.Law.{LoadedGoesOn, OnwardIsLoadable, OnwardKeepsPrelude, PreludesAreKnown, RunIsLoadable, RunKeepsPrelude};
 
 use image_load::sessions_go_on;
 use image_saved::names_are_read;
 use images_joined::the_reader_knows;
 use images_stand::sessions_stand;
+use prelude_loads::loaded_sessions_stay;
+use prelude_stays::prelude_stays;
 use session_images::sessions_can_resume;
 
 /// The loading of sessions has the code of each function of the prelude under its key.
@@ -26,4 +28,17 @@ pub fn saved_sessions_load()
     the_reader_knows();
     sessions_stand();
     sessions_can_resume();
+}
+
+/// Where the prelude's code passes the test, and a run of code waits for a line, or a session does that was loaded from what such a one was saved as, no value that a
+/// script reaches is the prelude's environment: so the prelude is as it was made, however often a script is saved and loaded.
+pub fn sessions_keep_the_prelude()
+    ensures run { RunKeepsPrelude }
+    ensures onward { OnwardKeepsPrelude }
+{
+    prelude_stays();
+    loaded_sessions_stay();
+    preludes_are_known();
+    the_reader_knows();
+    sessions_stand();
 }

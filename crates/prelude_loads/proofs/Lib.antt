@@ -1,0 +1,4 @@
+mod Lists
+mod Paired
+mod Covered
+pub mod Loaded
