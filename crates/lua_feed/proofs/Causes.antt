@@ -25,6 +25,10 @@ no_input Memory r is h = ap is_input_fault is
 pub no_limit : (e : FeedFault) {T : Type 0} (r : Result T FeedFault) → r ≡ Err e → of_output e ≡ true → IsErrOf r Limit → ⊥
 no_limit e r is h k = absurd (cc)
 
+-- nor does it tell that reading failed
+pub not_failed : (e : FeedFault) {T : Type 0} (r : Result T FeedFault) → r ≡ Err e → of_output e ≡ true → IsErrOf r Input → ⊥
+not_failed e r is h k = absurd (cc)
+
 -- a fault of a line is none of the output
 pub line_input : (e : LineFault) {T B : Type 0} (l : Result T LineFault) (r : Result B FeedFault) → l ≡ Err e → r ≡ Err (fault_of_line e) → is_line_failed l ≡ is_input_fault r
 line_input Failed l r a b = ap is_line_failed a ∙ sym (ap is_input_fault b)
@@ -54,8 +58,8 @@ same_output Output r s a b = ap is_output_fault a ∙ sym (ap is_output_fault b)
 same_output Limit r s a b = ap is_output_fault a ∙ sym (ap is_output_fault b)
 same_output Memory r s a b = ap is_output_fault a ∙ sym (ap is_output_fault b)
 
-pub same_limit : (e : FeedFault) {T B : Type 0} (r : Result T FeedFault) (s : Result B FeedFault) → r ≡ Err e → s ≡ Err e → IsErrOf s Limit → IsErrOf r Limit
-same_limit e r s a b k = let is : s ≡ Err Limit = k in cc
+pub same_fault : (given e : FeedFault) {T B : Type 0} (r : Result T FeedFault) (s : Result B FeedFault) → r ≡ Err e → s ≡ Err e → IsErrOf s given → IsErrOf r given
+same_fault given e r s a b k = let is : s ≡ Err given = k in cc
 
 -- the count since an earlier moment, between which and the call nothing failed
 pub cause_since : (first before now : ℕ) (failed told : Bool) → before ≡ first → failed ≡ told → HasCause before now failed → HasCause first now told

@@ -1,9 +1,11 @@
 -- What the feeding of a script has done so far, and how it goes on and closes.
-use Rattle.std.proofs.Common.{◌≡◌, ℕ, zero, suc, ◌+◌, true, false, List, [], ◌∷◌, ◌++◌, Option, Some, None, refl, sym, ◌∙◌, ap, append_assoc, append-nil, length, subst, take}
+use Rattle.std.proofs.Common.{◌≡◌, ℕ, zero, suc, ◌+◌, true, false, List, [], ◌∷◌, ◌++◌, Option, Some, None, refl, sym, ◌∙◌, ap, append_assoc, append-nil, length, subst, take, ◌≤◌, ◌^◌}
 use Rattle.std.specs.Prelude.{option_map, IfSome}
 use Rattle.list_laws.proofs.Items.{some_same}
 use Rattle.machine_core.specs.World.{World}
 use Rattle.machine_core.specs.Moves.{Ending, main_yielded, main_returned, main_failed, spent, Row}
+use Rattle.machine_sound.specs.Sound.{Each}
+use Rattle.machine_sound.proofs.Lists.{each_none, each_append, each_push}
 use Rattle.machine_runs.specs.Opening.{handed_line}
 use Rattle.machine_runs.specs.Runs.{is_end, is_suspended, Run, turn_text, closes, behind, run_from, CodeRun}
 use Rattle.lua_heap.specs.declared.world.World.{World as Memory}
@@ -11,7 +13,7 @@ use Rattle.lua_heap.specs.Plain.{plain}
 use Rattle.io_edge.specs.Content.{GrowsByFront}
 use Rattle.io_edge.specs.Lines.{lines_of, TakesLine, BeginsPastLimits, IsWithinLimits}
 use Rattle.lua_driver.specs.Turns.{Turns}
-use Rattle.lua_feed.specs.Feeding.{Does, IsCutOff, IsFedTo, IsFront, IsFedFront, OnlyGrows}
+use Rattle.lua_feed.specs.Feeding.{Does, IsBrokenOff, IsCutOff, IsFedTo, IsFront, IsFedFront, OnlyGrows}
 use Rattle.lua_feed.specs.Limits.{lines_within, pass_limits, usable_lines, passes_limits}
 use Rattle.lua_feed.proofs.Limits.{keeps_within, passes_on, none_usable, passes_now, none_left, none_past}
 use Rattle.lua_feed.proofs.Runs.{close_at, is_last, Comes, GoesOn, PrintsFirst, comes_none, comes_on, ends_here, suspends_here, turn_prints}
@@ -146,6 +148,9 @@ come_by_fuel rows budget start W f g used printed c =
           record { rest = k.rest; runs = run_by_fuel rows W f g budget more k.rest k.runs; is = k.is };
     }
 
+abbrev pub Short : List ℕ → Type 0
+Short line = length line ≤ 2 ^ 20
+
 -- what was done so far: the lines that were used, and what was printed
 pub record Feeding (rows : ℕ → Row) (budget : ℕ) (start : Memory) (text before : Option (List ℕ)) (first : ℕ) (now : Memory) (rest after : Option (List ℕ)) (taken : ℕ) : Type 0 where
   pub used : List (List ℕ)
@@ -155,6 +160,7 @@ pub record Feeding (rows : ℕ → Row) (budget : ℕ) (start : Memory) (text be
   pub grown : after ≡ option_map (λ t. t ++ printed) before
   pub usable : (more : List (List ℕ)) → lines_within first (used ++ more) ≡ used ++ lines_within taken more
   pub passing : (more : List (List ℕ)) → pass_limits first (used ++ more) ≡ pass_limits taken more
+  pub short : Each Short used
 
 -- the lines that may be handed over, and whether one is past the limits
 module _ (rows : ℕ → Row) (budget : ℕ) (start : Memory) (before : Option (List ℕ)) (first : ℕ) (now : Memory) (after : Option (List ℕ)) (taken : ℕ) where
@@ -180,7 +186,7 @@ module _ (rows : ℕ → Row) (budget : ℕ) (start : Memory) (before : Option (
 
 pub fed_none : (rows : ℕ → Row) (budget : ℕ) (start : Memory) (text before : Option (List ℕ)) (first : ℕ) → Feeding rows budget start text before first start text before first
 fed_none rows budget start text before first =
-    record { used = []; printed = []; comes = comes_none rows budget (plain start 0); lines = same_lines text; grown = grows_none before; usable = λ more. refl; passing = λ more. refl }
+    record { used = []; printed = []; comes = comes_none rows budget (plain start 0); lines = same_lines text; grown = grows_none before; usable = λ more. refl; passing = λ more. refl; short = each_none Short }
 
 -- it goes on by a turn that yields and a line that is handed over
 pub fed_on : (rows : ℕ → Row) (budget : ℕ) (start : Memory) (text before : Option (List ℕ)) (first : ℕ) (now mid new : Memory) (rest next after later : Option (List ℕ)) (taken taken' : ℕ) (line : List ℕ)
@@ -202,6 +208,7 @@ fed_on rows budget start text before first now mid new rest next after later tak
           ap (lines_within first) (append_assoc f.used (line ∷ []) more) ∙ f.usable (line ∷ more)
           ∙ ap (λ ls. f.used ++ ls) (keeps_within taken line more within ∙ ap (λ n. line ∷ lines_within n more) (sym counts)) ∙ sym (append_assoc f.used (line ∷ []) (lines_within taken' more));
       passing = λ more. ap (pass_limits first) (append_assoc f.used (line ∷ []) more) ∙ f.passing (line ∷ more) ∙ passes_on taken line more within ∙ ap (λ n. pass_limits n more) (sym counts);
+      short = each_push Short f.used line f.short within.short_line;
     }
 
 last_ends : (e : Ending) → is_last e ≡ true → close_at e ≡ is_suspended → ⊥
@@ -228,6 +235,7 @@ fed_last rows budget start text before first now mid rest after later taken e f 
             (are_lines rows budget start before first now after taken text rest f)
             (f.comes.goes (rest_lines taken rest) r (ends_here rows budget (plain now 0) (plain mid t.left) t.count e (rest_lines taken rest) h t.is))
             (told_all (λ bytes. close_at e ≡ is_suspended → passes_limits first bytes ≡ false) text (λ bytes c. absurd (last_ends e h c)));
+        short = λ c. absurd (last_ends e h c);
       };
       leaves = record { left = t.left; is = refl };
     }
@@ -266,6 +274,7 @@ module _ (rows : ℕ → Row) (budget : ℕ) (start : Memory) (text before : Opt
           (are_lines rows budget start before first now after taken text rest f)
           (waits (rest_lines taken rest) (no_lines taken rest none))
           (told_so text (all_used rows budget start before first now after taken text rest f none));
+      short = λ same. subst (λ ls. Each Short (f.used ++ ls)) (sym (none_rest rest none)) (each_append Short f.used [] f.short (each_none Short));
     };
     leaves = record { left = t.left; is = refl };
   }
@@ -280,6 +289,23 @@ module _ (rows : ℕ → Row) (budget : ℕ) (start : Memory) (text before : Opt
     waits = refl;
     grown = grew;
     past = one_past rows budget start before first now after taken text rest f p;
+  }
+
+  -- where the next line cannot be read
+
+  first_lines : (text : Option (List ℕ)) → IfSome text (λ bytes. f.used ++ rest_lines taken rest ≡ usable_lines first bytes) → IfSome text (λ bytes. (more : List (List ℕ)) × (usable_lines first bytes ≡ (f.used ++ []) ++ more))
+  first_lines None are = tt
+  first_lines (Some b) are = (rest_lines taken rest, sym are ∙ ap (λ ls. ls ++ rest_lines taken rest) (sym (append-nil f.used)))
+
+  pub fed_broken : IsBrokenOff (Does rows (plain start 0) budget) first text before later
+  fed_broken = record {
+    lines = f.used ++ [];
+    are = first_lines text (are_lines rows budget start before first now after taken text rest f);
+    short = each_append Short f.used [] f.short (each_none Short);
+    run = waiting;
+    runs = waits [] refl;
+    waits = refl;
+    grown = grew;
   }
 
 -- where it stops at a fault, a front of what a run prints was written

@@ -1,18 +1,19 @@
 -- How a script that waits for a line is fed: by that line, and then as one whose main coroutine is to be resumed.
 use Rattle.std.proofs.Common.{◌≡◌, ◌+◌, ◌∙◌, ℕ, List, [], ◌∷◌, Option, Some, None, true, false, refl, sym, ap, subst, length}
-use Rattle.std.specs.Prelude.{Bool, option_map, IfSome}
+use Rattle.std.specs.Prelude.{Bool, option_map, IfSome, ◌++◌}
 use Rattle.list_laws.proofs.Items.{some_same}
 use Rattle.machine_core.specs.World.{World}
 use Rattle.machine_core.specs.Moves.{Row}
+use Rattle.machine_sound.proofs.Lists.{each_none, each_cons}
 use Rattle.machine_runs.specs.Opening.{handed_line}
 use Rattle.machine_runs.specs.Runs.{Close, is_suspended, Run, run_from, CodeRun, CodeOnward}
 use Rattle.lua_heap.specs.declared.world.World.{World as Memory}
 use Rattle.lua_heap.specs.Plain.{plain}
 use Rattle.io_edge.specs.Content.{GrowsByFront}
 use Rattle.io_edge.specs.Lines.{lines_of, TakesLine, BeginsPastLimits, IsWithinLimits}
-use Rattle.lua_feed.specs.Feeding.{Does, GoesOn, IsCutOff, IsFedTo, IsFedFront}
+use Rattle.lua_feed.specs.Feeding.{Does, GoesOn, IsBrokenOff, IsCutOff, IsFedTo, IsFedFront}
 use Rattle.lua_feed.specs.Limits.{lines_within, pass_limits, usable_lines, passes_limits}
-use Rattle.lua_feed.proofs.Fed.{grows_none, told_within}
+use Rattle.lua_feed.proofs.Fed.{Short, grows_none, told_within}
 use Rattle.lua_feed.proofs.Limits.{keeps_within, passes_on, none_usable, passes_now, none_left, none_past}
 
 -- no line is left
@@ -42,6 +43,7 @@ on_none rows W budget taken text next before after none same = record {
     grown = same ∙ grows_none before;
     within = told_within (λ ls. CodeOnward rows (plain W 0) ls budget (record { printed = []; close = is_suspended; last = plain W 0 })) (λ bytes. is_suspended ≡ is_suspended → passes_limits taken bytes ≡ false)
         taken [] text (no_usable taken text none.1) (record { count = 0; gives = refl }) (none_pass taken text none.1);
+    short = λ waits. each_none Short;
   };
   leaves = record { left = 0; is = refl };
 }
@@ -65,6 +67,23 @@ on_past rows W budget taken text before after p same = record {
   waits = refl;
   grown = same ∙ grows_none before;
   past = first_past taken text p;
+}
+
+-- the first line cannot be read
+
+none_read : (taken : ℕ) (text : Option (List ℕ)) → IfSome text (λ bytes. (more : List (List ℕ)) × (usable_lines taken bytes ≡ [] ++ more))
+none_read taken None = tt
+none_read taken (Some t) = (usable_lines taken t, refl)
+
+pub on_unread : (rows : ℕ → Row) (W : Memory) (budget taken : ℕ) (text before after : Option (List ℕ)) → after ≡ before → IsBrokenOff (GoesOn rows (plain W 0) budget) taken text before after
+on_unread rows W budget taken text before after same = record {
+  lines = [];
+  are = none_read taken text;
+  short = each_none Short;
+  run = record { printed = []; close = is_suspended; last = plain W 0 };
+  runs = record { count = 0; gives = refl };
+  waits = refl;
+  grown = same ∙ grows_none before;
 }
 
 -- a line was handed over
@@ -117,6 +136,7 @@ module _ (rows : ℕ → Row) (old mid : Memory) (budget taken taken' : ℕ) (li
       closes = f.fed.closes;
       grown = f.fed.grown;
       within = still_within close f.fed.run text next takes f.fed.within;
+      short = λ waits. each_cons Short line f.fed.lines within.short_line (f.fed.short waits);
     };
     leaves = record { left = f.leaves.left; is = f.leaves.is };
   }
@@ -130,6 +150,23 @@ module _ (rows : ℕ → Row) (old mid : Memory) (budget taken taken' : ℕ) (li
     waits = f.waits;
     grown = f.grown;
     past = same_past true text next takes f.past;
+  }
+
+  one_first : (lines : List (List ℕ)) (text next : Option (List ℕ)) → TakesLine (Some line) text next → IfSome next (λ bytes. (more : List (List ℕ)) × (usable_lines taken' bytes ≡ lines ++ more))
+      → IfSome text (λ bytes. (more : List (List ℕ)) × (usable_lines taken bytes ≡ (line ∷ lines) ++ more))
+  one_first lines None next takes are = tt
+  one_first lines (Some b) None takes are = absurd (cc)
+  one_first lines (Some b) (Some n) takes are = (are.0, usable b n (some_same (lines_of b) (line ∷ lines_of n) takes) ∙ ap (λ ls. line ∷ ls) are.1)
+
+  pub on_broken : IsBrokenOff (Does rows (plain mid 0) budget) taken' next before after → IsBrokenOff (GoesOn rows (plain old 0) budget) taken text before after
+  on_broken f = record {
+    lines = line ∷ f.lines;
+    are = one_first f.lines text next takes f.are;
+    short = each_cons Short line f.lines within.short_line f.short;
+    run = f.run;
+    runs = goes f.lines f.run f.runs;
+    waits = f.waits;
+    grown = f.grown;
   }
 
   pub on_front : IsFedFront (Does rows (plain mid 0) budget) taken' next before after → IsFedFront (GoesOn rows (plain old 0) budget) taken text before after

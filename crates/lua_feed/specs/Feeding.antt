@@ -1,7 +1,8 @@
 -- What a script does that is fed with the lines of an input.
-use Rattle.std.specs.Prelude.{◌≡◌, ◌++◌, ℕ, List, Option, Some, option_map, IfSome, true, false}
+use Rattle.std.specs.Prelude.{◌≡◌, ◌++◌, ◌≤◌, ◌^◌, ℕ, List, length, Option, Some, option_map, IfSome, true, false}
 use Rattle.machine_core.specs.World.{World}
 use Rattle.machine_core.specs.Moves.{Row}
+use Rattle.machine_sound.specs.Sound.{Each}
 use Rattle.machine_runs.specs.Runs.{Close, is_suspended, Run, CodeRun, CodeOnward}
 use Rattle.lua_heap.specs.declared.world.World.{World as Memory}
 use Rattle.lua_heap.specs.Plain.{plain}
@@ -24,7 +25,7 @@ pub record IsLast (W : World) (now : Memory) : Type 0 where
 
 -- There is a run on these lines that closes so, and the output has grown by what it prints. Where the input tells its bytes,
 -- before which so many were taken, the lines are its lines. The run is that on the lines before the first past the limits too, and where it waits for a
--- line there is no such line.
+-- line there is no such line: each was handed over, and has at most 1,048,576 bytes.
 pub record IsFed (Runs : List (List ℕ) → Run → Type 0) (taken : ℕ) (text before after : Option (List ℕ)) (close : Close) : Type 0 where
   pub lines : List (List ℕ)
   pub are : IfSome text (λ bytes. lines ≡ lines_of bytes)
@@ -33,6 +34,7 @@ pub record IsFed (Runs : List (List ℕ) → Run → Type 0) (taken : ℕ) (text
   pub closes : run.close ≡ close
   pub grown : after ≡ option_map (λ written. written ++ run.printed) before
   pub within : IfSome text (λ bytes. Runs (usable_lines taken bytes) run × (close ≡ is_suspended → passes_limits taken bytes ≡ false))
+  pub short : close ≡ is_suspended → Each (λ (line : List ℕ). length line ≤ 2 ^ 20) lines
 
 -- and its last world is this one
 pub record IsFedTo (Runs : List (List ℕ) → Run → Type 0) (taken : ℕ) (text before after : Option (List ℕ)) (close : Close) (now : Memory) : Type 0 where
@@ -48,6 +50,17 @@ pub record IsCutOff (Runs : List (List ℕ) → Run → Type 0) (taken : ℕ) (t
   pub waits : run.close ≡ is_suspended
   pub grown : after ≡ option_map (λ written. written ++ run.printed) before
   pub past : IfSome text (λ bytes. passes_limits taken bytes ≡ true)
+
+-- Reading failed: a run on some first lines of the input, of which none is past the limits, waits for the next, and the output has grown by all that the run
+-- prints.
+pub record IsBrokenOff (Runs : List (List ℕ) → Run → Type 0) (taken : ℕ) (text before after : Option (List ℕ)) : Type 0 where
+  pub lines : List (List ℕ)
+  pub are : IfSome text (λ bytes. (more : List (List ℕ)) × (usable_lines taken bytes ≡ lines ++ more))
+  pub short : Each (λ (line : List ℕ). length line ≤ 2 ^ 20) lines
+  pub run : Run
+  pub runs : Runs lines run
+  pub waits : run.close ≡ is_suspended
+  pub grown : after ≡ option_map (λ written. written ++ run.printed) before
 
 -- whatever the lines are, the output has grown by a front of what a run on them prints
 pub record IsFront (rows : ℕ → Row) (W : World) (budget : ℕ) (before after : Option (List ℕ)) : Type 0 where

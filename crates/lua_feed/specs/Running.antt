@@ -7,7 +7,7 @@ use Rattle.machine_runs.specs.Runs.{Close}
 use Rattle.loaded_code.specs.Laws.{library}
 use Rattle.source_builds.specs.Readings.{AsRead}
 use Rattle.lua_meaning.specs.Opening.{prelude_of}
-use Rattle.lua_feed.specs.Feeding.{Does, IsCutOff, IsFed, IsFedFront}
+use Rattle.lua_feed.specs.Feeding.{Does, IsBrokenOff, IsCutOff, IsFed, IsFedFront}
 
 -- the world of the libraries over the prelude's code, in which a script with this code has begun
 abbrev pub started : (prelude code : Prototype) → World
@@ -20,6 +20,10 @@ IsRunOf prelude code budget taken text before after close = AsRead (λ builds. I
 -- the script waits for a line that is past the limits, and the output has grown by what it prints
 abbrev pub IsCutOffOf : (prelude code : Prototype) (budget taken : ℕ) (text before after : Option (List ℕ)) → Type 0
 IsCutOffOf prelude code budget taken text before after = AsRead (λ builds. IsCutOff (Does (library builds) (started prelude code) budget) taken text before after)
+
+-- reading failed where the script waits for a line, and the output has grown by what it prints on the lines before
+abbrev pub IsBrokenOffOf : (prelude code : Prototype) (budget taken : ℕ) (text before after : Option (List ℕ)) → Type 0
+IsBrokenOffOf prelude code budget taken text before after = AsRead (λ builds. IsBrokenOff (Does (library builds) (started prelude code) budget) taken text before after)
 
 -- the output has grown by a front of what the script prints on the lines of the input
 abbrev pub IsFrontOf : (prelude code : Prototype) (budget taken : ℕ) (text before after : Option (List ℕ)) → Type 0

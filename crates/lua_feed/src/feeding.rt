@@ -8,7 +8,7 @@ ghost use Rattle.move_laws.specs.Memory.{InOrder};
 ghost use Rattle.lua_driver.specs.Turns.{MayGoOn};
 ghost use Rattle.lua_feed.specs.Closes.{close_of, closing};
 ghost use Rattle.lua_feed.specs.Faults.{is_input_fault, is_output_fault};
-ghost use Rattle.lua_feed.specs.Feeding.{Does, GoesOn, IsCutOff, IsFedFront, IsFedTo, OnlyGrows};
+ghost use Rattle.lua_feed.specs.Feeding.{Does, GoesOn, IsBrokenOff, IsCutOff, IsFedFront, IsFedTo, OnlyGrows};
 ghost use Rattle.machine_runs.specs.Runs.{is_suspended};
 ghost use Rattle.loaded_code.specs.Laws.{library};
 ghost use Rattle.source_builds.specs.Readings.{AsRead};
@@ -38,7 +38,8 @@ pub enum Close {
 /// # Errors
 ///
 /// `Input` and `Output` where a device fails, `Limit` where the script waits for a line that is too long, or up to whose end the input is, and `Memory`. A front
-/// of what the run on the lines prints was written then, at `Limit` all that it prints up to that line, and the script cannot be resumed any more.
+/// of what the run on the lines prints was written then, at `Limit` all that it prints up to that line, at `Input` all that it prints on the lines that were
+/// taken, and the script cannot be resumed any more.
 pub fn feed<S: Source, K: Sink>(
     world: &mut World,
     budget: u64,
@@ -54,6 +55,7 @@ pub fn feed<S: Source, K: Sink>(
     ensures input { HasCause (S.faults input.old) (S.faults input.new) (is_input_fault result) }
     ensures output { HasCause (K.faults out.old) (K.faults out.new) (is_output_fault result) }
     ensures limit { IsErrOf result FeedFault.Limit → AsRead (λ builds. IsCutOff (Does (library builds) (plain world.old 0) budget) reader.old.taken (ahead reader.old (S.left input.old)) (K.written out.old) (K.written out.new)) }
+    ensures broken { IsErrOf result FeedFault.Input → AsRead (λ builds. IsBrokenOff (Does (library builds) (plain world.old 0) budget) reader.old.taken (ahead reader.old (S.left input.old)) (K.written out.old) (K.written out.new)) }
     ensures order { InOrder world.new }
 {
     'turns: loop {
@@ -89,6 +91,7 @@ pub fn feed_on<S: Source, K: Sink>(
     ensures input { HasCause (S.faults input.old) (S.faults input.new) (is_input_fault result) }
     ensures output { HasCause (K.faults out.old) (K.faults out.new) (is_output_fault result) }
     ensures limit { IsErrOf result FeedFault.Limit → AsRead (λ builds. IsCutOff (GoesOn (library builds) (plain world.old 0) budget) reader.old.taken (ahead reader.old (S.left input.old)) (K.written out.old) (K.written out.new)) }
+    ensures broken { IsErrOf result FeedFault.Input → AsRead (λ builds. IsBrokenOff (GoesOn (library builds) (plain world.old 0) budget) reader.old.taken (ahead reader.old (S.left input.old)) (K.written out.old) (K.written out.new)) }
     ensures order { InOrder world.new }
 {
     let Some(line) = reader.next_line(input)? else {

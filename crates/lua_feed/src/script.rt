@@ -10,7 +10,7 @@ ghost use Rattle.lua_heap.specs.Plain.{plain};
 ghost use Rattle.lua_feed.specs.Closes.{close_of};
 ghost use Rattle.lua_feed.specs.Faults.{is_input_fault, is_output_fault};
 ghost use Rattle.lua_feed.specs.Feeding.{OnlyGrows};
-ghost use Rattle.lua_feed.specs.Running.{IsCutOffOf, IsFrontOf, IsRunOf, started};
+ghost use Rattle.lua_feed.specs.Running.{IsBrokenOffOf, IsCutOffOf, IsFrontOf, IsRunOf, started};
 
 use crate::fault::FeedFault;
 use crate::feeding::{Close, feed};
@@ -64,6 +64,7 @@ pub fn run_code<S: Source, K: Sink>(
     ensures input { HasCause (S.faults input.old) (S.faults input.new) (is_input_fault result) }
     ensures output { HasCause (K.faults out.old) (K.faults out.new) (is_output_fault result) }
     ensures limit { IsErrOf result FeedFault.Limit → IsCutOffOf prelude code budget reader.old.taken (ahead reader.old (S.left input.old)) (K.written out.old) (K.written out.new) }
+    ensures broken { IsErrOf result FeedFault.Input → IsBrokenOffOf prelude code budget reader.old.taken (ahead reader.old (S.left input.old)) (K.written out.old) (K.written out.new) }
 {
     let mut world = start(alloc, prelude, code)?;
     let close = feed(&mut world, budget, reader, input, out)?;

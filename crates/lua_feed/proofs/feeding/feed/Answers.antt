@@ -16,9 +16,9 @@ use Rattle.source_builds.proofs.Knowing.{read_all, read_both}
 use Rattle.source_builds.proofs.Lookups.{read_some}
 use Rattle.lua_feed.specs.Faults.{fault_of_line, is_input_fault, is_output_fault}
 use Rattle.lua_feed.specs.Feeding.{Does, IsFedTo}
-use Rattle.lua_feed.proofs.Causes.{cause_since, line_input, line_limit, line_no_output, no_input, no_limit, same_output, unfailed, untouched}
+use Rattle.lua_feed.proofs.Causes.{cause_since, line_input, line_limit, line_no_output, no_input, no_limit, not_failed, same_output, unfailed, untouched}
 use Rattle.lua_feed.proofs.Closing.{yields, last, ended_otherwise}
-use Rattle.lua_feed.proofs.Fed.{fed_none, fed_on, fed_last, fed_suspended, fed_cut, fed_front, front_written, only_grown, only_twice}
+use Rattle.lua_feed.proofs.Fed.{fed_none, fed_on, fed_last, fed_suspended, fed_cut, fed_broken, fed_front, front_written, only_grown, only_twice}
 use Rattle.lua_feed.proofs.feeding.feed.Goals as goal
 
 pub turns-init : goal.turns-init
@@ -63,6 +63,11 @@ pub returns-in_err-ending-clause-limit : goal.returns-in_err-ending-clause-limit
 returns-in_err-ending-clause-limit g c = λ limit.
     let is : c.from_residual.result ≡ Err c.in_err-ending.field-0.0 = search rules in
     absurd (no_limit c.in_err-ending.field-0.0 c.from_residual.result is c.in_err-ending.ensures.kind limit)
+
+pub returns-in_err-ending-clause-broken : goal.returns-in_err-ending-clause-broken
+returns-in_err-ending-clause-broken g c = λ failed.
+    let is : c.from_residual.result ≡ Err c.in_err-ending.field-0.0 = search rules in
+    absurd (not_failed c.in_err-ending.field-0.0 c.from_residual.result is c.in_err-ending.ensures.kind failed)
 
 -- the script has ended
 
@@ -126,6 +131,17 @@ returns-in_err-line-clause-limit g c = λ limit.
     c.turns.world mid (ahead c.turns.reader (g.S.Source.left c.turns.input)) after later c.turns.reader.taken f (subst (Turns (library builds) c.turns.world mid c.args.budget) yielded t)
     (subst (λ (k : Ending). later ≡ option_map (λ t. t ++ turn_text k (plain mid 0)) after) yielded e.written)
     (c.next_line.ensures.limit (was ∙ ap Err (line_limit fault c.from_residual-in_err-line.result is limit)))) c.turns.invariant.so_far e.turns
+
+pub returns-in_err-line-clause-broken : goal.returns-in_err-line-clause-broken
+returns-in_err-line-clause-broken g c = λ failed.
+    let e = c.in_ok-ending.ensures in
+    let mid = c.write_turn.new.world in
+    let later = g.K.Sink.written c.write_turn.new.out in
+    let after = g.K.Sink.written c.turns.out in
+    let yielded : ending_of c.in_ok-ending.ending ≡ main_yielded = yields (ending_of c.in_ok-ending.ending) e.ends (sym c.close_at.ensures ∙ c.in_default.is) in
+    read_both (λ builds are f t. fed_broken (library builds) c.args.budget c.args.world.now (ahead c.args.reader.now (g.S.Source.left c.args.input.now)) (g.K.Sink.written c.args.out.now) c.args.reader.now.taken
+    c.turns.world mid (ahead c.turns.reader (g.S.Source.left c.turns.input)) after later c.turns.reader.taken f (subst (Turns (library builds) c.turns.world mid c.args.budget) yielded t)
+    (subst (λ (k : Ending). later ≡ option_map (λ t. t ++ turn_text k (plain mid 0)) after) yielded e.written)) c.turns.invariant.so_far e.turns
 
 -- no line is left
 

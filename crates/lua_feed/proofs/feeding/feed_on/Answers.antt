@@ -13,7 +13,7 @@ use Rattle.lua_feed.specs.Faults.{fault_of_line}
 use Rattle.lua_feed.specs.Feeding.{GoesOn}
 use Rattle.lua_feed.proofs.Causes.{line_limit}
 use Rattle.lua_feed.proofs.Starting.{unfed_front}
-use Rattle.lua_feed.proofs.Onward.{on_none, on_past, on_fed, on_cut, on_front}
+use Rattle.lua_feed.proofs.Onward.{on_none, on_past, on_unread, on_fed, on_cut, on_broken, on_front}
 use Rattle.lua_feed.proofs.feeding.feed_on.Goals as goal
 
 -- the first line is past the limits
@@ -25,6 +25,11 @@ returns-in_err-line-clause-limit g c = λ limit.
     let is : c.from_residual.result ≡ Err (fault_of_line fault) = search rules in
     read_all (λ builds are. on_past (library builds) c.args.world.now c.args.budget c.args.reader.now.taken (ahead c.args.reader.now (g.S.Source.left c.args.input.now)) (g.K.Sink.written c.args.out.now) (g.K.Sink.written c.args.out.now)
     (c.next_line.ensures.limit (was ∙ ap Err (line_limit fault c.from_residual.result is limit))) refl)
+
+-- the first line cannot be read
+pub returns-in_err-line-clause-broken : goal.returns-in_err-line-clause-broken
+returns-in_err-line-clause-broken g c = λ failed.
+    read_all (λ builds are. on_unread (library builds) c.args.world.now c.args.budget c.args.reader.now.taken (ahead c.args.reader.now (g.S.Source.left c.args.input.now)) (g.K.Sink.written c.args.out.now) (g.K.Sink.written c.args.out.now) refl)
 
 -- nothing is written where no line is read, and where none is handed over
 
@@ -92,3 +97,16 @@ returns-clause-limit g c = λ limit.
     let same : c.as_slice.result.now ≡ line = search rules in
     let handed : plain c.hand_line.new.world 0 ≡ handed_line (plain c.args.world.now 0) line = c.in_ok-hand_line.ensures.handed 0 ∙ ap (handed_line (plain c.args.world.now 0)) same in
     read_map (λ builds are f. on_cut (library builds) c.args.world.now c.hand_line.new.world c.args.budget c.args.reader.now.taken c.next_line.new.self.taken line text next (g.K.Sink.written c.args.out.now) (g.K.Sink.written c.feed.new.out) handed takes within taken f) (c.feed.ensures.limit limit)
+
+pub returns-clause-broken : goal.returns-clause-broken
+returns-clause-broken g c = λ failed.
+    let line = c.in-Some.line in
+    let text = (ahead c.args.reader.now (g.S.Source.left c.args.input.now)) in
+    let next = ahead c.next_line.new.self (g.S.Source.left c.next_line.new.source) in
+    let takes : TakesLine (Some line) text next = subst (λ o. TakesLine o text next) c.in-Some.is c.in_ok-line.ensures.line in
+    let within : IsWithinLimits c.args.reader.now.taken line = subst (λ o. IfSome o (λ l. IsWithinLimits c.args.reader.now.taken l)) c.in-Some.is c.in_ok-line.ensures.within in
+    let taken : c.next_line.new.self.taken ≡ c.args.reader.now.taken + length line + 1 =
+    subst (λ o. c.next_line.new.self.taken ≡ taken_with c.args.reader.now.taken o) c.in-Some.is c.in_ok-line.ensures.taken in
+    let same : c.as_slice.result.now ≡ line = search rules in
+    let handed : plain c.hand_line.new.world 0 ≡ handed_line (plain c.args.world.now 0) line = c.in_ok-hand_line.ensures.handed 0 ∙ ap (handed_line (plain c.args.world.now 0)) same in
+    read_map (λ builds are f. on_broken (library builds) c.args.world.now c.hand_line.new.world c.args.budget c.args.reader.now.taken c.next_line.new.self.taken line text next (g.K.Sink.written c.args.out.now) (g.K.Sink.written c.feed.new.out) handed takes within taken f) (c.feed.ensures.broken failed)

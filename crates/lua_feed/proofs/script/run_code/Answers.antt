@@ -8,9 +8,10 @@ use Rattle.io_edge.specs.Lines.{ahead}
 use Rattle.lua_stack.proofs.Called.{on_err}
 use Rattle.lua_feed.specs.Closes.{close_of}
 use Rattle.lua_feed.specs.Faults.{is_input_fault, is_output_fault}
-use Rattle.lua_feed.specs.Feeding.{Does, IsCutOff, IsFed, IsFedFront}
+use Rattle.lua_feed.specs.declared.fault.FeedFault.TheVariants.{Input, Limit}
+use Rattle.lua_feed.specs.Feeding.{Does, IsBrokenOff, IsCutOff, IsFed, IsFedFront}
 use Rattle.lua_feed.specs.Running.{started}
-use Rattle.lua_feed.proofs.Causes.{cause_since, same_input, same_limit, same_output}
+use Rattle.lua_feed.proofs.Causes.{cause_since, same_fault, same_input, same_output}
 use Rattle.lua_feed.proofs.Fed.{only_same}
 use Rattle.lua_feed.proofs.Starting.{unfed_front}
 use Rattle.lua_feed.proofs.script.run_code.Goals as goal
@@ -59,4 +60,12 @@ returns-in_err-close-clause-limit g c = λ limit.
     let was : c.feed.result ≡ Err fault = search rules in
     let is : c.from_residual-in_err-close.result ≡ Err fault = search rules in
     subst (λ (W : World). AsRead (λ builds. IsCutOff (Does (library builds) W c.args.budget) c.args.reader.now.taken (ahead c.args.reader.now (g.S.Source.left c.args.input.now)) (g.K.Sink.written c.args.out.now) (g.K.Sink.written c.feed.new.out)))
-    c.in_ok-world.ensures.begun (c.feed.ensures.limit (same_limit fault c.feed.result c.from_residual-in_err-close.result was is limit))
+    c.in_ok-world.ensures.begun (c.feed.ensures.limit (same_fault Limit fault c.feed.result c.from_residual-in_err-close.result was is limit))
+
+pub returns-in_err-close-clause-broken : goal.returns-in_err-close-clause-broken
+returns-in_err-close-clause-broken g c = λ failed.
+    let fault = c.in_err-close.field-0.0 in
+    let was : c.feed.result ≡ Err fault = search rules in
+    let is : c.from_residual-in_err-close.result ≡ Err fault = search rules in
+    subst (λ (W : World). AsRead (λ builds. IsBrokenOff (Does (library builds) W c.args.budget) c.args.reader.now.taken (ahead c.args.reader.now (g.S.Source.left c.args.input.now)) (g.K.Sink.written c.args.out.now) (g.K.Sink.written c.feed.new.out)))
+    c.in_ok-world.ensures.begun (c.feed.ensures.broken (same_fault Input fault c.feed.result c.from_residual-in_err-close.result was is failed))
