@@ -3,3 +3,4 @@ pub mod Chained
 pub mod Meant
 pub mod Taken
 pub mod Resumed
+mod Unchanged

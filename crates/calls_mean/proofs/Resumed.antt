@@ -1,5 +1,5 @@
 -- A call of `resume` behind calls on a script writes the rest of what the script means.
-use Rattle.std.proofs.Common.{◌≡◌, ℕ, ◌≤◌, true, List, [], ◌∷◌, ◌++◌, length, Option, Some, refl, ap, sym, subst, ◌∙◌, append_assoc}
+use Rattle.std.proofs.Common.{◌≡◌, ◌≢◌, ℕ, ◌≤◌, true, List, [], ◌∷◌, ◌++◌, length, Option, Some, refl, ap, sym, subst, ◌∙◌, append_assoc}
 use Rattle.std.specs.Option.{option_map}
 use Rattle.int_core.specs.Value.{greatest_string}
 use Rattle.io_edge.specs.Lines.{lines_of}
@@ -11,7 +11,7 @@ use Rattle.program.specs.Sessions.{status_of_close}
 use Rattle.command_words.specs.Words.{resume}
 use Rattle.calls_mean.specs.Calls.{Called, Resumed, last_call, saving_call, Calls, first_call, SavedCalls, first_saves, next_saves}
 use Rattle.calls_mean.specs.Law.{all_lines, CallsMean}
-use Rattle.calls_mean.specs.Resumes.{IsSavedByCall, by_run, by_resume, SavedGoesOn, ResumesAsMeant}
+use Rattle.calls_mean.specs.Resumes.{IsSavedByCall, by_run, by_resume, SavedGoesOn, SavedIsUnchanged, ResumesAsMeant}
 use Rattle.calls_mean.proofs.Meant.{each_back}
 
 abbrev Short : List ℕ → Type 0
@@ -19,12 +19,12 @@ Short line = length line ≤ greatest_string
 
 -- lines
 
-front_short : (texts : List (List ℕ)) (text : List ℕ) → AreShort (all_lines (texts ++ text ∷ [])) → AreShort (all_lines texts)
+pub front_short : (texts : List (List ℕ)) (text : List ℕ) → AreShort (all_lines (texts ++ text ∷ [])) → AreShort (all_lines texts)
 front_short [] text h = λ i line e. absurd (cc)
 front_short (t ∷ texts) text h = each_append Short (lines_of t) (all_lines texts) (each_front Short (lines_of t) (all_lines (texts ++ text ∷ [])) h)
     (front_short texts text (each_back Short (lines_of t) (all_lines (texts ++ text ∷ [])) h))
 
-last_short : (texts : List (List ℕ)) (text : List ℕ) → AreShort (all_lines (texts ++ text ∷ [])) → AreShort (lines_of text)
+pub last_short : (texts : List (List ℕ)) (text : List ℕ) → AreShort (all_lines (texts ++ text ∷ [])) → AreShort (lines_of text)
 last_short [] text h = each_front Short (lines_of text) [] h
 last_short (t ∷ texts) text h = last_short texts text (each_back Short (lines_of t) (all_lines (texts ++ text ∷ [])) h)
 
@@ -51,9 +51,10 @@ ended_so has_failed = refl
 ended_so is_suspended = refl
 ended_so has_spent = refl
 
-pub resumes_as_meant : SavedGoesOn → CallsMean → ResumesAsMeant
-resumes_as_meant on mean name content budget texts printed session saved script short text before out status lines had call =
-    let some = read_some (on session (saved_by budget name content texts printed session short (front_short texts text lines) saved) budget text out status call) in
+pub resumes_as_meant : SavedGoesOn → SavedIsUnchanged → CallsMean → ResumesAsMeant
+resumes_as_meant on unchanged mean name content budget texts printed session saved script short text before out status lines had call =
+    let never : status ≢ 12 = unchanged name content budget texts printed session saved short (front_short texts text lines) call.name budget call.save call.files call.input out call.last status call.is_call call.holds text call.reads (last_short texts text lines) in
+    let some = read_some (on session (saved_by budget name content texts printed session short (front_short texts text lines) saved) budget text out status call (λ named. never)) in
     let r = some.2 in
     let written : out.content' ≡ Some (before ++ r.run.printed) = r.writes ∙ ap (λ (o : Option (List ℕ)). option_map (λ bytes. bytes ++ r.run.printed) o) had in
     let own : Called (resume call.name budget call.save) call.name session text r.run.printed status

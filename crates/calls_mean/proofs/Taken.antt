@@ -53,7 +53,7 @@ record IsTaken (session : List ℕ) : Type 0 where
 
 -- what the libraries have
 
-library_of : PreludeIsAlike → (prelude : Prototype) → IsPreludeCode prelude → IsLibrary (functions_of prelude)
+pub library_of : PreludeIsAlike → (prelude : Prototype) → IsPreludeCode prelude → IsLibrary (functions_of prelude)
 library_of alike prelude own =
     let made = own.compiled in
     record {
@@ -62,7 +62,7 @@ library_of alike prelude own =
     }
 
 -- the code in a file is checked
-code_checked : CodeOfSourcesIsChecked → (name content : List ℕ) (code : Prototype) → length name ≤ 65536 → HoldsCode name content code → IsChecked code
+pub code_checked : CodeOfSourcesIsChecked → (name content : List ℕ) (code : Prototype) → length name ≤ 65536 → HoldsCode name content code → IsChecked code
 code_checked law name content code short holds = by (begins_chunk content) holds
   where
     by : (b : Bool) → MatchBool b (IsAccepted content code) (IsCodeOf (source_name name) (script_in content) true code) → IsChecked code
@@ -72,13 +72,13 @@ code_checked law name content code short holds = by (begins_chunk content) holds
         subst IsChecked (sym made.code_is) (law (script_in content) read.tokens made.tree read.limited read.lexed read.derived read.lawful (Some (source_name name)) (name_is_short name short))
 
 -- what is known of a run that ended so
-record Waited (prelude : Prototype) (Runs : List (List ℕ) → Run → Type 0) (text session : List ℕ) : Type 0 where
-  run : Run
-  runs : Runs (lines_of text) run
-  suspended : run.close ≡ is_suspended
-  saved : IsSaved (functions_of prelude) run.last session
+pub record Waited (prelude : Prototype) (Runs : List (List ℕ) → Run → Type 0) (text session : List ℕ) : Type 0 where
+  pub run : Run
+  pub runs : Runs (lines_of text) run
+  pub suspended : run.close ≡ is_suspended
+  pub saved : IsSaved (functions_of prelude) run.last session
 
-waited : (prelude : Prototype) (Runs : List (List ℕ) → Run → Type 0) (files : Device FileMap) (input out : Device (List ℕ)) (last : Option Session) (image text bytes : List ℕ) (status : ℕ)
+pub waited : (prelude : Prototype) (Runs : List (List ℕ) → Run → Type 0) (files : Device FileMap) (input out : Device (List ℕ)) (last : Option Session) (image text bytes : List ℕ) (status : ℕ)
     → Ends prelude Runs (Some image) files input out last status → status ≡ 3 → input.content ≡ Some text → Holds files.content' image bytes → Waited prelude Runs text bytes
 waited prelude Runs files input out last image text bytes status (session.closed lines are run runs written left handed) is told holds =
     let s = saved_so prelude run files image bytes status left is holds in
@@ -118,7 +118,7 @@ no_bare name bytes content files taken has bare holds =
 
 not_bare : (name bytes : List ℕ) (files : Device FileMap) (status : ℕ) → IsTaken bytes → IsNotResumed name files status → Holds files.content name bytes → status ≡ 8 → ⊥
 not_bare name bytes files _ taken (resuming.absent lacks) holds is = let k : 11 ≡ 8 = is in absurd (omega (arith, k))
-not_bare name bytes files _ taken (resuming.unread rose) holds is = let k : 6 ≡ 8 = is in absurd (omega (arith, k))
+not_bare name bytes files _ taken (resuming.unread rose kept) holds is = let k : 6 ≡ 8 = is in absurd (omega (arith, k))
 not_bare name bytes files _ taken (resuming.no_prelude bad) holds is = let k : 12 ≡ 8 = is in absurd (omega (arith, k))
 not_bare name bytes files _ taken (resuming.no_session content has bare) holds is = no_bare name bytes content files taken has bare holds
 not_bare name bytes files _ taken resuming.no_memory holds is = let k : 9 ≡ 8 = is in absurd (omega (arith, k))
@@ -133,7 +133,7 @@ not_8 builds name bytes budget save files input out last status taken (resuming.
 
 goes : (name bytes : List ℕ) (files : Device FileMap) (status : ℕ) → IsTaken bytes → IsNotResumed name files status → Holds files.content name bytes → ¬ (RoseIn files) → status ≢ 9 → ⊥
 goes name bytes files _ taken (resuming.absent lacks) holds calm ample = no_content name bytes files.content lacks holds
-goes name bytes files _ taken (resuming.unread rose) holds calm ample = calm rose
+goes name bytes files _ taken (resuming.unread rose kept) holds calm ample = calm rose
 goes name bytes files _ taken (resuming.no_prelude bad) holds calm ample = bad taken.prelude taken.is_prelude
 goes name bytes files _ taken (resuming.no_session content has bare) holds calm ample = no_bare name bytes content files taken has bare holds
 goes name bytes files _ taken resuming.no_memory holds calm ample = ample refl
@@ -149,17 +149,17 @@ done prelude run save files _ (session.changed named waits other) calm within am
 done prelude run save files _ (session.unwritten named waits rose) calm within ample unchanged = absurd (calm rose)
 done prelude run save files _ (session.no_memory named waits) calm within ample unchanged = absurd (ample refl)
 
-resumed : (builds : Builds Body) (budget : ℕ) (bytes text : List ℕ) (out : Device (List ℕ)) (status : ℕ) (c : ResumesCalmly budget bytes text out status) → IsTaken bytes → resuming.IsCause builds c.name budget c.save c.files c.input out c.last status
+resumed : (builds : Builds Body) (budget : ℕ) (bytes text : List ℕ) (out : Device (List ℕ)) (status : ℕ) (c : ResumesCalmly budget bytes text out status) → (IsSome c.save → status ≢ 12) → IsTaken bytes → resuming.IsCause builds c.name budget c.save c.files c.input out c.last status
     → IsResumed builds budget bytes text out status c.save c.files
-resumed builds budget bytes text out status c taken (resuming.not_resumed why still quiet) = absurd (goes c.name bytes c.files status taken why c.holds c.files_calm c.ample)
-resumed builds budget bytes text out status c taken (resuming.goes_on content prelude world found own loaded waits ends) = by ends
+resumed builds budget bytes text out status c unchanged taken (resuming.not_resumed why still quiet) = absurd (goes c.name bytes c.files status taken why c.holds c.files_calm c.ample)
+resumed builds budget bytes text out status c unchanged taken (resuming.goes_on content prelude world found own loaded waits ends) = by ends
   where
     contents : content ≡ bytes
     contents = sym (same_content c.name content bytes c.files.content found c.holds)
 
     by : Ends prelude (GoesOn (library builds) world budget) c.save c.files c.input out c.last status → IsResumed builds budget bytes text out status c.save c.files
     by (session.closed lines are run runs written left handed) =
-        let d = done prelude run c.save c.files status left c.files_calm c.within c.ample c.unchanged in
+        let d = done prelude run c.save c.files status left c.files_calm c.within c.ample unchanged in
         record {
           run = run;
           does = record {
@@ -174,7 +174,7 @@ resumed builds budget bytes text out status c taken (resuming.goes_on content pr
           writes = written;
           keeps = d.keeps;
         }
-    by (session.failed rose is) = absurd (⊎_elim c.input_calm c.out_calm rose)
+    by (session.failed rose is) = absurd (⊎_elim (λ broken. c.input_calm broken.0) c.out_calm rose)
     by (session.past_limits past is) = absurd (c.within is)
     by (session.no_memory is) = absurd (c.ample is)
 
@@ -209,4 +209,4 @@ module _ (alike : PreludeIsAlike) (checks : CodeOfSourcesIsChecked) (loading : L
   saved_is_not_refused bytes by name budget save files input out last status call holds = let c = read_some call in not_8 c.0 name bytes budget save files input out last status (taken_of bytes by) c.2.cause holds
 
   pub saved_goes_on : SavedGoesOn
-  saved_goes_on bytes by budget text out status call = read_map (λ builds are is. resumed builds budget bytes text out status call (taken_of bytes by) is.cause) call.is_call
+  saved_goes_on bytes by budget text out status call unchanged = read_map (λ builds are is. resumed builds budget bytes text out status call unchanged (taken_of bytes by) is.cause) call.is_call

@@ -58,7 +58,6 @@ pub record ResumesCalmly (budget : ℕ) (session text : List ℕ) (out : Device 
   pub out_calm : ¬ (RoseIn out)
   pub within : status ≢ 7
   pub ample : status ≢ 9
-  pub unchanged : IsSome save → status ≢ 12
 
 -- a run of the session of the bytes on the lines of the input, which is written and answered, and saved where a file is named for that
 pub record IsResumed (builds : Builds Body) (budget : ℕ) (session text : List ℕ) (out : Device (List ℕ)) (status : ℕ) (save : Option (List ℕ)) (files : Device FileMap) : Type 0 where
@@ -68,11 +67,18 @@ pub record IsResumed (builds : Builds Body) (budget : ℕ) (session text : List 
   pub writes : out.content' ≡ option_map (λ before. before ++ run.printed) out.content
   pub keeps : IsKept does.prelude run files save
 
--- such a call goes on with the session
+-- such a call goes on with the session, unless an image from elsewhere had changed the prelude and the session is to be saved
 abbrev pub SavedGoesOn : Type 0
 SavedGoesOn =
-    (session : List ℕ) → IsSavedByCall session → (budget : ℕ) (text : List ℕ) (out : Device (List ℕ)) (status : ℕ) (call : ResumesCalmly budget session text out status)
+    (session : List ℕ) → IsSavedByCall session → (budget : ℕ) (text : List ℕ) (out : Device (List ℕ)) (status : ℕ) (call : ResumesCalmly budget session text out status) → (IsSome call.save → status ≢ 12)
     → AsRead (λ builds. IsResumed builds budget session text out status call.save call.files)
+
+-- Behind calls on a script or a chunk no call of `resume` answers 12, whatever its words and its devices are: no code has changed what saving looks at
+abbrev pub SavedIsUnchanged : Type 0
+SavedIsUnchanged =
+    (name content : List ℕ) (budget : ℕ) (texts : List (List ℕ)) (printed session : List ℕ) → SavedCalls budget name content texts printed session → length name ≤ 65536 → AreShort (all_lines texts)
+    → (other : List ℕ) (own : ℕ) (save : Option (List ℕ)) (files : Device FileMap) (input out : Device (List ℕ)) (last : Option Session) (status : ℕ)
+    → AsRead (λ builds. IsCall builds (Some (resume other own save)) files input out last status) → Holds files.content other session → (text : List ℕ) → input.content ≡ Some text → AreShort (lines_of text) → status ≢ 12
 
 -- what it writes is the rest of what the script means on all lines, and its status is that of the script's end
 abbrev pub ResumesAsMeant : Type 0

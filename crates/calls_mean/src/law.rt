@@ -1,11 +1,12 @@
 // The laws of calls of the program on one script.
 ghost use Rattle.calls_mean.specs.Law.{CallsMean, CallsMeanOne};
-ghost use Rattle.calls_mean.specs.Resumes.{ResumesAsMeant, SavedGoesOn, SavedIsNotRefused};
+ghost use Rattle.calls_mean.specs.Resumes.{ResumesAsMeant, SavedGoesOn, SavedIsNotRefused, SavedIsUnchanged};
 
 use images_joined::the_reader_knows;
 use loaded_code::loading_is_safe;
+use prelude_stays::runs_have_the_prelude;
 use scripts_mean::prelude_is_alike;
-use sessions_load::saved_sessions_load;
+use sessions_load::{saved_sessions_load, sessions_keep_the_prelude};
 use sessions_mean::sessions_do_as_they_mean;
 use source_laws::code_of_sources_is_checked;
 
@@ -22,17 +23,21 @@ pub fn calls_do_as_they_mean()
 }
 
 /// What a call of `run` or `resume` saved, no call of `resume` answers with 8: its session does something on any lines that strings can hold and with any
-/// budget, which by the clauses of `resume` is what is written and answered. So behind calls on a script, each of which resumed what the one before saved, a
-/// call whose words, files and devices are right and which keeps within the limits and its memory writes exactly what is left of what the script means on
-/// all lines, and its status is that of how the script ends by its meaning.
+/// budget, which by the clauses of `resume` is what is written and answered. Behind calls on a script or a chunk, each of which resumed what the one before saved,
+/// none answers 12 either: no code changes what saving looks at of the libraries. So behind calls on a script a call whose words, files and devices are right and
+/// which keeps within the limits and its memory writes exactly what is left of what the script means on all lines, and its status is that of how the script ends
+/// by its meaning.
 pub fn saved_calls_resume()
     ensures taken { SavedIsNotRefused }
     ensures goes_on { SavedGoesOn }
+    ensures unchanged { SavedIsUnchanged }
     ensures meant { ResumesAsMeant }
 {
     calls_do_as_they_mean();
     prelude_is_alike();
     code_of_sources_is_checked();
     loading_is_safe();
+    runs_have_the_prelude();
     saved_sessions_load();
+    sessions_keep_the_prelude();
 }

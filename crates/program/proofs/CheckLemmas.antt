@@ -13,11 +13,12 @@ use Rattle.io_edge.specs.Content.{FileMap, GrowsByFront, MayEndTelling}
 use Rattle.program.specs.declared.fault.Fault.{Fault}
 use Rattle.program.specs.declared.fault.Fault.TheVariants as fault
 use Rattle.program.specs.Devices.{Device, Holds}
+use Rattle.program.specs.Checking as check
 use Rattle.program.specs.Checking.{IsAccepted, HoldsNoChunk, Reports, report_of, IsCheck}
 use Rattle.program.specs.Faults.{done_status, fault_of_file}
 use Rattle.program.specs.Outcomes.{IsChunkIn, IsNoChunkFor}
 use Rattle.program.specs.Report.{ChunkFits, status_of_fault}
-use Rattle.program.proofs.DeviceLemmas.{grows_by_none, grows_by_all, only_same, only_front, keeps_telling, same_content, not_lacking, holds_read, no_content, lacks_name, stays, told_lacking}
+use Rattle.program.proofs.DeviceLemmas.{grows_by_none, grows_by_all, only_same, only_front, keeps_telling, same_content, not_lacking, no_content, stays, told_lacking}
 
 -- the text is what is written of the bytes
 pub record IsCounts (content text : List ℕ) : Type 0 where
@@ -33,18 +34,13 @@ counted content text code own is = record {
 pub refused_check : (name content : List ℕ) (f k : ℕ) (held : Option FileMap) (written : Option (List ℕ)) (status : ℕ) → status ≡ 8 → IfSome held (λ files. files name ≡ Some content) → HoldsNoChunk content → IsCheck name (record { faults = f; faults' = f; content = held; content' = held }) (record { faults = k; faults' = k; content = written; content' = written }) status
 refused_check name content f k held written status own found refuses =
     record {
-      right_words = λ is. absurd (omega arith);
-      absent_only = λ is told. absurd (omega arith);
+      cause = rw own (check.no_chunk content found refuses (record { no_fault = refl; unwritten = refl }));
       absent = λ lacks same. absurd (not_lacking name content held found lacks);
-      refused_only = λ is told. (content, holds_read name content held found told, refuses);
       refused = λ content' has refuses' same ample. own;
-      fault_only = λ is. absurd (omega arith);
       fault = λ grew. absurd (elim grew [ inl less ↦ stays f held held less | inr less ↦ stays k written written less ]);
       done = λ content' text has writes same same' ample. absurd (refuses writes.0 (subst (λ c. IsAccepted c writes.0) (same_content name content content' held found has) writes.1));
-      done_only = λ is told. absurd (omega arith);
       front = λ content' text has writes. grows_by_none text written;
       grows = only_same written;
-      unwritten = λ other other'. refl;
       none_lacking = λ lacks. refl;
       none_refused = λ content' has refuses. refl;
       files_kept = keeps_telling held;
@@ -54,18 +50,13 @@ refused_check name content f k held written status own found refuses =
 pub memory_check : (name content : List ℕ) (f k : ℕ) (held : Option FileMap) (written : Option (List ℕ)) → IfSome held (λ files. files name ≡ Some content) → IsCheck name (record { faults = f; faults' = f; content = held; content' = held }) (record { faults = k; faults' = k; content = written; content' = written }) 9
 memory_check name content f k held written found =
     record {
-      right_words = λ is. absurd (omega arith);
-      absent_only = λ is told. absurd (omega arith);
+      cause = check.no_memory (record { no_fault = refl; unwritten = refl });
       absent = λ lacks same. absurd (not_lacking name content held found lacks);
-      refused_only = λ is told. absurd (omega arith);
       refused = λ content' has refuses same ample. absurd (ample refl);
-      fault_only = λ is. absurd (omega arith);
       fault = λ grew. absurd (elim grew [ inl less ↦ stays f held held less | inr less ↦ stays k written written less ]);
       done = λ content' text has writes same same' ample. absurd (ample refl);
-      done_only = λ is told. absurd (omega arith);
       front = λ content' text has writes. grows_by_none text written;
       grows = only_same written;
-      unwritten = λ other other'. refl;
       none_lacking = λ lacks. refl;
       none_refused = λ content' has refuses. refl;
       files_kept = keeps_telling held;
@@ -75,18 +66,13 @@ memory_check name content f k held written found =
 failed_check : (name content text : List ℕ) (f k k' : ℕ) (held : Option FileMap) (written written' : Option (List ℕ)) → IfSome held (λ files. files name ≡ Some content) → IsCounts content text → HasCause k k' true → GrowsByFront text written written' → IsCheck name (record { faults = f; faults' = f; content = held; content' = held }) (record { faults = k; faults' = k'; content = written; content' = written' }) 6
 failed_check name content text f k k' held written written' found own cause front =
     record {
-      right_words = λ is. absurd (omega arith);
-      absent_only = λ is told. absurd (omega arith);
+      cause = check.unwritten content text found own.writes cause.rose front;
       absent = λ lacks same. absurd (not_lacking name content held found lacks);
-      refused_only = λ is told. absurd (omega arith);
       refused = λ content' has refuses same ample. absurd (refuses own.writes.0 (subst (λ c. IsAccepted c own.writes.0) (sym (same_content name content content' held found has)) own.writes.1));
-      fault_only = λ is. inr cause.rose;
       fault = λ grew. refl;
       done = λ content' text' has writes same same' ample. absurd (same' cause.rose);
-      done_only = λ is told. absurd (omega arith);
       front = λ content' text' has writes. subst (λ t. GrowsByFront t written written') (sym (own.only text' (subst (λ c. Reports c text') (same_content name content content' held found has) writes))) front;
       grows = only_front text written written' front;
-      unwritten = λ other other'. absurd (other' refl);
       none_lacking = λ lacks. absurd (not_lacking name content held found lacks);
       none_refused = λ content' has refuses. absurd (refuses own.writes.0 (subst (λ c. IsAccepted c own.writes.0) (sym (same_content name content content' held found has)) own.writes.1));
       files_kept = keeps_telling held;
@@ -96,20 +82,15 @@ failed_check name content text f k k' held written written' found own cause fron
 done_check : (name content text : List ℕ) (f k k' : ℕ) (held : Option FileMap) (written written' : Option (List ℕ)) → IfSome held (λ files. files name ≡ Some content) → IsCounts content text → k' ≡ k → written' ≡ option_map (λ before. before ++ text) written → IsCheck name (record { faults = f; faults' = f; content = held; content' = held }) (record { faults = k; faults' = k'; content = written; content' = written' }) 0
 done_check name content text f k k' held written written' found own same_count wrote =
     record {
-      right_words = λ is. absurd (omega arith);
-      absent_only = λ is told. absurd (omega arith);
+      cause = check.counted content text found own.writes wrote;
       absent = λ lacks same. absurd (not_lacking name content held found lacks);
-      refused_only = λ is told. absurd (omega arith);
       refused = λ content' has refuses same ample. absurd (refuses own.writes.0 (subst (λ c. IsAccepted c own.writes.0) (sym (same_content name content content' held found has)) own.writes.1));
-      fault_only = λ is. absurd (omega arith);
       fault = λ grew. absurd (elim grew [ inl less ↦ stays f held held less | inr less ↦ omega (arith, same_count) ]);
       done = λ content' text' has writes same same' ample.
           let texts = own.only text' (subst (λ c. Reports c text') (same_content name content content' held found has) writes) in
           (refl, wrote ∙ ap (λ t. option_map (λ before. before ++ t) written) (sym texts));
-      done_only = λ is told. (content, text, holds_read name content held found told, own.writes, wrote);
       front = λ content' text' has writes. subst (λ t. GrowsByFront t written written') (sym (own.only text' (subst (λ c. Reports c text') (same_content name content content' held found has) writes))) (grows_by_all text written written' wrote);
       grows = only_front text written written' (grows_by_all text written written' wrote);
-      unwritten = λ other other'. absurd (other refl);
       none_lacking = λ lacks. absurd (not_lacking name content held found lacks);
       none_refused = λ content' has refuses. absurd (refuses own.writes.0 (subst (λ c. IsAccepted c own.writes.0) (sym (same_content name content content' held found has)) own.writes.1));
       files_kept = keeps_telling held;
@@ -130,18 +111,13 @@ stopped_check name content f k held written reason found (inr memory) = rw memor
 pub unread_check : (name : List ℕ) (f f' k : ℕ) (held held' : Option FileMap) (written : Option (List ℕ)) (reason : FileFault) → HasCause f f' (is_failed {T = Vec ℕ Global} (Err reason)) → (IsErrOf {T = Vec ℕ Global} (Err reason) Absent → IfSome held (λ files. files name ≡ None)) → IfSome held (λ files. files name ≡ None → IsErrOf {T = Vec ℕ Global} (Err reason) Absent ⊎ IsErrOf {T = Vec ℕ Global} (Err reason) Failed) → OnFalse (is_failed {T = Vec ℕ Global} (Err reason)) (held' ≡ held) → OnTrue (is_failed {T = Vec ℕ Global} (Err reason)) (MayEndTelling held held') → IsCheck name (record { faults = f; faults' = f'; content = held; content' = held' }) (record { faults = k; faults' = k; content = written; content' = written }) (status_of_fault (fault_of_file reason))
 unread_check name f f' k held held' written Failed cause absent lacking kept failed =
     record {
-      right_words = λ is. absurd (omega arith);
-      absent_only = λ is told. absurd (omega arith);
+      cause = check.unread cause.rose (record { no_fault = refl; unwritten = refl });
       absent = λ lacks same. absurd (same cause.rose);
-      refused_only = λ is told. absurd (omega arith);
       refused = λ content has refuses same ample. absurd (same cause.rose);
-      fault_only = λ is. inl cause.rose;
       fault = λ grew. refl;
       done = λ content text has writes same same' ample. absurd (same cause.rose);
-      done_only = λ is told. absurd (omega arith);
       front = λ content text has writes. grows_by_none text written;
       grows = only_same written;
-      unwritten = λ other other'. refl;
       none_lacking = λ lacks. refl;
       none_refused = λ content' has refuses. refl;
       files_kept = failed;
@@ -150,18 +126,13 @@ unread_check name f f' k held held' written Failed cause absent lacking kept fai
 unread_check name f f' k held held' written Absent cause absent lacking kept failed =
     let none = absent refl in
     record {
-      right_words = λ is. absurd (omega arith);
-      absent_only = λ is told. lacks_name name held none told;
+      cause = check.absent none (record { no_fault = refl; unwritten = refl });
       absent = λ lacks same. refl;
-      refused_only = λ is told. absurd (omega arith);
       refused = λ content has refuses same ample. absurd (no_content name content held none has);
-      fault_only = λ is. absurd (omega arith);
       fault = λ grew. absurd (elim grew [ inl less ↦ omega (arith, cause.only) | inr less ↦ stays k written written less ]);
       done = λ content text has writes same same' ample. absurd (no_content name content held none has);
-      done_only = λ is told. absurd (omega arith);
       front = λ content text has writes. grows_by_none text written;
       grows = only_same written;
-      unwritten = λ other other'. refl;
       none_lacking = λ lacks. refl;
       none_refused = λ content' has refuses. refl;
       files_kept = rw kept (keeps_telling held);
@@ -169,18 +140,13 @@ unread_check name f f' k held held' written Absent cause absent lacking kept fai
     }
 unread_check name f f' k held held' written Memory cause absent lacking kept failed =
     record {
-      right_words = λ is. absurd (omega arith);
-      absent_only = λ is told. absurd (omega arith);
+      cause = check.no_memory (record { no_fault = refl; unwritten = refl });
       absent = λ lacks same. absurd (elim (told_lacking name held lacking lacks) [ inl bad ↦ cc | inr bad ↦ cc ]);
-      refused_only = λ is told. absurd (omega arith);
       refused = λ content has refuses same ample. absurd (ample refl);
-      fault_only = λ is. absurd (omega arith);
       fault = λ grew. absurd (elim grew [ inl less ↦ omega (arith, cause.only) | inr less ↦ stays k written written less ]);
       done = λ content text has writes same same' ample. absurd (ample refl);
-      done_only = λ is told. absurd (omega arith);
       front = λ content text has writes. grows_by_none text written;
       grows = only_same written;
-      unwritten = λ other other'. refl;
       none_lacking = λ lacks. refl;
       none_refused = λ content' has refuses. refl;
       files_kept = rw kept (keeps_telling held);

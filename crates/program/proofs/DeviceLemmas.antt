@@ -1,5 +1,5 @@
 -- What devices tell before a call and after it.
-use Rattle.std.proofs.Common.{◌≡◌, ℕ, List, [], ◌++◌, length, take, Option, Some, None, IsSome, IfSome, refl, sym, ap, subst, ◌∙◌, arith, rules, append-nil}
+use Rattle.std.proofs.Common.{◌≡◌, ℕ, List, [], ◌++◌, length, take, Option, Some, None, IfSome, refl, sym, ap, subst, ◌∙◌, arith, rules, append-nil}
 use Rattle.std.specs.Option.{option_map}
 use Rattle.std.proofs.Math.Seq.{take-length}
 use Rattle.io_edge.specs.Content.{FileMap, GrowsByFront, MayEndTelling, KeepsOtherFiles, with_file}
@@ -42,17 +42,9 @@ pub not_lacking : (name content : List ℕ) (held : Option FileMap) → IfSome h
 not_lacking name content (Some files) found lacks = let bad = sym lacks ∙ found in cc
 not_lacking name content None found lacks = lacks
 
-pub holds_read : (name content : List ℕ) (held : Option FileMap) → IfSome held (λ files. files name ≡ Some content) → IsSome held → Holds held name content
-holds_read name content (Some files) found told = found
-holds_read name content None found told = absurd (cc)
-
 pub no_content : (name content : List ℕ) (held : Option FileMap) → IfSome held (λ files. files name ≡ None) → Holds held name content → ⊥
 no_content name content (Some files) none has = let bad = sym none ∙ has in cc
 no_content name content None none has = has
-
-pub lacks_name : (name : List ℕ) (held : Option FileMap) → IfSome held (λ files. files name ≡ None) → IsSome held → Lacks held name
-lacks_name name (Some files) none told = none
-lacks_name name None none told = absurd (cc)
 
 -- nothing was counted and nothing written
 

@@ -1,5 +1,5 @@
 -- How a session ends that was fed and left.
-use Rattle.std.proofs.Common.{Err, ◌≡◌, ◌≢◌, ◌⊎◌, inl, inr, ℕ, ◌<◌, List, [], ◌∷◌, ◌++◌, length, true, false, Option, Some, None, IfSome, IsSome, is_some, refl, sym, ap, subst, ◌∙◌, arith}
+use Rattle.std.proofs.Common.{Err, ◌≡◌, ◌≢◌, ◌⊎◌, inl, inr, ℕ, ◌<◌, List, [], ◌∷◌, ◌++◌, length, true, false, Option, Some, None, IfSome, IsSome, is_some, refl, sym, ap, subst, ◌∙◌, arith, ◌≤◌, ◌^◌}
 use Rattle.std.specs.Prelude.{IsErrOf, IsSomeAnd}
 use Rattle.std.specs.Option.{option_map}
 use Rattle.code_core.specs.Prototype.{Prototype, list_of}
@@ -9,8 +9,9 @@ use Rattle.io_edge.specs.Lines.{Unread, ahead, lines_of}
 use Rattle.prelude_code.specs.Prelude.{IsPreludeCode}
 use Rattle.machine_core.specs.World.{World}
 use Rattle.machine_core.specs.Moves.{Row}
+use Rattle.machine_sound.specs.Sound.{Each}
 use Rattle.machine_runs.specs.Opening.{handed_line}
-use Rattle.machine_runs.specs.Runs.{Close, is_suspended, Run, CodeRun, CodeOnward, suspends}
+use Rattle.machine_runs.specs.Runs.{Close, has_returned, has_failed, has_spent, is_suspended, Run, CodeRun, CodeOnward, suspends}
 use Rattle.machine_runs.specs.Laws.{RunIsOne}
 use Rattle.images_stand.specs.Sessions.{IsKept as IsHeldWhole}
 use Rattle.lua_heap.specs.declared.world.World.{World as Memory}
@@ -20,7 +21,7 @@ use Rattle.session_images.specs.Prelude.{HasPrelude}
 use Rattle.session_images.specs.Saved.{session_image}
 use Rattle.session_images.specs.Stored.{root_count, IsWrittenAs}
 use Rattle.lua_feed.specs.Faults.{is_input_fault, is_output_fault}
-use Rattle.lua_feed.specs.Feeding.{IsLast, IsFed, IsCutOff, IsFedTo, IsFedFront}
+use Rattle.lua_feed.specs.Feeding.{IsLast, IsFed, IsBrokenOff, IsCutOff, IsFedTo, IsFedFront}
 use Rattle.lua_feed.specs.Limits.{usable_lines, passes_limits}
 use Rattle.lua_feed.specs.declared.fault.FeedFault.{FeedFault}
 use Rattle.lua_feed.specs.declared.fault.FeedFault.TheVariants as feeding
@@ -34,7 +35,7 @@ use Rattle.program.specs.Outcomes as by
 use Rattle.program.specs.Outcomes.{IsLeftBy}
 use Rattle.program.specs.Report.{status_of_fault}
 use Rattle.program.specs.Sessions as session
-use Rattle.program.specs.Sessions.{functions_of, status_of_close, state_of, IsSessionOf, IsTooLarge, HasChanged, IsKept, IsLeft, Ends}
+use Rattle.program.specs.Sessions.{functions_of, status_of_close, state_of, IsSessionOf, IsTooLarge, HasChanged, IsKept, IsCutShort, IsLeft, Ends}
 use Rattle.program.proofs.DeviceLemmas.{grows_by_all, only_front, same_telling, kept_others, replaces_others}
 
 -- what is known of a session that was fed, whatever its end is
@@ -42,10 +43,12 @@ pub record Ran (prelude : Prototype) (Runs : List (List ℕ) → Run → Type 0)
   pub ends : Ends prelude Runs save files input out last status
   pub does : (text : List ℕ) (run : Run) → input.content ≡ Some text → Runs (lines_of text) run → ¬ (RoseIn files) → ¬ (RoseIn input) → ¬ (RoseIn out) → status ≢ 7 → status ≢ 9 → (IsSome save → status ≢ 12)
       → (status ≡ status_of_close run.close) × (out.content' ≡ option_map (λ before. before ++ run.printed) out.content) × IsKept prelude run files save
+  pub unchanged : ((lines : List (List ℕ)) (run : Run) → Each (λ (line : List ℕ). length line ≤ 2 ^ 20) lines → Runs lines run → HasPrelude (functions_of prelude) run.last) → status ≢ 12
   pub session : (text : List ℕ) (run : Run) → input.content ≡ Some text → Runs (lines_of text) run → has_ended status ≡ true → IsSomeAnd last (IsSessionOf run)
   pub limit : (text : List ℕ) (run : Run) → input.content ≡ Some text → Runs (usable_lines 0 text) run → run.close ≡ is_suspended → passes_limits 0 text ≡ true → ¬ (RoseIn files) → ¬ (RoseIn input) → ¬ (RoseIn out) → status ≢ 9
       → (status ≡ 7) × (out.content' ≡ option_map (λ before. before ++ run.printed) out.content) × (files.content' ≡ files.content)
   pub fault : GrewIn files ⊎ (GrewIn input ⊎ GrewIn out) → status ≡ 6
+  pub broken : GrewIn input → IsBrokenOff Runs 0 input.content out.content out.content'
   pub front : (text : List ℕ) (run : Run) → input.content ≡ Some text → Runs (usable_lines 0 text) run → GrowsByFront run.printed out.content out.content'
   pub grows : OnlyGrows out.content out.content'
   pub others : KeepsOthers save files
@@ -56,9 +59,16 @@ pub record Ran (prelude : Prototype) (Runs : List (List ℕ) → Run → Type 0)
 pub record Leaves (prelude : Prototype) (run : Run) (save : Option (List ℕ)) (files : Device FileMap) (status : ℕ) : Type 0 where
   pub left : IsLeft prelude run save files status
   pub keeps : ¬ (RoseIn files) → status ≢ 7 → status ≢ 9 → (IsSome save → status ≢ 12) → (status ≡ status_of_close run.close) × IsKept prelude run files save
+  pub unchanged : (run.close ≡ is_suspended → HasPrelude (functions_of prelude) run.last) → status ≢ 12
   pub fault : GrewIn files → status ≡ 6
   pub others : KeepsOthers save files
   pub same : (status ≡ 6 → ¬ (RoseIn files)) → (status ≡ 3 → save ≡ None) → files.content' ≡ files.content
+
+pub not_12 : (c : Close) → status_of_close c ≢ 12
+not_12 has_returned is = let k : 0 ≡ 12 = is in absurd (omega (arith, k))
+not_12 has_failed is = let k : 1 ≡ 12 = is in absurd (omega (arith, k))
+not_12 is_suspended is = let k : 3 ≡ 12 = is in absurd (omega (arith, k))
+not_12 has_spent is = let k : 4 ≡ 12 = is in absurd (omega (arith, k))
 
 -- the prelude is the same whatever is left of the budget
 prelude_there : (prelude : Prototype) (W : Memory) (left : ℕ) → HasPrelude (functions_of prelude) (plain W left) → HasPrelude (functions_of prelude) (plain W 0)
@@ -78,6 +88,7 @@ module _ (prelude : Prototype) (is_prelude : IsPreludeCode prelude) (save : Opti
       record {
         left = subst (λ c. IsLeft prelude run save files (status_of_close c)) closes (session.kept kept);
         keeps = λ calm within ample unchanged. (ap status_of_close (sym closes), kept);
+        unchanged = λ there. not_12 close;
         fault = λ grew. absurd (omega (arith, still.no_fault, grew));
         others = kept_others save files (same_telling files.content files.content' still.unwritten);
         same = λ calm unnamed. still.unwritten;
@@ -88,6 +99,7 @@ module _ (prelude : Prototype) (is_prelude : IsPreludeCode prelude) (save : Opti
       record {
         left = subst (IsLeft prelude run save files) (ap status_of_close is) (session.kept kept);
         keeps = λ calm within ample unchanged. (ap status_of_close (sym is), kept);
+        unchanged = λ there. not_12 is_suspended;
         fault = λ grew. absurd (omega (arith, still.no_fault, grew));
         others = kept_others save files (same_telling files.content files.content' still.unwritten);
         same = λ calm unnamed. still.unwritten;
@@ -99,6 +111,7 @@ module _ (prelude : Prototype) (is_prelude : IsPreludeCode prelude) (save : Opti
       record {
         left = subst (IsLeft prelude run save files) (ap status_of_close is) (session.kept kept);
         keeps = λ calm within ample unchanged. (ap status_of_close (sym is), kept);
+        unchanged = λ there. not_12 is_suspended;
         fault = λ grew. absurd (omega (arith, still, grew));
         others = subst (λ s. KeepsOthers s files) (sym named) (replaces_others image bytes files.content files.content' put);
         same = λ calm unnamed. absurd (let bad : None ≡ Some image = sym (unnamed refl) ∙ named in cc);
@@ -107,15 +120,18 @@ module _ (prelude : Prototype) (is_prelude : IsPreludeCode prelude) (save : Opti
       record {
         left = session.too_large (ap is_some named) (closes ∙ waits) (record { more = λ R. subst (λ V. 2147483647 < length ((image_format R root_count).spell (session_image V))) (sym last.is) (large.more last.left R) });
         keeps = λ calm within ample unchanged. absurd (within refl);
+        unchanged = λ there is. let k : 7 ≡ 12 = is in absurd (omega (arith, k));
         fault = λ grew. absurd (omega (arith, still.no_fault, grew));
         others = kept_others save files (same_telling files.content files.content' still.unwritten);
         same = λ calm unnamed. still.unwritten;
       }
   leaves close _ closes (by.touched image waits named other still) =
+      let touched : HasChanged prelude run.last
+      = record { is = λ h. other.none (list_of prelude.inner) is_prelude.functions (prelude_there prelude W last.left (subst (HasPrelude (functions_of prelude)) last.is h)) } in
       record {
-        left = session.changed (ap is_some named) (closes ∙ waits)
-            (record { is = λ h. other.none (list_of prelude.inner) is_prelude.functions (prelude_there prelude W last.left (subst (HasPrelude (functions_of prelude)) last.is h)) });
+        left = session.changed (ap is_some named) (closes ∙ waits) touched;
         keeps = λ calm within ample unchanged. absurd (unchanged (ap is_some named) refl);
+        unchanged = λ there is. touched.is (there (closes ∙ waits));
         fault = λ grew. absurd (omega (arith, still.no_fault, grew));
         others = kept_others save files (same_telling files.content files.content' still.unwritten);
         same = λ calm unnamed. still.unwritten;
@@ -124,6 +140,7 @@ module _ (prelude : Prototype) (is_prelude : IsPreludeCode prelude) (save : Opti
       record {
         left = session.unwritten (ap is_some named) (closes ∙ waits) rose;
         keeps = λ calm within ample unchanged. absurd (calm rose);
+        unchanged = λ there is. let k : 6 ≡ 12 = is in absurd (omega (arith, k));
         fault = λ grew. refl;
         others = subst (λ s. KeepsOthers s files) (sym named) others;
         same = λ calm unnamed. absurd (calm refl rose);
@@ -132,6 +149,7 @@ module _ (prelude : Prototype) (is_prelude : IsPreludeCode prelude) (save : Opti
       record {
         left = session.no_memory (ap is_some named) (closes ∙ waits);
         keeps = λ calm within ample unchanged. absurd (ample refl);
+        unchanged = λ there is. let k : 9 ≡ 12 = is in absurd (omega (arith, k));
         fault = λ grew. absurd (omega (arith, still.no_fault, grew));
         others = kept_others save files (same_telling files.content files.content' still.unwritten);
         same = λ calm unnamed. still.unwritten;
@@ -158,6 +176,13 @@ pub told_so : (P : List ℕ → Type 0) (left : Option (List ℕ)) (text : List 
 told_so P (Some bytes) text is told = let same : bytes ≡ text = cc in subst P same is
 told_so P None text is told = absurd (cc)
 
+-- what was done where the input failed
+pub short_of : (Runs Other : List (List ℕ) → Run → Type 0) (text : List ℕ) (input out : Device (List ℕ)) → input.content ≡ Some text → ((lines : List (List ℕ)) (run : Run) → Runs lines run → Other lines run)
+    → IsBrokenOff Runs 0 input.content out.content out.content' → IsCutShort Other text out
+short_of Runs Other text input out told other b =
+    let first = told_so (λ bytes. (more : List (List ℕ)) × (usable_lines 0 bytes ≡ b.lines ++ more)) input.content text b.are told in
+    record { lines = b.lines; more = first.0; first = first.1; run = b.run; runs = other b.lines b.run b.runs; waits = b.waits; written = b.grown }
+
 -- a session that is fed
 
 module _ (prelude : Prototype) (is_prelude : IsPreludeCode prelude) (Runs : List (List ℕ) → Run → Type 0) (once : (lines : List (List ℕ)) (x y : Run) → Runs lines x → Runs lines y → x ≡ y)
@@ -174,12 +199,14 @@ module _ (prelude : Prototype) (is_prelude : IsPreludeCode prelude) (Runs : List
             let same : to.fed.run ≡ run = the_same to.fed text run told goes in
             let kept = l.keeps calm within ample unchanged in
             (kept.0 ∙ ap (λ (r : Run). status_of_close r.close) same, to.fed.grown ∙ ap (λ (r : Run). option_map (λ before. before ++ r.printed) out.content) same, subst (λ (r : Run). IsKept prelude r files save) same kept.1);
+        unchanged = λ keeps. l.unchanged (λ waits. keeps to.fed.lines to.fed.run (to.fed.short (sym to.fed.closes ∙ waits)) to.fed.runs);
         session = λ text run told goes ended. subst (λ (r : Run). IsSessionOf r (record { world = W; state = state })) (the_same to.fed text run told goes) handed;
         limit = λ text run told goes waits past calm calm' calm'' ample.
             let w = told_within to.fed text told in
             let closes : close ≡ is_suspended = sym to.fed.closes ∙ ap (λ (r : Run). r.close) (usable_same to.fed text run told goes) ∙ waits in
             absurd (let none : passes_limits 0 text ≡ false = w.1 closes in cc);
         fault = λ grew. elim grew [ inl less ↦ l.fault less | inr more ↦ absurd (elim more [ inl less ↦ omega (arith, same_input, less) | inr less ↦ omega (arith, same_output, less) ]) ];
+        broken = λ grew. absurd (omega (arith, same_input, grew));
         front = λ text run told goes.
             subst (λ (r : Run). GrowsByFront r.printed out.content out.content') (usable_same to.fed text run told goes) (grows_by_all to.fed.run.printed out.content out.content' to.fed.grown);
         grows = only_front to.fed.run.printed out.content out.content' (grows_by_all to.fed.run.printed out.content out.content' to.fed.grown);
@@ -212,16 +239,18 @@ module _ (prelude : Prototype) (is_prelude : IsPreludeCode prelude) (Runs : List
       (refl, cut.grown ∙ ap (λ (r : Run). option_map (λ before. before ++ r.printed) out.content) same)
 
   -- what is known of a session that does not close
-  cut_by : (last : Option Session) (status : ℕ) → (has_ended status ≡ true → ⊥) → IsUntouched files → IsFedFront Runs 0 input.content out.content out.content' → OnlyGrows out.content out.content' → Ends prelude Runs save files input out last status → IsLimited status
-      → (¬ (RoseIn input) → ¬ (RoseIn out) → status ≢ 7 → status ≢ 9 → ⊥) → (GrewIn input ⊎ GrewIn out → status ≡ 6) → Ran prelude Runs save files input out last status
-  cut_by last status unended still front grows ends limited never fault = record {
+  cut_by : (last : Option Session) (status : ℕ) → (has_ended status ≡ true → ⊥) → status ≢ 12 → IsUntouched files → IsFedFront Runs 0 input.content out.content out.content' → OnlyGrows out.content out.content' → Ends prelude Runs save files input out last status → IsLimited status
+      → (¬ (RoseIn input) → ¬ (RoseIn out) → status ≢ 7 → status ≢ 9 → ⊥) → (GrewIn input ⊎ GrewIn out → status ≡ 6) → (GrewIn input → IsBrokenOff Runs 0 input.content out.content out.content') → Ran prelude Runs save files input out last status
+  cut_by last status unended other still front grows ends limited never fault broken = record {
     ends = ends;
     does = λ text run told goes calm calm' calm'' within ample unchanged. absurd (never calm' calm'' within ample);
+    unchanged = λ keeps. other;
     session = λ text run told goes ended. absurd (unended ended);
     limit = λ text run told goes waits past calm calm' calm'' ample.
         let l = limited text run told goes calm' calm'' ample in
         (l.0, l.1, still.unwritten);
     fault = λ grew. elim grew [ inl less ↦ absurd (omega (arith, still.no_fault, less)) | inr more ↦ fault more ];
+    broken = broken;
     front = λ text run told goes. told_front input.content text run front.is told goes;
     grows = grows;
     others = kept_others save files (same_telling files.content files.content' still.unwritten);
@@ -232,14 +261,14 @@ module _ (prelude : Prototype) (is_prelude : IsPreludeCode prelude) (Runs : List
   still_by same_input same_output grew = absurd (elim grew [ inl less ↦ omega (arith, same_input, less) | inr less ↦ omega (arith, same_output, less) ])
 
   pub cut_ran : (last : Option Session) (reason : FeedFault) → IsUntouched files → HasCause input.faults input.faults' (is_input_fault {T = Kept} (Err reason)) → HasCause out.faults out.faults' (is_output_fault {T = Kept} (Err reason))
-      → (IsErrOf {T = Kept} (Err reason) feeding.Limit → IsCutOff Runs 0 input.content out.content out.content') → IsFedFront Runs 0 input.content out.content out.content' → OnlyGrows out.content out.content'
+      → (IsErrOf {T = Kept} (Err reason) feeding.Limit → IsCutOff Runs 0 input.content out.content out.content') → (IsErrOf {T = Kept} (Err reason) feeding.Input → IsBrokenOff Runs 0 input.content out.content out.content') → IsFedFront Runs 0 input.content out.content out.content' → OnlyGrows out.content out.content'
       → Ran prelude Runs save files input out last (status_of_fault (fault_of_feeding reason))
-  cut_ran last feeding.Input still cause cause' limit front grows = cut_by last 6 (λ ended. cc) still front grows (session.failed (inl cause.rose) refl) (λ text run told goes calm calm' ample. absurd (calm cause.rose)) (λ calm calm' within ample. calm cause.rose) (λ grew. refl)
-  cut_ran last feeding.Output still cause cause' limit front grows = cut_by last 6 (λ ended. cc) still front grows (session.failed (inr cause'.rose) refl) (λ text run told goes calm calm' ample. absurd (calm' cause'.rose)) (λ calm calm' within ample. calm' cause'.rose) (λ grew. refl)
-  cut_ran last feeding.Limit still cause cause' limit front grows =
-      cut_by last 7 (λ ended. cc) still front grows (session.past_limits (limit refl) refl) (cut_off (limit refl)) (λ calm calm' within ample. within refl) (λ grew. still_by cause.only cause'.only grew)
-  cut_ran last feeding.Memory still cause cause' limit front grows =
-      cut_by last 9 (λ ended. cc) still front grows (session.no_memory refl) (λ text run told goes calm calm' ample. absurd (ample refl)) (λ calm calm' within ample. ample refl) (λ grew. still_by cause.only cause'.only grew)
+  cut_ran last feeding.Input still cause cause' limit broken front grows = cut_by last 6 (λ ended. cc) (λ is. let k : 6 ≡ 12 = is in absurd (omega (arith, k))) still front grows (session.failed (inl (cause.rose, broken refl)) refl) (λ text run told goes calm calm' ample. absurd (calm cause.rose)) (λ calm calm' within ample. calm cause.rose) (λ grew. refl) (λ grew. broken refl)
+  cut_ran last feeding.Output still cause cause' limit broken front grows = cut_by last 6 (λ ended. cc) (λ is. let k : 6 ≡ 12 = is in absurd (omega (arith, k))) still front grows (session.failed (inr cause'.rose) refl) (λ text run told goes calm calm' ample. absurd (calm' cause'.rose)) (λ calm calm' within ample. calm' cause'.rose) (λ grew. refl) (λ grew. absurd (omega (arith, cause.only, grew)))
+  cut_ran last feeding.Limit still cause cause' limit broken front grows =
+      cut_by last 7 (λ ended. cc) (λ is. let k : 7 ≡ 12 = is in absurd (omega (arith, k))) still front grows (session.past_limits (limit refl) refl) (cut_off (limit refl)) (λ calm calm' within ample. within refl) (λ grew. still_by cause.only cause'.only grew) (λ grew. absurd (omega (arith, cause.only, grew)))
+  cut_ran last feeding.Memory still cause cause' limit broken front grows =
+      cut_by last 9 (λ ended. cc) (λ is. let k : 9 ≡ 12 = is in absurd (omega (arith, k))) still front grows (session.no_memory refl) (λ text run told goes calm calm' ample. absurd (ample refl)) (λ calm calm' within ample. ample refl) (λ grew. still_by cause.only cause'.only grew) (λ grew. absurd (omega (arith, cause.only, grew)))
 
 -- a session does one thing alone from where it waits for a line
 pub onward_once : RunIsOne → (rows : ℕ → Row) (W : World) (budget : ℕ) (lines : List (List ℕ)) (x y : Run) → CodeOnward rows W lines budget x → CodeOnward rows W lines budget y → x ≡ y
@@ -255,6 +284,10 @@ ahead_new reader None new = refl
 pub limit_new : (reader : Unread) (Runs : List (List ℕ) → Run → Type 0) (left written written' : Option (List ℕ)) → reader ≡ record { pending = []; taken = 0 } → IsCutOff Runs reader.taken (ahead reader left) written written' → IsCutOff Runs 0 left written written'
 limit_new reader Runs left written written' new cut =
     subst (λ n. IsCutOff Runs n left written written') (ap (λ (r : Unread). r.taken) new) (subst (λ (text : Option (List ℕ)). IsCutOff Runs reader.taken text written written') (ahead_new reader left new) cut)
+
+pub broken_new : (reader : Unread) (Runs : List (List ℕ) → Run → Type 0) (left written written' : Option (List ℕ)) → reader ≡ record { pending = []; taken = 0 } → IsBrokenOff Runs reader.taken (ahead reader left) written written' → IsBrokenOff Runs 0 left written written'
+broken_new reader Runs left written written' new broken =
+    subst (λ n. IsBrokenOff Runs n left written written') (ap (λ (r : Unread). r.taken) new) (subst (λ (text : Option (List ℕ)). IsBrokenOff Runs reader.taken text written written') (ahead_new reader left new) broken)
 
 pub front_new : (reader : Unread) (Runs : List (List ℕ) → Run → Type 0) (left written written' : Option (List ℕ)) → reader ≡ record { pending = []; taken = 0 } → IsFedFront Runs reader.taken (ahead reader left) written written' → IsFedFront Runs 0 left written written'
 front_new reader Runs left written written' new front =

@@ -8,6 +8,7 @@ mod Limited
 pub mod Endings
 pub mod Leaving
 pub mod ImageLemmas
+mod Keeping
 pub mod RunLemmas
 pub mod ResumeLemmas
 pub mod WorkLemmas

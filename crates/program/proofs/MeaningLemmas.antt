@@ -1,11 +1,12 @@
 -- What a script means is what its code does, from the world of the libraries.
-use Rattle.std.proofs.Common.{◌≡◌, ℕ, ◌+◌, ◌≤◌, Bool, true, false, cond, List, [], ◌∷◌, length, Some, None, IsTrue, refl, sym, ap, ◌∙◌, arith}
+use Rattle.std.proofs.Common.{◌≡◌, ℕ, ◌+◌, ◌≤◌, Bool, true, false, cond, List, [], ◌∷◌, length, Some, None, IsTrue, refl, sym, ap, ◌∙◌, arith, ◌^◌}
 use Rattle.std.proofs.lemmas.Bool.Decides.{nat_tests}
 use Rattle.std.specs.Bool.{MatchBool}
 use Rattle.load_rows.specs.Loading.{Builds}
 use Rattle.source_builds.specs.Builds.{BuildsSources}
 use Rattle.int_core.specs.Value.{greatest_string}
-use Rattle.machine_sound.proofs.Lists.{each_none, each_cons}
+use Rattle.machine_sound.specs.Sound.{Each}
+use Rattle.machine_sound.proofs.Lists.{each_none, each_cons, each_on}
 use Rattle.tree_core.specs.Tree.{Block, Body}
 use Rattle.tree_activation.specs.Work.{State}
 use Rattle.scope_core.specs.Places.{placed}
@@ -114,7 +115,19 @@ waits_too has_spent meaning.has_failed e w = absurd w
 waits_too has_spent meaning.has_spent e w = absurd w
 waits_too has_spent meaning.is_broken e w = absurd w
 
--- strings can hold the lines that are not past the limits
+-- and the other way around
+pub waiting : (o : Outcome Body State) → EndsAs is_suspended o → IsWaiting o
+waiting (meaning.is_suspended W) e = tt
+waiting meaning.has_returned e = absurd e
+waiting meaning.has_failed e = absurd e
+waiting meaning.has_spent e = absurd e
+waiting meaning.is_broken e = absurd e
+
+-- strings can hold the lines that are handed over
+pub handed_short : (lines : List (List ℕ)) → Each (λ (line : List ℕ). length line ≤ 2 ^ 20) lines → AreShort lines
+handed_short lines short = each_on (λ (line : List ℕ). length line ≤ 2 ^ 20) Short (λ line h. let k : length line ≤ 1048576 = h in omega (arith, k)) lines short
+
+-- and those that are not past the limits
 pub usable_short : (taken : ℕ) (lines : List (List ℕ)) → AreShort (lines_within taken lines)
 usable_short taken [] = each_none Short
 usable_short taken (line ∷ lines) = by (is_within taken line) refl (usable_short (taken + length line + 1) lines)

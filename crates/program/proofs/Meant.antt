@@ -36,7 +36,7 @@ use Rattle.program.proofs.Endings.{told_lines, not_ended}
 -- a file that is not run has another status
 pub not_run_ends : (name : List ℕ) (files : Device FileMap) (status : ℕ) → IsNotRun name files status → has_ended status ≡ true → ⊥
 not_run_ends name files _ (running.absent lacks) ended = cc
-not_run_ends name files _ (running.unread rose) ended = cc
+not_run_ends name files _ (running.unread rose kept) ended = cc
 not_run_ends name files _ (running.no_prelude bad) ended = cc
 not_run_ends name files _ (running.no_script content has begins bare) ended = cc
 not_run_ends name files _ (running.no_chunk content has begins bare) ended = cc

@@ -36,13 +36,13 @@ use Rattle.program.specs.Sessions.{functions_of, IsKept}
 use Rattle.program.specs.Resuming as resuming
 use Rattle.program.specs.Resuming.{ResumesOn, HoldsNoSession, IsNotResumed, not_resumed, goes_on, IsResume}
 use Rattle.program.proofs.DeviceLemmas.{files_of, stream_of, grows_by_none, only_same, keeps_telling, kept_others, same_content, not_lacking, no_content, stays, told_lacking}
-use Rattle.program.proofs.Endings.{Ran}
+use Rattle.program.proofs.Endings.{Ran, short_of}
 
 -- a file whose session does not go on
 
 not_resumed_ends : (name : List ℕ) (files : Device FileMap) (status : ℕ) → IsNotResumed name files status → has_ended status ≡ true → ⊥
 not_resumed_ends name files _ (resuming.absent lacks) ended = cc
-not_resumed_ends name files _ (resuming.unread rose) ended = cc
+not_resumed_ends name files _ (resuming.unread rose kept) ended = cc
 not_resumed_ends name files _ (resuming.no_prelude bad) ended = cc
 not_resumed_ends name files _ (resuming.no_session content has bare) ended = cc
 not_resumed_ends name files _ resuming.no_memory ended = cc
@@ -63,6 +63,7 @@ not_resumed_by name budget save f f' i k held held' left written last status why
   runs = λ content text run has told goes calm calm' calm'' within ample unchanged. absurd (runs content (lines_of text) run has goes calm ample);
   session = λ content text run has told goes ended. absurd (not_resumed_ends name (files_of f f' held held') status why ended);
   fault = λ grew. elim grew [ inl less ↦ fault less | inr more ↦ absurd (elim more [ inl less ↦ stays i left left less | inr less ↦ stays k written written less ]) ];
+  cut_short = λ content text has told grew. absurd (stays i left left grew);
   limit = λ content text run has told goes waits past calm calm' calm'' ample. absurd (runs content (usable_lines 0 text) run has goes calm ample);
   front = λ content text run has told goes. grows_by_none run.printed written;
   grows = only_same written;
@@ -73,7 +74,7 @@ not_resumed_by name budget save f f' i k held held' left written last status why
 pub unread_resume : {builds : Builds Body} → (name : List ℕ) (budget : ℕ) (save : Option (List ℕ)) (f f' i k : ℕ) (held held' : Option FileMap) (left written : Option (List ℕ)) (last : Option Session) (reason : FileFault) → HasCause f f' (is_failed {T = Vec ℕ Global} (Err reason)) → (IsErrOf {T = Vec ℕ Global} (Err reason) Absent → IfSome held (λ files. files name ≡ None)) → IfSome held (λ files. files name ≡ None → IsErrOf {T = Vec ℕ Global} (Err reason) Absent ⊎ IsErrOf {T = Vec ℕ Global} (Err reason) Failed) → OnFalse (is_failed {T = Vec ℕ Global} (Err reason)) (held' ≡ held) → OnTrue (is_failed {T = Vec ℕ Global} (Err reason)) (MayEndTelling held held')
     → IsResume builds name budget save (files_of f f' held held') (stream_of i i left left) (stream_of k k written written) last (status_of_fault (fault_of_file reason))
 unread_resume name budget save f f' i k held held' left written last Failed cause absent lacking kept failed =
-    not_resumed_by name budget save f f' i k held held' left written last 6 (resuming.unread cause.rose)
+    not_resumed_by name budget save f f' i k held held' left written last 6 (resuming.unread cause.rose failed)
     (λ lacks calm. absurd (calm cause.rose)) (λ content has none calm ample made. absurd (calm cause.rose))
     (λ content lines run has goes calm ample. calm cause.rose) (λ less. refl) failed (λ calm. absurd (calm refl cause.rose))
 unread_resume name budget save f f' i k held held' left written last Absent cause absent lacking kept failed =
@@ -156,7 +157,7 @@ same_onward {builds = builds} name content content' budget held prelude session 
 pub resume_of : {builds : Builds Body} → (name content : List ℕ) (budget : ℕ) (save : Option (List ℕ)) (prelude : Prototype) (session : World) (files : Device FileMap) (input out : Device (List ℕ)) (last : Option Session) (status : ℕ)
     → IfSome files.content (λ h. h name ≡ Some content) → IsPreludeCode prelude → ((other : Prototype) → IsPreludeCode other → prelude ≡ other) → IsSession (functions_of prelude) content session → HasYielded session
     → Ran prelude (GoesOn (library builds) session budget) save files input out last status → IsResume builds name budget save files input out last status
-resume_of name content budget save prelude session files input out last status found is_prelude only own waits ran = record {
+resume_of {builds = builds} name content budget save prelude session files input out last status found is_prelude only own waits ran = record {
   cause = goes_on content prelude session found is_prelude own waits ran.ends;
   absent = λ lacks calm. absurd (not_lacking name content files.content found lacks);
   no_session = λ content' has none calm ample made.
@@ -167,6 +168,10 @@ resume_of name content budget save prelude session files input out last status f
       (d.0, d.1, subst (λ p. IsKept p run files save) (only goes.prelude goes.is_prelude) d.2);
   session = λ content' text run has told goes ended. ran.session text run told (same_onward name content content' budget files.content prelude session (lines_of text) run found has only own goes) ended;
   fault = ran.fault;
+  cut_short = λ content' text has told grew.
+      let its : IsSession (functions_of prelude) content' session = subst (λ c. IsSession (functions_of prelude) c session) (sym (same_content name content content' files.content found has)) own in
+      short_of (GoesOn (library builds) session budget) (λ lines run. ResumesOn builds content' lines budget run) text input out told
+      (λ lines run goes. record { prelude = prelude; is_prelude = is_prelude; session = session; holds = its; waits = waits; runs = goes }) (ran.broken grew);
   limit = λ content' text run has told goes waits past calm calm' calm'' ample.
       ran.limit text run told (same_onward name content content' budget files.content prelude session (usable_lines 0 text) run found has only own goes) waits past calm calm' calm'' ample;
   front = λ content' text run has told goes. ran.front text run told (same_onward name content content' budget files.content prelude session (usable_lines 0 text) run found has only own goes);

@@ -20,7 +20,7 @@ use Rattle.prelude_code.specs.Prelude.{IsPreludeCode, IsNoPrelude}
 use Rattle.prelude_code.specs.declared.fault.PreludeFault.{PreludeFault}
 use Rattle.prelude_code.specs.declared.fault.PreludeFault.TheVariants as prelude
 use Rattle.machine_runs.specs.Runs.{Run, CodeRun}
-use Rattle.scripts_mean.specs.Scripts.{RunsAs, ScriptsDo, ScriptsMean, PreludeIsAlike}
+use Rattle.scripts_mean.specs.Scripts.{EndsAs, RunsAs, ScriptsDo, ScriptsMean, PreludeIsAlike}
 use Rattle.lua_meaning.specs.Meaning.{Meaning}
 use Rattle.tree_core.specs.Tree.{Body}
 use Rattle.tree_activation.specs.Work.{State}
@@ -38,13 +38,14 @@ use Rattle.program.specs.Faults.{fault_of_file, fault_of_prelude}
 use Rattle.program.specs.Outcomes.{IsCodeIn, IsNoChunkFor, IsNoScriptFor, IsNoCodeFor}
 use Rattle.program.specs.Report.{status_of_fault}
 use Rattle.program.specs.Meaning.{MeansOn, EndsWith, AreShort}
-use Rattle.program.specs.Sessions.{IsKept}
+use Rattle.session_images.specs.Prelude.{HasPrelude}
+use Rattle.program.specs.Sessions.{functions_of, IsKept}
 use Rattle.program.specs.Running as running
 use Rattle.program.specs.Running.{HoldsCode, RunsOn, IsNotRun, not_run, has_run, IsRun}
 use Rattle.program.proofs.DeviceLemmas.{files_of, stream_of, grows_by_none, only_same, keeps_telling, kept_others, same_content, not_lacking, no_content, stays, told_lacking}
-use Rattle.program.proofs.MeaningLemmas.{by_script, meaning_run, ends_with, usable_short, waits_too}
-use Rattle.program.proofs.Endings.{Ran, ran_so}
-use Rattle.program.proofs.Meant.{not_run_ends, done}
+use Rattle.program.proofs.MeaningLemmas.{by_script, meaning_run, ends_with, handed_short, usable_short, waiting, waits_too}
+use Rattle.program.proofs.Endings.{Ran, ran_so, short_of, told_so}
+use Rattle.program.proofs.Meant.{not_run_ends, done, run_meant}
 
 -- the choice by the first byte
 
@@ -69,6 +70,15 @@ chunk_refuses name content content' held code found has begins none holds =
 
 -- a file that is not run
 
+-- of the causes the prelude's has status 12
+refused_alone : (name : List ℕ) (files : Device FileMap) (status : ℕ) → IsNotRun name files status → status ≡ 12 → (code : Prototype) → IsPreludeCode code → ⊥
+refused_alone name files _ (running.absent lacks) is code own = let k : 11 ≡ 12 = is in absurd (omega (arith, k))
+refused_alone name files _ (running.unread rose kept) is code own = let k : 6 ≡ 12 = is in absurd (omega (arith, k))
+refused_alone name files _ (running.no_prelude none) is code own = none code own
+refused_alone name files _ (running.no_script content has begins bare) is code own = let k : 5 ≡ 12 = is in absurd (omega (arith, k))
+refused_alone name files _ (running.no_chunk content has begins bare) is code own = let k : 8 ≡ 12 = is in absurd (omega (arith, k))
+refused_alone name files _ running.no_memory is code own = let k : 9 ≡ 12 = is in absurd (omega (arith, k))
+
 -- what is known whatever the cause is
 not_run_by : {builds : Builds Body} → (name : List ℕ) (budget : ℕ) (save : Option (List ℕ)) (f f' i k : ℕ) (held held' : Option FileMap) (left written : Option (List ℕ)) (last : Option Session) (status : ℕ)
     → IsNotRun name (files_of f f' held held') status
@@ -85,12 +95,15 @@ not_run_by name budget save f f' i k held held' left written last status why abs
   absent = absent;
   no_script = no_script;
   no_chunk = no_chunk;
-  runs = λ content text run has told goes calm calm' calm'' within ample unchanged. absurd (runs content (lines_of text) run has goes calm ample);
+  runs = λ content text run has told goes calm calm' calm'' within ample. absurd (runs content (lines_of text) run has goes calm ample);
+  no_prelude = λ is code own. refused_alone name (files_of f f' held held') status why is code own;
   means = λ content text m has told short goes calm calm' calm'' within ample made. absurd (means content (lines_of text) m has goes calm ample made);
   meant = λ content text has begins told short ended. absurd (not_run_ends name (files_of f f' held held') status why ended);
   session = λ content text run has told goes ended. absurd (not_run_ends name (files_of f f' held held') status why ended);
   ran_script = λ content text has begins told ended. absurd (not_run_ends name (files_of f f' held held') status why ended);
   fault = λ grew. elim grew [ inl less ↦ fault less | inr more ↦ absurd (elim more [ inl less ↦ stays i left left less | inr less ↦ stays k written written less ]) ];
+  cut_short = λ content text has told grew. absurd (stays i left left grew);
+  meant_cut_short = λ content text has begins told grew. absurd (stays i left left grew);
   limit = λ content text run has told goes waits past calm calm' calm'' ample. absurd (runs content (usable_lines 0 text) run has goes calm ample);
   meant_limit = λ content text m has told goes waits past calm calm' calm'' ample made. absurd (means content (usable_lines 0 text) m has goes calm ample made);
   front = λ content text run has told goes. grows_by_none run.printed written;
@@ -103,7 +116,7 @@ not_run_by name budget save f f' i k held held' left written last status why abs
 pub unread_run : {builds : Builds Body} → (name : List ℕ) (budget : ℕ) (save : Option (List ℕ)) (f f' i k : ℕ) (held held' : Option FileMap) (left written : Option (List ℕ)) (last : Option Session) (reason : FileFault) → HasCause f f' (is_failed {T = Vec ℕ Global} (Err reason)) → (IsErrOf {T = Vec ℕ Global} (Err reason) Absent → IfSome held (λ files. files name ≡ None)) → IfSome held (λ files. files name ≡ None → IsErrOf {T = Vec ℕ Global} (Err reason) Absent ⊎ IsErrOf {T = Vec ℕ Global} (Err reason) Failed) → OnFalse (is_failed {T = Vec ℕ Global} (Err reason)) (held' ≡ held) → OnTrue (is_failed {T = Vec ℕ Global} (Err reason)) (MayEndTelling held held')
     → IsRun builds name budget save (files_of f f' held held') (stream_of i i left left) (stream_of k k written written) last (status_of_fault (fault_of_file reason))
 unread_run name budget save f f' i k held held' left written last Failed cause absent lacking kept failed =
-    not_run_by name budget save f f' i k held held' left written last 6 (running.unread cause.rose)
+    not_run_by name budget save f f' i k held held' left written last 6 (running.unread cause.rose failed)
     (λ lacks calm. absurd (calm cause.rose)) (λ content has begins none calm ample made. absurd (calm cause.rose)) (λ content has begins none calm ample made. absurd (calm cause.rose))
     (λ content lines run has goes calm ample. calm cause.rose) (λ content lines m has goes calm ample made. calm cause.rose) (λ less. refl) failed (λ calm. absurd (calm refl cause.rose))
 unread_run name budget save f f' i k held held' left written last Absent cause absent lacking kept failed =
@@ -181,15 +194,17 @@ same_run name content content' budget held prelude code lines run found has only
 -- what is known of a session that was fed is known of the run of the file
 pub run_of : {builds : Builds Body} → BuildsSources builds → ScriptsDo → ScriptsMean → PreludeIsAlike → (name content : List ℕ) (budget : ℕ) (save : Option (List ℕ)) (prelude code : Prototype) (files : Device FileMap) (input out : Device (List ℕ)) (last : Option Session) (status : ℕ) → length name ≤ 65536
     → IfSome files.content (λ h. h name ≡ Some content) → IsPreludeCode prelude → ((other : Prototype) → IsPreludeCode other → prelude ≡ other) → IsCodeIn name content code → IsChecked code
+    → ((lines : List (List ℕ)) → AreShort lines → (run : Run) → CodeRun (library builds) (started prelude code) lines budget run → HasPrelude (functions_of prelude) run.last)
     → Ran prelude (Does (library builds) (started prelude code) budget) save files input out last status → IsRun builds name budget save files input out last status
-run_of {builds = builds} sources does law alike name content budget save prelude code files input out last status short found is_prelude only own checked ran = record {
+run_of {builds = builds} sources does law alike name content budget save prelude code files input out last status short found is_prelude only own checked keeps ran = record {
   cause = has_run content prelude code found is_prelude own.holds ran.ends;
   absent = λ lacks calm. absurd (not_lacking name content files.content found lacks);
   no_script = λ content' has begins none calm ample made. absurd (script_refuses' content' has begins none);
   no_chunk = λ content' has begins none calm ample made. absurd (chunk_refuses' content' has begins none);
-  runs = λ content' text run has told goes calm calm' calm'' within ample unchanged.
-      let d = ran.does text run told (same_run name content content' budget files.content prelude code (lines_of text) run found has only own goes) calm calm' calm'' within ample unchanged in
+  runs = λ content' text run has told goes calm calm' calm'' within ample.
+      let d = ran.does text run told (same_run name content content' budget files.content prelude code (lines_of text) run found has only own goes) calm calm' calm'' within ample (λ named. never) in
       (d.0, d.1, subst (λ p. IsKept p run files save) (only goes.prelude goes.is_prelude) d.2);
+  no_prelude = λ is other its. never is;
   means = λ content' text m has told fits goes calm calm' calm'' within ample made.
       let r = its_run content' (lines_of text) m has fits goes in
       let d = ran.does text r.0 told r.1 calm calm' calm'' within ample (λ named. made) in
@@ -204,6 +219,21 @@ run_of {builds = builds} sources does law alike name content budget save prelude
       let went = ran_so prelude (Does (library builds) (started prelude code) budget) save files input out last status text ran.ends told ended in
       (went.0, record { tree = made.tree; is_source = made.is_source; prelude = prelude; is_prelude = is_prelude; code = code; holds = its; checked = checked; means = made.means; runs = went.1 }, went.2);
   fault = ran.fault;
+  cut_short = λ content' text has told grew.
+      short_of (Does (library builds) (started prelude code) budget) (λ lines run. RunsOn builds name content' lines budget run) text input out told (λ lines run goes. its_code content' lines run has goes) (ran.broken grew);
+  meant_cut_short = λ content' text has begins told grew.
+      let b = ran.broken grew in
+      let first = told_so (λ bytes. (more : List (List ℕ)) × (usable_lines 0 bytes ≡ b.lines ++ more)) input.content text b.are told in
+      let meant = run_meant sources does alike name content' b.lines budget b.run short (handed_short b.lines b.short) begins (its_code content' b.lines b.run has b.runs) in
+      record {
+        lines = b.lines;
+        more = first.0;
+        first = first.1;
+        m = meant.0;
+        means = meant.1;
+        waits = waiting meant.0.outcome (subst (λ c. EndsAs c meant.0.outcome) b.waits meant.2.ends);
+        written = b.grown ∙ ap (λ p. option_map (λ before. before ++ p) out.content) meant.2.printed;
+      };
   limit = λ content' text run has told goes waits past calm calm' calm'' ample.
       ran.limit text run told (same_run name content content' budget files.content prelude code (usable_lines 0 text) run found has only own goes) waits past calm calm' calm'' ample;
   meant_limit = λ content' text m has told goes waits past calm calm' calm'' ample made.
@@ -219,6 +249,14 @@ run_of {builds = builds} sources does law alike name content budget save prelude
   files_same = ran.same;
 }
   where
+    -- the prelude is there, and a run leaves it as it was made
+    never : status ≢ 12
+    never = ran.unchanged (λ lines run short goes. keeps lines (handed_short lines short) run goes)
+
+    its_code : (content' : List ℕ) (lines : List (List ℕ)) (run : Run) → Holds files.content name content' → CodeRun (library builds) (started prelude code) lines budget run → RunsOn builds name content' lines budget run
+    its_code content' lines run has goes =
+        record { prelude = prelude; is_prelude = is_prelude; code = code; holds = subst (λ c. HoldsCode name c code) (sym (same_content name content content' files.content found has)) own.holds; runs = goes }
+
     script_refuses' : (content' : List ℕ) → Holds files.content name content' → begins_chunk content' ≡ false → HoldsNoScript content' → ⊥
     script_refuses' content' has begins none =
         let same : content' ≡ content = same_content name content content' files.content found has in

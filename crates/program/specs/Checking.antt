@@ -1,11 +1,11 @@
 -- What `check` does with a file: which bytes are a chunk that may run, and what is written of one.
-use Rattle.std.specs.Prelude.{◌≡◌, ◌≢◌, ◌⊎◌, ℕ, List, [], ◌∷◌, ◌++◌, Bool, false, nat_eq, IsSome, codes, decimal}
+use Rattle.std.specs.Prelude.{◌≡◌, ◌≢◌, ◌⊎◌, ℕ, List, [], ◌∷◌, ◌++◌, Bool, false, nat_eq, None, IfSome, codes, decimal}
 use Rattle.std.specs.Option.{option_map}
 use Rattle.code_core.specs.Prototype.{Prototype, function_count, instruction_count}
 use Rattle.code_core.specs.Check.{IsChecked}
 use Rattle.chunk_format.specs.Grammar.{BeginsWith, ChunkOf}
 use Rattle.io_edge.specs.Content.{FileMap, GrowsByFront, MayEndTelling}
-use Rattle.program.specs.Devices.{Device, RoseIn, GrewIn, Lacks, Holds, OnlyGrows}
+use Rattle.program.specs.Devices.{Device, RoseIn, GrewIn, Lacks, Holds, Has, OnlyGrows, IsUntouched}
 
 -- the first byte is that of a chunk
 abbrev pub begins_chunk : List ℕ → Bool
@@ -29,20 +29,27 @@ report_of function = codes "ok " ++ (decimal (function_count function) ++ (codes
 abbrev pub Reports : (content text : List ℕ) → Type 0
 Reports content text = (function : Prototype) × IsAccepted content function × (text ≡ report_of function)
 
+-- why a file is answered so: its counts are written, there is no file or no chunk in it, a device failed, or there is no memory
+pub data IsCause (name : List ℕ) (files : Device FileMap) (out : Device (List ℕ)) : (status : ℕ) → Type 0 where
+  counted : (content text : List ℕ) → Has files name content → Reports content text → out.content' ≡ option_map (λ before. before ++ text) out.content → IsCause name files out 0
+  unread : RoseIn files → IsUntouched out → IsCause name files out 6
+  unwritten : (content text : List ℕ) → Has files name content → Reports content text → RoseIn out → GrowsByFront text out.content out.content' → IsCause name files out 6
+  no_chunk : (content : List ℕ) → Has files name content → HoldsNoChunk content → IsUntouched out → IsCause name files out 8
+  no_memory : IsUntouched out → IsCause name files out 9
+  absent : IfSome files.content (λ held. held name ≡ None) → IsUntouched out → IsCause name files out 11
+
 -- What checking does to the files and the output, and what it answers: 0 done, 6 device fault, 8 chunk refused, 9 out of memory, 11 no such file.
 pub record IsCheck (name : List ℕ) (files : Device FileMap) (out : Device (List ℕ)) (status : ℕ) : Type 0 where
-  pub right_words : status ≢ 2
-  pub absent_only : status ≡ 11 → IsSome files.content → Lacks files.content name
+  -- each status has its cause
+  pub cause : IsCause name files out status
+  -- and the cause gives the status, unless memory runs out
   pub absent : Lacks files.content name → ¬ (RoseIn files) → status ≡ 11
-  pub refused_only : status ≡ 8 → IsSome files.content → (content : List ℕ) × Holds files.content name content × HoldsNoChunk content
   pub refused : (content : List ℕ) → Holds files.content name content → HoldsNoChunk content → ¬ (RoseIn files) → status ≢ 9 → status ≡ 8
-  pub fault_only : status ≡ 6 → RoseIn files ⊎ RoseIn out
-  pub fault : GrewIn files ⊎ GrewIn out → status ≡ 6
   pub done : (content text : List ℕ) → Holds files.content name content → Reports content text → ¬ (RoseIn files) → ¬ (RoseIn out) → status ≢ 9 → (status ≡ 0) × (out.content' ≡ option_map (λ before. before ++ text) out.content)
-  pub done_only : status ≡ 0 → IsSome files.content → (content : List ℕ) × (text : List ℕ) × Holds files.content name content × Reports content text × (out.content' ≡ option_map (λ before. before ++ text) out.content)
+  pub fault : GrewIn files ⊎ GrewIn out → status ≡ 6
+  -- whatever the status is
   pub front : (content text : List ℕ) → Holds files.content name content → Reports content text → GrowsByFront text out.content out.content'
   pub grows : OnlyGrows out.content out.content'
-  pub unwritten : status ≢ 0 → status ≢ 6 → out.content' ≡ out.content
   -- nothing is written where there is no file of the name, and where it holds no chunk, a device fault or not
   pub none_lacking : Lacks files.content name → out.content' ≡ out.content
   pub none_refused : (content : List ℕ) → Holds files.content name content → HoldsNoChunk content → out.content' ≡ out.content

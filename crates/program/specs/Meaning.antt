@@ -11,6 +11,7 @@ use Rattle.compile_text.specs.Source.{IsSource}
 use Rattle.compile_chunk.specs.Chunk.{script_in}
 use Rattle.lua_meaning.specs.Meaning as meaning
 use Rattle.lua_meaning.specs.Meaning.{Meaning, Outcome, IsMeaning}
+use Rattle.lua_feed.specs.Limits.{usable_lines}
 use Rattle.lua_meaning.specs.Opening.{primitives, prelude_of}
 use Rattle.lua_meaning.specs.TreeMeaning.{trees, tree_opening}
 use Rattle.runs_alike.specs.Alike.{script}
@@ -57,4 +58,15 @@ pub record IsDoneAsMeant (builds : Builds Body) (name content : List ℕ) (lines
   pub m : Meaning Body State
   pub means : MeansOn builds name content lines budget m
   pub ends : EndsWith m.outcome status
+  pub written : out.content' ≡ option_map (λ before. before ++ m.printed) out.content
+
+-- reading failed: some first lines of the text were taken, none of them past the limits, the script waits for the next by what it means on them, and what it
+-- prints was written, byte for byte
+pub record IsMeantShort (builds : Builds Body) (name content text : List ℕ) (budget : ℕ) (out : Device (List ℕ)) : Type 0 where
+  pub lines : List (List ℕ)
+  pub more : List (List ℕ)
+  pub first : usable_lines 0 text ≡ lines ++ more
+  pub m : Meaning Body State
+  pub means : MeansOn builds name content lines budget m
+  pub waits : IsWaiting m.outcome
   pub written : out.content' ≡ option_map (λ before. before ++ m.printed) out.content

@@ -4,7 +4,7 @@ use Rattle.std.specs.Option.{option_map}
 use Rattle.load_rows.specs.Loading.{Builds}
 use Rattle.tree_core.specs.Tree.{Body}
 use Rattle.code_core.specs.Prototype.{Prototype}
-use Rattle.io_edge.specs.Content.{FileMap, GrowsByFront}
+use Rattle.io_edge.specs.Content.{FileMap, GrowsByFront, MayEndTelling}
 use Rattle.io_edge.specs.Lines.{lines_of}
 use Rattle.prelude_code.specs.Prelude.{IsPreludeCode}
 use Rattle.machine_core.specs.World.{World}
@@ -15,7 +15,7 @@ use Rattle.lua_feed.specs.Limits.{usable_lines, passes_limits}
 use Rattle.lua_saving.specs.Saving.{IsSession, HasYielded}
 use Rattle.program.specs.Devices.{Device, RoseIn, GrewIn, Lacks, Holds, Has, OnlyGrows, IsUntouched, KeepsOthers}
 use Rattle.program.specs.Meaning.{has_ended}
-use Rattle.program.specs.Sessions.{functions_of, status_of_close, IsSessionOf, IsKept, Ends}
+use Rattle.program.specs.Sessions.{functions_of, status_of_close, IsSessionOf, IsKept, IsCutShort, Ends}
 use Rattle.program.specs.declared.session.Session.{Session}
 
 -- what the session of an image does on lines of input, in a world of the libraries, whose prelude is its text's code; each turn has the budget
@@ -31,10 +31,10 @@ pub record ResumesOn (builds : Builds Body) (content : List ℕ) (lines : List (
 abbrev pub HoldsNoSession : List ℕ → Type 0
 HoldsNoSession content = (prelude : Prototype) → IsPreludeCode prelude → (session : World) → IsSession (functions_of prelude) content session → HasYielded session → ⊥
 
--- why no session goes on: the file is not there, a device failed, the prelude is refused, the file holds no session, or there is no memory
+-- why no session goes on: the file is not there, reading it failed, and no file is changed, the prelude is refused, the file holds no session, or there is no memory
 pub data IsNotResumed (name : List ℕ) (files : Device FileMap) : (status : ℕ) → Type 0 where
   absent : IfSome files.content (λ held. held name ≡ None) → IsNotResumed name files 11
-  unread : RoseIn files → IsNotResumed name files 6
+  unread : RoseIn files → MayEndTelling files.content files.content' → IsNotResumed name files 6
   no_prelude : ((code : Prototype) → IsPreludeCode code → ⊥) → IsNotResumed name files 12
   no_session : (content : List ℕ) → Has files name content → HoldsNoSession content → IsNotResumed name files 8
   no_memory : IsNotResumed name files 9
@@ -46,7 +46,7 @@ pub data IsCause (builds : Builds Body) (name : List ℕ) (budget : ℕ) (save :
 
 -- What resuming does to the devices, and what it answers: what the session does is written and answered, and where it waits for a line at the end, it is saved
 -- in the file that is named for that. 0 returned, 1 failed, 3 suspended, 4 budget spent, 6 device fault, 7 input limit or image too large, 8 image refused,
--- 9 out of memory, 11 no such file, 12 prelude refused, or changed where it is to be saved.
+-- 9 out of memory, 11 no such file, 12 prelude refused, or changed where it is to be saved, which takes an image that no call has written.
 pub record IsResume (builds : Builds Body) (name : List ℕ) (budget : ℕ) (save : Option (List ℕ)) (files : Device FileMap) (input out : Device (List ℕ)) (last : Option Session) (status : ℕ) : Type 0 where
   -- each status has its cause
   pub cause : IsCause builds name budget save files input out last status
@@ -64,6 +64,9 @@ pub record IsResume (builds : Builds Body) (name : List ℕ) (budget : ℕ) (sav
       → run.close ≡ is_suspended → passes_limits 0 text ≡ true → ¬ (RoseIn files) → ¬ (RoseIn input) → ¬ (RoseIn out) → status ≢ 9
       → (status ≡ 7) × (out.content' ≡ option_map (λ before. before ++ run.printed) out.content) × (files.content' ≡ files.content)
   pub fault : GrewIn files ⊎ (GrewIn input ⊎ GrewIn out) → status ≡ 6
+  -- where the input failed, all is written that its first lines give, up to one for which the session waits then
+  pub cut_short : (content text : List ℕ) → Holds files.content name content → input.content ≡ Some text → GrewIn input
+      → IsCutShort (λ lines run. ResumesOn builds content lines budget run) text out
   -- whatever the status is, a front is written of what the lines give that are not past the limits
   pub front : (content text : List ℕ) (run : Run) → Holds files.content name content → input.content ≡ Some text → ResumesOn builds content (usable_lines 0 text) budget run
       → GrowsByFront run.printed out.content out.content'

@@ -1,5 +1,5 @@
 -- What `run` does with a file: the code in it runs on the lines of the input (Lua's `lua.c`).
-use Rattle.std.specs.Prelude.{◌≡◌, ◌≢◌, ◌⊎◌, ℕ, List, ◌++◌, true, false, Option, Some, None, IsSome, IfSome, IsSomeAnd}
+use Rattle.std.specs.Prelude.{◌≡◌, ◌≢◌, ◌⊎◌, ℕ, List, ◌++◌, true, false, Option, Some, None, IfSome, IsSomeAnd}
 use Rattle.std.specs.Bool.{MatchBool}
 use Rattle.std.specs.Option.{option_map}
 use Rattle.load_rows.specs.Loading.{Builds}
@@ -9,7 +9,7 @@ use Rattle.scope_core.specs.Places.{placed}
 use Rattle.code_core.specs.Prototype.{Prototype}
 use Rattle.code_core.specs.Check.{IsChecked}
 use Rattle.code_means.specs.Means.{Means}
-use Rattle.io_edge.specs.Content.{FileMap, GrowsByFront}
+use Rattle.io_edge.specs.Content.{FileMap, GrowsByFront, MayEndTelling}
 use Rattle.io_edge.specs.Lines.{lines_of}
 use Rattle.compile_text.specs.Source.{IsSource}
 use Rattle.compile_chunk.specs.Chunk.{IsCodeOf, script_in}
@@ -23,8 +23,8 @@ use Rattle.lua_feed.specs.Running.{started}
 use Rattle.program.specs.Devices.{Device, RoseIn, GrewIn, Lacks, Holds, Has, OnlyGrows, IsUntouched, KeepsOthers}
 use Rattle.program.specs.Checking.{begins_chunk, IsAccepted, HoldsNoChunk}
 use Rattle.program.specs.Compiling.{source_name, HoldsNoScript}
-use Rattle.program.specs.Meaning.{MeansOn, EndsWith, IsWaiting, AreShort, has_ended, IsDoneAsMeant}
-use Rattle.program.specs.Sessions.{status_of_close, IsSessionOf, IsKept, Ends}
+use Rattle.program.specs.Meaning.{MeansOn, EndsWith, IsWaiting, AreShort, has_ended, IsDoneAsMeant, IsMeantShort}
+use Rattle.program.specs.Sessions.{status_of_close, IsSessionOf, IsKept, IsCutShort, Ends}
 use Rattle.program.specs.declared.session.Session.{Session}
 
 -- the code in a file: that of the chunk with which it begins, or that of the script in it, with the file's name and lines
@@ -51,10 +51,10 @@ pub record RunsScript (builds : Builds Body) (name content : List ℕ) (lines : 
   pub means : Means true code (placed tree)
   pub runs : CodeRun (library builds) (started prelude code) lines budget run
 
--- why a file is not run: it is not there, a device failed, the prelude is refused, it holds no script or no chunk, or there is no memory
+-- why a file is not run: it is not there, reading it failed, and no file is changed, the prelude is refused, it holds no script or no chunk, or there is no memory
 pub data IsNotRun (name : List ℕ) (files : Device FileMap) : (status : ℕ) → Type 0 where
   absent : IfSome files.content (λ held. held name ≡ None) → IsNotRun name files 11
-  unread : RoseIn files → IsNotRun name files 6
+  unread : RoseIn files → MayEndTelling files.content files.content' → IsNotRun name files 6
   no_prelude : ((code : Prototype) → IsPreludeCode code → ⊥) → IsNotRun name files 12
   no_script : (content : List ℕ) → Has files name content → begins_chunk content ≡ false → HoldsNoScript content → IsNotRun name files 5
   no_chunk : (content : List ℕ) → Has files name content → begins_chunk content ≡ true → HoldsNoChunk content → IsNotRun name files 8
@@ -67,7 +67,7 @@ pub data IsCause (builds : Builds Body) (name : List ℕ) (budget : ℕ) (save :
 
 -- What running does to the devices, and what it answers. What a script means is written and answered, and of a chunk what its code does; where it waits for
 -- a line at the end, its session is saved in the file that is named for that. 0 returned, 1 failed, 3 suspended, 4 budget spent, 5 source refused, 6 device
--- fault, 7 input limit or image too large, 8 chunk refused, 9 out of memory, 11 no such file, 12 prelude refused, or changed where it is to be saved.
+-- fault, 7 input limit or image too large, 8 chunk refused, 9 out of memory, 11 no such file, 12 prelude refused.
 pub record IsRun (builds : Builds Body) (name : List ℕ) (budget : ℕ) (save : Option (List ℕ)) (files : Device FileMap) (input out : Device (List ℕ)) (last : Option Session) (status : ℕ) : Type 0 where
   -- each status has its cause
   pub cause : IsCause builds name budget save files input out last status
@@ -78,8 +78,10 @@ pub record IsRun (builds : Builds Body) (name : List ℕ) (budget : ℕ) (save :
   pub no_chunk : (content : List ℕ) → Holds files.content name content → begins_chunk content ≡ true → HoldsNoChunk content
       → ¬ (RoseIn files) → status ≢ 9 → status ≢ 12 → status ≡ 8
   pub runs : (content text : List ℕ) (run : Run) → Holds files.content name content → input.content ≡ Some text → (does : RunsOn builds name content (lines_of text) budget run)
-      → ¬ (RoseIn files) → ¬ (RoseIn input) → ¬ (RoseIn out) → status ≢ 7 → status ≢ 9 → (IsSome save → status ≢ 12)
+      → ¬ (RoseIn files) → ¬ (RoseIn input) → ¬ (RoseIn out) → status ≢ 7 → status ≢ 9
       → (status ≡ status_of_close run.close) × (out.content' ≡ option_map (λ before. before ++ run.printed) out.content) × IsKept does.prelude run files save
+  -- 12 tells that the libraries' text is refused, and nothing of a script: whatever its code does, it leaves what saving looks at as it was made
+  pub no_prelude : status ≡ 12 → (code : Prototype) → IsPreludeCode code → ⊥
   -- what the source of a script means is written and answered, and a script that was run to an end did what its source means
   pub means : (content text : List ℕ) (m : Meaning Body State) → Holds files.content name content → input.content ≡ Some text → AreShort (lines_of text)
       → MeansOn builds name content (lines_of text) budget m → ¬ (RoseIn files) → ¬ (RoseIn input) → ¬ (RoseIn out) → status ≢ 7 → status ≢ 9 → status ≢ 12
@@ -99,6 +101,11 @@ pub record IsRun (builds : Builds Body) (name : List ℕ) (budget : ℕ) (save :
       → IsWaiting m.outcome → passes_limits 0 text ≡ true → ¬ (RoseIn files) → ¬ (RoseIn input) → ¬ (RoseIn out) → status ≢ 9 → status ≢ 12
       → (status ≡ 7) × (out.content' ≡ option_map (λ before. before ++ m.printed) out.content)
   pub fault : GrewIn files ⊎ (GrewIn input ⊎ GrewIn out) → status ≡ 6
+  -- where the input failed, all is written that its first lines give, up to one for which the script waits then
+  pub cut_short : (content text : List ℕ) → Holds files.content name content → input.content ≡ Some text → GrewIn input
+      → IsCutShort (λ lines run. RunsOn builds name content lines budget run) text out
+  pub meant_cut_short : (content text : List ℕ) → Holds files.content name content → begins_chunk content ≡ false → input.content ≡ Some text → GrewIn input
+      → IsMeantShort builds name content text budget out
   -- whatever the status is, a front is written of what the lines give that are not past the limits
   pub front : (content text : List ℕ) (run : Run) → Holds files.content name content → input.content ≡ Some text → RunsOn builds name content (usable_lines 0 text) budget run
       → GrowsByFront run.printed out.content out.content'

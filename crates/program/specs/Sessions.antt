@@ -13,7 +13,8 @@ use Rattle.session_images.specs.Prelude.{HasPrelude}
 use Rattle.session_images.specs.Saved.{session_image}
 use Rattle.session_images.specs.Stored.{root_count, IsWrittenAs}
 use Rattle.images_stand.specs.Sessions.{IsKept as IsHeldWhole}
-use Rattle.lua_feed.specs.Feeding.{IsLast, IsCutOff}
+use Rattle.lua_feed.specs.Feeding.{IsLast, IsBrokenOff, IsCutOff}
+use Rattle.lua_feed.specs.Limits.{usable_lines}
 use Rattle.program.specs.declared.session.Session.{Session}
 use Rattle.program.specs.declared.session.SessionState.{SessionState}
 use Rattle.program.specs.declared.session.SessionState.TheVariants.{Suspended, Ended}
@@ -44,7 +45,7 @@ functions_of prelude = prelude_of (list_of prelude.inner)
 pub record IsTooLarge (W : World) : Type 0 where
   pub more : (R : Reader) → 2147483647 < length ((image_format R root_count).spell (session_image W))
 
--- the script has changed the functions of the prelude or its environment, which no image holds
+-- the functions of the prelude or its environment are not as they were made, and no image holds them; no script gets there, but an image from elsewhere may
 pub record HasChanged (prelude : Prototype) (W : World) : Type 0 where
   pub is : HasPrelude (functions_of prelude) W → ⊥
 
@@ -64,13 +65,24 @@ pub data IsLeft (prelude : Prototype) (run : Run) (save : Option (List ℕ)) (fi
   unwritten : IsSome save → run.close ≡ is_suspended → RoseIn files → IsLeft prelude run save files 6
   no_memory : IsSome save → run.close ≡ is_suspended → IsLeft prelude run save files 9
 
--- How a session ends, where `Runs` tells what it does on lines: it closes, all that it prints is written, so much is left of it, and it is handed back; or a
--- device failed, it waits for a line that is past the limits and all that it prints before is written, or there is no memory. Where the input tells its bytes
--- the lines are its lines
+-- Reading failed: some first lines of the text were taken, none of them past the limits, what is done on them waits for the next, and all that it prints is
+-- written
+pub record IsCutShort (Runs : List (List ℕ) → Run → Type 0) (text : List ℕ) (out : Device (List ℕ)) : Type 0 where
+  pub lines : List (List ℕ)
+  pub more : List (List ℕ)
+  pub first : usable_lines 0 text ≡ lines ++ more
+  pub run : Run
+  pub runs : Runs lines run
+  pub waits : run.close ≡ is_suspended
+  pub written : out.content' ≡ option_map (λ before. before ++ run.printed) out.content
+
+-- How a session ends, where `Runs` tells what it does on lines: it closes, all that it prints is written, so much is left of it, and it is handed back; or the
+-- input failed where it waits for a line, or that line is past the limits, and all that it prints before is written; or the output failed, or there is no
+-- memory. Where the input tells its bytes the lines are its lines
 pub data Ends (prelude : Prototype) (Runs : List (List ℕ) → Run → Type 0) (save : Option (List ℕ)) (files : Device FileMap) (input out : Device (List ℕ)) (last : Option Session) (status : ℕ) : Type 0 where
   closed : (lines : List (List ℕ)) → IfSome input.content (λ text. lines ≡ lines_of text) → (run : Run) → Runs lines run
       → out.content' ≡ option_map (λ before. before ++ run.printed) out.content → IsLeft prelude run save files status → IsSomeAnd last (IsSessionOf run)
       → Ends prelude Runs save files input out last status
-  failed : RoseIn input ⊎ RoseIn out → status ≡ 6 → Ends prelude Runs save files input out last status
+  failed : (RoseIn input × IsBrokenOff Runs 0 input.content out.content out.content') ⊎ RoseIn out → status ≡ 6 → Ends prelude Runs save files input out last status
   past_limits : IsCutOff Runs 0 input.content out.content out.content' → status ≡ 7 → Ends prelude Runs save files input out last status
   no_memory : status ≡ 9 → Ends prelude Runs save files input out last status

@@ -24,7 +24,7 @@ use std::alloc::Global;
 /// the file that is named for that. Answers the status: 0 where the script returned or the work was done, 1 where the script failed, 2 for wrong words,
 /// 3 where the script waits for a line and there is none, 4 where a turn has spent its budget, 5 for a refused source, 6 for a device fault, 7 for input
 /// past the limits on lines or an image that would be too large, 8 for a refused chunk or image, 9 for want of memory, 11 where there is no such file, and
-/// 12 where the prelude is refused, or was changed by the script whose session is to be saved. What the
+/// 12 where the prelude is refused, or is not as it was made in an image that no call has written, and the session that went on is to be saved. What the
 /// script prints with a line for each turn's end, the chunk's counts, or the line of the work, go to `out`, and the line of a status of a fault to `err`; a failed
 /// write to `err` changes no status. `run` and `resume` alone read input. Where the status of one of these is 0, 1, 3 or 4, the session that ran is handed back in
 /// `last`, as it stands at the end, whether it is saved or not.

@@ -16,9 +16,11 @@ use crate::session::{Session, state_at};
 use code_core::Checked;
 use compile_chunk::{code_of, script_in};
 use io_edge::{Files, LineReader, Sink, Source};
+use loaded_code::loading_is_safe;
 use lua_feed::{feed, start};
 use machine_runs::runs_are_one;
 use prelude_code::prelude_code;
+use prelude_stays::runs_have_the_prelude;
 use scripts_mean::{prelude_is_alike, scripts_do_as_they_mean};
 use std::alloc::Global;
 
@@ -42,6 +44,8 @@ pub fn run_file<F: Files, S: Source, K: Sink>(
     runs_are_one();
     scripts_do_as_they_mean();
     prelude_is_alike();
+    loading_is_safe();
+    runs_have_the_prelude();
     let content = files.get(alloc, name)?;
     let prelude = prelude_code(alloc)?;
     let code = code_in(alloc, name, content.as_slice())?;

@@ -12,8 +12,8 @@ use Rattle.program.specs.declared.fault.Fault.TheVariants.{Memory}
 use Rattle.program.specs.Faults.{fault_of_file, fault_of_prelude, fault_of_feeding, status_of}
 use Rattle.program.specs.Outcomes.{IsNoSessionFor}
 use Rattle.program.specs.Sessions.{functions_of}
-use Rattle.program.proofs.Limited.{when_limited}
-use Rattle.program.proofs.Endings.{cut_ran, closed_ran, onward_once, limit_new, front_new, fed_new}
+use Rattle.program.proofs.Limited.{when_stopped}
+use Rattle.program.proofs.Endings.{cut_ran, closed_ran, onward_once, limit_new, broken_new, front_new, fed_new}
 use Rattle.program.proofs.ImageLemmas.{feeding_fits_image, image_tells}
 use Rattle.program.proofs.ResumeLemmas.{unread_resume, no_prelude_resume, no_session_resume, memory_resume, resume_of, resume_since, resume_before}
 use Rattle.program.proofs.resuming.resume_file.Goals as goal
@@ -67,15 +67,16 @@ returns-in_err-close-clause-resume g c =
     let prelude = c.in_ok-prelude.prelude in
     let session = plain c.in_ok-world.world 0 in
     let own : IsSession (functions_of prelude) c.in_ok-content.content.items session = subst (λ (s : List ℕ). IsSession (functions_of prelude) s session) c.as_slice.ensures.value c.in_ok-world.ensures.session in
-    read_both (λ builds sources front limit.
+    read_both (λ builds sources front stops.
     let runs : List (List ℕ) → Run → Type 0 = GoesOn (library builds) session c.args.budget in
     resume_before c.args.name.now c.args.budget _ _ _ _ _ _ _ _ _ _ c.in_ok-content.ensures.cause.only c.in_ok-content.ensures.kept (ap status_of is)
     (resume_of c.args.name.now c.in_ok-content.content.items c.args.budget _ prelude session _ _ _ _ _
     c.in_ok-content.ensures.found c.in_ok-prelude.ensures.code (λ other is_prelude. prelude_once prelude other c.in_ok-prelude.ensures.code is_prelude) own c.in_ok-world.ensures.yielded
     (cut_ran prelude c.in_ok-prelude.ensures.code runs (λ lines x y h k. onward_once c.runs_are_one.ensures.runs (library builds) session c.args.budget lines x y h k) _ _ _ _ _ c.in_err-close.field-0.0
-    (record { no_fault = refl; unwritten = refl }) c.in_err-close.ensures.input c.in_err-close.ensures.output (λ past. limit_new c.in_ok-reader.reader runs _ _ _ c.in_ok-reader.ensures (limit past))
+    (record { no_fault = refl; unwritten = refl }) c.in_err-close.ensures.input c.in_err-close.ensures.output (λ past. limit_new c.in_ok-reader.reader runs _ _ _ c.in_ok-reader.ensures (stops.0 past))
+    (λ failed. broken_new c.in_ok-reader.reader runs _ _ _ c.in_ok-reader.ensures (stops.1 failed))
     (front_new c.in_ok-reader.reader runs _ _ _ c.in_ok-reader.ensures front) c.in_err-close.ensures.grows)))
-    c.in_err-close.ensures.front (when_limited (Err c.in_err-close.field-0.0) c.in_err-close.ensures.limit)
+    c.in_err-close.ensures.front (when_stopped (Err c.in_err-close.field-0.0) c.in_err-close.ensures.limit c.in_err-close.ensures.broken)
 
 pub returns-clause-resume : goal.returns-clause-resume
 returns-clause-resume g c =

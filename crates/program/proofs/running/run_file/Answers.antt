@@ -6,15 +6,16 @@ use Rattle.loaded_code.specs.Laws.{library}
 use Rattle.source_builds.proofs.Knowing.{read_all, read_map, read_both}
 use Rattle.io_edge.specs.Lines.{ahead}
 use Rattle.lua_feed.specs.Closes.{close_of}
-use Rattle.lua_feed.specs.Feeding.{Does, IsCutOff, IsFedFront, IsFedTo}
+use Rattle.lua_feed.specs.Feeding.{Does, IsBrokenOff, IsCutOff, IsFedFront, IsFedTo}
 use Rattle.lua_feed.specs.Running.{started}
 use Rattle.prelude_code.proofs.Preludes.{prelude_once}
 use Rattle.program.specs.declared.fault.Fault.TheVariants.{Memory}
 use Rattle.program.specs.Faults.{fault_of_file, fault_of_prelude, fault_of_feeding, status_of}
 use Rattle.program.specs.Outcomes.{IsCodeIn, IsNoCodeFor}
 use Rattle.program.proofs.CodeLemmas.{code_tells, memory_fits, feeding_fits}
-use Rattle.program.proofs.Limited.{when_limited}
-use Rattle.program.proofs.Endings.{cut_ran, closed_ran, limit_new, front_new, fed_new}
+use Rattle.program.proofs.Limited.{when_stopped}
+use Rattle.program.proofs.Endings.{cut_ran, closed_ran, limit_new, broken_new, front_new, fed_new}
+use Rattle.program.proofs.Keeping.{run_keeps}
 use Rattle.program.proofs.RunLemmas.{unread_run, no_prelude_run, no_code_run, memory_run, run_of, run_since, run_before}
 use Rattle.program.proofs.running.run_file.Goals as goal
 
@@ -75,18 +76,21 @@ returns-in_err-close-clause-run g c =
     let prelude = c.in_ok-prelude.prelude in
     let code = c.in_ok-code.code in
     let own : IsCodeIn c.args.name.now c.in_ok-content.content.items code = subst (λ (s : List ℕ). IsCodeIn c.args.name.now s code) c.as_slice.ensures.value c.in_ok-code.ensures.code in
-    read_both (λ builds sources front limit.
+    read_both (λ builds sources front stops.
     let runs : List (List ℕ) → Run → Type 0 = Does (library builds) (started prelude code) c.args.budget in
     let fed : IsFedFront runs c.in_ok-reader.reader.taken (ahead c.in_ok-reader.reader (g.S.Source.left c.args.input.now)) (g.K.Sink.written c.args.out.now) (g.K.Sink.written c.feed.new.out)
     = subst (λ (W : World). IsFedFront (Does (library builds) W c.args.budget) c.in_ok-reader.reader.taken (ahead c.in_ok-reader.reader (g.S.Source.left c.args.input.now)) (g.K.Sink.written c.args.out.now) (g.K.Sink.written c.feed.new.out)) c.in_ok-world.ensures.begun front in
     run_before c.args.name.now c.args.budget _ _ _ _ _ _ _ _ _ _ c.in_ok-content.ensures.cause.only c.in_ok-content.ensures.kept (ap status_of is)
     (run_of sources c.scripts_do_as_they_mean.ensures.does c.scripts_do_as_they_mean.ensures.means c.prelude_is_alike.ensures c.args.name.now c.in_ok-content.content.items c.args.budget _ prelude code _ _ _ _ _
     c.requires.short c.in_ok-content.ensures.found c.in_ok-prelude.ensures.code (λ other is_prelude. prelude_once prelude other c.in_ok-prelude.ensures.code is_prelude) own c.rules_hold.ensures
+    (run_keeps sources c.runs_have_the_prelude.ensures.runs c.runs_have_the_prelude.ensures.code c.loading_is_safe.ensures.safe c.prelude_is_alike.ensures prelude code c.args.budget c.in_ok-prelude.ensures.code c.rules_hold.ensures)
     (cut_ran prelude c.in_ok-prelude.ensures.code runs (λ lines x y h k. c.runs_are_one.ensures.runs (library builds) (started prelude code) lines c.args.budget x y h k) _ _ _ _ _ c.in_err-close.field-0.0
     (record { no_fault = refl; unwritten = refl }) c.in_err-close.ensures.input c.in_err-close.ensures.output (λ past. limit_new c.in_ok-reader.reader runs _ _ _ c.in_ok-reader.ensures
-    (subst (λ (W : World). IsCutOff (Does (library builds) W c.args.budget) c.in_ok-reader.reader.taken (ahead c.in_ok-reader.reader (g.S.Source.left c.args.input.now)) (g.K.Sink.written c.args.out.now) (g.K.Sink.written c.feed.new.out)) c.in_ok-world.ensures.begun (limit past)))
+    (subst (λ (W : World). IsCutOff (Does (library builds) W c.args.budget) c.in_ok-reader.reader.taken (ahead c.in_ok-reader.reader (g.S.Source.left c.args.input.now)) (g.K.Sink.written c.args.out.now) (g.K.Sink.written c.feed.new.out)) c.in_ok-world.ensures.begun (stops.0 past)))
+    (λ failed. broken_new c.in_ok-reader.reader runs _ _ _ c.in_ok-reader.ensures
+    (subst (λ (W : World). IsBrokenOff (Does (library builds) W c.args.budget) c.in_ok-reader.reader.taken (ahead c.in_ok-reader.reader (g.S.Source.left c.args.input.now)) (g.K.Sink.written c.args.out.now) (g.K.Sink.written c.feed.new.out)) c.in_ok-world.ensures.begun (stops.1 failed)))
     (front_new c.in_ok-reader.reader runs _ _ _ c.in_ok-reader.ensures fed) c.in_err-close.ensures.grows)))
-    c.in_err-close.ensures.front (when_limited (Err c.in_err-close.field-0.0) c.in_err-close.ensures.limit)
+    c.in_err-close.ensures.front (when_stopped (Err c.in_err-close.field-0.0) c.in_err-close.ensures.limit c.in_err-close.ensures.broken)
 
 pub returns-clause-run : goal.returns-clause-run
 returns-clause-run g c =
@@ -100,6 +104,7 @@ returns-clause-run g c =
     run_since c.args.name.now c.args.budget _ _ _ _ _ _ _ _ _ _ _ _ c.in_ok-content.ensures.cause.only c.in_ok-content.ensures.kept refl
     (run_of sources c.scripts_do_as_they_mean.ensures.does c.scripts_do_as_they_mean.ensures.means c.prelude_is_alike.ensures c.args.name.now c.in_ok-content.content.items c.args.budget _ prelude code _ _ _ _ _
     c.requires.short (rw c.in_ok-content.ensures.kept c.in_ok-content.ensures.found) c.in_ok-prelude.ensures.code (λ other is_prelude. prelude_once prelude other c.in_ok-prelude.ensures.code is_prelude) own c.rules_hold.ensures
+    (run_keeps sources c.runs_have_the_prelude.ensures.runs c.runs_have_the_prelude.ensures.code c.loading_is_safe.ensures.safe c.prelude_is_alike.ensures prelude code c.args.budget c.in_ok-prelude.ensures.code c.rules_hold.ensures)
     (closed_ran prelude c.in_ok-prelude.ensures.code runs (λ lines x y h k. c.runs_are_one.ensures.runs (library builds) (started prelude code) lines c.args.budget x y h k) _ _ _ _ c.feed.new.world (close_of c.in_ok-close.close) c.state_at.result _
     c.in_ok-close.ensures.input.only c.in_ok-close.ensures.output.only (fed_new c.in_ok-reader.reader runs _ _ _ (close_of c.in_ok-close.close) c.feed.new.world c.in_ok-reader.ensures fed) c.leave_session-answer.ensures.left c.state_at.ensures))) c.in_ok-close.ensures.fed
 
