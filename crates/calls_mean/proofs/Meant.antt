@@ -30,7 +30,8 @@ use Rattle.sessions_mean.specs.Law as sessions
 use Rattle.sessions_mean.specs.Law.{AreSessions, SessionsMean, SessionsMeanOne}
 use Rattle.program.specs.Checking.{begins_chunk, IsAccepted}
 use Rattle.program.specs.Compiling.{source_name}
-use Rattle.program.specs.Meaning.{MeansOn, EndsWith, AreShort}
+use Rattle.program.specs.Meaning.{MeansOn, EndsWith}
+use Rattle.machine_runs.specs.Laws.{AreShort}
 use Rattle.program.specs.Sessions.{functions_of}
 use Rattle.program.proofs.MeaningLemmas.{read_of, by_script, name_is_short, ends_with}
 use Rattle.calls_mean.specs.Law.{all_lines, AreCalls, IsAsMeant, CallsMean, CallsMeanOne}

@@ -6,7 +6,8 @@ use Rattle.io_edge.specs.Lines.{lines_of}
 use Rattle.machine_sound.proofs.Lists.{each_front, each_append}
 use Rattle.source_builds.proofs.Lookups.{read_some}
 use Rattle.machine_runs.specs.Runs.{Close, has_returned, has_failed, has_spent, is_suspended}
-use Rattle.program.specs.Meaning.{AreShort, has_ended}
+use Rattle.program.specs.Meaning.{has_ended}
+use Rattle.machine_runs.specs.Laws.{AreShort}
 use Rattle.program.specs.Sessions.{status_of_close}
 use Rattle.command_words.specs.Words.{resume}
 use Rattle.calls_mean.specs.Calls.{Called, Resumed, last_call, saving_call, Calls, first_call, SavedCalls, first_saves, next_saves}

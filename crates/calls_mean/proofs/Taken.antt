@@ -8,7 +8,7 @@ use Rattle.compile_chunk.specs.Chunk.{IsCodeOf, script_in}
 use Rattle.prelude_code.specs.Prelude.{IsPreludeCode}
 use Rattle.io_edge.specs.Content.{FileMap}
 use Rattle.io_edge.specs.Lines.{lines_of}
-use Rattle.machine_runs.specs.Laws.{PreludeOk}
+use Rattle.machine_runs.specs.Laws.{PreludeOk, AreShort}
 use Rattle.machine_runs.specs.Runs.{Close, has_returned, has_failed, has_spent, is_suspended, Run, CodeOnward}
 use Rattle.loaded_code.specs.Laws.{library, load_by}
 use Rattle.load_rows.specs.Loading.{Builds}
@@ -29,7 +29,6 @@ use Rattle.program.specs.declared.session.Session.{Session}
 use Rattle.program.specs.Checking.{begins_chunk, IsAccepted}
 use Rattle.program.specs.Compiling.{source_name}
 use Rattle.program.specs.Devices.{Device, RoseIn, Holds, Has}
-use Rattle.program.specs.Meaning.{AreShort}
 use Rattle.program.specs.Resuming as resuming
 use Rattle.program.specs.Resuming.{HoldsNoSession, IsNotResumed}
 use Rattle.program.specs.Running as running

@@ -24,7 +24,7 @@ use Rattle.sessions_mean.proofs.Meant.{LoadingStands, loading_fits}
 use Rattle.source_laws.specs.Checked.{CodeOfSourcesIsChecked}
 use Rattle.program.specs.declared.session.Session.{Session}
 use Rattle.program.specs.Devices.{Device, Holds, Has}
-use Rattle.program.specs.Meaning.{AreShort}
+use Rattle.machine_runs.specs.Laws.{AreShort}
 use Rattle.program.specs.Resuming as resuming
 use Rattle.program.specs.Resuming.{IsNotResumed}
 use Rattle.program.specs.Running as running

@@ -7,7 +7,8 @@ use Rattle.io_edge.specs.Lines.{lines_of}
 use Rattle.lua_meaning.specs.Meaning.{Meaning}
 use Rattle.source_builds.specs.Readings.{AsRead}
 use Rattle.program.specs.Checking.{begins_chunk}
-use Rattle.program.specs.Meaning.{MeansOn, EndsWith, AreShort}
+use Rattle.program.specs.Meaning.{MeansOn, EndsWith}
+use Rattle.machine_runs.specs.Laws.{AreShort}
 use Rattle.calls_mean.specs.Calls.{Calls}
 
 -- the lines of all inputs, in their order

@@ -13,7 +13,8 @@ use Rattle.machine_runs.specs.Runs.{Run}
 use Rattle.program.specs.declared.session.Session.{Session}
 use Rattle.program.specs.Checking.{begins_chunk}
 use Rattle.program.specs.Devices.{Device, RoseIn, Holds}
-use Rattle.program.specs.Meaning.{MeansOn, AreShort}
+use Rattle.program.specs.Meaning.{MeansOn}
+use Rattle.machine_runs.specs.Laws.{AreShort}
 use Rattle.program.specs.Program.{IsCall}
 use Rattle.program.specs.Resuming.{ResumesOn}
 use Rattle.program.specs.Sessions.{status_of_close, IsKept}

@@ -13,7 +13,8 @@ use Rattle.images_mean.specs.Stands.{StandsFor}
 use Rattle.program.specs.declared.session.Session.{Session}
 use Rattle.program.specs.Devices.{Device, Holds}
 use Rattle.program.specs.Checking.{begins_chunk}
-use Rattle.program.specs.Meaning.{MeansOn, AreShort}
+use Rattle.program.specs.Meaning.{MeansOn}
+use Rattle.machine_runs.specs.Laws.{AreShort}
 use Rattle.program.specs.Running.{IsRun}
 use Rattle.program.specs.Sessions.{functions_of}
 

@@ -2,7 +2,7 @@
 use Rattle.std.proofs.Common.{◌≡◌, ⊎_elim, ℕ, zero, suc, List, [], ◌∷◌, length, Option, Some, None, true, false, refl, sym, ◌∙◌, ap, subst}
 use Rattle.std.proofs.lemmas.Option.{slice_get-map}
 use Rattle.std.specs.Prelude.{slice_get, slice_set, map, option_map, nat_lt, codes}
-use Rattle.int_core.specs.Value.{Value, known, primitive, object, a_function, nth}
+use Rattle.int_core.specs.Value.{Value, known, primitive, object, a_function, nth, error_or_nil}
 use Rattle.int_core.specs.Limits.{greatest_resumes, stack_overflow}
 use Rattle.int_core.specs.Operations.{Callee, callee, not_callable, callee_of, greatest_chain, handler_in, of_close}
 use Rattle.int_core.specs.Ask.{Reply, values, left, Answer}
@@ -10,7 +10,7 @@ use Rattle.tree_core.specs.Tree.{Body}
 use Rattle.tree_activation.specs.Work.{when_declared, when_captured, State}
 use Rattle.tree_activation.specs.Activation.{start}
 use Rattle.lua_meaning.specs.World.{System, Now, gives_back, unwinds, spent, broken, ends, calls_primitive, World, now_in, on_frames, has_room, runs_main, raises_text, shared_out, given_to, answered}
-use Rattle.lua_meaning.specs.Calls.{text, truth, error_in_handler, error_or_nil, put_coroutine, all_pending, all_closed, enters, enters_function, pays_with, pays_for, calls_value, calls_over, closes_on, handed, raised_to, unwound, goes_along, goes_into, resumes, closes_in, closes_coroutine}
+use Rattle.lua_meaning.specs.Calls.{text, truth, error_in_handler, put_coroutine, all_pending, all_closed, enters, enters_function, pays_with, pays_for, calls_value, calls_over, closes_on, handed, raised_to, unwound, goes_along, goes_into, resumes, closes_in, closes_coroutine}
 use Rattle.lua_meaning.specs.TreeMeaning.{trees}
 use Rattle.meaning_cells.specs.Alike.{Answered, as_stored}
 use Rattle.meaning_cells.proofs.Steps.{starts_alike}

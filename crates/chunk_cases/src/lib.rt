@@ -1,5 +1,5 @@
-// Cases of instructions, chunks and the rules on code: what no clause of their crates says.
-// They stand in a crate of their own, so that these crates are not proved once more for them.
+//! Cases of instructions, chunks and the rules on code: what no clause of their crates says.
+//! They stand in a crate of their own, so that these crates are not proved once more for them.
 #![tactic(auto)]
 
 #[cfg(test)]

@@ -1,4 +1,4 @@
-// The check of code before it runs: it finds the first rule that is broken, or keeps the code as checked.
+//! The check of code before it runs: it finds the first rule that is broken, or keeps the code as checked.
 #![tactic(auto)]
 
 mod checked;

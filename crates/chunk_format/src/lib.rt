@@ -1,4 +1,4 @@
-// Lua 5.4's binary chunks: the bytes of a function's prototype, written and read (`ldump.c` and `lundump.c`).
+//! Lua 5.4's binary chunks: the bytes of a function's prototype, written and read (`ldump.c` and `lundump.c`).
 #![tactic(auto)]
 
 mod chunk;

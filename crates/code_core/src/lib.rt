@@ -1,4 +1,4 @@
-// Lua 5.4's virtual machine code as data: instruction words and the functions that they make up.
+//! Lua 5.4's virtual machine code as data: instruction words and the functions that they make up.
 #![tactic(auto)]
 
 mod checked;

@@ -1,4 +1,4 @@
-// The parts of a function's prototype that are not its code (Lua 5.4's lobject.h, Proto).
+//! The parts of a function's prototype that are not its code (Lua 5.4's lobject.h, Proto).
 #![tactic(auto)]
 
 mod assembling;

@@ -1,5 +1,5 @@
-// Cases of sources, from their bytes to trees: what no clause of the crates up to the parser says of them.
-// They stand in a crate of their own, so that these crates are not proved once more for them.
+//! Cases of sources, from their bytes to trees: what no clause of the crates up to the parser says of them.
+//! They stand in a crate of their own, so that these crates are not proved once more for them.
 #![tactic(auto)]
 
 #[cfg(test)]

@@ -1,7 +1,7 @@
 -- Each move leaves all functions as they are.
 use Rattle.std.proofs.Common.{ℕ, zero, suc, ◌≡◌, Bool, true, false, cond, List, [], ◌∷◌, ◌++◌, Option, Some, None, refl, subst, sym, ◌∙◌, ap, length, append_assoc, append-nil}
 use Rattle.std.specs.Prelude.{ℤ, slice_get, slice_set, drop, reverse, flat_map, ◌&&◌, nat_lt, codes}
-use Rattle.int_core.specs.Value.{nil, boolean, integer, string, primitive, a_table, a_function, a_coroutine, Kind, Plain, Value, known, object, Shape, bind, last, without_last}
+use Rattle.int_core.specs.Value.{nil, boolean, integer, string, primitive, a_table, a_function, a_coroutine, Kind, Plain, Value, known, object, Shape, bind, last, without_last, error_or_nil}
 use Rattle.int_core.specs.Heap.{add_table, filled_table}
 use Rattle.int_core.specs.Limits.{greatest_depth, greatest_resumes}
 use Rattle.int_core.specs.Operations.{Operation, Settled, found, ask, fault, cannot_arise, does, Callee, callee, not_callable, callee_of, greatest_chain, is_function}
@@ -10,7 +10,7 @@ use Rattle.code_core.specs.Prototype.{Prototype, list_of}
 use Rattle.code_core.specs.Check.{at}
 use Rattle.machine_core.specs.World.{Function, Cell, closed, open_at, Wait, leaving, Frame, lua, pcall, xpcall, handler, closing, Coroutine, fresh, suspended, in_progress, normal, dead, failed, World, Stack, stack_of, Place, place_of, put_frames, put_top, push, pop, read_cell, write_cell, find_open, with_frames, write_in_coroutine}
 use Rattle.machine_core.specs.Text.{Arg, arg, args_of, Own, close_cells, keep_pending, Quick, read_upvalue, write_upvalue, make_table, make_function, fill_table, pay, Given, given_values, fits, reads, tells}
-use Rattle.machine_core.specs.Moves.{Over, frame_over, Move, on_own, move_pc, open_register, outside, settle, enter, enter_tail, await, find_close, is_closable, begin_leaving, leave_frame, take_moving, look, give, give_with, blame, place_text, push_frame, call_value, see_top, see_catcher, pop_frame, take_closing, set_error, end_coroutine, fail_coroutine, suspend, resume, begin_closing, consult, create, see_status, see_running, print, make_loaded, Made, made, CallShape, not_paid, one_left, resumed, refused, runs_main, error_or_nil, bytes_in, named, blamed, with_own, do_own, place_from, moved_pc, opened_cells, captured, made_function, own_cell, do_outside, new_frame, push_all, has_room, enters, enters_paid, called, popped, called_tail, top_now, catcher, next_closing, with_error, pending_values, put_coroutine, awake, back_to_resumer, bury, ends_as, suspend_running, wait_for_another, go_into, starts_in, can_start, resumes, closes_in, closes_coroutine, coroutine_number, add_coroutine, add_printed, add_loaded, environment_in, consulted, settled, move}
+use Rattle.machine_core.specs.Moves.{Over, frame_over, Move, on_own, move_pc, open_register, outside, settle, enter, enter_tail, await, find_close, is_closable, begin_leaving, leave_frame, take_moving, look, give, give_with, blame, place_text, push_frame, call_value, see_top, see_catcher, pop_frame, take_closing, set_error, end_coroutine, fail_coroutine, suspend, resume, begin_closing, consult, create, see_status, see_running, print, make_loaded, Made, made, CallShape, not_paid, one_left, resumed, refused, runs_main, bytes_in, named, blamed, with_own, do_own, place_from, moved_pc, opened_cells, captured, made_function, own_cell, do_outside, new_frame, push_all, has_room, enters, enters_paid, called, popped, called_tail, top_now, catcher, next_closing, with_error, pending_values, put_coroutine, awake, back_to_resumer, bury, ends_as, suspend_running, wait_for_another, go_into, starts_in, can_start, resumes, closes_in, closes_coroutine, coroutine_number, add_coroutine, add_printed, add_loaded, environment_in, consulted, settled, move}
 use Rattle.functions_stay.specs.Laws.{Keeps, KeepsIfMade, MovesKeep}
 
 -- worlds that have the same functions

@@ -1,4 +1,4 @@
-// The prelude's code keeps its environment to itself.
+//! The prelude's code keeps its environment to itself.
 #![tactic(auto)]
 
 #[cfg(test)]

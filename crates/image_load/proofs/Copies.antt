@@ -4,8 +4,8 @@ use Rattle.std.specs.Prelude.{slice_get, flat_map, option_map, unwrap_or}
 use Rattle.std.proofs.lemmas.Option.{slice_get-map, slice_get_within}
 use Rattle.int_core.specs.Value.{Kind, a_table, a_function, a_coroutine, Value, known, object, nil, bind}
 use Rattle.int_core.specs.Heap.{Table}
-use Rattle.machine_core.specs.World.{Function, Cell, closed, open_at, Wait, running, for_call, for_iterator, for_value, for_truth, dropped, for_concat, for_close, returning, leaving, Frame, lua, pcall, xpcall, handler, closing, Coroutine, fresh, suspended, in_progress, normal, dead, failed, World, register_at, frames_of, lua_frame}
-use Rattle.machine_alike.specs.Agree.{Pairs, SameNumber, SameCellNumber, Each, Both, SameValue, same_known, same_object, SameValues, SameRow, SameTable, SameFunction, SameWait, same_running, same_for_call, same_for_iterator, same_for_value, same_for_truth, same_dropped, same_for_concat, same_for_close, same_returning, same_leaving, SameFrame, same_lua, same_pcall, same_xpcall, same_handler, same_closing, SameFrames, SameCoroutine, same_fresh, same_suspended, same_dead, same_failed, OneToOne, OneEach, IsFirst, IsSecond, Loose, kept_closed, kept_apart, SameCell, same_place, same_content, Extends}
+use Rattle.machine_core.specs.World.{Function, Cell, closed, open_at, Wait, running, for_call, for_iterator, for_value, for_truth, dropped, for_concat, for_close, returning, leaving, Frame, lua, pcall, xpcall, handler, closing, Coroutine, fresh, suspended, in_progress, normal, dead, failed, World, register_at, frames_of, lua_frame, OneEach}
+use Rattle.machine_alike.specs.Agree.{Pairs, SameNumber, SameCellNumber, Each, Both, SameValue, same_known, same_object, SameValues, SameRow, SameTable, SameFunction, SameWait, same_running, same_for_call, same_for_iterator, same_for_value, same_for_truth, same_dropped, same_for_concat, same_for_close, same_returning, same_leaving, SameFrame, same_lua, same_pcall, same_xpcall, same_handler, same_closing, SameFrames, SameCoroutine, same_fresh, same_suspended, same_dead, same_failed, OneToOne, IsFirst, IsSecond, Loose, kept_closed, kept_apart, SameCell, same_place, same_content, Extends}
 use Rattle.machine_alike.proofs.Pairwise.{both_from, both_on, both_old, both_right, both_split, get_push_old, bind_some}
 use Rattle.machine_alike.proofs.Same.{value_on, table_on, function_on, coroutine_on}
 use Rattle.image_core.specs.Visit.{place, IsMet, greatest_count}

@@ -1,8 +1,8 @@
 -- One image that is loaded into two worlds that agree.
 use Rattle.std.specs.Prelude.{ℕ, ◌+◌, ◌-◌, ◌≡◌, true, cond, List, length, Option, Some, None, nat_lt, slice_get}
 use Rattle.int_core.specs.Value.{object, Kind, a_table, a_function, a_coroutine}
-use Rattle.machine_core.specs.World.{World}
-use Rattle.machine_alike.specs.Agree.{Pairs, SameNumber, SameValue, objects_of, SameObjects, OneEach, Extends}
+use Rattle.machine_core.specs.World.{World, OneEach}
+use Rattle.machine_alike.specs.Agree.{Pairs, SameNumber, SameValue, objects_of, SameObjects, Extends}
 use Rattle.image_core.specs.Image.{PermKey, LuaFrameItem, FrameItem, lua_item, Record, function_record, open_record, suspended_record}
 use Rattle.image_core.specs.Loading.{kind_in, is_cell, Target, value_made, count_in, table_made, function_made, coroutine_made, cell_made, chosen, loaded}
 

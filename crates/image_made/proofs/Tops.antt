@@ -6,8 +6,8 @@ use Rattle.std.proofs.lemmas.Option.{slice_get_within}
 use Rattle.std.proofs.Math.Seq.{take-suc}
 use Rattle.std.proofs.lemmas.List.{length-map, map-append, take_all}
 use Rattle.code_core.specs.Prototype.{Prototype, none}
-use Rattle.int_core.specs.Value.{Value}
-use Rattle.machine_core.specs.Moves.{fitted, new_frame}
+use Rattle.int_core.specs.Value.{Value, fitted}
+use Rattle.machine_core.specs.Moves.{new_frame}
 use Rattle.machine_core.specs.World.{LuaFrame, Frame, lua, xpcall, closing}
 use Rattle.image_core.specs.Image.{Item, FrameItem, LuaFrameItem, lua_item, pcall_item, xpcall_item, handler_item, closing_item, Record}
 use Rattle.image_core.specs.Loading.{Target, frame_made, lua_frame_made, function_number, value_made}

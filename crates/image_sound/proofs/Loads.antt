@@ -6,8 +6,8 @@ use Rattle.int_core.specs.Value.{Plain, nil, boolean, integer, string, primitive
 use Rattle.int_core.specs.Heap.{Table}
 use Rattle.code_core.specs.declared.opcode.Opcode.{Opcode}
 use Rattle.code_core.specs.declared.instruction.Instruction.{Instruction}
-use Rattle.machine_core.specs.World.{Function, Cell, closed, open_at, Wait, running, for_call, for_iterator, for_value, for_truth, dropped, for_concat, for_close, returning, leaving, lua, Coroutine, World, frames_of, lua_frame}
-use Rattle.machine_sound.specs.Sound.{Each, Sizes, sizes, PlainOk, Valid, OptionOk, TableOk, FunctionOk, WaitOk, LuaOk, FrameOk, LuaWaits, FrameWaits, CoroutineOk, Standing, runs, resumed_another, apart, standing, ChainOk, registers_in, registers_of, CellOk, OneEach, Solid, waits_at, waiting_size, kept_below}
+use Rattle.machine_core.specs.World.{Function, Cell, closed, open_at, Wait, running, for_call, for_iterator, for_value, for_truth, dropped, for_concat, for_close, returning, leaving, lua, Coroutine, World, frames_of, lua_frame, OneEach}
+use Rattle.machine_sound.specs.Sound.{Each, Sizes, sizes, PlainOk, Valid, OptionOk, TableOk, FunctionOk, WaitOk, LuaOk, FrameOk, LuaWaits, FrameWaits, CoroutineOk, Standing, runs, resumed_another, apart, standing, ChainOk, registers_in, registers_of, CellOk, Solid, waits_at, waiting_size, kept_below}
 use Rattle.machine_sound.proofs.Grow.{Grows, valid_on, table_on, function_on, coroutine_on, roots_on}
 use Rattle.machine_sound.proofs.Lists.{each_on, each_append, each_cons, get_push_old, map_get, some_is}
 use Rattle.image_core.specs.Image.{Item, plain, numbered, permanent, environment, LuaFrameItem, FrameItem, lua_item, pcall_item, xpcall_item, handler_item, closing_item, Record, table_record, function_record, closed_record, open_record, fresh_record, suspended_record, dead_record, failed_record, no_record}

@@ -41,7 +41,8 @@ use Rattle.sessions_join.proofs.Waiting.{Waits, run_waits}
 use Rattle.sessions_join.proofs.Joined.{moved}
 use Rattle.sessions_load.specs.Law.{IsLoadable, RunIsLoadable, LoadedGoesOn}
 use Rattle.sessions_mean.proofs.Meant.{LoadingStands, loading_fits}
-use Rattle.images_mean.specs.Stands.{AreShort, GoesOnAs, StandsFor}
+use Rattle.images_mean.specs.Stands.{GoesOnAs, StandsFor}
+use Rattle.machine_runs.specs.Laws.{AreShort}
 use Rattle.images_mean.specs.Law.{IsSavedScript, SavedImagesStand}
 
 -- a suspended script means one thing alone

@@ -1,6 +1,5 @@
 -- That an image stands for a script that waits for a line.
-use Rattle.std.specs.Prelude.{◌≡◌, ◌≤◌, ℕ, List, length}
-use Rattle.int_core.specs.Value.{greatest_string}
+use Rattle.std.specs.Prelude.{◌≡◌, ℕ, List}
 use Rattle.tree_core.specs.Tree.{Body}
 use Rattle.tree_activation.specs.Work.{when_declared, State}
 use Rattle.code_core.specs.Prototype.{Prototype}
@@ -11,15 +10,11 @@ use Rattle.lua_meaning.specs.Meaning.{Meaning, is_suspended, IsOnward}
 use Rattle.lua_meaning.specs.Opening.{primitives}
 use Rattle.lua_meaning.specs.TreeMeaning.{trees}
 use Rattle.machine_core.specs.World.{World}
-use Rattle.machine_sound.specs.Sound.{Each}
+use Rattle.machine_runs.specs.Laws.{AreShort}
 use Rattle.machine_runs.specs.Runs.{Run, CodeOnward}
 use Rattle.loaded_code.specs.Laws.{library}
 use Rattle.lua_saving.specs.Saving.{IsSession, HasYielded}
 use Rattle.scripts_mean.specs.Scripts.{RunsAs}
-
--- strings can hold all lines
-abbrev pub AreShort : List (List ℕ) → Type 0
-AreShort lines = Each (λ (line : List ℕ). length line ≤ greatest_string) lines
 
 -- On all further lines and with every budget a session does what a suspended script means, and nothing else. What is loaded is built in both as `builds` says
 pub record GoesOnAs (builds : Builds Body) (session : World) (script : TreeWorld Body State) : Type 0 where

@@ -4,3 +4,4 @@ pub mod NumeralLemmas
 pub mod SpellsLemmas
 pub mod RowsLemmas
 pub mod RowsLaws
+pub mod ValueLemmas

@@ -67,6 +67,11 @@ holds (is_known nil) = false
 holds (is_known (boolean b)) = b
 holds _ = true
 
+-- where there is no error, nil stands for it
+abbrev pub error_or_nil : Option Value → Value
+error_or_nil None = known nil
+error_or_nil (Some e) = e
+
 -- what tables ask of these values
 abbrev pub table_values : Values Value
 table_values = record { same = same; nil = known nil; integer = λ n. known (integer n) }
@@ -75,6 +80,12 @@ table_values = record { same = same; nil = known nil; integer = λ n. known (int
 
 abbrev pub nth : List Value → ℕ → Value
 nth vs n = elim (slice_get vs n) [ None ↦ known nil | Some v ↦ v ]
+
+-- exactly n values
+abbrev pub fitted : ℕ → List Value → List Value
+fitted zero vs = []
+fitted (suc n) [] = known nil ∷ fitted n []
+fitted (suc n) (v ∷ vs) = v ∷ fitted n vs
 
 abbrev pub range : ℕ → ℕ → List Value → List Value
 range from zero vs = []

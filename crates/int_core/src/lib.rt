@@ -1,4 +1,4 @@
-// The values that every layer shares: the arithmetic of integers and their texts, byte strings and lists of numbers.
+//! The values that every layer shares: the arithmetic of integers and their texts, byte strings and lists of numbers.
 #![tactic(auto)]
 
 mod arithmetic;

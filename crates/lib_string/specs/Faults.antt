@@ -22,10 +22,6 @@ pattern_fault_text (of_pattern.Malformed rule) = Some (rule_text rule)
 pattern_fault_text of_pattern.TooComplex = Some (codes "pattern too complex")
 pattern_fault_text of_pattern.Memory = None
 
-abbrev pub fault_text : Fault → Option (List ℕ)
-fault_text (Refused why) = Some (refusal_text why)
-fault_text Memory = None
-
 -- a text of so many bytes is refused as too large where it is, else memory ran out
 abbrev pub IsNoRoom : ℕ → {A : Type 0} → Result A Fault → Type 0
 IsNoRoom len (Ok x) = Unit {0}

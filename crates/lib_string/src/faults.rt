@@ -2,7 +2,8 @@
 ghost use Rattle.std.specs.Prelude.{◌≡◌};
 ghost use Rattle.library_rows.specs.Plainly.{too_large};
 ghost use Rattle.library_rows.specs.Searches.{rule_text};
-ghost use Rattle.lib_string.specs.Faults.{fault_text, pattern_fault_text, string_fault_text};
+ghost use Rattle.lib_string.specs.Faults.{pattern_fault_text, string_fault_text};
+ghost use Rattle.library_arguments.specs.Refusals.{fault_text};
 
 use library_arguments::{Fault, Refusal};
 use lua_pattern::{PatternFault, rule};

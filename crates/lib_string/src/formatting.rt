@@ -3,9 +3,8 @@ ghost use Rattle.std.specs.Prelude.{◌≡◌, Some};
 ghost use Rattle.std.specs.List.{list_all};
 ghost use Rattle.library_rows.specs.Formats.{allowed, converted, converts, has, invalid, is_allowed, no_literal, quote, sort_of};
 ghost use Rattle.text_format.specs.Told.{told_conversion};
-ghost use Rattle.library_arguments.specs.Refusals.{refusal_text};
+ghost use Rattle.library_arguments.specs.Refusals.{refusal_text, fault_text};
 ghost use Rattle.library_arguments.specs.Shapes.{shape_of};
-ghost use Rattle.lib_string.specs.Faults.{fault_text};
 ghost use Rattle.lib_string.specs.Pieces.{IsText, sort_told, told_sort, with_more};
 
 use library_arguments::{Fault, Refusal, Shape, integer_argument, text_argument};

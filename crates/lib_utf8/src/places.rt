@@ -2,7 +2,7 @@
 ghost use Rattle.std.specs.Prelude.{◌≡◌, Some};
 ghost use Rattle.library_rows.specs.Arguments.{bad_argument};
 ghost use Rattle.library_rows.specs.Codepoints.{invalid_code, place_in};
-ghost use Rattle.lib_utf8.specs.Faults.{fault_text};
+ghost use Rattle.library_arguments.specs.Refusals.{fault_text};
 
 use library_arguments::{Fault, Refusal};
 

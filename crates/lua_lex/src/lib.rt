@@ -1,4 +1,4 @@
-// The tokens of a source text (Lua 5.4 manual, 3.1).
+//! The tokens of a source text (Lua 5.4 manual, 3.1).
 #![tactic(auto)]
 
 // Tokens, and the numbers of words and marks.

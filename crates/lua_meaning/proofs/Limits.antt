@@ -2,13 +2,13 @@
 use Rattle.std.proofs.Common.{◌≡◌, ℕ, zero, suc, ◌+◌, ◌≤◌, Bool, true, false, cond, List, [], ◌∷◌, ◌++◌, length, Option, Some, None, refl, arith}
 use Rattle.std.proofs.lemmas.Bool.Decides.{nat_tests}
 use Rattle.std.specs.Prelude.{ℤ, nat_lt, slice_get, slice_set, drop, codes}
-use Rattle.int_core.specs.Value.{Value, known, primitive, object, a_function, a_coroutine, shape, is_nil, nth}
+use Rattle.int_core.specs.Value.{Value, known, primitive, object, a_function, a_coroutine, shape, is_nil, nth, error_or_nil}
 use Rattle.int_core.specs.Limits.{greatest_depth, greatest_resumes}
 use Rattle.int_core.specs.Heap.{filled_table}
 use Rattle.int_core.specs.Operations.{Callee, callee, not_callable, callee_of, greatest_chain, Settled, found, ask, fault, cannot_arise, does, handler_in, of_close, is_function}
 use Rattle.int_core.specs.Ask.{faulted, Ask, reads_upvalue, writes_upvalue, makes_table, makes_function, fills_table, pays, opens, operates, calls, calls_last, marks, closes, raises, leaves, returns, throws, Answer, Next, goes_on, says, stuck}
 use Rattle.lua_meaning.specs.World.{System, Function, Asker, Frame, talking, waiting, raising, protected, handled_by, handling, closing, Coroutine, fresh, suspended, running, normal, dead, failed, Now, talks, gives_back, raises_error, unwinds, calls_primitive, ends, World, now_in, breaks, has_room, on_frames, runs_main, raises_text, blamed, given_to, answered, answered_at_once, as_known, cell_of, shared_in}
-use Rattle.lua_meaning.specs.Calls.{error_in_handler, error_or_nil, put_coroutine, frames_in, back_to, returns_all, fails_all, enters_function, enters, pays_with, pays_for, calls_value, calls_over, closes_on, handed, raised_to, unwound, goes_along, goes_into, resumes, yields, closes_in, closes_coroutine}
+use Rattle.lua_meaning.specs.Calls.{error_in_handler, put_coroutine, frames_in, back_to, returns_all, fails_all, enters_function, enters, pays_with, pays_for, calls_value, calls_over, closes_on, handed, raised_to, unwound, goes_along, goes_into, resumes, yields, closes_in, closes_coroutine}
 use Rattle.lua_meaning.specs.Asks.{calls_for, calls_in_place, settled, pays_unit, made_in, gets_function, handle, turns, talks_on}
 use Rattle.library_rows.specs.Look.{Done, done}
 use Rattle.library_rows.specs.Look.{refused as no_result, raised as an_error}

@@ -1,7 +1,7 @@
 -- Calls and what follows them: results that reach a frame, errors, closing methods, and the moves between coroutines
 -- (Lua 5.4 manual, 2.3, 2.6 and 3.3.8).
 use Rattle.std.specs.Prelude.{ℕ, zero, suc, Bool, true, false, cond, List, [], ◌∷◌, ◌++◌, length, Option, Some, None, nat_lt, slice_get, slice_set, codes}
-use Rattle.int_core.specs.Value.{nil, boolean, string, primitive, a_function, Value, known, object, nth}
+use Rattle.int_core.specs.Value.{nil, boolean, string, primitive, a_function, Value, known, object, nth, error_or_nil}
 use Rattle.int_core.specs.Limits.{greatest_resumes, stack_overflow}
 use Rattle.int_core.specs.Operations.{Callee, callee, not_callable, callee_of, greatest_chain, handler_in, of_close}
 use Rattle.int_core.specs.Ask.{values, left}
@@ -47,10 +47,6 @@ returns_all W vs = cond (runs_main W) (now_in W (ends (returned vs))) (leaves_co
 
 abbrev pub error_in_handler : Value
 error_in_handler = text (codes "error in error handling")
-
-abbrev pub error_or_nil : Option Value → Value
-error_or_nil None = known nil
-error_or_nil (Some e) = e
 
 -- what `coroutine.close` gives, with the last error of the closing methods
 abbrev pub all_closed : {F S : Type 0} → World F S → Option Value → World F S

@@ -1,4 +1,4 @@
-// The parser: from the tokens of a source to its tree, or the place where they are refused (Lua 5.4 manual, 3.3, 3.4 and 9).
+//! The parser: from the tokens of a source to its tree, or the place where they are refused (Lua 5.4 manual, 3.3, 3.4 and 9).
 #![tactic(auto)]
 
 mod assignment;

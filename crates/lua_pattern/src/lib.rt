@@ -1,4 +1,4 @@
-// Patterns of Lua: a pattern is read into items, and the items are matched by going back over single tries.
+//! Patterns of Lua: a pattern is read into items, and the items are matched by going back over single tries.
 #![tactic(auto)]
 
 // What a pattern spells.

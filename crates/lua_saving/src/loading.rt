@@ -1,6 +1,5 @@
 // A session goes on from an image.
 ghost use Rattle.std.specs.Prelude.{◌≡◌, IfErr, IfOk, false, length, true};
-ghost use Rattle.code_core.specs.Check.{IsChecked};
 ghost use Rattle.code_core.specs.Prototype.{list_of};
 ghost use Rattle.library_rows.specs.PreludeText.{prelude_functions};
 ghost use Rattle.lua_meaning.specs.Opening.{prelude_of};
@@ -13,6 +12,7 @@ use crate::roots::{has_yielded, roots_in};
 use code_core::Checked;
 use eris_read::unpersist;
 use image_reading::{ReadFault, Refusal};
+use lua_feed::rules_hold;
 use lua_heap::World;
 use lua_opening::open;
 use machine_runs::sessions_are_sound;
@@ -51,13 +51,6 @@ pub fn load_session<'a>(
         }
         Err(fault) => Err(fault),
     }
-}
-
-/// Checked code keeps all rules.
-fn rules_hold(code: &Checked)
-    ensures { IsChecked code.now }
-{
-    code.proto();
 }
 
 /// Takes over the roots that some values are, and answers whether they are a session's whose main coroutine waits for a line; else nothing is changed.

@@ -2,11 +2,11 @@
 use Rattle.std.proofs.Common.{◌≡◌, ℕ, zero, suc, ◌+◌, ◌-◌, ◌<◌, ◌≤◌, Bool, true, false, min, List, [], ◌∷◌, ◌++◌, length, map, take, drop, refl, ap, sym, ◌∙◌, arith, le_refl, length-append}
 use Rattle.std.specs.Prelude.{cond}
 use Rattle.std.proofs.lemmas.List.{length-take, length-drop, length-map}
-use Rattle.int_core.specs.Value.{Value, known, nil}
+use Rattle.int_core.specs.Value.{Value, known, nil, fitted}
 use Rattle.code_core.specs.Prototype.{Prototype}
 use Rattle.machine_core.specs.World.{running, Frame, lua}
 use Rattle.machine_core.specs.Text.{nils}
-use Rattle.machine_core.specs.Moves.{fitted, new_frame}
+use Rattle.machine_core.specs.Moves.{new_frame}
 use Rattle.table_core.specs.declared.value.Value.{Value as Kept}
 use Rattle.table_core.specs.declared.value.Value.TheVariants.{Nil}
 use Rattle.table_core.specs.declared.value.FuncId.{FuncId}

@@ -1,4 +1,4 @@
-// Lua 5.4 whose suspended scripts survive on disk: the program over the system's files and streams.
+//! Lua 5.4 whose suspended scripts survive on disk: the program over the system's files and streams.
 #![tactic(auto)]
 
 mod words;

@@ -3,9 +3,9 @@ use Rattle.std.proofs.Common.{ℕ, zero, suc, ◌+◌, ◌≡◌, ◌≢◌, ◌
 use Rattle.std.specs.Prelude.{slice_get, slice_set, nat_eq, nat_lt, ◌&&◌}
 use Rattle.std.proofs.lemmas.Bool.Decides.{eqb_tells}
 use Rattle.int_core.specs.Value.{a_coroutine, Value, nth, bind}
-use Rattle.machine_core.specs.World.{Coroutine, Cell, closed, open_at, is_open_at, find_open, find_open_from, close_from, frames_of, lua_frame}
+use Rattle.machine_core.specs.World.{Coroutine, Cell, closed, open_at, is_open_at, find_open, find_open_from, close_from, frames_of, lua_frame, OneEach}
 use Rattle.machine_core.specs.Moves.{opened_cells}
-use Rattle.machine_alike.specs.Agree.{Pairs, SameNumber, SameCellNumber, Both, SameValues, SameTable, SameFunction, SameCoroutine, IsFirst, IsSecond, Loose, kept_closed, kept_apart, SameCell, same_place, same_content, OneEach, OneToOne, Objects, SameObjects, Extends}
+use Rattle.machine_alike.specs.Agree.{Pairs, SameNumber, SameCellNumber, Both, SameValues, SameTable, SameFunction, SameCoroutine, IsFirst, IsSecond, Loose, kept_closed, kept_apart, SameCell, same_place, same_content, OneToOne, Objects, SameObjects, Extends}
 use Rattle.machine_alike.proofs.Pairwise.{get_push_old, both_on, both_old, both_set, both_split, both_from, get_set_other}
 use Rattle.machine_alike.proofs.Same.{KeepsApart, cell_on, table_on, function_on, coroutine_on, extends_self, nth_same}
 use Rattle.machine_alike.proofs.Grow.{with_pair, pair_cases, pair_new, pair_old, pair_one}

@@ -3,9 +3,9 @@
 use Rattle.std.proofs.Common.{◌≡◌, ℕ, zero, suc, List, [], ◌∷◌, Option, Some, None, refl, subst, sym}
 use Rattle.std.specs.Prelude.{pos, codes, slice_get}
 use Rattle.int_core.specs.Value.{string, integer, Kind, a_table, a_function, a_coroutine, Value, object}
-use Rattle.machine_core.specs.World.{running, Activation, Frame, lua, Cell, closed, open_at, suspended, in_progress, World}
+use Rattle.machine_core.specs.World.{running, Activation, Frame, lua, Cell, closed, open_at, suspended, in_progress, World, OneEach}
 use Rattle.machine_core.proofs.Machine.{int, text, counted, counts}
-use Rattle.machine_alike.specs.Agree.{Pairs, SameNumber, SameCellNumber, Both, SameTable, SameFunction, SameCoroutine, SameCell, Loose, IsFirst, same_known, same_object, same_running, same_lua, same_in_progress, kept_closed, kept_apart, same_place, same_content, OneEach, AgreeInTurn, IsSecond}
+use Rattle.machine_alike.specs.Agree.{Pairs, SameNumber, SameCellNumber, Both, SameTable, SameFunction, SameCoroutine, SameCell, Loose, IsFirst, same_known, same_object, same_running, same_lua, same_in_progress, kept_closed, kept_apart, same_place, same_content, AgreeInTurn, IsSecond}
 
 abbrev own : List Value → Activation
 own registers = record { pc = 3; registers = registers; varargs = []; pending = []; opened = 0 }

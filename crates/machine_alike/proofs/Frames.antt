@@ -2,12 +2,12 @@
 use Rattle.std.proofs.Common.{ℕ, zero, suc, ◌+◌, ◌≡◌, List, [], ◌∷◌, Option, Some, None, refl, subst, sym, ap, ◌∙◌, length, take, drop, Bool, false}
 use Rattle.std.specs.Prelude.{slice_get, slice_set, nat_le}
 use Rattle.code_core.specs.Prototype.{Prototype}
-use Rattle.int_core.specs.Value.{a_function, a_coroutine, Value, nil, without_last}
+use Rattle.int_core.specs.Value.{a_function, a_coroutine, Value, nil, without_last, fitted}
 use Rattle.int_core.specs.Limits.{greatest_depth}
 use Rattle.int_core.specs.Heap.{Heap}
 use Rattle.machine_core.specs.World.{Function, Cell, Wait, Frame, Coroutine, in_progress, World, Stack, stack_of, Place, put_frames, put_top, push, pop, write_cell, closed, open_at, write_in_coroutine}
 use Rattle.machine_core.specs.Text.{Own}
-use Rattle.machine_core.specs.Moves.{made, with_own, fitted, new_frame, push_all, has_room, popped}
+use Rattle.machine_core.specs.Moves.{made, with_own, new_frame, push_all, has_room, popped}
 use Rattle.machine_alike.specs.Agree.{Pairs, SameNumber, Each, SameValue, same_known, SameValues, SameFunction, SameWait, same_running, SameFrame, same_lua, SameFrames, SameCoroutine, same_in_progress, SameObjects, SameRoots, objects_of, roots_of, AgreeInTurn, Extends}
 use Rattle.machine_alike.specs.Laws.{Alike}
 use Rattle.machine_alike.proofs.Pairwise.{zip_append, zip_length, zip_take, zip_drop, zip_without_last, cond_rel}

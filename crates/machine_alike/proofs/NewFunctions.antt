@@ -3,10 +3,10 @@ use Rattle.std.proofs.Common.{ℕ, zero, suc, ◌≡◌, ◌⊎◌, inl, inr, �
 use Rattle.std.specs.Prelude.{slice_get}
 use Rattle.int_core.specs.Value.{a_table, a_function, Value, object}
 use Rattle.code_core.specs.Prototype.{Prototype}
-use Rattle.machine_core.specs.World.{Cell, closed, open_at, World}
+use Rattle.machine_core.specs.World.{Cell, closed, open_at, World, OneEach}
 use Rattle.machine_core.specs.Text.{Arg, arg}
 use Rattle.machine_core.specs.Moves.{make_loaded, made, move, add_loaded, environment_in}
-use Rattle.machine_alike.specs.Agree.{Pairs, SameNumber, SameCellNumber, Both, SameValue, same_object, SameValues, SameTable, SameFunction, SameCoroutine, SameCell, same_content, kept_closed, OneEach, Objects, objects_of, SameObjects, AgreeInTurn, Extends}
+use Rattle.machine_alike.specs.Agree.{Pairs, SameNumber, SameCellNumber, Both, SameValue, same_object, SameValues, SameTable, SameFunction, SameCoroutine, SameCell, same_content, kept_closed, Objects, objects_of, SameObjects, AgreeInTurn, Extends}
 use Rattle.machine_alike.specs.Laws.{Alike, Keeps}
 use Rattle.machine_alike.proofs.Pairwise.{both_on, both_from, both_push, get_push_new}
 use Rattle.machine_alike.proofs.Same.{extends_on, value_on, table_on, function_on, coroutine_on, cell_on}

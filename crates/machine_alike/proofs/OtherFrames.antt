@@ -1,10 +1,10 @@
 -- Values on their way, and moves on frames that are no Lua functions', keep agreement.
 use Rattle.std.proofs.Common.{ℕ, ◌≡◌, List, [], ◌∷◌, ◌++◌, Option, Some, None, refl, drop, Bool, true, false}
 use Rattle.std.specs.Prelude.{reverse}
-use Rattle.int_core.specs.Value.{nil, Value, Shape, bind, last, without_last}
+use Rattle.int_core.specs.Value.{nil, Value, Shape, bind, last, without_last, error_or_nil}
 use Rattle.machine_core.specs.World.{Frame, closing, World, Stack, stack_of, put_top, pop}
 use Rattle.machine_core.specs.Text.{Arg, arg, args_of}
-use Rattle.machine_core.specs.Moves.{blamed, placed, Over, over_pcall, over_xpcall, over_handler, frame_over, Made, made, take_moving, look, give, give_with, blame, place_text, push_frame, call_value, see_top, see_catcher, pop_frame, take_closing, set_error, TopShape, ClosingShape, one_left, all_closed, closed_with_error, has_room, handler_value, catcher, top_now, error_or_nil, next_closing, with_error}
+use Rattle.machine_core.specs.Moves.{blamed, placed, Over, over_pcall, over_xpcall, over_handler, frame_over, Made, made, take_moving, look, give, give_with, blame, place_text, push_frame, call_value, see_top, see_catcher, pop_frame, take_closing, set_error, TopShape, ClosingShape, one_left, all_closed, closed_with_error, has_room, handler_value, catcher, top_now, next_closing, with_error}
 use Rattle.machine_alike.specs.Agree.{Pairs, Each, SameValue, same_known, SameValues, SameFrame, same_lua, same_pcall, same_xpcall, same_handler, same_closing, SameFrames, AgreeInTurn}
 use Rattle.machine_alike.specs.Laws.{MadeAlike, Alike, Keeps}
 use Rattle.machine_alike.proofs.Pairwise.{each_bind, zip_reverse, zip_last, zip_append, zip_drop, zip_without_last, cond_rel}

@@ -3,7 +3,7 @@ use Rattle.std.specs.Prelude.{◌≡◌, ℕ, ℤ, List, [], ◌∷◌, Option, 
 use Rattle.std.specs.List.{AllZip}
 use Rattle.int_core.specs.Value.{Plain, Kind, a_table, a_function, a_coroutine, Value, known, object}
 use Rattle.int_core.specs.Heap.{Table}
-use Rattle.machine_core.specs.World.{Function, Cell, closed, open_at, Wait, running, for_call, for_iterator, for_value, for_truth, dropped, for_concat, for_close, returning, leaving, Activation, LuaFrame, Frame, lua, pcall, xpcall, handler, closing, Coroutine, fresh, suspended, in_progress, normal, dead, failed, World, register_at}
+use Rattle.machine_core.specs.World.{Function, Cell, closed, open_at, Wait, running, for_call, for_iterator, for_value, for_truth, dropped, for_concat, for_close, returning, leaving, Activation, LuaFrame, Frame, lua, pcall, xpcall, handler, closing, Coroutine, fresh, suspended, in_progress, normal, dead, failed, World, register_at, OneEach}
 
 -- which object of the second world stands for which of the first, kind for kind
 pub record Pairs : Type 0 where
@@ -112,10 +112,6 @@ pub data Loose (coroutines : List Coroutine) (paired : ℕ → Type 0) : Cell �
 pub data SameCell (p : Pairs) (left right : List Coroutine) : Cell → Cell → Type 0 where
   same_place : (co other frame register : ℕ) → SameNumber p a_coroutine co other → SameCell p left right (open_at co frame register) (open_at other frame register)
   same_content : (c d : Cell) (v w : Value) → Loose left (IsFirst p) c v → Loose right (IsSecond p) d w → SameValue p v w → SameCell p left right c d
-
--- at most one cell is open at each place
-abbrev pub OneEach : List Cell → Type 0
-OneEach cells = (i j co frame register : ℕ) → slice_get cells i ≡ Some (open_at co frame register) → slice_get cells j ≡ Some (open_at co frame register) → i ≡ j
 
 -- worlds
 

@@ -24,7 +24,8 @@ use Rattle.move_laws.proofs.Running.{last_there}
 use Rattle.machine_moves.specs.Tops.{TopIs}
 use Rattle.machine_moves.proofs.OnTop.{kept_as, stack_kept}
 use Rattle.machine_errors.specs.Protected.{first_of}
-use Rattle.machine_asked.specs.Asked.{taken, RefusesAsked, follows_asked, EntersAsked}
+use Rattle.machine_asked.specs.Asked.{RefusesAsked, follows_asked, EntersAsked}
+use Rattle.machine_errors.specs.Asking.{taken}
 use Rattle.machine_calls.specs.Calling.{CanEnter}
 use Rattle.machine_calls.specs.Entering.{EntersSo, HasFunction}
 use Rattle.machine_calls.proofs.Callees.{reached_is_function}

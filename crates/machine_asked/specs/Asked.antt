@@ -1,5 +1,5 @@
 -- Values that were asked for and are called, in the words of rows.
-use Rattle.std.specs.Prelude.{◌≡◌, ℕ, List, [], ◌++◌, Option, Some, None}
+use Rattle.std.specs.Prelude.{◌≡◌, ℕ, List, ◌++◌, Option, Some, None}
 use Rattle.int_core.specs.Value.{Value}
 use Rattle.machine_core.specs.World.{World}
 use Rattle.machine_core.specs.Moves.{Made, CallShape, enters, see_top, Ending, act, Outcome, trapped, ends, run}
@@ -7,10 +7,7 @@ use Rattle.machine_core.specs.FrameRows.{after_asked, refused_under}
 use Rattle.machine_core.specs.MachineStep.{from_world}
 use Rattle.lua_heap.specs.declared.world.World.{World as Memory}
 use Rattle.lua_heap.specs.Plain.{plain}
-
--- the world from which what moves was taken
-abbrev pub taken : Memory → (fuel : ℕ) → World
-taken W fuel = record (plain W fuel) { moving = [] }
+use Rattle.machine_errors.specs.Asking.{taken}
 
 -- what cannot be called is an error of the frame on top; `unpaid` is where a step begins
 pub record RefusesAsked (old new : Memory) (text : List ℕ) (ending : Ending) : Type 0 where

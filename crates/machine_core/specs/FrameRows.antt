@@ -162,3 +162,10 @@ handed_to closing_top = act take_moving (λ _ _. closing_row)
 handed_to (no_top true) = then end_coroutine (stop main_returned)
 handed_to (no_top false) = act take_moving (λ v _. then end_coroutine (then (give_with (written (boolean true) ∷ []) v) hand_over))
 handed_to lua_top = stop go
+
+-- the whole rows look at what is on top first
+abbrev pub results_row : Row
+results_row = act see_top (λ _ top. handed_to top)
+
+abbrev pub unwinding_row : Row
+unwinding_row = act see_top (λ _ top. unwound top)

@@ -7,7 +7,7 @@ use Rattle.code_core.specs.declared.proto.UpDesc.{UpDesc}
 use Rattle.code_core.specs.Prototype.{Prototype, list_of}
 use Rattle.code_core.specs.Check.{lines_from, at}
 use Rattle.int_core.specs.Limits.{limited, position, greatest_depth, greatest_resumes, stack_overflow}
-use Rattle.int_core.specs.Value.{nil, string, primitive, a_table, a_function, a_coroutine, Value, known, object, Shape, shape, is_nil, nth, bind, last, without_last}
+use Rattle.int_core.specs.Value.{string, primitive, a_table, a_function, a_coroutine, Value, known, object, Shape, shape, is_nil, nth, bind, last, without_last, error_or_nil, fitted}
 use Rattle.machine_core.specs.World.{Cell, closed, open_at, Wait, running, for_call, for_iterator, for_value, for_truth, dropped, for_concat, for_close, returning, leaving, Activation, Frame, lua, pcall, xpcall, handler, closing, Coroutine, fresh, suspended, in_progress, normal, dead, failed, World, Stack, stack_of, Place, place_of, put_top, push, pop, read_cell, write_cell, find_open, close_from, frames_of}
 use Rattle.int_core.specs.Operations.{Operation, Settled, found, ask, fault, cannot_arise, does, Callee, callee, not_callable, callee_of, greatest_chain, handler_in, of_close, is_function}
 use Rattle.machine_core.specs.Text.{Arg, arg, args_of, Own, close_cells, keep_pending, reads, tells, effect, fits, done, Quick, read_upvalue, write_upvalue, make_table, make_function, fill_table, pay, Given, given_values}
@@ -250,11 +250,6 @@ do_outside pay env W at = elim W.fuel [ zero ↦ made W [] false | suc fuel ↦ 
 
 -- calls
 
-abbrev pub fitted : ℕ → List Value → List Value
-fitted zero vs = []
-fitted (suc n) [] = known nil ∷ fitted n []
-fitted (suc n) (v ∷ vs) = v ∷ fitted n vs
-
 -- parameters beyond the arguments are nil; arguments beyond the parameters are kept by a function that takes them
 abbrev pub new_frame : ℕ → Prototype → List Value → Frame
 new_frame n p arguments = lua (record {
@@ -327,10 +322,6 @@ abbrev pub top_now : World → Option TopShape
 top_now W = bind (stack_of W) (λ s. Some (top_shape W (last s.frames)))
 
 -- the closing of a coroutine's variables, the last value first
-
-abbrev pub error_or_nil : Option Value → Value
-error_or_nil None = known nil
-error_or_nil (Some e) = e
 
 abbrev pub next_closing : World → Stack → Frame → Option (Made ClosingShape)
 next_closing W s (closing e []) = elim e [ None ↦ made W [] all_closed | Some v ↦ made W (v ∷ []) closed_with_error ]

@@ -4,12 +4,12 @@ use Rattle.std.specs.Prelude.{ℕ, zero, suc, cond, List, [], ◌∷◌, ◌++�
 use Rattle.code_core.specs.declared.proto.UpDesc.{UpDesc}
 use Rattle.code_core.specs.Prototype.{Prototype, list_of}
 use Rattle.code_core.specs.Check.{at}
-use Rattle.int_core.specs.Value.{nil, Value, known, nth, bind}
+use Rattle.int_core.specs.Value.{nil, Value, known, nth, bind, fitted}
 use Rattle.machine_core.specs.World.{Wait, leaving, Activation}
 use Rattle.machine_core.specs.Text.{arg, args_of, Own, close_cells, keep_pending, reads, tells, effect, fits, done, Quick, read_upvalue, write_upvalue, make_table, make_function, fill_table, pay, Given, results, thrown, Text, go_by, own, open_cell, quick, operate, call, tail_call, close, closable, raise, leave, trap}
 use Rattle.machine_core.specs.InstructionRows.{text_at, after, told_values}
 use Rattle.int_core.specs.Ask.{Reply, values, faulted, left, values_in, Captured, CellName, of_local, of_upvalue, Left, returns, throws, Ask, reads_upvalue, writes_upvalue, makes_table, makes_function, fills_table, pays, opens, operates, calls, calls_last, marks, closes, raises, leaves, Answer, Next, goes_on, says, stuck, cell_held, held_below, gone_from, shared_by, brought}
-use Rattle.machine_core.specs.Moves.{line_of, place_from, named, fitted}
+use Rattle.machine_core.specs.Moves.{line_of, place_from, named}
 
 pub data State : Type 0 where
   before : Activation → Captured → State

@@ -1,6 +1,6 @@
 -- The worlds that code runs in, as plain lists: functions, cells, frames and coroutines by number, beside the tables of the heap
 -- (Lua 5.4 manual, 2.6, 3.3.8 and 3.5; lstate.h).
-use Rattle.std.specs.Prelude.{ℕ, suc, ◌-◌, ℤ, Bool, false, cond, ◌&&◌, not, List, [], ◌∷◌, ◌++◌, length, Option, Some, None, nat_eq, nat_lt, slice_get, slice_set}
+use Rattle.std.specs.Prelude.{◌≡◌, ℕ, suc, ◌-◌, ℤ, Bool, false, cond, ◌&&◌, not, List, [], ◌∷◌, ◌++◌, length, Option, Some, None, nat_eq, nat_lt, slice_get, slice_set}
 use Rattle.int_core.specs.Heap.{Heap}
 use Rattle.int_core.specs.Value.{Value, bind, last, without_last, nth, write}
 use Rattle.code_core.specs.Prototype.{Prototype}
@@ -157,6 +157,10 @@ write_cell W n (open_at co frame register) v = elim (slice_get W.coroutines co) 
   | None ↦ W
   | Some c ↦ record W { coroutines = slice_set W.coroutines co (write_in_coroutine frame register v c) }
 ]
+
+-- no register has two cells
+abbrev pub OneEach : List Cell → Type 0
+OneEach cells = (i j co frame register : ℕ) → slice_get cells i ≡ Some (open_at co frame register) → slice_get cells j ≡ Some (open_at co frame register) → i ≡ j
 
 abbrev pub is_open_at : ℕ → ℕ → ℕ → Cell → Bool
 is_open_at co frame register (closed _) = false

@@ -3,11 +3,11 @@ use Rattle.std.proofs.Common.{◌≡◌, ℕ, suc, List, [], ◌∷◌, ◌++◌
 use Rattle.std.specs.Prelude.{◌-◌, drop, map, take, slice_get}
 use Rattle.std.specs.Option.{option_map}
 use Rattle.std.proofs.lemmas.List.{length-map, map-append, take-map}
-use Rattle.int_core.specs.Value.{Value, known, boolean, nil, bind, last, nth, without_last}
+use Rattle.int_core.specs.Value.{Value, known, boolean, nil, bind, last, nth, without_last, error_or_nil}
 use Rattle.machine_core.specs.World.{Frame, closing, in_progress, World, Stack, stack_of, put_frames, put_top}
 use Rattle.machine_core.specs.Text.{Arg, arg, args_of, read, written}
 use Rattle.machine_core.specs.FrameRows.{closing_by, closing_row, hand_over, then}
-use Rattle.machine_core.specs.Moves.{Ending, asks, find_close, give, give_with, stop, ClosingShape, one_left, all_closed, closed_with_error, error_or_nil, Made, made, next_closing, set_error, take_closing, with_error}
+use Rattle.machine_core.specs.Moves.{Ending, asks, find_close, give, give_with, stop, ClosingShape, one_left, all_closed, closed_with_error, Made, made, next_closing, set_error, take_closing, with_error}
 use Rattle.machine_sound.proofs.Lists.{bind_at, get_map, last_push, last_splits, without_push}
 use Rattle.table_core.specs.declared.value.CoroId.{CoroId}
 use Rattle.table_core.specs.declared.value.Value.{Value as Kept}

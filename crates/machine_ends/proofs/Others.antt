@@ -1,12 +1,12 @@
 -- Moves where any frame is on top.
 use Rattle.std.proofs.Common.{ℕ, ◌+◌, ◌*◌, ◌-◌, ◌≤◌, ◌≡◌, List, [], ◌∷◌, ◌++◌, Option, Some, None, refl, subst, sym, ap, ◌∙◌, length, arith, Bool, true, false, cond, drop}
 use Rattle.std.specs.Prelude.{slice_get, IsTrue, nat_le}
-use Rattle.int_core.specs.Value.{Value, Shape, last, without_last}
+use Rattle.int_core.specs.Value.{Value, Shape, last, without_last, error_or_nil}
 use Rattle.int_core.specs.Operations.{callee_of, greatest_chain}
 use Rattle.library_rows.specs.Look.{Look, Done, done as came, refused as was_refused, raised as was_raised, looked}
 use Rattle.machine_core.specs.World.{Frame, lua, pcall, xpcall, handler, closing, World, Stack, stack_of, place_of, put_frames, push, pop, put_top, Function}
 use Rattle.machine_core.specs.Text.{Arg, arg, Own, Given}
-use Rattle.machine_core.specs.Moves.{Over, over_pcall, over_xpcall, over_handler, on_own, take_moving, look, give, give_with, blame, place_text, find_close, see_status, see_running, print, consult, push_frame, call_value, see_top, see_catcher, pop_frame, take_closing, set_error, begin_leaving, leave_frame, Made, made, frame_over, CallShape, is_entered, is_primitive, not_paid, not_entered, TopShape, lua_top, pcall_top, xpcall_top, handler_top, closing_top, no_top, top_shape, top_now, ClosingShape, one_left, LookShape, next_closing, with_error, consulted, add_printed, bytes_in, coroutine_number, move, Status, error_or_nil}
+use Rattle.machine_core.specs.Moves.{Over, over_pcall, over_xpcall, over_handler, on_own, take_moving, look, give, give_with, blame, place_text, find_close, see_status, see_running, print, consult, push_frame, call_value, see_top, see_catcher, pop_frame, take_closing, set_error, begin_leaving, leave_frame, Made, made, frame_over, CallShape, is_entered, is_primitive, not_paid, not_entered, TopShape, lua_top, pcall_top, xpcall_top, handler_top, closing_top, no_top, top_shape, top_now, ClosingShape, one_left, LookShape, next_closing, with_error, consulted, add_printed, bytes_in, coroutine_number, move, Status}
 use Rattle.machine_sound.specs.Sound.{Each}
 use Rattle.machine_sound.proofs.Lists.{bind_some, last_push}
 use Rattle.machine_sound.proofs.Values.{le_of}

@@ -4,7 +4,7 @@ use Rattle.std.specs.Prelude.{cond, slice_get, slice_set, nat_le}
 use Rattle.code_core.specs.Prototype.{Prototype}
 use Rattle.int_core.specs.Heap.{Heap}
 use Rattle.int_core.specs.Limits.{greatest_depth}
-use Rattle.int_core.specs.Value.{Value, object, a_function, bind, last}
+use Rattle.int_core.specs.Value.{Value, object, a_function, bind, last, fitted}
 use Rattle.int_core.specs.Operations.{callee, callee_of, greatest_chain}
 use Rattle.machine_core.specs.World.{Function, Cell, Wait, for_call, Activation, LuaFrame, Frame, lua, in_progress, World, Stack, running_frames, stack_of, put_frames, put_top, push, pop, close_from}
 use Rattle.machine_core.specs.Text.{Arg, arg, Own, done, call, leave, results}
@@ -69,7 +69,7 @@ inner_stands c z n q s f = record { chain = s.chain; there = s.there; function =
 abbrev pub began : Prototype → List Value → Activation
 began p vs = record {
   pc = 0;
-  registers = Rattle.machine_core.specs.Moves.fitted p.own.stack (take p.own.params vs);
+  registers = fitted p.own.stack (take p.own.params vs);
   varargs = cond p.own.vararg (drop p.own.params vs) [];
   pending = [];
   opened = 0;

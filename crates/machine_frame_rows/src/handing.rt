@@ -1,11 +1,10 @@
 // Results that reach the frame on top (luaD_poscall of ldo.c, and what calls a function by lua_call there).
 ghost use Rattle.std.specs.Prelude.{◌≡◌, [], IfOk, OnErr};
 ghost use Rattle.lua_heap.specs.Plain.{plain};
-ghost use Rattle.machine_core.specs.FrameRows.{handed_to};
+ghost use Rattle.machine_core.specs.FrameRows.{handed_to, results_row};
 ghost use Rattle.machine_core.specs.Moves.{no_top, runs_main};
 ghost use Rattle.move_laws.specs.Memory.{HasStack, InOrder, IsSafe, Leads};
 ghost use Rattle.machine_moves.specs.Ending.{ending_of};
-ghost use Rattle.machine_frame_rows.specs.Tops.{results_row};
 
 use lua_heap::World;
 use lua_stack::Top;

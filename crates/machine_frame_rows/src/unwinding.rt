@@ -1,11 +1,10 @@
 // Errors with which the frame on top is left (luaD_throw of ldo.c).
 ghost use Rattle.std.specs.Prelude.{◌≡◌, [], IfOk, OnErr};
 ghost use Rattle.lua_heap.specs.Plain.{plain};
-ghost use Rattle.machine_core.specs.FrameRows.{unwound};
+ghost use Rattle.machine_core.specs.FrameRows.{unwound, unwinding_row};
 ghost use Rattle.machine_core.specs.Moves.{no_top, runs_main};
 ghost use Rattle.move_laws.specs.Memory.{HasStack, InOrder, IsSafe, IsSound, Leads, ReadsSame};
 ghost use Rattle.machine_moves.specs.Ending.{ending_of};
-ghost use Rattle.machine_frame_rows.specs.Tops.{error_row};
 
 use crate::handing::runs_main;
 use lua_heap::World;
@@ -19,8 +18,8 @@ use std::alloc::AllocError;
 /// An error reaches the frame on top, which is left with it or catches it, or it ends the running coroutine. After a refusal the machine's world is as before.
 pub fn unwind_top(world: &mut World) -> Result<Ending, AllocError>
     requires sound { IsSound world.old }
-    requires safe { IsSafe error_row [] world.old }
-    ensures leads { IfOk result (λ ending. Leads error_row [] world.old world.new (ending_of ending)) }
+    requires safe { IsSafe unwinding_row [] world.old }
+    ensures leads { IfOk result (λ ending. Leads unwinding_row [] world.old world.new (ending_of ending)) }
     ensures order { InOrder world.new }
     ensures err { OnErr result (ReadsSame world.old world.new) }
 {

@@ -2,7 +2,7 @@
 use Rattle.std.proofs.Common.{ℕ, suc, ◌≤◌, ◌≡◌, List, [], ◌∷◌, ◌++◌, length, Option, Some, None, refl, sym, ap, subst, ◌∙◌, Bool, true, false}
 use Rattle.std.specs.Prelude.{slice_get, slice_set, reverse, drop}
 use Rattle.std.proofs.lemmas.List.{reverse-append}
-use Rattle.int_core.specs.Value.{Value, known, boolean, nth, bind, last, without_last}
+use Rattle.int_core.specs.Value.{Value, known, boolean, nth, bind, last, without_last, error_or_nil}
 use Rattle.int_core.specs.Operations.{handler_in, of_close}
 use Rattle.int_core.specs.Limits.{greatest_depth}
 use Rattle.list_laws.specs.Held.{Held}
@@ -16,7 +16,6 @@ use Rattle.machine_core.specs.Moves as moves
 use Rattle.machine_core.specs.FrameRows.{then, hand_over, closing_by, closing_row}
 use Rattle.lua_meaning.specs.World as talk
 use Rattle.lua_meaning.specs.World.{now_in, on_frames, gives_back, raises_text}
-use Rattle.lua_meaning.specs.Calls as calls
 use Rattle.lua_meaning.specs.Calls.{closes_on, calls_value}
 use Rattle.code_means.specs.Runs.{codes_run}
 use Rattle.machine_sound.proofs.Frames.{stack_is}
@@ -34,15 +33,11 @@ nth_next [] ys y z = refl
 nth_next (x ∷ xs) ys y z = nth_next xs ys y z
 
 -- what is closed next
-next_is : (W : machine.World) (s : Stack) (e : Option Value) (us : List Value) (u : Value) → next_closing W s (machine.closing e (us ++ u ∷ [])) ≡ made (put_top W s (machine.closing e us)) (u ∷ moves.error_or_nil e ∷ []) one_left
+next_is : (W : machine.World) (s : Stack) (e : Option Value) (us : List Value) (u : Value) → next_closing W s (machine.closing e (us ++ u ∷ [])) ≡ made (put_top W s (machine.closing e us)) (u ∷ error_or_nil e ∷ []) one_left
 next_is W s e [] u = refl
 next_is W s e (x ∷ us) u =
-    ap (λ o. elim o as (λ _. Option (Made ClosingShape)) [ None ↦ None | Some v ↦ made {A = ClosingShape} (put_top W s (machine.closing e (without_last (x ∷ us ++ u ∷ [])))) (v ∷ moves.error_or_nil e ∷ []) one_left ]) (last_is (x ∷ us) u)
-    ∙ ap (λ l. made {A = ClosingShape} (put_top W s (machine.closing e l)) (u ∷ moves.error_or_nil e ∷ []) one_left) (without_last_is (x ∷ us) u)
-
-error_same : (e : Option Value) → moves.error_or_nil e ≡ calls.error_or_nil e
-error_same None = refl
-error_same (Some v) = refl
+    ap (λ o. elim o as (λ _. Option (Made ClosingShape)) [ None ↦ None | Some v ↦ made {A = ClosingShape} (put_top W s (machine.closing e (without_last (x ∷ us ++ u ∷ [])))) (v ∷ error_or_nil e ∷ []) one_left ]) (last_is (x ∷ us) u)
+    ∙ ap (λ l. made {A = ClosingShape} (put_top W s (machine.closing e l)) (u ∷ error_or_nil e ∷ []) one_left) (without_last_is (x ∷ us) u)
 
 -- worlds that differ in the stack of the running coroutine and in what moves
 module _ (M : machine.World) (T : TalkWorld) (co : ℕ) (frames : List Frame) (lax : Bool) (k : Joined lax M T) (runs : slice_get M.coroutines co ≡ Some (in_progress frames)) (only : OnlyRuns M.coroutines co) (last_co : last M.chain ≡ Some co) where
@@ -119,7 +114,7 @@ module _ (M : machine.World) (T : TalkWorld) (co : ℕ) (frames : List Frame) (l
     some_left : (e : Option Value) (w : Value) (ws mv env : List Value) → ComesTo (run closing_row env (stands_with (with_closing e (reverse ws ++ w ∷ [])) mv)) (closes_on codes_run T e (w ∷ ws) ts)
     some_left e w ws mv env =
         let us = reverse ws in
-        let x = moves.error_or_nil e in
+        let x = error_or_nil e in
         let h = handler_in M.heap of_close w in
         let W : machine.World = stands_with (with_closing e us) mv in
         let V : machine.World = stands_with (with_closing e us) (h ∷ w ∷ x ∷ []) in
@@ -137,8 +132,7 @@ module _ (M : machine.World) (T : TalkWorld) (co : ℕ) (frames : List Frame) (l
         ap (λ a. ends asks (stands_with (with_closing e us) (a ∷ drop (suc (length env1)) (env2 w x)))) (nth_mid env1 (w ∷ x ∷ []) h)
         ∙ ap (λ l. ends asks (stands_with (with_closing e us) (h ∷ l))) (drop_mid env1 (w ∷ x ∷ []) h) in
         let told : closes_on codes_run T e (w ∷ ws) ts ≡ calls_value codes_run U h (w ∷ x ∷ []) (λ why V. raises_text V why) =
-        ap (λ H. calls_value codes_run U (handler_in H of_close w) (w ∷ calls.error_or_nil e ∷ []) (λ why V. raises_text V why)) (sym k.heap)
-        ∙ ap (λ y. calls_value codes_run U h (w ∷ y ∷ []) (λ why V. raises_text V why)) (sym (error_same e)) in
+        ap (λ H. calls_value codes_run U (handler_in H of_close w) (w ∷ x ∷ []) (λ why V. raises_text V why)) (sym k.heap) in
         record { ending = asks; world = V; is = taken ∙ found ∙ given; stands = call_asked V (closes_on codes_run T e (w ∷ ws) ts) U h (w ∷ x ∷ []) refl (joined_closing e ws (h ∷ w ∷ x ∷ [])) told }
 
     -- a closing frame goes on

@@ -1,13 +1,13 @@
 -- A function is entered on top of the coroutine that runs, and runs in both worlds.
 use Rattle.std.proofs.Common.{ℕ, ◌<◌, ◌≡◌, List, [], ◌∷◌, ◌++◌, length, Some, refl, sym, ap, subst, ◌∙◌, arith, false, cond}
 use Rattle.std.specs.Prelude.{slice_get, slice_set, take, drop}
-use Rattle.int_core.specs.Value.{Value}
+use Rattle.int_core.specs.Value.{Value, fitted}
 use Rattle.int_core.specs.Limits.{greatest_depth}
 use Rattle.list_laws.specs.Held.{Held}
 use Rattle.list_laws.proofs.Ends.{upward, length_upward}
 use Rattle.machine_core.specs.World as machine
 use Rattle.machine_core.specs.World.{Frame, lua, in_progress, push, put_frames}
-use Rattle.machine_core.specs.Moves.{new_frame, fitted}
+use Rattle.machine_core.specs.Moves.{new_frame}
 use Rattle.machine_core.specs.Talk.{talk_start}
 use Rattle.lua_meaning.specs.World as talk
 use Rattle.lua_meaning.specs.World.{talking, talks}

@@ -1,13 +1,10 @@
 -- Results that come to registers.
-use Rattle.std.specs.Prelude.{◌≡◌, ◌≤◌, ℕ, zero, suc, List, [], ◌∷◌, ◌++◌, drop, length, map}
-use Rattle.int_core.specs.Value.{Value, known, nil}
-use Rattle.machine_core.specs.World.{Frame, LuaFrame, lua}
+use Rattle.std.specs.Prelude.{◌≡◌, ℕ, zero, suc, List, drop, map}
+use Rattle.int_core.specs.Value.{Value}
 use Rattle.machine_core.specs.Text.{Own, write_list, write_registers}
 use Rattle.machine_core.specs.InstructionRows.{write_values}
 use Rattle.machine_core.specs.FrameRows.{When, expand_by}
 use Rattle.table_core.specs.declared.value.Value.{Value as Kept}
-use Rattle.table_core.specs.declared.value.Value.TheVariants.{Nil}
-use Rattle.lua_stack.specs.Frames.{KeptStack, frames}
 use Rattle.lua_heap.specs.declared.world.World.{World as Memory}
 use Rattle.lua_heap.specs.Reading.{value}
 use Rattle.move_laws.specs.Memory.{IsSafe}
@@ -24,12 +21,3 @@ pub record MayTake (W : Memory) (to count : ℕ) (values : List Kept) : Type 0 w
 abbrev pub writing : (to count slot : ℕ) → Own
 writing to zero slot = write_list to slot
 writing to (suc count) slot = write_registers to count slot
-
--- a Lua frame is on top, with at least so many registers, by a reading in which nil is nil
-pub record HasTop (s : KeptStack) (count : ℕ) : Type 0 where
-  pub value : Kept → Value
-  pub nil_is : value Nil ≡ known nil
-  pub below : List Frame
-  pub top : LuaFrame
-  pub is : frames value s ≡ below ++ lua top ∷ []
-  pub room : count ≤ length top.own.registers

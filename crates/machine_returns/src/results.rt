@@ -10,7 +10,8 @@ ghost use Rattle.machine_core.specs.FrameRows.{When, expand_by};
 ghost use Rattle.machine_core.specs.Moves.{on_own};
 ghost use Rattle.move_laws.specs.Memory.{CanDo, InOrder, Leads, Makes, StandsAt};
 ghost use Rattle.machine_moves.specs.Ending.{ending_of};
-ghost use Rattle.machine_returns.specs.Results.{HasTop, MayTake, writing};
+ghost use Rattle.machine_returns.specs.Results.{MayTake, writing};
+ghost use Rattle.machine_calls.specs.Preparing.{HasTop};
 
 use crate::running::running;
 use lua_heap::{Coro, World};

@@ -18,6 +18,10 @@ pub record PreludeOk (prelude : List (Entry Prototype)) : Type 0 where
   pub names : Each (λ (e : Entry Prototype). length e.name ≤ greatest_string) prelude
   pub codes : Each (λ (e : Entry Prototype). IsChecked e.entry) prelude
 
+-- strings can hold all lines
+abbrev pub AreShort : List (List ℕ) → Type 0
+AreShort lines = Each (λ (line : List ℕ). length line ≤ greatest_string) lines
+
 -- no coroutine runs, and main has not run yet or waits for a line
 pub record MayTurn (W : World) : Type 0 where
   pub idle : W.chain ≡ []

@@ -6,10 +6,10 @@ use Rattle.int_core.specs.Value.{Value, object, a_function, bind}
 use Rattle.code_core.specs.declared.proto.UpDesc.{UpDesc}
 use Rattle.code_core.specs.Prototype.{Prototype, Prototypes, none, more, list_of}
 use Rattle.code_core.specs.Check.{IsChecked, AllChecked}
-use Rattle.machine_core.specs.World.{Function, Cell, closed, open_at, LuaFrame, Frame, lua, pcall, xpcall, handler, closing, Coroutine, fresh, suspended, in_progress, normal, dead, failed, World, frames_of, lua_frame, place_of, read_cell, is_open_at, find_open_from, find_open}
+use Rattle.machine_core.specs.World.{Function, Cell, closed, open_at, LuaFrame, Frame, lua, pcall, xpcall, handler, closing, Coroutine, fresh, suspended, in_progress, normal, dead, failed, World, frames_of, lua_frame, place_of, read_cell, is_open_at, find_open_from, find_open, OneEach}
 use Rattle.machine_core.specs.Text.{read_upvalue, make_function}
 use Rattle.machine_core.specs.Moves.{open_register, made, move, opened_cells, captured, own_cell}
-use Rattle.machine_sound.specs.Sound.{Each, Sizes, sizes, Valid, TableOk, FunctionOk, LuaOk, FrameOk, FramesOk, CoroutineOk, registers_in, registers_of, CellOk, OneEach, Solid, Top, RunsOrWaits, TopIs}
+use Rattle.machine_sound.specs.Sound.{Each, Sizes, sizes, Valid, TableOk, FunctionOk, LuaOk, FrameOk, FramesOk, CoroutineOk, registers_in, registers_of, CellOk, Solid, Top, RunsOrWaits, TopIs}
 use Rattle.machine_sound.specs.Safe.{on_lua, Is, TopReady, CapturesOk, MoveGood}
 use Rattle.machine_sound.proofs.Lists.{each_none, each_cons, each_one, each_push, each_on, bind_at, get_there, get_push_old, push_cases}
 use Rattle.machine_sound.proofs.Values.{lt_true}

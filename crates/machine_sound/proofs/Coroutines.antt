@@ -5,9 +5,9 @@ use Rattle.std.proofs.lemmas.Bool.{cases_eq}
 use Rattle.std.proofs.lemmas.Bool.Decides.{nat_tests}
 use Rattle.std.proofs.lemmas.List.{map-set}
 use Rattle.int_core.specs.Value.{Value, nth, last, without_last}
-use Rattle.machine_core.specs.World.{Cell, closed, open_at, Frame, lua, pcall, xpcall, handler, closing, Coroutine, fresh, suspended, in_progress, normal, dead, failed, World, frames_of, close_from}
+use Rattle.machine_core.specs.World.{Cell, closed, open_at, Frame, lua, pcall, xpcall, handler, closing, Coroutine, fresh, suspended, in_progress, normal, dead, failed, World, frames_of, close_from, OneEach}
 use Rattle.machine_core.specs.Moves.{pending_values, all_closed_from, put_coroutine, awake, back_to_resumer, runs_main}
-use Rattle.machine_sound.specs.Sound.{Each, Sizes, sizes, Valid, TableOk, FunctionOk, FrameOk, FramesOk, AllWait, CoroutineOk, runs, resumed_another, apart, standing, ChainOk, registers_in, registers_of, CellOk, OneEach, Solid, StackWaits}
+use Rattle.machine_sound.specs.Sound.{Each, Sizes, sizes, Valid, TableOk, FunctionOk, FrameOk, FramesOk, AllWait, CoroutineOk, runs, resumed_another, apart, standing, ChainOk, registers_in, registers_of, CellOk, Solid, StackWaits}
 use Rattle.machine_sound.specs.Safe.{IsPhase, after_end}
 use Rattle.machine_sound.proofs.Lists.{each_none, each_set, each_append, each_tail, each_on, get_set_same, get_set_other, length_set, map_get, last_splits, each_cons}
 use Rattle.machine_sound.proofs.Values.{nth_ok}

@@ -5,11 +5,11 @@ use Rattle.int_core.specs.Value.{Value, object, a_function, Shape, shape, greate
 use Rattle.code_core.specs.Prototype.{Prototype}
 use Rattle.load_rows.specs.Loading.{Builds, Loaded, wrong, not_loaded, loaded, load_of}
 use Rattle.load_rows.proofs.Loads.{load_is}
-use Rattle.machine_core.specs.World.{Function, Cell, closed, open_at, in_progress, World}
+use Rattle.machine_core.specs.World.{Function, Cell, closed, open_at, in_progress, World, OneEach}
 use Rattle.machine_core.specs.Text.{Arg, read, arg}
 use Rattle.machine_core.specs.Moves.{make_loaded, TopShape, made, move, add_loaded, environment_in}
 use Rattle.machine_core.specs.PrimitiveRows.{environment_at, loaded_row, load_row}
-use Rattle.machine_sound.specs.Sound.{Each, sizes, Valid, TableOk, FunctionOk, CoroutineOk, CellOk, OneEach, Solid, StackWaits}
+use Rattle.machine_sound.specs.Sound.{Each, sizes, Valid, TableOk, FunctionOk, CoroutineOk, CellOk, Solid, StackWaits}
 use Rattle.machine_sound.specs.Safe.{waiting, LoadedOk, EnvironmentOk, Safe}
 use Rattle.machine_sound.specs.Laws.{BuildsOk, LoadRowSafe}
 use Rattle.machine_sound.proofs.Lists.{each_one, each_push, each_on, get_push_old, push_cases}

@@ -3,9 +3,8 @@ use Rattle.std.proofs.Common.{ℕ, zero, suc, ◌+◌, ◌-◌, ◌<◌, ◌≤�
 use Rattle.std.specs.Prelude.{cond, max, nat_lt, nat_le, IsTrue, ◌&&◌}
 use Rattle.std.specs.List.{list_all}
 use Rattle.std.proofs.lemmas.Bool.Decides.{nat_tests}
-use Rattle.int_core.specs.Value.{Value, known, nil, nth, range, write, write_all, Plain, boolean, integer, string, primitive}
+use Rattle.int_core.specs.Value.{Value, known, nil, nth, range, write, write_all, Plain, boolean, integer, string, primitive, fitted}
 use Rattle.machine_core.specs.Text.{Arg, read, written, arg, args_of, blanked, nils, list_values, value_if}
-use Rattle.machine_core.specs.Moves.{fitted}
 use Rattle.machine_sound.specs.Sound.{Each, Sizes, Valid}
 use Rattle.machine_sound.specs.Safe.{WrittenOk, ArgOk, ArgsOk}
 use Rattle.machine_sound.proofs.Lists.{each_none, each_cons, each_tail, each_one}
@@ -91,11 +90,6 @@ length_nils (suc count) = ap suc (length_nils count)
 pub length_blanked : (keeps : ℕ → Bool) (i count : ℕ) (vs : List Value) → length (blanked keeps i count vs) ≡ count
 length_blanked keeps i zero vs = refl
 length_blanked keeps i (suc count) vs = ap suc (length_blanked keeps (suc i) count vs)
-
-pub length_fitted : (n : ℕ) (vs : List Value) → length (fitted n vs) ≡ n
-length_fitted zero vs = refl
-length_fitted (suc n) [] = ap suc (length_fitted n [])
-length_fitted (suc n) (v ∷ vs) = ap suc (length_fitted n vs)
 
 pub length_front : {A : Type 0} (n : ℕ) (vs : List A) → n ≤ length vs → length (take n vs) ≡ n
 length_front zero vs h = refl

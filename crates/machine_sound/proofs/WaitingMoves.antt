@@ -1,12 +1,12 @@
 -- Moves where all frames of the running coroutine wait: looking at them, values on their way, frames that are no Lua function's.
 use Rattle.std.proofs.Common.{ℕ, zero, suc, ◌+◌, ◌-◌, ◌<◌, ◌≤◌, ◌≡◌, List, [], ◌∷◌, ◌++◌, Option, Some, None, refl, subst, sym, ap, ◌∙◌, length, drop, reverse, arith, Bool, true, false, cond, length-append}
 use Rattle.std.specs.Prelude.{slice_get, nat_le}
-use Rattle.int_core.specs.Value.{Value, last, without_last}
+use Rattle.int_core.specs.Value.{Value, last, without_last, error_or_nil}
 use Rattle.int_core.specs.Limits.{greatest_depth}
 use Rattle.int_core.specs.Operations.{Callee, callee, not_callable, callee_of, greatest_chain, handler_in, of_close}
 use Rattle.machine_core.specs.World.{closed, open_at, Frame, lua, pcall, xpcall, handler, closing, in_progress, World, lua_frame, Stack, stack_of, put_frames, put_top, push, pop}
 use Rattle.machine_core.specs.Text.{Arg, arg, args_of}
-use Rattle.machine_core.specs.Moves.{Over, over_pcall, over_xpcall, over_handler, frame_over, Move, take_moving, look, give, give_with, blame, find_close, place_text, push_frame, call_value, see_top, see_catcher, pop_frame, take_closing, set_error, CallShape, is_entered, is_primitive, not_paid, not_entered, TopShape, closing_top, no_top, top_shape, top_now, runs_main, catcher, handler_value, next_closing, with_error, error_or_nil, push_all, has_room, enters_paid, enters, placed, blamed, Made, made, move, ClosingShape, one_left}
+use Rattle.machine_core.specs.Moves.{Over, over_pcall, over_xpcall, over_handler, frame_over, Move, take_moving, look, give, give_with, blame, find_close, place_text, push_frame, call_value, see_top, see_catcher, pop_frame, take_closing, set_error, CallShape, is_entered, is_primitive, not_paid, not_entered, TopShape, closing_top, no_top, top_shape, top_now, runs_main, catcher, handler_value, next_closing, with_error, push_all, has_room, enters_paid, enters, placed, blamed, Made, made, move, ClosingShape, one_left}
 use Rattle.machine_sound.specs.Sound.{Each, Sizes, sizes, Valid, OptionOk, FrameOk, FrameWaits, FramesOk, registers_in, Solid, StackWaits}
 use Rattle.machine_sound.specs.Safe.{on_lua, waiting, Is, IsPhase, WaitsUnder, seen_lua, seen_other, takes_one, takes_none, takes_error, IsNoLua, IsOther, OverOk, WaitingReady, after_catcher, after_over, MoveGood}
 use Rattle.machine_sound.proofs.Lists.{each_none, each_cons, each_one, each_push, each_last, each_drop, each_take, each_tail, each_append, bind_at, last_push, last_splits}

@@ -2,18 +2,19 @@
 use Rattle.std.proofs.Common.{ℕ, zero, suc, ◌+◌, ◌<◌, ◌≤◌, ◌≡◌, List, [], ◌∷◌, ◌++◌, Option, Some, None, refl, subst, sym, ap, ◌∙◌, length, take, drop, arith, Bool, true, false, cond, length-append}
 use Rattle.std.specs.Prelude.{slice_get, nat_le, nat_lt, IsTrue, IsSome}
 use Rattle.std.proofs.lemmas.Bool.Decides.{nat_tests}
-use Rattle.int_core.specs.Value.{Value, known, nil, boolean, integer, string, primitive, object, a_table, a_function, a_coroutine}
+use Rattle.int_core.specs.Value.{Value, known, nil, boolean, integer, string, primitive, object, a_table, a_function, a_coroutine, fitted}
+use Rattle.int_core.proofs.ValueLemmas.{length_fitted}
 use Rattle.int_core.specs.Limits.{greatest_depth, stack_overflow}
 use Rattle.int_core.specs.Operations.{is_function}
 use Rattle.code_core.specs.declared.instruction.Instruction.{Instruction}
 use Rattle.code_core.specs.Prototype.{Prototype}
 use Rattle.code_core.specs.Check.{IsChecked, at}
 use Rattle.machine_core.specs.World.{Function, closed, open_at, running, LuaFrame, Frame, lua, in_progress, World, Stack, stack_of, put_frames, push, find_open}
-use Rattle.machine_core.specs.Moves.{CallShape, is_entered, is_primitive, not_paid, not_entered, Made, made, fitted, new_frame, push_all, has_room, enters}
+use Rattle.machine_core.specs.Moves.{CallShape, is_entered, is_primitive, not_paid, not_entered, Made, made, new_frame, push_all, has_room, enters}
 use Rattle.machine_sound.specs.Sound.{Each, sizes, Valid, LuaOk, FrameOk, registers_in, registers_of, Solid, Settled, StackWaits}
 use Rattle.machine_sound.specs.Safe.{Calls}
 use Rattle.machine_sound.proofs.Lists.{each_none, each_push, each_drop, each_take, bind_at, get_there, get_front}
-use Rattle.machine_sound.proofs.Values.{lt_of, le_of, both_of, each_fitted, length_fitted}
+use Rattle.machine_sound.proofs.Values.{lt_of, le_of, both_of, each_fitted}
 use Rattle.machine_sound.proofs.Grow.{Grows, grows_self, each_waits_on}
 use Rattle.machine_sound.proofs.Frames.{set_stack, CellsFit, stack_grows, stack_solid, stack_there, stack_is}
 use Rattle.machine_sound.proofs.Rules.{opcode_there, first_no_extra}

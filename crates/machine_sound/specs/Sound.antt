@@ -12,7 +12,7 @@ use Rattle.code_core.specs.declared.instruction.Instruction.{Instruction}
 use Rattle.code_core.specs.Instruction.{opcode_of, a_of, b_of}
 use Rattle.code_core.specs.Prototype.{Prototype}
 use Rattle.code_core.specs.Check.{IsChecked, at, Mark, fixed, open_from, mark}
-use Rattle.machine_core.specs.World.{Function, Cell, closed, open_at, Wait, running, for_call, for_iterator, for_value, for_truth, dropped, for_concat, for_close, returning, leaving, LuaFrame, Frame, lua, pcall, xpcall, handler, closing, Coroutine, fresh, suspended, in_progress, normal, dead, failed, World, frames_of, lua_frame, find_open}
+use Rattle.machine_core.specs.World.{Function, Cell, closed, open_at, Wait, running, for_call, for_iterator, for_value, for_truth, dropped, for_concat, for_close, returning, leaving, LuaFrame, Frame, lua, pcall, xpcall, handler, closing, Coroutine, fresh, suspended, in_progress, normal, dead, failed, World, frames_of, lua_frame, find_open, OneEach}
 use Rattle.machine_core.specs.Text.{behind}
 use Rattle.int_core.specs.Limits.{greatest_depth, greatest_resumes}
 
@@ -207,10 +207,6 @@ registers_of coroutines co n = elim (bind (slice_get coroutines co) frames_of) [
 abbrev pub CellOk : Sizes → List Coroutine → Cell → Type 0
 CellOk z coroutines (closed v) = Valid z v
 CellOk z coroutines (open_at co frame register) = register < registers_of coroutines co frame
-
--- no register has two cells
-abbrev pub OneEach : List Cell → Type 0
-OneEach cells = (i j co frame register : ℕ) → slice_get cells i ≡ Some (open_at co frame register) → slice_get cells j ≡ Some (open_at co frame register) → i ≡ j
 
 pub record RootsOk (z : Sizes) (W : World) : Type 0 where
   pub string_metatable : OptionOk (λ m. m < z.tables) W.heap.string_metatable

@@ -25,9 +25,8 @@ use Rattle.machine_runs.specs.Runs.{Run}
 use Rattle.means_runs.specs.Runs.{ScriptWorlds}
 use Rattle.means_runs.proofs.Runs as code_runs
 use Rattle.scripts_mean.specs.Scripts.{Begins, MeansSo, RunsAs, name_in}
-use Rattle.scripts_mean.proofs.Scripts.{worlds}
+use Rattle.scripts_mean.proofs.Scripts.{runs_as, worlds}
 use Rattle.mains_mean.specs.Mains.{IsMain, DoesWith, MainsDo, MainsMean, CodeIsMain}
-use Rattle.mains_mean.proofs.Ends.{joined}
 
 module _ (safe : LibraryThatLoadsIsSafe) (builds : Builds Body) (are : BuildsSources builds) (source : List ℕ) (tree : Block) (prelude : List (Entry Body)) (compiled : List (Entry Prototype)) (given : Option (List ℕ)) (input : List (List ℕ)) (budget : ℕ) (k : Begins source tree prelude compiled given input) (main : Prototype) (is : IsMain tree given main) where
   abbrev code : Builds Prototype
@@ -52,13 +51,13 @@ module _ (safe : LibraryThatLoadsIsSafe) (builds : Builds Body) (are : BuildsSou
   does r c =
       let s = code_runs.scripts_run (length all_entries) (library builds) (primitives code) (opening compiled) (code_opening compiled) of_main input budget main_worlds r c in
       let t = letter_after builds code (loaded_alike builds are) (tree_opening prelude) (code_opening compiled) (opening_ready prelude) (openings_alike prelude compiled k.libraries.alike) (placed tree) main (name_in given) (is_known given) is.means input budget s.0 s.1 in
-      (t.ends.meaning, t.ends.is_meant, joined r s.0 t.ends.meaning s.2 t.ends.alike)
+      (t.ends.meaning, t.ends.is_meant, runs_as r s.0 t.ends.meaning s.2 t.ends.alike)
 
   meant : (m : Meaning Body State) → MeansSo builds tree given input budget prelude m → (r : Run) × DoesWith builds main compiled input budget r × RunsAs r m
   meant m is_meant =
       let t = code_after builds code (loaded_alike builds are) (tree_opening prelude) (code_opening compiled) (opening_ready prelude) (openings_alike prelude compiled k.libraries.alike) (placed tree) main (name_in given) (is_known given) is.means input budget m is_meant in
       let s = code_runs.scripts_mean (length all_entries) (library builds) (primitives code) (opening compiled) (code_opening compiled) of_main input budget main_worlds t.meaning t.is_meant in
-      (s.0, s.1, joined s.0 t.meaning m s.2 t.alike)
+      (s.0, s.1, runs_as s.0 t.meaning m s.2 t.alike)
 
 pub mains_do : LibraryThatLoadsIsSafe → MainsDo
 mains_do safe builds are source tree prelude compiled given input budget k main is = does safe builds are source tree prelude compiled given input budget k main is

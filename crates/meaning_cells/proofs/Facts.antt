@@ -1,12 +1,12 @@
 -- Facts on numbers of locals, points of blocks and labels.
-use Rattle.std.proofs.Common.{ℕ, zero, suc, ◌+◌, ◌<◌, ◌≤◌, ◌≡◌, ⊎_elim, Bool, true, false, cond, List, [], ◌∷◌, ◌++◌, length, Option, Some, None, refl, ap, arith, length-append}
+use Rattle.std.proofs.Common.{ℕ, zero, suc, ◌+◌, ◌<◌, ◌≤◌, ◌≡◌, ⊎_elim, Bool, true, false, cond, List, [], ◌∷◌, ◌++◌, length, Option, Some, None, refl, arith, length-append}
 use Rattle.std.proofs.lemmas.List.{length-take}
 use Rattle.std.specs.Prelude.{ℤ, take, bytes_eq}
 use Rattle.int_core.specs.Value.{Value, known, integer, nth, shape, write}
 use Rattle.tree_core.specs.declared.name.Declared.{Declared}
 use Rattle.tree_core.specs.Tree.{Block, Falls, Returns, Stats, EndStats, MoreStats, Local, LocalFunction, Label, Exp}
 use Rattle.tree_activation.specs.Work.{Passed, Point, Control, mark}
-use Rattle.tree_activation.specs.Asking.{fitted, numbers}
+use Rattle.tree_activation.specs.Asking.{numbers}
 use Rattle.tree_activation.specs.Expressions.{integer_in}
 use Rattle.tree_activation.specs.Jumps.{Landing, passed_by, is_at_end, ahead, behind}
 use Rattle.tree_activation.specs.Statements.{point_of, repeat_point, is_closed, marks_closed, hidden}
@@ -33,11 +33,6 @@ repeat_ok (Returns ss es tokens line) test level f l = (tt, l, tt, tt)
 pub numbers_in : (from count x : ℕ) → Member x (numbers from count) → x < from + count
 numbers_in from zero x m = absurd m
 numbers_in from (suc n) x m = ⊎_elim (λ e. omega (arith, e)) (λ k. let l = numbers_in (suc from) n x k in omega (arith, l)) m
-
-pub fitted_size : (n : ℕ) (vs : List Value) → length (fitted n vs) ≡ n
-fitted_size zero vs = refl
-fitted_size (suc n) [] = ap suc (fitted_size n [])
-fitted_size (suc n) (v ∷ vs) = ap suc (fitted_size n vs)
 
 pub marks_req : (m : ℕ) (names : List Declared) (next : Control) (b : Option ℕ) (f : ℕ) (hd hc : List (ℕ × ℕ)) → Req next b f hd hc → Req (marks_closed m names next) b f hd hc
 marks_req m [] next b f hd hc r = r

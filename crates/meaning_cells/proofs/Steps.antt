@@ -3,7 +3,8 @@ use Rattle.std.proofs.Common.{ℕ, zero, suc, ◌+◌, ◌<◌, ◌≤◌, ◌�
 use Rattle.std.proofs.lemmas.List.{length-take}
 use Rattle.std.specs.Prelude.{ℤ, pos, negsuc, not, nat_lt, take, drop, reverse, codes}
 use Rattle.int_core.specs.Arithmetic.{add, sub}
-use Rattle.int_core.specs.Value.{Value, known, nil, boolean, integer, string, same_integer, is_nil, nth, shape, holds, bind, write, without_last}
+use Rattle.int_core.specs.Value.{Value, known, nil, boolean, integer, string, same_integer, is_nil, nth, shape, holds, bind, write, without_last, fitted}
+use Rattle.int_core.proofs.ValueLemmas.{length_fitted}
 use Rattle.int_core.specs.Operations.{Event, of_add, of_sub, of_mul, of_mod, of_idiv, of_band, of_bor, of_bxor, of_shl, of_shr, of_unm, of_bnot, computed, by_zero, Operation, index, arithmetic, concat, length', equal, less, less_equal, store as store_op}
 use Rattle.int_core.specs.Ask.{CellName, of_local, of_upvalue, returns, throws, Ask, reads_upvalue, writes_upvalue, makes_table, makes_function, fills_table, pays, operates, calls, calls_last, marks, closes, raises, leaves, Reply, values, faulted, left, values_in, Next, stuck, goes_on, says, opens, shared_by, held_below, gone_from, brought, cell_held}
 use Rattle.tree_core.specs.declared.name.UpName.{UpName}
@@ -17,7 +18,7 @@ use Rattle.tree_core.specs.declared.operator.BinOp.{BinOp}
 use Rattle.tree_core.specs.declared.operator.BinOp.TheVariants.{Add, Sub, Mul, Mod, Idiv, Band, Bor, Bxor, Shl, Shr, Concat, Eq, Ne, Lt, Le, Gt, Ge}
 use Rattle.tree_core.specs.Tree.{Block, Body, BodyOf, Stats, EndStats, MoreStats, Stat, Empty, Local, LocalFunction, Assign, CallStat, Do, While, Repeat, If, IfElse, NumFor, NumForStep, GenFor, Label, Goto, Break, Arms, EndArms, MoreArms, Exp, Nil, True, False, Int, Str, Vararg, Function, Var, Index, Call, Method, Unary, Binary, And, Or, Paren, Table, Exps, EndExps, MoreExps, Fields, EndFields, MoreFields, Item, Keyed}
 use Rattle.tree_activation.specs.Work.{End, falls_off, returns_list, until, Point, Target, to_local, to_upvalue, to_field, Purpose, for_call, for_return, for_declaration, for_assignment, for_counting, for_iterating, Control, evaluate, give, collect, construct, aim, store, choose, run, complete, decide, count_round, test_round, enter_round, capture, make, mark, pay, leave_scope, raise, finish, over, Work, key_of, object_of, field_of, operand_of, right_of, left_of, and_right, or_right, first_only, callee_of, method_of, listed, item_of, keyed_value, keyed_store, aimed_key, aimed_field, function_to, dropped, if_test, while_test, until_test, in_block, looping, repeating, counting, iterating, end_of_body, when_declared, when_captured, Pending, Activation, State, at}
-use Rattle.tree_activation.specs.Asking.{first, go, fitted, says_so, asks_quickly, heard, asks, last_pending, leave_by, leaves_scope, marked, marks_local, captures_one, captures, numbers, captured_locals, cell_names}
+use Rattle.tree_activation.specs.Asking.{first, go, says_so, asks_quickly, heard, asks, last_pending, leave_by, leaves_scope, marked, marks_local, captures_one, captures, numbers, captured_locals, cell_names}
 use Rattle.tree_terms.specs.Bodies.{line_of_body, upvalues_of}
 use Rattle.tree_activation.specs.Expressions.{give_first, reads_variable, evaluates, makes_with, makes, integer_in, gives_integer, by_integers, operation_of, truth_of, binary, unary, added, constructs, stores_item}
 use Rattle.tree_activation.specs.Jumps.{Landing, passed_by, ahead, behind, lands, goes_to, breaks}
@@ -30,7 +31,7 @@ use Rattle.list_laws.proofs.Values.{write_more}
 use Rattle.meaning_cells.proofs.Lists.{bring_size, bring_own}
 use Rattle.list_laws.proofs.Held.{below_was, find_has, has_find}
 use Rattle.meaning_cells.proofs.Relation.{View, one, two, Held, held_more, held_even, held_owns, held_cut, held_told, held_first, held_second, held_both, bound, floor, Under, Low, IsEnd, IsPoint, Serves, Sound, Ready, Landed, Req, Rel, same, early, steps_behind, brought_same, in_scope_too}
-use Rattle.meaning_cells.proofs.Facts.{under_none, low_none, point_ok, repeat_ok, numbers_in, fitted_size, marks_req, round_size, enter_size, integer_in_scope, IsLanding, ahead_ok, behind_ok}
+use Rattle.meaning_cells.proofs.Facts.{under_none, low_none, point_ok, repeat_ok, numbers_in, marks_req, round_size, enter_size, integer_in_scope, IsLanding, ahead_ok, behind_ok}
 
 under_low : (b : Option ℕ) (level : ℕ) (hd : List (ℕ × ℕ)) → Under b level → Low b (held_below level hd)
 under_low None level hd u = tt
@@ -374,7 +375,7 @@ module _ (Q : Cells → State → State → Type 0) (keep : (ps : Cells) (s t : 
       let m = length v.ls in
       let w = record v { ls = v.ls ++ fitted (length names) vs } in
       let a = length-append v.ls (fitted (length names) vs) in
-      let b = fitted_size (length names) vs in
+      let b = length_fitted (length names) vs in
       keep ps (at (capture line (numbers m (length names)) (marks_closed m names complete)) (one w) k) (at (marks_closed m names complete) (two w) k)
       (early w k line (numbers m (length names)) (marks_closed m names complete)
       (held_more ps m (length w.ls) v.hd v.gd v.hc v.gc h (λ x c z. let l = h.scope x c z in omega (arith, l, a))) (omega (arith, d, a))
@@ -482,7 +483,7 @@ module _ (Q : Cells → State → State → Type 0) (keep : (ps : Cells) (s t : 
   iterates_like line names block vs v k h d n s =
       let m = length v.ls in
       let a = length-append v.ls (fitted 4 vs) in
-      let b = fitted_size 4 vs in
+      let b = length_fitted 4 vs in
       goes (record v { ls = v.ls ++ fitted 4 vs }) (iterating line names block m ∷ k) (mark line (codes "?") (m + 3) complete)
       (held_more ps m (length (v.ls ++ fitted 4 vs)) v.hd v.gd v.hc v.gc h (λ x c z. let l = h.scope x c z in omega (arith, l, a))) (omega (arith, a, b))
       (λ x c z. let l = h.scope x c z in omega (arith, l)) ((n, d), s)
@@ -500,7 +501,7 @@ module _ (Q : Cells → State → State → Type 0) (keep : (ps : Cells) (s t : 
   enters_round_like line names block level vs v k h d low n fl s =
       let w = record v { ls = write (level + 2) (first vs) (take (level + 4) v.ls) ++ fitted (length names) vs } in
       let e = enter_size level (first vs) v.ls (fitted (length names) vs) d in
-      let b = fitted_size (length names) vs in
+      let b = length_fitted (length names) vs in
       let ns = numbers (level + 4) (length names) in
       keep ps (at (capture line ns (run (point_of block (level + 4)))) (one w) (iterating line names block level ∷ k)) (at (run (point_of block (level + 4))) (two w) (iterating line names block level ∷ k))
       (early w (iterating line names block level ∷ k) line ns (run (point_of block (level + 4)))
@@ -721,7 +722,7 @@ pub starts_alike : (ps : Cells) (body : Body) (arguments : List Value) → AreCe
 starts_alike ps (BodyOf params vararg inner ups line) arguments are even =
     let v : View = record { ls = fitted (length params) arguments; vs = cond vararg (drop (length params) arguments) []; pd = []; hd = []; gd = []; hc = []; gc = [] } in
     let k = end_of_body (line_of_end inner) ∷ [] in
-    let e = fitted_size (length params) arguments in
+    let e = length_fitted (length params) arguments in
     early v k line (numbers 0 (length params)) (run (point_of inner 0))
     (record {
       cells = are;

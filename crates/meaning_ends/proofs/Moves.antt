@@ -1,7 +1,7 @@
 -- What each step of a world leads to: the end of the turn, a unit spent, or less that is left to do.
 use Rattle.std.proofs.Common.{◌≡◌, ℕ, zero, suc, ◌+◌, ◌*◌, ◌<◌, ◌≤◌, Bool, true, false, cond, List, [], ◌∷◌, ◌++◌, length, Option, Some, None, refl, ap, arith}
 use Rattle.std.specs.Prelude.{ℤ, nat_lt, slice_get, slice_set, drop, codes}
-use Rattle.int_core.specs.Value.{Value, known, nil, primitive, object, a_function, a_coroutine, shape, is_nil, nth}
+use Rattle.int_core.specs.Value.{Value, known, nil, primitive, object, a_function, a_coroutine, shape, is_nil, nth, error_or_nil}
 use Rattle.int_core.specs.Limits.{greatest_resumes}
 use Rattle.int_core.specs.Heap.{filled_table}
 use Rattle.int_core.specs.Operations.{Callee, callee, not_callable, callee_of, greatest_chain, Settled, found, ask, fault, cannot_arise, does, handler_in, of_close, is_function}
@@ -10,7 +10,7 @@ use Rattle.tree_core.specs.Tree.{Body}
 use Rattle.tree_activation.specs.Work.{Celling, State}
 use Rattle.tree_activation.specs.Activation.{start, step}
 use Rattle.lua_meaning.specs.World.{System, Function, Asker, Frame, talking, waiting, raising, protected, handled_by, handling, closing, Coroutine, fresh, suspended, running, normal, dead, failed, Now, talks, gives_back, raises_error, unwinds, calls_primitive, ends, World, now_in, breaks, has_room, on_frames, runs_main, raises_text, given_to, answered, answered_at_once, as_known, cell_of, shared_in, shared_out}
-use Rattle.lua_meaning.specs.Calls.{error_in_handler, error_or_nil, put_coroutine, frames_in, back_to, returns_all, fails_all, enters_function, enters, pays_with, pays_for, calls_value, calls_over, closes_on, handed, raised_to, unwound, goes_along, resumes, yields, closes_in, closes_coroutine, all_pending, text}
+use Rattle.lua_meaning.specs.Calls.{error_in_handler, put_coroutine, frames_in, back_to, returns_all, fails_all, enters_function, enters, pays_with, pays_for, calls_value, calls_over, closes_on, handed, raised_to, unwound, goes_along, resumes, yields, closes_in, closes_coroutine, all_pending, text}
 use Rattle.lua_meaning.specs.Asks.{calls_for, calls_in_place, settled, pays_unit, made_in, gets_function, handle, turns, talks_on}
 use Rattle.library_rows.specs.Look.{Done, done}
 use Rattle.library_rows.specs.Look.{refused as no_result, raised as an_error}

@@ -10,7 +10,7 @@ use Rattle.table_core.specs.declared.value.TableId.{TableId}
 use Rattle.table_core.specs.declared.value.Value.{Value as Kept}
 use Rattle.table_core.specs.declared.value.Value.TheVariants.{Nil, Bool as Boolean, Int, Str, Prim, Table, Func, Coro}
 use Rattle.lua_heap.specs.Reading.{value}
-use Rattle.meta_ops.specs.Operators.{are_tables}
+use Rattle.table_core.specs.Value.{are_tables}
 
 -- equality
 

@@ -2,7 +2,6 @@ pub mod Heap
 pub mod Events
 pub mod Outcome
 pub mod Chains
-pub mod Operators
 pub mod Store
 pub mod Concat
 pub mod Operation

@@ -3,7 +3,7 @@ ghost use Rattle.std.specs.Prelude.{◌≡◌, [], ◌∷◌, not, int_lt, int_l
 ghost use Rattle.int_core.specs.Operations.{before, equal_on, of_le, of_lt, ordered};
 ghost use Rattle.lua_heap.specs.Reading.{value};
 ghost use Rattle.meta_ops.specs.Heap.{heap_of, IsThere};
-ghost use Rattle.meta_ops.specs.Operators.{are_tables};
+ghost use Rattle.table_core.specs.Value.{are_tables};
 ghost use Rattle.meta_ops.specs.Outcome.{settled};
 
 use crate::event::Event;

@@ -1,4 +1,4 @@
-// Pools of objects: a list that grows at its end, and is cut back to a mark.
+//! Pools of objects: a list that grows at its end, and is cut back to a mark.
 #![tactic(auto)]
 
 mod pool;

@@ -3,11 +3,11 @@ use Rattle.std.proofs.Common.{ℕ, zero, suc, ◌≡◌, ⊎_elim, List, [], ◌
 use Rattle.std.specs.Prelude.{slice_get, slice_set, nat_eq, nat_lt}
 use Rattle.std.proofs.lemmas.Bool.{cases_eq}
 use Rattle.std.proofs.lemmas.Bool.Decides.{nat_tests}
-use Rattle.int_core.specs.Value.{nil, boolean, integer, string, primitive, a_table, a_function, a_coroutine, Value, known, object, bind, last, without_last}
+use Rattle.int_core.specs.Value.{nil, boolean, integer, string, primitive, a_table, a_function, a_coroutine, Value, known, object, bind, last, without_last, fitted}
 use Rattle.int_core.specs.Operations.{Callee, callee, not_callable, callee_of, greatest_chain}
 use Rattle.machine_core.specs.World.{Function, Cell, closed, Wait, LuaFrame, Frame, lua, Coroutine, in_progress, World, Stack, stack_of, frames_of, Place, put_frames, put_top, push, pop, close_from}
 use Rattle.machine_core.specs.Text.{Own, done}
-use Rattle.machine_core.specs.Moves.{made, not_paid, cells_done, with_own, fitted, new_frame, push_all, has_room, enters, enters_paid, called, popped, called_tail}
+use Rattle.machine_core.specs.Moves.{made, not_paid, cells_done, with_own, new_frame, push_all, has_room, enters, enters_paid, called, popped, called_tail}
 use Rattle.machine_sound.specs.Sound.{Each}
 use Rattle.machine_sound.proofs.Lists.{each_none, each_push, each_take, each_drop, get_set_same, get_set_other, some_is, last_splits}
 use Rattle.machine_sound.proofs.Values.{nth_ok, each_fitted}

@@ -16,7 +16,7 @@ use Rattle.prelude_guard.specs.Checks.{is_guarded}
 use Rattle.prelude_stays.specs.Laws.{home_of, Stays, library, RunsHavePrelude, GuardedCode}
 use Rattle.prelude_stays.proofs.Runs.{opening_stays, begun_stays, runs_stay}
 
-untouched : (prelude : List (Entry Prototype)) (W : World) → Stays (home_of prelude) W → IsUntouched prelude W
+pub untouched : (prelude : List (Entry Prototype)) (W : World) → Stays (home_of prelude) W → IsUntouched prelude W
 untouched prelude W k = record { table = k.1.heap.made; cell = k.1.cell; apart = λ n f l e i x. (k.1.functions n f e).apart l i 0 x refl }
 
 pub runs_have_prelude : RunsKeep → OpeningHasPrelude → BegunHasPrelude → FunctionsAreKept → RunsHavePrelude

@@ -2,13 +2,13 @@
 use Rattle.std.proofs.Common.{ℕ, zero, ◌≡◌, List, [], ◌∷◌, ◌++◌, Option, Some, None, refl, subst, sym, length, drop, reverse}
 use Rattle.std.specs.Prelude.{slice_get, flat_map}
 use Rattle.std.proofs.lemmas.List.{reverse-append}
-use Rattle.int_core.specs.Value.{nil, boolean, integer, string, primitive, a_function, a_coroutine, Value, known, object, bind, last, without_last}
+use Rattle.int_core.specs.Value.{nil, boolean, integer, string, primitive, a_function, a_coroutine, Value, known, object, bind, last, without_last, error_or_nil}
 use Rattle.int_core.specs.Operations.{handler_in, of_close, is_function}
 use Rattle.library_rows.specs.Look.{Done, done as came, refused as was_refused, raised as was_raised, looked}
 use Rattle.code_core.specs.Check.{at}
 use Rattle.machine_core.specs.World.{leaving, Frame, lua, pcall, xpcall, handler, closing, dead, failed, World, Stack, stack_of, Place, place_of, put_top, put_frames}
 use Rattle.machine_core.specs.Text.{Arg, arg, args_of, close_cells, keep_pending, Given, results, thrown, given_values}
-use Rattle.machine_core.specs.Moves.{Over, over_pcall, over_xpcall, over_handler, frame_over, Move, on_own, move_pc, open_register, outside, settle, enter, enter_tail, await, find_close, is_closable, begin_leaving, leave_frame, take_moving, look, give, give_with, blame, place_text, push_frame, call_value, see_top, see_catcher, pop_frame, take_closing, set_error, end_coroutine, fail_coroutine, suspend, resume, begin_closing, consult, create, see_status, see_running, print, make_loaded, environment_in, Made, made, blamed, placed, place_from, popped, top_now, catcher, handler_value, error_or_nil, ClosingShape, next_closing, one_left, with_error, pending_values, ends_as, runs_main, has_room, with_own, coroutine_number, add_printed, bytes_in, consulted, move}
+use Rattle.machine_core.specs.Moves.{Over, over_pcall, over_xpcall, over_handler, frame_over, Move, on_own, move_pc, open_register, outside, settle, enter, enter_tail, await, find_close, is_closable, begin_leaving, leave_frame, take_moving, look, give, give_with, blame, place_text, push_frame, call_value, see_top, see_catcher, pop_frame, take_closing, set_error, end_coroutine, fail_coroutine, suspend, resume, begin_closing, consult, create, see_status, see_running, print, make_loaded, environment_in, Made, made, blamed, placed, place_from, popped, top_now, catcher, handler_value, ClosingShape, next_closing, one_left, with_error, pending_values, ends_as, runs_main, has_room, with_own, coroutine_number, add_printed, bytes_in, consulted, move}
 use Rattle.machine_sound.specs.Sound.{Each, OptionOk}
 use Rattle.machine_sound.proofs.Lists.{each_none, each_cons, each_one, each_tail, each_append, each_push, each_take, each_drop}
 use Rattle.prelude_stays.specs.Guards.{Guard, unguarded}

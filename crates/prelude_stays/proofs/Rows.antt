@@ -1,9 +1,9 @@
 -- Rows of free moves, and those that pop a frame which is no Lua frame.
 use Rattle.std.proofs.Common.{ℕ, ◌≡◌, List, [], ◌∷◌, ◌++◌, Option, Some, None, refl, subst, sym, ap, ◌∙◌, length, Bool, true, false, cond}
-use Rattle.int_core.specs.Value.{boolean, Value, bind, last, without_last}
+use Rattle.int_core.specs.Value.{boolean, Value, bind, last, without_last, error_or_nil}
 use Rattle.machine_core.specs.World.{LuaFrame, Frame, lua, pcall, xpcall, handler, closing, World, Stack, stack_of, lua_frame, put_top, pop}
 use Rattle.machine_core.specs.Text.{read, written}
-use Rattle.machine_core.specs.Moves.{Move, take_moving, give, pop_frame, Made, made, Told, TopShape, lua_top, pcall_top, xpcall_top, handler_top, closing_top, no_top, ClosingShape, one_left, top_shape, top_now, next_closing, error_or_nil, Ending, Row, traps, stop, act, Outcome, trapped, move, run}
+use Rattle.machine_core.specs.Moves.{Move, take_moving, give, pop_frame, Made, made, Told, TopShape, lua_top, pcall_top, xpcall_top, handler_top, closing_top, no_top, ClosingShape, one_left, top_shape, top_now, next_closing, Ending, Row, traps, stop, act, Outcome, trapped, move, run}
 use Rattle.machine_core.specs.FrameRows.{then, handed, hand_over, closing_by, closing_row, gives_up}
 use Rattle.machine_sound.specs.Sound.{Each}
 use Rattle.machine_sound.proofs.Lists.{each_none, each_append}

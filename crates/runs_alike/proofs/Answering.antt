@@ -1,12 +1,12 @@
 -- Calls, answers, results and errors in worlds that are dressed anew.
 use Rattle.std.proofs.Common.{◌≡◌, ℕ, zero, suc, Bool, List, [], ◌∷◌, length, Option, Some, None, refl, sym, ◌∙◌, ap, subst, arith}
 use Rattle.std.specs.Prelude.{slice_set, nat_lt, map}
-use Rattle.int_core.specs.Value.{Value, known, primitive, object, a_function}
+use Rattle.int_core.specs.Value.{Value, known, primitive, object, a_function, error_or_nil}
 use Rattle.int_core.specs.Limits.{greatest_resumes, stack_overflow}
 use Rattle.int_core.specs.Operations.{Callee, callee, not_callable, callee_of, greatest_chain, handler_in, of_close}
 use Rattle.int_core.specs.Ask.{Reply, values, left, Answer, IsLeft}
 use Rattle.lua_meaning.specs.World.{System, Asker, Frame, talking, waiting, raising, protected, handled_by, handling, closing, Coroutine, fresh, suspended, running, normal, dead, failed, Now, gives_back, unwinds, World, now_in, on_frames, has_room, runs_main, raises_text, shared_out, second, given_to, answered}
-use Rattle.lua_meaning.specs.Calls.{error_in_handler, error_or_nil, put_coroutine, all_pending, all_closed, enters, pays_with, pays_for, calls_value, calls_over, closes_on, handed, raised_to, unwound, goes_along, goes_into, resumes, closes_in, closes_coroutine}
+use Rattle.lua_meaning.specs.Calls.{error_in_handler, put_coroutine, all_pending, all_closed, enters, pays_with, pays_for, calls_value, calls_over, closes_on, handed, raised_to, unwound, goes_along, goes_into, resumes, closes_in, closes_coroutine}
 use Rattle.runs_alike.proofs.Dressed.{Part, state, goes, nothing, dressed_asker, dress_frame, dress, dress_coroutine, dress_world, Mid, AskerLike, Any, FrameLike, FramesLike, CoroutineLike, Like, Out, count_out, pending_same, Found, is_none, is_some, found}
 use Rattle.runs_alike.proofs.Moving.{set_same, set_like, room_same, either_out, either_by, frames_like, now_out, raises_out, then_out, returns_out, fails_out}
 

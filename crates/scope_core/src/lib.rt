@@ -1,5 +1,5 @@
-// The static rules of a source, and where the value of each variable's name is found
-// (Lua 5.4 manual, 3.3.4, 3.3.7, 3.3.8 and 3.5).
+//! The static rules of a source, and where the value of each variable's name is found
+//! (Lua 5.4 manual, 3.3.4, 3.3.7, 3.3.8 and 3.5).
 #![tactic(auto)]
 
 mod frame;

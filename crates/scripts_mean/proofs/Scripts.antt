@@ -57,7 +57,7 @@ ends_as has_spent W meaning.has_spent y a b = absurd b
 ends_as is_suspended W (meaning.is_suspended T) y a b = absurd b
 ends_as close W x y a b = absurd a
 
-runs_as : (r : Run) (x : Meaning Prototype CodeState) (y : Meaning Body State) → RunsAlike r x → RunAlike y x → RunsAs r y
+pub runs_as : (r : Run) (x : Meaning Prototype CodeState) (y : Meaning Body State) → RunsAlike r x → RunAlike y x → RunsAs r y
 runs_as r x y a b = record { printed = a.printed ∙ sym b.printed; ends = ends_as r.close r.last x.outcome y.outcome a.ends b.outcome }
 
 code_is_named : (builds : Builds Body) → BuildsNamed (code_builds builds)

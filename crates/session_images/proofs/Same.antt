@@ -10,8 +10,8 @@ use Rattle.code_core.specs.Prototype.{Prototype}
 use Rattle.list_laws.proofs.Tests.{eq_true, lt_is, lt_true}
 use Rattle.library_rows.specs.Library.{Primitive, Entry, all_entries}
 use Rattle.lua_meaning.specs.Libraries.{environment_table, primitives_from, functions_from, primitive_values, function_values, put_by_name, by_name, row_of_entry, is_named, first_of_each, environment}
-use Rattle.machine_core.specs.World.{Function, closed, World}
-use Rattle.machine_alike.specs.Agree.{Pairs, SameNumber, SameCellNumber, Both, SameValue, same_known, same_object, SameRow, SameTable, SameFunction, kept_closed, SameCell, same_content, OneToOne, OneEach, objects_of, SameObjects}
+use Rattle.machine_core.specs.World.{Function, closed, World, OneEach}
+use Rattle.machine_alike.specs.Agree.{Pairs, SameNumber, SameCellNumber, Both, SameValue, same_known, same_object, SameRow, SameTable, SameFunction, kept_closed, SameCell, same_content, OneToOne, objects_of, SameObjects}
 use Rattle.machine_alike.proofs.Pairwise.{both_from}
 use Rattle.machine_sound.proofs.Lists.{get_there}
 use Rattle.machine_runs.specs.Opening.{environment_cell, prelude_function}

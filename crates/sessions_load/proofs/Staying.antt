@@ -1,5 +1,5 @@
 -- Sessions that wait for a line keep the prelude, however often they are saved and loaded.
-use Rattle.std.proofs.Common.{ℕ, ◌≡◌, ◌≤◌, List, [], length, refl, subst, sym, ap, ◌∙◌}
+use Rattle.std.proofs.Common.{ℕ, ◌≡◌, ◌≤◌, List, [], length, subst, sym, ap, ◌∙◌}
 use Rattle.code_core.specs.Prototype.{Prototype}
 use Rattle.library_rows.specs.Library.{Entry}
 use Rattle.load_rows.specs.Loading.{Builds}
@@ -11,12 +11,13 @@ use Rattle.image_bytes.specs.Format.{read}
 use Rattle.image_bytes.specs.Bytes.{image_format}
 use Rattle.image_sound.specs.Fitting.{reads}
 use Rattle.session_images.specs.Laws.{IsLibrary}
-use Rattle.session_images.specs.Prelude.{HasFunctions, IsUntouched}
+use Rattle.session_images.specs.Prelude.{HasFunctions}
 use Rattle.session_images.specs.Saved.{session_image, session_of}
 use Rattle.session_images.specs.Stored.{root_count}
 use Rattle.session_images.proofs.Prelude.{opening_has_prelude, begun_has_prelude, keeps_functions}
 use Rattle.session_images.proofs.Loaded.{session_has_prelude}
 use Rattle.prelude_stays.specs.Laws.{home_of, PreludeGuarded, Stays, OpeningStays, BegunStays, RunsStay, OnwardStays}
+use Rattle.prelude_stays.proofs.Having.{untouched}
 use Rattle.prelude_loads.specs.Law.{LoadedStays}
 use Rattle.images_stand.specs.Sessions.{KnowsLibraries, SessionsAccepted}
 use Rattle.lua_saving.specs.Saving.{session_reader, session_codes, IsSession}
@@ -25,9 +26,6 @@ use Rattle.sessions_join.specs.Laws.{IsFit}
 use Rattle.sessions_join.proofs.Waiting.{Waits, run_waits, onward_waits}
 use Rattle.sessions_load.specs.Law.{PreludesAreKnown, KeepsPrelude, RunKeepsPrelude, OnwardKeepsPrelude}
 use Rattle.sessions_load.proofs.Saved.{begins, waits_so}
-
-untouched : (prelude : List (Entry Prototype)) (W : World) → Stays (home_of prelude) W → IsUntouched prelude W
-untouched prelude W k = record { table = k.1.heap.made; cell = k.1.cell; apart = λ n f l e i x. (k.1.functions n f e).apart l i 0 x refl }
 
 kept : (build : Builds Prototype) (fit : IsFit (load_row build)) (budget : ℕ) (prelude : List (Entry Prototype)) (W : World) → Waits (load_row build) fit budget W → HasFunctions prelude W → Stays (home_of prelude) W → KeepsPrelude prelude W
 kept build fit budget prelude W w known stays = record { sound = w.sound; waits = w.may; has = record { known = known; untouched = untouched prelude W stays }; stays = stays }

@@ -1,6 +1,5 @@
 -- That a session is loaded from what it was saved as.
-use Rattle.std.specs.Prelude.{◌≡◌, ◌≤◌, ℕ, List, length}
-use Rattle.int_core.specs.Value.{greatest_string}
+use Rattle.std.specs.Prelude.{◌≡◌, ℕ, List, length}
 use Rattle.code_core.specs.Check.{IsChecked}
 use Rattle.code_core.specs.Prototype.{Prototype}
 use Rattle.library_rows.specs.Library.{Entry, all_entries}
@@ -8,8 +7,8 @@ use Rattle.load_rows.specs.Loading.{Builds}
 use Rattle.machine_core.specs.World.{World}
 use Rattle.machine_core.specs.Moves.{Row}
 use Rattle.machine_core.specs.PrimitiveRows.{load_row, row_numbered}
-use Rattle.machine_sound.specs.Sound.{Each, Sound}
-use Rattle.machine_runs.specs.Laws.{MayTurn}
+use Rattle.machine_sound.specs.Sound.{Sound}
+use Rattle.machine_runs.specs.Laws.{AreShort, MayTurn}
 use Rattle.machine_runs.specs.Opening.{opening, begun}
 use Rattle.machine_runs.specs.Runs.{is_suspended, Run, CodeRun, CodeOnward}
 use Rattle.session_images.specs.Laws.{IsLibrary}
@@ -29,10 +28,6 @@ pub record IsLoadable (prelude : List (Entry Prototype)) (bytes : List ℕ) : Ty
   pub session : World
   pub holds : IsSession prelude bytes session
   pub waits : HasYielded session
-
--- strings can hold all lines
-abbrev pub AreShort : List (List ℕ) → Type 0
-AreShort lines = Each (λ (line : List ℕ). length line ≤ greatest_string) lines
 
 -- code that runs until it waits for a line, and is saved then
 abbrev pub RunIsLoadable : Type 0

@@ -8,7 +8,7 @@ use Rattle.code_core.specs.Instruction.{opcode_of}
 use Rattle.machine_core.specs.World.{LuaFrame, Stack, stack_of, Place, place_of, World, Wait, running, for_call, for_iterator, for_value, for_truth, dropped, for_concat, for_close, returning, leaving}
 use Rattle.machine_core.specs.Text.{Text, trap}
 use Rattle.machine_core.specs.InstructionRows.{text_at, text_by, rest_at, rest_by, told_values}
-use Rattle.machine_core.specs.FrameRows.{expand, goes_on_by, asked_row, raised_row, unwound, handed_to}
+use Rattle.machine_core.specs.FrameRows.{expand, goes_on_by, asked_row, raised_row, unwound, handed_to, results_row, unwinding_row}
 use Rattle.machine_core.specs.Moves.{Ending, go, returned, asks, calls_primitive, raised, unwinding, spent, main_yielded, main_returned, main_failed, see_top, Row, act, Outcome, trapped, run}
 use Rattle.machine_core.specs.MachineStep.{woken, lua_step, top_step, from_world}
 use Rattle.machine_sound.specs.Sound.{Solid, StackWaits}
@@ -28,7 +28,7 @@ use Rattle.move_laws.proofs.Order.{ended_from, steps_of}
 use Rattle.move_laws.proofs.Places.{place_is}
 use Rattle.move_laws.proofs.Rows.{first, safe_after}
 use Rattle.step_laws.specs.Steps.{Does, RunsAt, HasForm}
-use Rattle.step_laws.specs.Law.{InstructionIsSafe, InstructionIsStep, AnswerIsSafe, AnswerIsStep, AnswerHasForm, ReturnedIsSafe, ReturnedIsStep, UnwindingIsSafe, UnwindingIsStep, results_row, error_row, ResultsAreSafe, ResultsAreStep, ErrorIsSafe, ErrorIsStep, RaisedIsSafe, RaisedIsStep, AskedIsSafe, AskedIsStep, PrimitiveIsSafe, PrimitiveIsStep, EndStays}
+use Rattle.step_laws.specs.Law.{InstructionIsSafe, InstructionIsStep, AnswerIsSafe, AnswerIsStep, AnswerHasForm, ReturnedIsSafe, ReturnedIsStep, UnwindingIsSafe, UnwindingIsStep, ResultsAreSafe, ResultsAreStep, ErrorIsSafe, ErrorIsStep, RaisedIsSafe, RaisedIsStep, AskedIsSafe, AskedIsStep, PrimitiveIsSafe, PrimitiveIsStep, EndStays}
 use Rattle.step_laws.proofs.Unpaid.{IsUnpaid, unpaid_never}
 use Rattle.step_laws.proofs.Free.{never_spent, free_never, rest_at_free, handed_to_never, unwound_never, raised_never}
 use Rattle.step_laws.proofs.Ready.{solid_by, sound_by, waits_by}
@@ -139,7 +139,7 @@ pub results_are_safe : ResultsAreSafe
 results_are_safe n W r = row_safe n results_row W r.after.sound.solid r.after.ready returned_safe
 
 pub error_is_safe : ErrorIsSafe
-error_is_safe n W r = row_safe n error_row W r.after.sound.solid r.after.ready unwinding_safe
+error_is_safe n W r = row_safe n unwinding_row W r.after.sound.solid r.after.ready unwinding_safe
 
 pub raised_is_safe : RaisedIsSafe
 raised_is_safe n W r = row_safe n raised_row W r.after.sound.solid r.after.ready raised_safe
@@ -164,7 +164,7 @@ pub results_are_step : ResultsAreStep
 results_are_step rows old new fuel to l = record { is = (steps_of fuel (never_spent results_row [] (plain old 0) (plain new 0) to (λ _ top. handed_to_never top) (l.is 0)) l).is }
 
 pub error_is_step : ErrorIsStep
-error_is_step rows old new fuel to l = record { is = (steps_of fuel (never_spent error_row [] (plain old 0) (plain new 0) to (λ _ top. unwound_never top) (l.is 0)) l).is }
+error_is_step rows old new fuel to l = record { is = (steps_of fuel (never_spent unwinding_row [] (plain old 0) (plain new 0) to (λ _ top. unwound_never top) (l.is 0)) l).is }
 
 pub raised_is_step : RaisedIsStep
 raised_is_step rows old new fuel to l = record { is = (steps_of fuel (never_spent raised_row [] (plain old 0) (plain new 0) to raised_never (l.is 0)) l).is }

@@ -3,8 +3,8 @@ use Rattle.std.specs.Prelude.{◌≡◌, ℕ, true, [], Some, map}
 use Rattle.int_core.specs.Ask.{values}
 use Rattle.machine_core.specs.World.{running, for_concat, Place, place_of}
 use Rattle.machine_core.specs.InstructionRows.{rest_at, told_values}
-use Rattle.machine_core.specs.FrameRows.{expand, goes_on_by, asked_row, raised_row, unwound, handed_to}
-use Rattle.machine_core.specs.Moves.{Ending, go, returned, asks, calls_primitive, raised, unwinding, see_top, TopShape, Row, act}
+use Rattle.machine_core.specs.FrameRows.{expand, goes_on_by, asked_row, raised_row, unwound, handed_to, results_row, unwinding_row}
+use Rattle.machine_core.specs.Moves.{Ending, go, returned, asks, calls_primitive, raised, unwinding, see_top, TopShape, Row}
 use Rattle.machine_runs.specs.Runs.{is_end}
 use Rattle.machine_sound.specs.Laws.{SoundAfter, PrimitivesSafe}
 use Rattle.instruction_forms.specs.declared.form.Form.{Form}
@@ -97,12 +97,6 @@ abbrev pub UnwindingIsStep : Type 0
 UnwindingIsStep = (rows : ℕ → Row) (old new : Memory) (fuel : ℕ) (to : Ending) (top : TopShape) → Makes old old see_top [] [] top → Leads (unwound top) [] old new to → Does rows unwinding old fuel new fuel to
 
 -- so it is with the whole rows, which look at what is on top first
-abbrev pub results_row : Row
-results_row = act see_top (λ _ top. handed_to top)
-
-abbrev pub error_row : Row
-error_row = act see_top (λ _ top. unwound top)
-
 abbrev pub ResultsAreSafe : Type 0
 ResultsAreSafe = (primitives : ℕ) (W : Memory) → IsReady primitives returned W → IsSafe results_row [] W
 
@@ -110,10 +104,10 @@ abbrev pub ResultsAreStep : Type 0
 ResultsAreStep = (rows : ℕ → Row) (old new : Memory) (fuel : ℕ) (to : Ending) → Leads results_row [] old new to → Does rows returned old fuel new fuel to
 
 abbrev pub ErrorIsSafe : Type 0
-ErrorIsSafe = (primitives : ℕ) (W : Memory) → IsReady primitives unwinding W → IsSafe error_row [] W
+ErrorIsSafe = (primitives : ℕ) (W : Memory) → IsReady primitives unwinding W → IsSafe unwinding_row [] W
 
 abbrev pub ErrorIsStep : Type 0
-ErrorIsStep = (rows : ℕ → Row) (old new : Memory) (fuel : ℕ) (to : Ending) → Leads error_row [] old new to → Does rows unwinding old fuel new fuel to
+ErrorIsStep = (rows : ℕ → Row) (old new : Memory) (fuel : ℕ) (to : Ending) → Leads unwinding_row [] old new to → Does rows unwinding old fuel new fuel to
 
 -- it is found who catches an error, what was asked for is called, and a primitive does its row
 abbrev pub RaisedIsSafe : Type 0

@@ -18,6 +18,10 @@ value_eq (Func a) (Func b) = a.0 == b.0
 value_eq (Coro a) (Coro b) = a.0 == b.0
 value_eq _ _ = false
 
+abbrev pub are_tables : Value → Value → Bool
+are_tables (Table m) (Table n) = true
+are_tables _ _ = false
+
 abbrev pub is_nil : Value → Bool
 is_nil v = value_eq v Nil
 

@@ -1,4 +1,4 @@
-// The values of a running program, and its tables.
+//! The values of a running program, and its tables.
 #![tactic(auto)]
 
 mod border;

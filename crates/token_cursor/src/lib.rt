@@ -1,4 +1,4 @@
-// What a token is for the grammar, and a cursor over tokens (Lua 5.4 manual, 3.1 and 3.3).
+//! What a token is for the grammar, and a cursor over tokens (Lua 5.4 manual, 3.1 and 3.3).
 #![tactic(auto)]
 
 mod cursor;

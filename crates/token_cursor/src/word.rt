@@ -11,48 +11,70 @@ pub enum Word {
     Mark(u8),
 }
 
+/// `and`
 pub const AND: Word = Word::Keyword(keyword::AND);
 
+/// `break`
 pub const BREAK: Word = Word::Keyword(keyword::BREAK);
 
+/// `do`
 pub const DO: Word = Word::Keyword(keyword::DO);
 
+/// `else`
 pub const ELSE: Word = Word::Keyword(keyword::ELSE);
 
+/// `elseif`
 pub const ELSEIF: Word = Word::Keyword(keyword::ELSEIF);
 
+/// `end`
 pub const END: Word = Word::Keyword(keyword::END);
 
+/// `false`
 pub const FALSE: Word = Word::Keyword(keyword::FALSE);
 
+/// `for`
 pub const FOR: Word = Word::Keyword(keyword::FOR);
 
+/// `function`
 pub const FUNCTION: Word = Word::Keyword(keyword::FUNCTION);
 
+/// `goto`
 pub const GOTO: Word = Word::Keyword(keyword::GOTO);
 
+/// `if`
 pub const IF: Word = Word::Keyword(keyword::IF);
 
+/// `in`
 pub const IN: Word = Word::Keyword(keyword::IN);
 
+/// `local`
 pub const LOCAL: Word = Word::Keyword(keyword::LOCAL);
 
+/// `nil`
 pub const NIL: Word = Word::Keyword(keyword::NIL);
 
+/// `not`
 pub const NOT: Word = Word::Keyword(keyword::NOT);
 
+/// `or`
 pub const OR: Word = Word::Keyword(keyword::OR);
 
+/// `repeat`
 pub const REPEAT: Word = Word::Keyword(keyword::REPEAT);
 
+/// `return`
 pub const RETURN: Word = Word::Keyword(keyword::RETURN);
 
+/// `then`
 pub const THEN: Word = Word::Keyword(keyword::THEN);
 
+/// `true`
 pub const TRUE: Word = Word::Keyword(keyword::TRUE);
 
+/// `until`
 pub const UNTIL: Word = Word::Keyword(keyword::UNTIL);
 
+/// `while`
 pub const WHILE: Word = Word::Keyword(keyword::WHILE);
 
 /// `+`

@@ -1,11 +1,11 @@
 -- One activation of a function as an automaton on its tree: its start and its step (Lua 5.4 manual, 3.3 and 3.4).
 use Rattle.std.specs.Prelude.{ℕ, ◌+◌, Bool, true, false, cond, List, [], ◌∷◌, ◌++◌, length, drop, reverse}
-use Rattle.int_core.specs.Value.{Value, known, nil, string, shape, holds, write}
+use Rattle.int_core.specs.Value.{Value, known, nil, string, shape, holds, write, fitted}
 use Rattle.int_core.specs.Operations.{index}
 use Rattle.int_core.specs.Ask.{returns, operates, calls, calls_last, pays, Next, stuck}
 use Rattle.tree_core.specs.Tree.{Body, BodyOf, Falls, Returns, Block, Exps, EndExps, MoreExps}
 use Rattle.tree_activation.specs.Work.{Purpose, for_call, for_return, for_declaration, for_assignment, for_counting, for_iterating, Control, evaluate, give, collect, construct, aim, store, choose, run, complete, decide, count_round, test_round, enter_round, capture, make, mark, pay, leave_scope, raise, finish, over, Work, key_of, object_of, field_of, operand_of, right_of, left_of, and_right, or_right, first_only, callee_of, method_of, listed, item_of, keyed_value, keyed_store, aimed_key, aimed_field, function_to, dropped, if_test, while_test, until_test, in_block, looping, repeating, counting, iterating, end_of_body, to_field, Celling, Activation, State, at}
-use Rattle.tree_activation.specs.Asking.{first, go, fitted, asks_quickly, asks, leaves_scope, marks_local, raises_fault, finishes, captures, declared, numbers}
+use Rattle.tree_activation.specs.Asking.{first, go, asks_quickly, asks, leaves_scope, marks_local, raises_fault, finishes, captures, declared, numbers}
 use Rattle.tree_activation.specs.Expressions.{gives, give_first, evaluates, makes, binary, unary, added, constructs, stores_item, stores_keyed}
 use Rattle.tree_activation.specs.Statements.{point_of, repeat_point, begins, declares, aims, paired, stores, counts, counts_on, counts_round, hidden_integer, iterates, calls_iterator, tests_round, enters_round, runs_on, chooses}
 

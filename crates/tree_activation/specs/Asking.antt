@@ -1,6 +1,6 @@
 -- How an activation asks, and how it goes on with the answer.
 use Rattle.std.specs.Prelude.{ℕ, zero, suc, Bool, true, false, cond, nat_le, nat_lt, List, [], ◌∷◌, ◌++◌, length, take, Option, Some, None}
-use Rattle.int_core.specs.Value.{Value, known, nil, nth, shape, holds, bind, last, without_last}
+use Rattle.int_core.specs.Value.{Value, nth, shape, holds, bind, last, without_last}
 use Rattle.int_core.specs.Ask.{CellName, of_local, of_upvalue, Left, throws, Ask, opens, marks, closes, raises, leaves, Reply, values, faulted, left, values_in, Answer, Next, goes_on, says, stuck, Captured, cell_held, held_below, gone_from, shared_by, brought}
 use Rattle.tree_core.specs.declared.name.UpName.{UpName}
 use Rattle.tree_core.specs.Tree.{Body}
@@ -11,12 +11,6 @@ first vs = nth vs 0
 
 abbrev pub go : Control → Activation → List Work → Next Body State
 go control a k = goes_on (at control a k)
-
--- exactly n values
-abbrev pub fitted : ℕ → List Value → List Value
-fitted zero vs = []
-fitted (suc n) [] = known nil ∷ fitted n []
-fitted (suc n) (v ∷ vs) = v ∷ fitted n vs
 
 -- asks
 

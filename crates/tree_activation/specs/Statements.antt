@@ -1,7 +1,7 @@
 -- How an activation executes statements and blocks (Lua 5.4 manual, 3.3), one line a form.
 use Rattle.std.specs.Prelude.{ℕ, zero, suc, ◌+◌, ◌-ℤ◌, ℤ, pos, negsuc, int_le, Bool, true, false, cond, List, [], ◌∷◌, ◌++◌, length, take, Option, Some, None, codes}
 use Rattle.int_core.specs.Arithmetic.{wrapped, add, sub, floor_quotient}
-use Rattle.int_core.specs.Value.{Value, known, nil, integer, string, same_integer, is_nil, nth, shape, write}
+use Rattle.int_core.specs.Value.{Value, known, nil, integer, string, same_integer, is_nil, nth, shape, write, fitted}
 use Rattle.int_core.specs.Operations.{store}
 use Rattle.int_core.specs.Ask.{reads_upvalue, writes_upvalue, operates, calls, Next, stuck}
 use Rattle.tree_core.specs.declared.name.Name.{Name}
@@ -12,7 +12,7 @@ use Rattle.tree_core.specs.declared.name.Place.{Place}
 use Rattle.tree_core.specs.declared.name.Place.TheVariants.{Unset, Upvalue, GlobalIn, GlobalOf, Local as LocalPlace}
 use Rattle.tree_core.specs.Tree.{Block, Falls, Returns, Body, Stats, EndStats, MoreStats, Stat, Empty, Local, LocalFunction, Assign, CallStat, Do, While, Repeat, If, IfElse, NumFor, NumForStep, GenFor, Label, Goto, Break, Arms, EndArms, MoreArms, Exp, Var, Index, Call, Method, Exps, EndExps, MoreExps}
 use Rattle.tree_activation.specs.Work.{End, falls_off, returns_list, until, Point, Target, to_local, to_upvalue, to_field, for_return, for_declaration, for_assignment, for_counting, for_iterating, Control, evaluate, collect, aim, store as store', choose, run, complete, count_round, test_round, enter_round, capture, make, mark, pay, leave_scope, raise, Work, callee_of, method_of, aimed_key, function_to, dropped, if_test, while_test, until_test, in_block, repeating, counting, iterating, Pending, Activation, State}
-use Rattle.tree_activation.specs.Asking.{first, go, fitted, asks_quickly, asks, declared, numbers, captured_locals}
+use Rattle.tree_activation.specs.Asking.{first, go, asks_quickly, asks, declared, numbers, captured_locals}
 use Rattle.tree_terms.specs.Bodies.{line_of_body, upvalues_of}
 use Rattle.tree_activation.specs.Expressions.{integer_in}
 use Rattle.tree_activation.specs.Jumps.{passed_by, goes_to, breaks}

@@ -1,4 +1,4 @@
-// The trees that the parser makes of a source (Lua 5.4 manual, 3.3 and 3.4), as data.
+//! The trees that the parser makes of a source (Lua 5.4 manual, 3.3 and 3.4), as data.
 #![tactic(auto)]
 
 mod name;

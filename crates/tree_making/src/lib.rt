@@ -1,4 +1,4 @@
-// Trees made of their parts, each with the number of levels that it has.
+//! Trees made of their parts, each with the number of levels that it has.
 #![tactic(auto)]
 
 mod blocks;

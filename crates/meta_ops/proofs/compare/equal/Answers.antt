@@ -2,7 +2,7 @@ use Rattle.std.proofs.Common.{rules, ◌≡◌, sym, ◌∙◌, false}
 use Rattle.int_core.specs.Value.{same}
 use Rattle.lua_heap.specs.Reading.{value}
 use Rattle.meta_ops.specs.Heap.{heap_of}
-use Rattle.meta_ops.specs.Operators.{are_tables}
+use Rattle.table_core.specs.Value.{are_tables}
 use Rattle.meta_ops.proofs.OperatorLemmas.{equal-others}
 use Rattle.meta_ops.proofs.compare.equal.Goals as goal
 
