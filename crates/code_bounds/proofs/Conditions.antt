@@ -1,5 +1,5 @@
 -- The code of a condition is short, and takes the registers that are counted for it.
-use Rattle.std.proofs.Common.{◌≡◌, ℕ, ◌+◌, ◌*◌, ◌≤◌, max, Bool, true, false, cond, not, List, [], ◌∷◌, ◌++◌, length, refl, lit≤, arith, length-append}
+use Rattle.std.proofs.Common.{◌≡◌, ℕ, ◌+◌, ◌*◌, ◌≤◌, max, Bool, true, false, cond, not, List, [], ◌∷◌, ◌++◌, length, Option, Some, None, refl, lit≤, arith, length-append}
 use Rattle.tree_core.specs.declared.operator.UnOp.{UnOp}
 use Rattle.tree_core.specs.declared.operator.UnOp.TheVariants.{Neg, BitNot, Not as Negation, Len as Length}
 use Rattle.tree_core.specs.declared.operator.BinOp.{BinOp}
@@ -7,12 +7,16 @@ use Rattle.tree_core.specs.declared.operator.BinOp.TheVariants.{Add as Plus, Sub
 use Rattle.tree_core.specs.Tree.{Exp, Nil, True, False, Int, Str, Vararg, Function, Var, Index, Call, Method, Unary, Binary, And, Or, Paren, Table}
 use Rattle.tree_terms.specs.Weight.{weight}
 use Rattle.code_core.specs.declared.opcode.Opcode.{Opcode}
-use Rattle.code_core.specs.declared.opcode.Opcode.TheVariants.{Jmp, Test, Eq, Lt, Le}
+use Rattle.code_core.specs.declared.opcode.Opcode.TheVariants.{Jmp, Test, Eq, Lt, Le, EqI, LtI, LeI, GtI, GeI}
 use Rattle.code_core.specs.declared.proto.Const.{Const}
 use Rattle.code_core.specs.Instruction.{abc}
 use Rattle.code_of.specs.Coded.{Coded, jump_over}
 use Rattle.code_of.specs.Expressions.{made_by, exp_code}
-use Rattle.code_of.specs.Conditions.{jump_if, line_of, value_test, test_code}
+use Rattle.code_of.specs.Conditions.{jump_if, pick, compared, line_of, value_test, test_code}
+use Rattle.code_of.specs.Operands.{Second, a_number, a_local, made, second_of, first_of, operands_code, operands_room}
+use Rattle.code_of.specs.Operators.{number_opcode}
+use Rattle.code_of.proofs.Operands.{second_local, first_local, operands_short}
+use Rattle.code_bounds.proofs.Expressions.{local_found}
 use Rattle.code_of.specs.Rooms.{room_of, room_of_test}
 use Rattle.scope_core.specs.Held.{held}
 use Rattle.scope_laws.specs.Finding.{ExpFinds}
@@ -37,31 +41,46 @@ module _ (cs : List Const) where
   not_short line BitNot e h k ahead t j = value_short (Unary line BitNot e) k ahead t j
   not_short line Length e h k ahead t j = value_short (Unary line Length e) k ahead t j
 
-  compare_short : (line : ℕ) (op : BinOp) (e d : Exp) (opcode : Opcode) (x y : ℕ) (field : Bool) (ahead t j : ℕ)
-      → length (exp_code cs e t j 2 ++ (exp_code cs d (t + 1) (j + made_by e) 2 ++ jump_if opcode x y field ahead line)) ≤ 6 * weight (Binary line op e d)
-  compare_short line op e d opcode x y field ahead t j =
-      let second = exp_code cs d (t + 1) (j + made_by e) 2 in
-      let last = jump_if opcode x y field ahead line in
-      omega (arith, exp_short cs e t j 2, exp_short cs d (t + 1) (j + made_by e) 2, length-append (exp_code cs e t j 2) (second ++ last), length-append second last)
-
   binary_short : (line : ℕ) (op : BinOp) (e d : Exp) → Short (Binary line op e d)
-  binary_short line Equal e d k ahead t j = compare_short line Equal e d Eq t (t + 1) (not k) ahead t j
-  binary_short line Ne e d k ahead t j = compare_short line Ne e d Eq t (t + 1) k ahead t j
-  binary_short line Less e d k ahead t j = compare_short line Less e d Lt t (t + 1) (not k) ahead t j
-  binary_short line AtMost e d k ahead t j = compare_short line AtMost e d Le t (t + 1) (not k) ahead t j
-  binary_short line Gt e d k ahead t j = compare_short line Gt e d Lt (t + 1) t (not k) ahead t j
-  binary_short line Ge e d k ahead t j = compare_short line Ge e d Le (t + 1) t (not k) ahead t j
-  binary_short line Plus e d k ahead t j = value_short (Binary line Plus e d) k ahead t j
-  binary_short line Minus e d k ahead t j = value_short (Binary line Minus e d) k ahead t j
-  binary_short line Times e d k ahead t j = value_short (Binary line Times e d) k ahead t j
-  binary_short line Modulo e d k ahead t j = value_short (Binary line Modulo e d) k ahead t j
-  binary_short line Idiv e d k ahead t j = value_short (Binary line Idiv e d) k ahead t j
-  binary_short line Band e d k ahead t j = value_short (Binary line Band e d) k ahead t j
-  binary_short line Bor e d k ahead t j = value_short (Binary line Bor e d) k ahead t j
-  binary_short line Bxor e d k ahead t j = value_short (Binary line Bxor e d) k ahead t j
-  binary_short line ShiftLeft e d k ahead t j = value_short (Binary line ShiftLeft e d) k ahead t j
-  binary_short line ShiftRight e d k ahead t j = value_short (Binary line ShiftRight e d) k ahead t j
-  binary_short line Join e d k ahead t j = value_short (Binary line Join e d) k ahead t j
+  binary_short line op e d k ahead t j = by op
+    where
+      first_code : List Coded
+      first_code = exp_code cs e t j 2
+
+      code : List Coded
+      code = exp_code cs d (t + 1) (j + made_by e) 2
+
+      compare_short : (x y : ℕ → ℕ → ℕ) (opcode number_op : Opcode) (field : Bool)
+          → length (operands_code (second_of op d) (first_of (second_of op d) e) first_code code t (λ m n. jump_if opcode (x m n) (y m n) field ahead line) (λ m n. jump_if number_op m (n + 127) field ahead line)) ≤ 6 * weight (Binary line op e d)
+      compare_short x y opcode number_op field =
+          omega (
+            arith,
+            exp_short cs e t j 2,
+            exp_short cs d (t + 1) (j + made_by e) 2,
+            operands_short (second_of op d) (first_of (second_of op d) e) first_code code t (λ m n. jump_if opcode (x m n) (y m n) field ahead line) (λ m n. jump_if number_op m (n + 127) field ahead line) 2 (λ m n. omega arith) (λ m n. omega arith),
+          )
+
+      by : (o : BinOp) → length (compared o (value_test cs (Binary line op e d) k ahead t j)
+          (λ opcode swapped wanted. operands_code (second_of op d) (first_of (second_of op d) e) first_code code t
+          (λ x y. jump_if opcode (pick swapped x y) (pick swapped y x) (cond wanted (not k) k) ahead line)
+          (λ x n. jump_if (number_opcode op) x (n + 127) (cond wanted (not k) k) ahead line))) ≤ 6 * weight (Binary line op e d)
+      by Equal = compare_short (λ x y. x) (λ x y. y) Eq (number_opcode op) (not k)
+      by Ne = compare_short (λ x y. x) (λ x y. y) Eq (number_opcode op) k
+      by Less = compare_short (λ x y. x) (λ x y. y) Lt (number_opcode op) (not k)
+      by AtMost = compare_short (λ x y. x) (λ x y. y) Le (number_opcode op) (not k)
+      by Gt = compare_short (λ x y. y) (λ x y. x) Lt (number_opcode op) (not k)
+      by Ge = compare_short (λ x y. y) (λ x y. x) Le (number_opcode op) (not k)
+      by Plus = value_short (Binary line op e d) k ahead t j
+      by Minus = value_short (Binary line op e d) k ahead t j
+      by Times = value_short (Binary line op e d) k ahead t j
+      by Modulo = value_short (Binary line op e d) k ahead t j
+      by Idiv = value_short (Binary line op e d) k ahead t j
+      by Band = value_short (Binary line op e d) k ahead t j
+      by Bor = value_short (Binary line op e d) k ahead t j
+      by Bxor = value_short (Binary line op e d) k ahead t j
+      by ShiftLeft = value_short (Binary line op e d) k ahead t j
+      by ShiftRight = value_short (Binary line op e d) k ahead t j
+      by Join = value_short (Binary line op e d) k ahead t j
 
   true_short : (line : ℕ) → Short (True line)
   true_short line true ahead t j = omega arith
@@ -118,24 +137,69 @@ module _ (cs : List Const) (hidden : List ℕ) (ups stack : ℕ) where
   not_room line BitNot e h k ahead size t j known above few = value_room (Unary line BitNot e) k ahead size t j known above few
   not_room line Length e h k ahead size t j known above few = value_room (Unary line Length e) k ahead size t j known above few
 
-  compare_room : (line : ℕ) (e d : Exp) (opcode : Opcode) (x y : ℕ) (field : Bool) (ahead size t j : ℕ) → one (abc opcode x y 0 field) ≡ max (x + 1) (y + 1) → max (x + 1) (y + 1) ≡ t + 2
-      → ExpFinds e hidden size ups → ExpFinds d hidden size ups → size ≤ t → t + held e ≤ 250 → t + (1 + held d) ≤ 250
-      → HasRoom stack (exp_code cs e t j 2 ++ (exp_code cs d (t + 1) (j + made_by e) 2 ++ jump_if opcode x y field ahead line)) (t + max (room_of cs e 2) (1 + room_of cs d 2) ≤ max t stack)
-  compare_room line e d opcode x y field ahead size t j names two known_e known_d above few_e few_d =
-      let some = some_held d in
-      room_as
-      (room_append (exp_code cs e t j 2) _ (exp_room cs hidden ups stack e size t j 2 known_e above few_e (omega (arith, few_d, some)) (lit≤ tt))
-      (room_append (exp_code cs d (t + 1) (j + made_by e) 2) (jump_if opcode x y field ahead line) (exp_room cs hidden ups stack d size (t + 1) (j + made_by e) 2 known_d (omega (arith, above)) (omega (arith, few_d)) (omega (arith, few_d, some)) (lit≤ tt))
-      (room_more (abc opcode x y 0 field, line) (max (x + 1) (y + 1)) _ names (omega (arith, two, few_d, some)) (leap_room ahead line [] room_end))))
-      (λ all. let first = all.0 in let second = all.1.0 in let both = all.1.1.0 in omega (arith, first, second, both, two))
+  -- a comparison, whose two ways to be written name no register but those of its operands
+  module _ (line : ℕ) (op : BinOp) (e d : Exp) (by_registers by_number : (x y : ℕ) → List Coded) (size t j : ℕ) (known_e : ExpFinds e hidden size ups) (known_d : ExpFinds d hidden size ups) (above : size ≤ t)
+      (few_e : t + held e ≤ 250) (few_d : t + (1 + held d) ≤ 250) (registers_room : (x y : ℕ) → x ≤ 249 → y ≤ 249 → HasRoom stack (by_registers x y) (max (x + 1) (y + 1) ≤ stack))
+      (number_room : (x n : ℕ) → x ≤ 249 → HasRoom stack (by_number x n) (x + 1 ≤ stack)) where
+    some_d : 1 ≤ held d
+    some_d = some_held d
+
+    first_room : HasRoom stack (exp_code cs e t j 2) (t + room_of cs e 2 ≤ max t stack)
+    first_room = exp_room cs hidden ups stack e size t j 2 known_e above few_e (omega (arith, few_d, some_d)) (lit≤ tt)
+
+    compare_by : (s : Second) (at : Option ℕ) → second_of op d ≡ s → first_of s e ≡ at
+        → HasRoom stack (operands_code s at (exp_code cs e t j 2) (exp_code cs d (t + 1) (j + made_by e) 2) t by_registers by_number) (t + operands_room 0 s at (room_of cs e 2) (room_of cs d 2) ≤ max t stack)
+    compare_by made (Some x) is at_is = absurd (cc)
+    compare_by made None is at_is =
+        room_as
+        (room_append (exp_code cs e t j 2) _ first_room
+        (room_append (exp_code cs d (t + 1) (j + made_by e) 2) _ (exp_room cs hidden ups stack d size (t + 1) (j + made_by e) 2 known_d (omega (arith, above)) (omega (arith, few_d)) (omega (arith, few_d, some_d)) (lit≤ tt))
+        (registers_room t (t + 1) (omega (arith, few_d, some_d)) (omega (arith, few_d, some_d)))))
+        (λ all. let first = all.0 in let second = all.1.0 in let both = all.1.1 in omega (arith, first, second, both))
+    compare_by (a_local r) None is at_is =
+        let below = local_found hidden ups d r size (second_local op d r is) known_d in
+        room_as (room_append (exp_code cs e t j 2) _ first_room (registers_room t r (omega (arith, few_d, some_d)) (omega (arith, below, above, few_d, some_d)))) (λ all. all.0)
+    compare_by (a_local r) (Some x) is at_is =
+        let below = local_found hidden ups d r size (second_local op d r is) known_d in
+        let x_below = local_found hidden ups e x size (first_local (a_local r) e x at_is) known_e in
+        room_as (registers_room x r (omega (arith, x_below, above, few_d, some_d)) (omega (arith, below, above, few_d, some_d))) (λ all. omega arith)
+    compare_by (a_number n) None is at_is =
+        room_as (room_append (exp_code cs e t j 2) _ first_room (number_room t n (omega (arith, few_d, some_d)))) (λ all. all.0)
+    compare_by (a_number n) (Some x) is at_is =
+        let x_below = local_found hidden ups e x size (first_local (a_number n) e x at_is) known_e in
+        room_as (number_room x n (omega (arith, x_below, above, few_d, some_d))) (λ all. omega arith)
+
+  pair_room : (opcode : Opcode) (x y : ℕ) (field : Bool) (ahead line : ℕ) → one (abc opcode x y 0 field) ≡ max (x + 1) (y + 1) → x ≤ 249 → y ≤ 249 → HasRoom stack (jump_if opcode x y field ahead line) (max (x + 1) (y + 1) ≤ stack)
+  pair_room opcode x y field ahead line names x_few y_few =
+      room_as (room_more (abc opcode x y 0 field, line) (max (x + 1) (y + 1)) _ names (omega (arith, x_few, y_few)) (leap_room ahead line [] room_end)) (λ all. all.0)
+
+  turned_room : (opcode : Opcode) (x y : ℕ) (field : Bool) (ahead line : ℕ) → one (abc opcode y x 0 field) ≡ max (y + 1) (x + 1) → x ≤ 249 → y ≤ 249 → HasRoom stack (jump_if opcode y x field ahead line) (max (x + 1) (y + 1) ≤ stack)
+  turned_room opcode x y field ahead line names x_few y_few = room_as (pair_room opcode y x field ahead line names y_few x_few) (λ h. omega (arith, h))
+
+  single_room : (opcode : Opcode) (x n : ℕ) (field : Bool) (ahead line : ℕ) → one (abc opcode x (n + 127) 0 field) ≡ x + 1 → x ≤ 249 → HasRoom stack (jump_if opcode x (n + 127) field ahead line) (x + 1 ≤ stack)
+  single_room opcode x n field ahead line names x_few =
+      room_as (room_more (abc opcode x (n + 127) 0 field, line) (x + 1) _ names (omega (arith, x_few)) (leap_room ahead line [] room_end)) (λ all. all.0)
+
+  compare_room : (line : ℕ) (op : BinOp) (e d : Exp) (by_registers by_number : (x y : ℕ) → List Coded) (size t j : ℕ) → ExpFinds (Binary line op e d) hidden size ups → size ≤ t → t + held (Binary line op e d) ≤ 250
+      → ((x y : ℕ) → x ≤ 249 → y ≤ 249 → HasRoom stack (by_registers x y) (max (x + 1) (y + 1) ≤ stack)) → ((x n : ℕ) → x ≤ 249 → HasRoom stack (by_number x n) (x + 1 ≤ stack))
+      → HasRoom stack (operands_code (second_of op d) (first_of (second_of op d) e) (exp_code cs e t j 2) (exp_code cs d (t + 1) (j + made_by e) 2) t by_registers by_number)
+      (t + operands_room 0 (second_of op d) (first_of (second_of op d) e) (room_of cs e 2) (room_of cs d 2) ≤ max t stack)
+  compare_room line op e d by_registers by_number size t j known above few registers_room number_room =
+      compare_by line op e d by_registers by_number size t j known.0 known.1 above (omega (arith, few)) (omega (arith, few)) registers_room number_room (second_of op d) (first_of (second_of op d) e) refl refl
 
   binary_room : (line : ℕ) (op : BinOp) (e d : Exp) → Room (Binary line op e d)
-  binary_room line Equal e d k ahead size t j known above few = compare_room line e d Eq t (t + 1) (not k) ahead size t j (one_ab Eq t (t + 1) 0 (not k) refl (omega (arith, few)) (omega (arith, few))) (omega arith) known.0 known.1 above (omega (arith, few)) (omega (arith, few))
-  binary_room line Ne e d k ahead size t j known above few = compare_room line e d Eq t (t + 1) k ahead size t j (one_ab Eq t (t + 1) 0 k refl (omega (arith, few)) (omega (arith, few))) (omega arith) known.0 known.1 above (omega (arith, few)) (omega (arith, few))
-  binary_room line Less e d k ahead size t j known above few = compare_room line e d Lt t (t + 1) (not k) ahead size t j (one_ab Lt t (t + 1) 0 (not k) refl (omega (arith, few)) (omega (arith, few))) (omega arith) known.0 known.1 above (omega (arith, few)) (omega (arith, few))
-  binary_room line AtMost e d k ahead size t j known above few = compare_room line e d Le t (t + 1) (not k) ahead size t j (one_ab Le t (t + 1) 0 (not k) refl (omega (arith, few)) (omega (arith, few))) (omega arith) known.0 known.1 above (omega (arith, few)) (omega (arith, few))
-  binary_room line Gt e d k ahead size t j known above few = compare_room line e d Lt (t + 1) t (not k) ahead size t j (one_ab Lt (t + 1) t 0 (not k) refl (omega (arith, few)) (omega (arith, few))) (omega arith) known.0 known.1 above (omega (arith, few)) (omega (arith, few))
-  binary_room line Ge e d k ahead size t j known above few = compare_room line e d Le (t + 1) t (not k) ahead size t j (one_ab Le (t + 1) t 0 (not k) refl (omega (arith, few)) (omega (arith, few))) (omega arith) known.0 known.1 above (omega (arith, few)) (omega (arith, few))
+  binary_room line Equal e d k ahead size t j known above few = compare_room line Equal e d _ _ size t j known above few
+      (λ x y xf yf. pair_room Eq x y (not k) ahead line (one_ab Eq x y 0 (not k) refl (omega (arith, xf)) (omega (arith, yf))) xf yf) (λ x n xf. single_room EqI x n (not k) ahead line (one_a EqI x (n + 127) 0 (not k) refl (omega (arith, xf))) xf)
+  binary_room line Ne e d k ahead size t j known above few = compare_room line Ne e d _ _ size t j known above few
+      (λ x y xf yf. pair_room Eq x y k ahead line (one_ab Eq x y 0 k refl (omega (arith, xf)) (omega (arith, yf))) xf yf) (λ x n xf. single_room EqI x n k ahead line (one_a EqI x (n + 127) 0 k refl (omega (arith, xf))) xf)
+  binary_room line Less e d k ahead size t j known above few = compare_room line Less e d _ _ size t j known above few
+      (λ x y xf yf. pair_room Lt x y (not k) ahead line (one_ab Lt x y 0 (not k) refl (omega (arith, xf)) (omega (arith, yf))) xf yf) (λ x n xf. single_room LtI x n (not k) ahead line (one_a LtI x (n + 127) 0 (not k) refl (omega (arith, xf))) xf)
+  binary_room line AtMost e d k ahead size t j known above few = compare_room line AtMost e d _ _ size t j known above few
+      (λ x y xf yf. pair_room Le x y (not k) ahead line (one_ab Le x y 0 (not k) refl (omega (arith, xf)) (omega (arith, yf))) xf yf) (λ x n xf. single_room LeI x n (not k) ahead line (one_a LeI x (n + 127) 0 (not k) refl (omega (arith, xf))) xf)
+  binary_room line Gt e d k ahead size t j known above few = compare_room line Gt e d _ _ size t j known above few
+      (λ x y xf yf. turned_room Lt x y (not k) ahead line (one_ab Lt y x 0 (not k) refl (omega (arith, yf)) (omega (arith, xf))) xf yf) (λ x n xf. single_room GtI x n (not k) ahead line (one_a GtI x (n + 127) 0 (not k) refl (omega (arith, xf))) xf)
+  binary_room line Ge e d k ahead size t j known above few = compare_room line Ge e d _ _ size t j known above few
+      (λ x y xf yf. turned_room Le x y (not k) ahead line (one_ab Le y x 0 (not k) refl (omega (arith, yf)) (omega (arith, xf))) xf yf) (λ x n xf. single_room GeI x n (not k) ahead line (one_a GeI x (n + 127) 0 (not k) refl (omega (arith, xf))) xf)
   binary_room line Plus e d k ahead size t j known above few = value_room (Binary line Plus e d) k ahead size t j known above few
   binary_room line Minus e d k ahead size t j known above few = value_room (Binary line Minus e d) k ahead size t j known above few
   binary_room line Times e d k ahead size t j known above few = value_room (Binary line Times e d) k ahead size t j known above few

@@ -3,7 +3,7 @@ use Rattle.std.proofs.Common.{◌≡◌, ℕ, zero, suc, false, List, [], ◌∷
 use Rattle.tree_core.specs.declared.name.Name.{Name}
 use Rattle.tree_core.specs.declared.name.Place.TheVariants.{Local as LocalPlace}
 use Rattle.tree_core.specs.declared.operator.BinOp.TheVariants.{Add as Plus}
-use Rattle.tree_core.specs.Tree.{Body, BodyOf, Exp}
+use Rattle.tree_core.specs.Tree.{Body, BodyOf, Exp, Nil}
 use Rattle.code_core.specs.Opcode.{opcodes, number_of}
 use Rattle.tree_terms.proofs.Forms.{name, loc, int, call, bin, returning, loc_is, assign, when, fun}
 use Rattle.code_of.specs.CodeOf.{code_of}
@@ -43,14 +43,14 @@ its_registers : (code_of None chooses).own.stack ≡ 5
 unfolding opcodes number_of
 its_registers = refl
 
--- 200 parameters, and a sum of 50 operands, each of which is held until all are there: the limits are met, and so is the bound on registers
+-- 200 parameters, and a sum of 50 operands, each of which is held until all are there, since the last one is no numeral: the limits are met, and so is the bound on registers
 
 abbrev params : ℕ → List Name
 params zero = []
 params (suc n) = name "p" (LocalPlace 0) ∷ params n
 
 abbrev sum_of : ℕ → Exp
-sum_of zero = int 0
+sum_of zero = Nil 1
 sum_of (suc n) = bin Plus (int 0) (sum_of n)
 
 abbrev greatest : Body

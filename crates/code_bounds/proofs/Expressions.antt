@@ -1,5 +1,8 @@
 -- The code of an expression takes the registers that are counted for it.
-use Rattle.std.proofs.Common.{◌≡◌, ℕ, zero, suc, ◌+◌, ◌-◌, ◌<◌, ◌≤◌, ◌^◌, ◌⊎◌, inl, inr, max, Bool, true, false, cond, List, [], ◌∷◌, ◌++◌, Some, None, refl, ap, lit<, arith}
+use Rattle.std.proofs.Common.{◌≡◌, ℕ, zero, suc, ◌+◌, ◌-◌, ◌<◌, ◌≤◌, ◌^◌, ◌⊎◌, inl, inr, max, Bool, true, false, cond, List, [], ◌∷◌, ◌++◌, Option, Some, None, refl, ap, lit<, arith}
+use Rattle.tree_core.specs.declared.name.Place.{Place}
+use Rattle.tree_core.specs.declared.name.Place.TheVariants.{Unset, Upvalue, GlobalIn, GlobalOf, Local as LocalPlace}
+use Rattle.tree_core.specs.declared.operator.BinOp.{BinOp}
 use Rattle.tree_core.specs.Tree.{Exp, Nil, True, False, Int, Str, Vararg, Function, Var, Index, Call, Method, Unary, Binary, And, Or, Paren, Table, Exps, EndExps, MoreExps, Fields, EndFields, MoreFields, Item, Keyed}
 use Rattle.tree_terms.specs.Bodies.{line_of_body}
 use Rattle.code_core.specs.declared.opcode.Opcode.TheVariants.{LoadFalse, LoadTrue, GetTable, NewTable, SetTable, Closure, ExtraArg, Call as CallCode}
@@ -8,14 +11,16 @@ use Rattle.code_core.specs.declared.proto.Const.TheVariants.{Int as IntConst, St
 use Rattle.code_core.specs.Instruction.{op_ax}
 use Rattle.code_of.specs.Coded.{Coded, with_abc}
 use Rattle.code_of.specs.Constants.{is_small, small_field}
-use Rattle.code_of.specs.Operators.{prefix_code, operator_code}
+use Rattle.code_of.specs.Operands.{local_at, local_of, Second, a_number, a_local, made, second_of, first_of, operands_code, operands_room}
+use Rattle.code_of.specs.Operators.{prefix_code, operator_code, number_code}
+use Rattle.code_of.proofs.Operands.{some_is, second_number, second_local, first_local, local_no_join, some_operands}
 use Rattle.code_of.specs.Expressions.{made_by, count, is_open, is_last_open, ends_open, list_field, Wanted, results_field, one_less, field_of, wanted_after, is_last_item, set_list, exp_code, exps_code, fields_code}
 use Rattle.code_of.specs.Rooms.{room_of_values, room_of_nils, room_of, room_of_list, room_of_fields, room_of_self}
 use Rattle.code_of.proofs.Rooms.{name_room, self_room}
 use Rattle.code_of.specs.Operators.{self_code}
-use Rattle.scope_laws.specs.Finding.{ExpFinds, ExpsFind, FieldsFind}
+use Rattle.scope_laws.specs.Finding.{PlaceIsThere, ExpFinds, ExpsFind, FieldsFind}
 use Rattle.code_bounds.proofs.Tops.{top, top_more, top_append, ax_is, one_a, one_abc, one_ax, one_nil, one_store, one_call, rest_below, rest_above}
-use Rattle.code_bounds.proofs.Pieces.{self_top, Takes, ListTakes, takes_one, loads_top, integer_top, name_takes, prefix_top, operator_top, two_take, one_takes, either_takes, nils_take, more_take, call_takes, method_takes, set_top}
+use Rattle.code_bounds.proofs.Pieces.{self_top, Takes, ListTakes, takes_one, loads_top, integer_top, name_takes, prefix_top, operator_above, operator_here, number_here, two_take, one_takes, either_takes, nils_take, more_take, call_takes, method_takes, set_top}
 
 -- fields of calls and `...`
 
@@ -55,6 +60,34 @@ none_after : (b : Bool) → cond b None (one_less None) ≡ None
 none_after true = refl
 none_after false = refl
 
+-- an operand that stays is a local that is in scope
+
+place_found : (hidden : List ℕ) (ups : ℕ) (p : Place) (r size : ℕ) → local_at p ≡ Some r → PlaceIsThere hidden size ups p → r < size
+place_found hidden ups (LocalPlace q) r size e h = let same = some_is q r e in let below = h.0 in omega (arith, same, below)
+place_found hidden ups Unset r size e h = absurd (cc)
+place_found hidden ups (Upvalue u) r size e h = absurd (cc)
+place_found hidden ups (GlobalIn n) r size e h = absurd (cc)
+place_found hidden ups (GlobalOf u) r size e h = absurd (cc)
+
+pub local_found : (hidden : List ℕ) (ups : ℕ) (e : Exp) (r size : ℕ) → local_of e ≡ Some r → ExpFinds e hidden size ups → r < size
+local_found hidden ups (Var line name) r size e h = place_found hidden ups name.place r size e h
+local_found hidden ups (Paren line inner) r size e h = local_found hidden ups inner r size e h
+local_found hidden ups (Nil line) r size e h = absurd (cc)
+local_found hidden ups (True line) r size e h = absurd (cc)
+local_found hidden ups (False line) r size e h = absurd (cc)
+local_found hidden ups (Int line z) r size e h = absurd (cc)
+local_found hidden ups (Str line bytes) r size e h = absurd (cc)
+local_found hidden ups (Vararg line) r size e h = absurd (cc)
+local_found hidden ups (Function line body) r size e h = absurd (cc)
+local_found hidden ups (Index line object key) r size e h = absurd (cc)
+local_found hidden ups (Call line f es) r size e h = absurd (cc)
+local_found hidden ups (Method line object name es) r size e h = absurd (cc)
+local_found hidden ups (Unary line op inner) r size e h = absurd (cc)
+local_found hidden ups (Binary line op left right) r size e h = absurd (cc)
+local_found hidden ups (And line left right) r size e h = absurd (cc)
+local_found hidden ups (Or line left right) r size e h = absurd (cc)
+local_found hidden ups (Table line fs) r size e h = absurd (cc)
+
 module _ (cs : List Const) where
   -- an expression has a register at least, unless no value is wanted of it
   pub some_room : (e : Exp) (field : ℕ) → 1 ≤ room_of_values field → 1 ≤ room_of cs e field
@@ -70,7 +103,7 @@ module _ (cs : List Const) where
   some_room (Call line f es) field some = omega arith
   some_room (Method line object name es) field some = omega arith
   some_room (Unary line op e) field some = some_room e 2 (omega arith)
-  some_room (Binary line op e d) field some = omega arith
+  some_room (Binary line op e d) field some = some_operands (second_of op d) (first_of (second_of op d) e) (room_of cs e 2) (room_of cs d 2) (some_room e 2 (omega arith))
   some_room (And line e d) field some = let left = some_room e 2 (omega arith) in omega (arith, left)
   some_room (Or line e d) field some = let left = some_room e 2 (omega arith) in omega (arith, left)
   some_room (Paren line e) field some = some_room e 2 (omega arith)
@@ -125,6 +158,48 @@ module _ (cs : List Const) where
     abbrev FieldsTake : Fields → Type 0
     FieldsTake fs = (items t size j line : ℕ) → FieldsFind fs hidden size ups → size ≤ t → t + (1 + room_of_fields cs fs) ≤ 255 → ListTakes t (t + 1) (1 + room_of_fields cs fs) (fields_code cs fs items t j line)
 
+    binary_takes : (line : ℕ) (op : BinOp) (e d : Exp) → ExpTakes e → ExpTakes d → (size t j : ℕ) → ExpFinds (Binary line op e d) hidden size ups → size ≤ t → t + room_of cs (Binary line op e d) 2 ≤ 255
+        → Takes t (room_of cs (Binary line op e d) 2) (exp_code cs (Binary line op e d) t j 2)
+    binary_takes line op e d law_e law_d size t j known above small = by (second_of op d) (first_of (second_of op d) e) refl refl small
+      where
+        first_code : List Coded
+        first_code = exp_code cs e t j 2
+
+        code : List Coded
+        code = exp_code cs d (t + 1) (j + made_by e) 2
+
+        by_registers : (x y : ℕ) → List Coded
+        by_registers x y = operator_code op x y t line
+
+        by_number : (x n : ℕ) → List Coded
+        by_number x n = number_code op x n t line
+
+        by : (s : Second) (at : Option ℕ) → second_of op d ≡ s → first_of s e ≡ at → t + operands_room 1 s at (room_of cs e 2) (room_of cs d 2) ≤ 255
+            → Takes t (operands_room 1 s at (room_of cs e 2) (room_of cs d 2)) (operands_code s at first_code code t by_registers by_number)
+        by made (Some x) is at_is small = absurd (cc)
+        by made None is at_is small =
+            let some = own_room d in
+            two_take t (room_of cs e 2) (room_of cs d 2) first_code code (operator_code op t (t + 1) t line) some (law_e size t j 2 known.0 above (lit< tt) (omega (arith, small)))
+            (law_d size (t + 1) (j + made_by e) 2 known.1 (omega (arith, above)) (lit< tt) (omega (arith, small))) (operator_above op t line (omega (arith, small, some)))
+        by (a_local r) None is at_is small =
+            let some = own_room e in
+            let below = local_found hidden ups d r size (second_local op d r is) known.1 in
+            let o = operator_here op t r t line (local_no_join op d r is) (omega arith) (omega (arith, below, above)) (omega (arith, small, some)) in
+            one_takes t (room_of cs e 2) first_code (operator_code op t r t line) some (law_e size t j 2 known.0 above (lit< tt) small) (omega (arith, o))
+        by (a_local r) (Some x) is at_is small =
+            let below = local_found hidden ups d r size (second_local op d r is) known.1 in
+            let x_below = local_found hidden ups e x size (first_local (a_local r) e x at_is) known.0 in
+            let o = operator_here op x r t line (local_no_join op d r is) (omega (arith, x_below, above)) (omega (arith, below, above)) (omega (arith, small)) in
+            (omega (arith, o), omega (arith, o))
+        by (a_number n) None is at_is small =
+            let some = own_room e in
+            let o = number_here op d t n t line (second_number op d n is) (omega arith) (omega (arith, small, some)) in
+            one_takes t (room_of cs e 2) first_code (number_code op t n t line) some (law_e size t j 2 known.0 above (lit< tt) small) (omega (arith, o))
+        by (a_number n) (Some x) is at_is small =
+            let x_below = local_found hidden ups e x size (first_local (a_number n) e x at_is) known.0 in
+            let o = number_here op d x n t line (second_number op d n is) (omega (arith, x_below, above)) (omega (arith, small)) in
+            (omega (arith, o), omega (arith, o))
+
     mutual
       pub exp_takes : (e : Exp) → ExpTakes e
       exp_takes (Nil line) size t j field known above fits small = takes_one t _ line (let e = one_nil t 0 line (omega arith) (lit< tt) in omega (arith, e))
@@ -172,12 +247,7 @@ module _ (cs : List Const) where
           let some = own_room e in
           one_takes t (room_of cs e 2) (exp_code cs e t j 2) (prefix_code op t line) some (exp_takes e size t j 2 known above (lit< tt) small)
           (let p = prefix_top op t line (omega (arith, some)) in omega (arith, p))
-      exp_takes (Binary line op e d) size t j field known above fits small =
-          let some = own_room d in
-          two_take t (room_of cs e 2) (room_of cs d 2) (exp_code cs e t j 2) (exp_code cs d (t + 1) (j + made_by e) 2) (operator_code op t line) some
-          (exp_takes e size t j 2 known.0 above (lit< tt) (omega arith))
-          (exp_takes d size (t + 1) (j + made_by e) 2 known.1 (omega arith) (lit< tt) (omega arith))
-          (let o = operator_top op t line (omega (arith, some)) in omega (arith, o))
+      exp_takes (Binary line op e d) size t j field known above fits small = binary_takes line op e d (exp_takes e) (exp_takes d) size t j known above small
       exp_takes (And line e d) size t j field known above fits small =
           let some = own_room e in
           either_takes t (room_of cs e 2) (room_of cs d 2) false (exp_code cs e t j 2) (exp_code cs d t (j + made_by e) 2) line (omega arith) some

@@ -9,6 +9,8 @@ use Rattle.code_of.specs.Constants.{number_in}
 use Rattle.code_of.specs.Expressions.{count, is_open, is_last_item, Wanted, results_field, one_less}
 use Rattle.scope_core.specs.Held.{positional, held_name, held, held_behind, held_fields, held_field}
 use Rattle.scope_core.specs.Held as held_specs
+use Rattle.code_of.specs.Operands.{second_of, first_of}
+use Rattle.code_of.proofs.Operands.{few_operands}
 use Rattle.code_of.proofs.Rooms.{self_room}
 use Rattle.code_of.specs.Rooms.{room_of_values, room_of_nils, room_of_name, room_of, room_of_list, room_of_fields}
 
@@ -133,7 +135,11 @@ module _ (cs : List Const) where
     exp_held (Call line f es) field = let a = item_by f false (exp_held f) in let b = exps_held es None 1 in omega (arith, a, b)
     exp_held (Method line object name es) field = let a = item_by object false (exp_held object) in let b = exps_held es None 2 in let c = (self_room cs name.text).1 in omega (arith, a, b, c)
     exp_held (Unary line op e) field = let a = item_by e false (exp_held e) in omega (arith, a)
-    exp_held (Binary line op e d) field = let a = item_by e false (exp_held e) in let b = item_by d false (exp_held d) in omega (arith, a, b)
+    exp_held (Binary line op e d) field =
+        let a = item_by e false (exp_held e) in
+        let b = item_by d false (exp_held d) in
+        let h = few_operands 1 (second_of op d) (first_of (second_of op d) e) (room_of cs e 2) (room_of cs d 2) (omega arith) in
+        omega (arith, a, b, h)
     exp_held (And line e d) field = let a = item_by e false (exp_held e) in let b = item_by d false (exp_held d) in omega (arith, a, b)
     exp_held (Or line e d) field = let a = item_by e false (exp_held e) in let b = item_by d false (exp_held d) in omega (arith, a, b)
     exp_held (Paren line e) field = let a = item_by e false (exp_held e) in omega (arith, a)

@@ -6,8 +6,9 @@ use Rattle.tree_core.specs.declared.operator.UnOp.{UnOp}
 use Rattle.tree_core.specs.declared.operator.UnOp.TheVariants.{Neg, BitNot, Not as Negation, Len as Length}
 use Rattle.tree_core.specs.declared.operator.BinOp.{BinOp}
 use Rattle.tree_core.specs.declared.operator.BinOp.TheVariants.{Add as Plus, Sub as Minus, Mul as Times, Mod as Modulo, Idiv, Band, Bor, Bxor, Shl as ShiftLeft, Shr as ShiftRight, Concat as Join, Eq as Equal, Ne, Lt as Less, Le as AtMost, Gt, Ge}
+use Rattle.tree_core.specs.Tree.{Exp}
 use Rattle.code_core.specs.declared.opcode.Opcode.{Opcode}
-use Rattle.code_core.specs.declared.opcode.Opcode.TheVariants.{OpSelf, Move, LoadI, LoadK, LoadKx, LFalseSkip, LoadTrue, GetUpval, GetTabUp, GetTable, Add, Sub, Mul, Mod, IDiv, BAnd, BOr, BXor, Shl, Shr, MmBin, Unm, BNot, Not, Len, Eq, Lt, Le, Test, SetList, ExtraArg, Jmp}
+use Rattle.code_core.specs.declared.opcode.Opcode.TheVariants.{OpSelf, Move, LoadI, LoadK, LoadKx, LFalseSkip, LoadTrue, GetUpval, GetTabUp, GetTable, Add, Sub, Mul, Mod, IDiv, BAnd, BOr, BXor, Shl, Shr, AddI, ShrI, MmBin, MmBinI, EqI, LtI, LeI, GtI, GeI, Unm, BNot, Not, Len, Eq, Lt, Le, Test, SetList, ExtraArg, Jmp}
 use Rattle.code_core.specs.declared.instruction.Instruction.{Instruction}
 use Rattle.code_core.specs.declared.proto.Const.{Const}
 use Rattle.code_core.specs.declared.proto.Const.TheVariants.{Str as StrConst}
@@ -15,7 +16,9 @@ use Rattle.code_core.specs.Instruction.{abc, op_ax, a_of, b_of, c_of}
 use Rattle.code_core.specs.Fields.{registers}
 use Rattle.code_of.specs.Coded.{Coded, with_abc, with_abx, jump_over}
 use Rattle.code_of.specs.Constants.{number_in, loads}
-use Rattle.code_of.specs.Operators.{name_code, prefix_code, arithmetic_code, truth_code, operator_code, self_code}
+use Rattle.code_of.specs.Operands.{greatest, numeral_of, joins}
+use Rattle.code_of.proofs.Operands.{numeral_none}
+use Rattle.code_of.specs.Operators.{name_code, prefix_code, arithmetic_code, truth_code, operator_code, sum_code, number_code, self_code}
 use Rattle.code_of.specs.Expressions.{Wanted, nils_code, either_code, set_list}
 use Rattle.code_of.specs.Rooms.{room_of_name, room_of_self, room_of_nils}
 use Rattle.scope_laws.specs.Finding.{PlaceIsThere}
@@ -100,49 +103,116 @@ prefix_top BitNot t line fits = let e = one_ab BNot t t 0 false refl fits fits i
 prefix_top Negation t line fits = let e = one_ab Not t t 0 false refl fits fits in omega (arith, e)
 prefix_top Length t line fits = let e = one_ab Len t t 0 false refl fits fits in omega (arith, e)
 
-arithmetic_top : (op : Opcode) (event t line : ℕ) →
-    registers op (abc op t t (t + 1) false) ≡ a_of (abc op t t (t + 1) false) ∷ b_of (abc op t t (t + 1) false) ∷ c_of (abc op t t (t + 1) false) ∷ [] →
-    t + 1 < 2 ^ 8 → top (arithmetic_code op event t line) ≡ t + 2
-arithmetic_top op event t line shape fits =
-    let second = with_abc MmBin t (t + 1) event line in
-    let a = top_more (with_abc op t t (t + 1) line) (second ∷ []) in
-    let b = one_abc op t t (t + 1) false shape (omega arith) (omega arith) fits in
-    let c = one_ab MmBin t (t + 1) event false refl (omega arith) fits in
+arithmetic_top : (op : Opcode) (event x y t line : ℕ) → registers op (abc op t x y false) ≡ a_of (abc op t x y false) ∷ b_of (abc op t x y false) ∷ c_of (abc op t x y false) ∷ [] →
+    x < 2 ^ 8 → y < 2 ^ 8 → t < 2 ^ 8 → top (arithmetic_code op event x y t line) ≡ max (t + 1) (max (x + 1) (y + 1))
+arithmetic_top op event x y t line shape x_fits y_fits t_fits =
+    let second = with_abc MmBin x y event line in
+    let a = top_more (with_abc op t x y line) (second ∷ []) in
+    let b = one_abc op t x y false shape t_fits x_fits y_fits in
+    let c = one_ab MmBin x y event false refl x_fits y_fits in
     omega (arith, a, b, c)
 
-truth_top : (op : Opcode) (x y : ℕ) (k : Bool) (t line : ℕ) → registers op (abc op x y 0 k) ≡ a_of (abc op x y 0 k) ∷ b_of (abc op x y 0 k) ∷ [] →
-    t + 1 < 2 ^ 8 → max (x + 1) (y + 1) ≡ t + 2 → top (truth_code op x y k t line) ≡ t + 2
-truth_top op x y k t line shape fits compared =
+-- a test that names registers below m, and then t
+truth_top : (op : Opcode) (x y m : ℕ) (k : Bool) (t line : ℕ) → one (abc op x y 0 k) ≡ m → t < 2 ^ 8 → top (truth_code op x y k t line) ≡ max (t + 1) m
+truth_top op x y m k t line named t_fits =
     let third = with_abc LoadTrue t 0 0 line in
     let second = with_abc LFalseSkip t 0 0 line in
     let first = jump_over 1 line in
     let a = top_more (abc op x y 0 k, line) (first ∷ second ∷ third ∷ []) in
     let b = top_more first (second ∷ third ∷ []) in
     let c = top_more second (third ∷ []) in
-    let d = one_ab op x y 0 k shape (omega arith) (omega arith) in
     let e = ax_is Jmp (16777215 + 1) refl in
-    let f = one_a LFalseSkip t 0 0 false refl (omega arith) in
-    let g = one_a LoadTrue t 0 0 false refl (omega arith) in
-    omega (arith, a, b, c, d, e, f, g, compared)
+    let f = one_a LFalseSkip t 0 0 false refl t_fits in
+    let g = one_a LoadTrue t 0 0 false refl t_fits in
+    omega (arith, a, b, c, named, e, f, g)
 
-pub operator_top : (op : BinOp) (t line : ℕ) → t + 1 < 2 ^ 8 → top (operator_code op t line) ≡ t + 2
-operator_top Plus t line fits = arithmetic_top Add 6 t line refl fits
-operator_top Minus t line fits = arithmetic_top Sub 7 t line refl fits
-operator_top Times t line fits = arithmetic_top Mul 8 t line refl fits
-operator_top Modulo t line fits = arithmetic_top Mod 9 t line refl fits
-operator_top Idiv t line fits = arithmetic_top IDiv 12 t line refl fits
-operator_top Band t line fits = arithmetic_top BAnd 13 t line refl fits
-operator_top Bor t line fits = arithmetic_top BOr 14 t line refl fits
-operator_top Bxor t line fits = arithmetic_top BXor 15 t line refl fits
-operator_top ShiftLeft t line fits = arithmetic_top Shl 16 t line refl fits
-operator_top ShiftRight t line fits = arithmetic_top Shr 17 t line refl fits
-operator_top Join t line fits = one_join t (omega arith)
-operator_top Equal t line fits = truth_top Eq t (t + 1) true t line refl fits (omega arith)
-operator_top Ne t line fits = truth_top Eq t (t + 1) false t line refl fits (omega arith)
-operator_top Less t line fits = truth_top Lt t (t + 1) true t line refl fits (omega arith)
-operator_top AtMost t line fits = truth_top Le t (t + 1) true t line refl fits (omega arith)
-operator_top Gt t line fits = truth_top Lt (t + 1) t true t line refl fits (omega arith)
-operator_top Ge t line fits = truth_top Le (t + 1) t true t line refl fits (omega arith)
+-- registers x and y are compared
+pub pair_named : (op : Opcode) (x y : ℕ) (k : Bool) → registers op (abc op x y 0 k) ≡ a_of (abc op x y 0 k) ∷ b_of (abc op x y 0 k) ∷ [] → x < 2 ^ 8 → y < 2 ^ 8 → one (abc op x y 0 k) ≡ max (x + 1) (y + 1)
+pair_named op x y k shape x_fits y_fits = one_ab op x y 0 k shape x_fits y_fits
+
+turned : (x y : ℕ) (op : Opcode) (k : Bool) → one (abc op y x 0 k) ≡ max (y + 1) (x + 1) → one (abc op y x 0 k) ≡ max (x + 1) (y + 1)
+turned x y op k e = omega (arith, e)
+
+operator_top : (op : BinOp) (x y t line : ℕ) → joins op ≡ false → x < 2 ^ 8 → y < 2 ^ 8 → t < 2 ^ 8 → top (operator_code op x y t line) ≡ max (t + 1) (max (x + 1) (y + 1))
+operator_top Plus x y t line j xf yf tf = arithmetic_top Add 6 x y t line refl xf yf tf
+operator_top Minus x y t line j xf yf tf = arithmetic_top Sub 7 x y t line refl xf yf tf
+operator_top Times x y t line j xf yf tf = arithmetic_top Mul 8 x y t line refl xf yf tf
+operator_top Modulo x y t line j xf yf tf = arithmetic_top Mod 9 x y t line refl xf yf tf
+operator_top Idiv x y t line j xf yf tf = arithmetic_top IDiv 12 x y t line refl xf yf tf
+operator_top Band x y t line j xf yf tf = arithmetic_top BAnd 13 x y t line refl xf yf tf
+operator_top Bor x y t line j xf yf tf = arithmetic_top BOr 14 x y t line refl xf yf tf
+operator_top Bxor x y t line j xf yf tf = arithmetic_top BXor 15 x y t line refl xf yf tf
+operator_top ShiftLeft x y t line j xf yf tf = arithmetic_top Shl 16 x y t line refl xf yf tf
+operator_top ShiftRight x y t line j xf yf tf = arithmetic_top Shr 17 x y t line refl xf yf tf
+operator_top Join x y t line j xf yf tf = absurd (cc)
+operator_top Equal x y t line j xf yf tf = truth_top Eq x y _ true t line (pair_named Eq x y true refl xf yf) tf
+operator_top Ne x y t line j xf yf tf = truth_top Eq x y _ false t line (pair_named Eq x y false refl xf yf) tf
+operator_top Less x y t line j xf yf tf = truth_top Lt x y _ true t line (pair_named Lt x y true refl xf yf) tf
+operator_top AtMost x y t line j xf yf tf = truth_top Le x y _ true t line (pair_named Le x y true refl xf yf) tf
+operator_top Gt x y t line j xf yf tf = truth_top Lt y x _ true t line (turned x y Lt true (pair_named Lt y x true refl yf xf)) tf
+operator_top Ge x y t line j xf yf tf = truth_top Le y x _ true t line (turned x y Le true (pair_named Le y x true refl yf xf)) tf
+
+join_by : (op : BinOp) (b : Bool) (t line : ℕ) → joins op ≡ b → t + 1 < 2 ^ 8 → top (operator_code op t (t + 1) t line) ≤ t + 2
+join_by op false t line j fits = let e = operator_top op t (t + 1) t line j (omega arith) fits (omega arith) in omega (arith, e)
+join_by Join true t line j fits = let e = one_join t (omega arith) in omega (arith, e)
+join_by Plus true t line j fits = absurd (cc)
+join_by Minus true t line j fits = absurd (cc)
+join_by Times true t line j fits = absurd (cc)
+join_by Modulo true t line j fits = absurd (cc)
+join_by Idiv true t line j fits = absurd (cc)
+join_by Band true t line j fits = absurd (cc)
+join_by Bor true t line j fits = absurd (cc)
+join_by Bxor true t line j fits = absurd (cc)
+join_by ShiftLeft true t line j fits = absurd (cc)
+join_by ShiftRight true t line j fits = absurd (cc)
+join_by Equal true t line j fits = absurd (cc)
+join_by Ne true t line j fits = absurd (cc)
+join_by Less true t line j fits = absurd (cc)
+join_by AtMost true t line j fits = absurd (cc)
+join_by Gt true t line j fits = absurd (cc)
+join_by Ge true t line j fits = absurd (cc)
+
+-- where both operands are made
+pub operator_above : (op : BinOp) (t line : ℕ) → t + 1 < 2 ^ 8 → top (operator_code op t (t + 1) t line) ≤ t + 2
+operator_above op t line fits = join_by op (joins op) t line refl fits
+
+-- where they stand no higher than the result
+pub operator_here : (op : BinOp) (x y t line : ℕ) → (joins op ≡ true → ⊥) → x ≤ t → y ≤ t → t < 2 ^ 8 → top (operator_code op x y t line) ≡ t + 1
+operator_here op x y t line other x_below y_below fits = by (joins op) refl
+  where
+    by : (b : Bool) → joins op ≡ b → top (operator_code op x y t line) ≡ t + 1
+    by true j = absurd (other j)
+    by false j = let e = operator_top op x y t line j (omega arith) (omega arith) fits in omega (arith, e)
+
+sum_top : (op : Opcode) (field event x n t line : ℕ) → registers op (abc op t x field false) ≡ a_of (abc op t x field false) ∷ b_of (abc op t x field false) ∷ [] → x ≤ t → t < 2 ^ 8 → top (sum_code op field event x n t line) ≡ t + 1
+sum_top op field event x n t line shape below fits =
+    let second = with_abc MmBinI x (n + 127) event line in
+    let a = top_more (with_abc op t x field line) (second ∷ []) in
+    let b = one_ab op t x field false shape fits (omega arith) in
+    let c = one_a MmBinI x (n + 127) event false refl (omega arith) in
+    omega (arith, a, b, c)
+
+number_truth : (op : Opcode) (x n : ℕ) (k : Bool) (t line : ℕ) → registers op (abc op x (n + 127) 0 k) ≡ a_of (abc op x (n + 127) 0 k) ∷ [] → x ≤ t → t < 2 ^ 8 → top (truth_code op x (n + 127) k t line) ≡ t + 1
+number_truth op x n k t line shape below fits = let e = truth_top op x (n + 127) (x + 1) k t line (one_a op x (n + 127) 0 k shape (omega arith)) fits in omega (arith, e)
+
+pub number_here : (op : BinOp) (d : Exp) (x n t line : ℕ) → numeral_of d (greatest op) ≡ Some n → x ≤ t → t < 2 ^ 8 → top (number_code op x n t line) ≡ t + 1
+number_here Plus d x n t line e below fits = sum_top AddI (n + 127) 6 x n t line refl below fits
+number_here Minus d x n t line e below fits = sum_top AddI (127 - n) 7 x n t line refl below fits
+number_here ShiftRight d x n t line e below fits = sum_top ShrI (n + 127) 17 x n t line refl below fits
+number_here Equal d x n t line e below fits = number_truth EqI x n true t line refl below fits
+number_here Ne d x n t line e below fits = number_truth EqI x n false t line refl below fits
+number_here Less d x n t line e below fits = number_truth LtI x n true t line refl below fits
+number_here AtMost d x n t line e below fits = number_truth LeI x n true t line refl below fits
+number_here Gt d x n t line e below fits = number_truth GtI x n true t line refl below fits
+number_here Ge d x n t line e below fits = number_truth GeI x n true t line refl below fits
+number_here Times d x n t line e below fits = absurd (numeral_none d n e)
+number_here Modulo d x n t line e below fits = absurd (numeral_none d n e)
+number_here Idiv d x n t line e below fits = absurd (numeral_none d n e)
+number_here Band d x n t line e below fits = absurd (numeral_none d n e)
+number_here Bor d x n t line e below fits = absurd (numeral_none d n e)
+number_here Bxor d x n t line e below fits = absurd (numeral_none d n e)
+number_here ShiftLeft d x n t line e below fits = absurd (numeral_none d n e)
+number_here Join d x n t line e below fits = absurd (numeral_none d n e)
 
 -- operands, each with a register of its own, and what is done with them
 

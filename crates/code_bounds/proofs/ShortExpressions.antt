@@ -12,7 +12,9 @@ use Rattle.code_core.specs.declared.proto.Const.TheVariants.{Int as IntConst, St
 use Rattle.code_core.specs.Instruction.{abc, op_ax}
 use Rattle.code_of.specs.Coded.{Coded, with_abc, with_abx, jump_over}
 use Rattle.code_of.specs.Constants.{is_small, small_field, number_in, loads, loads_numbered, loads_integer}
-use Rattle.code_of.specs.Operators.{name_code, global_code, prefix_code, operator_code, self_code}
+use Rattle.code_of.specs.Operands.{second_of, first_of}
+use Rattle.code_of.proofs.Operands.{operands_short}
+use Rattle.code_of.specs.Operators.{name_code, global_code, prefix_code, operator_code, number_code, self_code}
 use Rattle.code_of.specs.Expressions.{made_by, list_field, is_last_open, is_last_item, Wanted, one_less, field_of, wanted_after, nils_code, either_code, set_list, exp_code, exps_code, fields_code}
 use Rattle.tree_terms.specs.Weight.{weight, weight_of_arguments, weight_of_exps, weight_of_fields}
 
@@ -57,24 +59,43 @@ self_short cs text t line = by (nat_lt (number_in cs (StrConst text)) 256)
     by true = omega arith
     by false = omega (arith, loads_short cs (StrConst text) (t + 2) line, length-append (loads cs (StrConst text) (t + 2) line) (with_abc OpSelf t t (t + 2) line ∷ []))
 
-operator_short : (op : BinOp) (t line : ℕ) → length (operator_code op t line) ≤ 4
-operator_short Plus t line = omega arith
-operator_short Minus t line = omega arith
-operator_short Times t line = omega arith
-operator_short Modulo t line = omega arith
-operator_short Idiv t line = omega arith
-operator_short Band t line = omega arith
-operator_short Bor t line = omega arith
-operator_short Bxor t line = omega arith
-operator_short ShiftLeft t line = omega arith
-operator_short ShiftRight t line = omega arith
-operator_short Join t line = omega arith
-operator_short Equal t line = omega arith
-operator_short Ne t line = omega arith
-operator_short Less t line = omega arith
-operator_short AtMost t line = omega arith
-operator_short Gt t line = omega arith
-operator_short Ge t line = omega arith
+operator_short : (op : BinOp) (x y t line : ℕ) → length (operator_code op x y t line) ≤ 4
+operator_short Plus x y t line = omega arith
+operator_short Minus x y t line = omega arith
+operator_short Times x y t line = omega arith
+operator_short Modulo x y t line = omega arith
+operator_short Idiv x y t line = omega arith
+operator_short Band x y t line = omega arith
+operator_short Bor x y t line = omega arith
+operator_short Bxor x y t line = omega arith
+operator_short ShiftLeft x y t line = omega arith
+operator_short ShiftRight x y t line = omega arith
+operator_short Join x y t line = omega arith
+operator_short Equal x y t line = omega arith
+operator_short Ne x y t line = omega arith
+operator_short Less x y t line = omega arith
+operator_short AtMost x y t line = omega arith
+operator_short Gt x y t line = omega arith
+operator_short Ge x y t line = omega arith
+
+number_short : (op : BinOp) (x n t line : ℕ) → length (number_code op x n t line) ≤ 4
+number_short Plus x n t line = omega arith
+number_short Minus x n t line = omega arith
+number_short Times x n t line = omega arith
+number_short Modulo x n t line = omega arith
+number_short Idiv x n t line = omega arith
+number_short Band x n t line = omega arith
+number_short Bor x n t line = omega arith
+number_short Bxor x n t line = omega arith
+number_short ShiftLeft x n t line = omega arith
+number_short ShiftRight x n t line = omega arith
+number_short Join x n t line = omega arith
+number_short Equal x n t line = omega arith
+number_short Ne x n t line = omega arith
+number_short Less x n t line = omega arith
+number_short AtMost x n t line = omega arith
+number_short Gt x n t line = omega arith
+number_short Ge x n t line = omega arith
 
 set_list_short : (t b items line : ℕ) → length (set_list t b items line) ≤ 2
 set_list_short t b items line = by (nat_lt items 256)
@@ -145,9 +166,13 @@ module _ (cs : List Const) where
         )
     exp_short (Unary line op e) t j c = omega (arith, exp_short e t j 2, length-append (exp_code cs e t j 2) (prefix_code op t line))
     exp_short (Binary line op e d) t j c =
-        let second = exp_code cs d (t + 1) (j + made_by e) 2 in
-        let last = operator_code op t line in
-        omega (arith, exp_short e t j 2, exp_short d (t + 1) (j + made_by e) 2, operator_short op t line, length-append (exp_code cs e t j 2) (second ++ last), length-append second last)
+        omega (
+          arith,
+          exp_short e t j 2,
+          exp_short d (t + 1) (j + made_by e) 2,
+          operands_short (second_of op d) (first_of (second_of op d) e) (exp_code cs e t j 2) (exp_code cs d (t + 1) (j + made_by e) 2) t (λ x y. operator_code op x y t line) (λ x n. number_code op x n t line) 4
+              (λ x y. operator_short op x y t line) (λ x n. number_short op x n t line),
+        )
     exp_short (And line e d) t j c =
         omega (arith, exp_short e t j 2, exp_short d t (j + made_by e) 2, either_short false (exp_code cs e t j 2) (exp_code cs d t (j + made_by e) 2) t line)
     exp_short (Or line e d) t j c =

@@ -9,15 +9,11 @@ use std::test::Fail;
 use tree_core::{Block, Body, Exp};
 
 // Sources that return an expression, the register for its value, and the words of its code.
-static WORDS: [(&[u8], u8, &[u32]); 16] = [
+static WORDS: [(&[u8], u8, &[u32]); 22] = [
     (b"return nil", 3, &[0x188]),
     (b"return 5", 0, &[0x8002_0001]),
     (b"return 65537", 1, &[0x83]),
-    (
-        b"return 1 + 2",
-        0,
-        &[0x8000_0001, 0x8000_8081, 0x0100_0022, 0x0601_002e],
-    ),
+    (b"return 1 + 2", 0, &[0x8000_0001, 0x8100_0015, 0x0681_002f]),
     (b"return 'a' .. 'b'", 0, &[0x03, 0x8083, 0x0002_0035]),
     (b"return not true", 0, &[0x07, 0x33]),
     (b"return _ENV", 0, &[0x09]),
@@ -41,26 +37,35 @@ static WORDS: [(&[u8], u8, &[u32]); 16] = [
     (
         b"local x, y return x < y",
         2,
-        &[
-            0x0100,
-            0x0001_0180,
-            0x0003_813a,
-            0x8000_0038,
-            0x0106,
-            0x0107,
-        ],
+        &[0x0001_803a, 0x8000_0038, 0x0106, 0x0107],
     ),
     (
         b"local x, y return x > y",
         2,
-        &[
-            0x0100,
-            0x0001_0180,
-            0x0002_81ba,
-            0x8000_0038,
-            0x0106,
-            0x0107,
-        ],
+        &[0x80ba, 0x8000_0038, 0x0106, 0x0107],
+    ),
+    // a numeral of at most 128 stands in the instruction, or 127 behind a minus, and a local in its own register
+    (b"local x return x - 1", 1, &[0x7e00_0095, 0x0780_002f]),
+    (b"local x return (x) >> 128", 1, &[0xff00_00a0, 0x11ff_002f]),
+    (
+        b"local x return x + 129",
+        1,
+        &[0x80, 0x8040_0101, 0x0201_00a2, 0x0602_00ae],
+    ),
+    (
+        b"local x, y return -x * y",
+        2,
+        &[0x0100, 0x0002_0131, 0x0102_0124, 0x0801_012e],
+    ),
+    (
+        b"local x return 1 >= x",
+        1,
+        &[0x8000_0081, 0x0001_803b, 0x8000_0038, 0x86, 0x87],
+    ),
+    (
+        b"local x return x ~= 0",
+        1,
+        &[0x007f_003d, 0x8000_0038, 0x86, 0x87],
     ),
     (
         b"local x, y return #x:m(y)",

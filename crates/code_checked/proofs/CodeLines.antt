@@ -16,9 +16,10 @@ use Rattle.code_core.specs.declared.proto.Const.TheVariants.{Int as IntConst, St
 use Rattle.code_core.specs.Writable.{number_fits}
 use Rattle.code_of.specs.Coded.{Coded, lines, jump_over, jump_back}
 use Rattle.code_of.specs.Constants.{is_small, number_in, loads, loads_integer, of_block}
-use Rattle.code_of.specs.Operators.{name_code, self_code, operator_code}
+use Rattle.code_of.specs.Operands.{seat, unless, Second, a_number, a_local, made, second_of, first_of, second_code, operands_code}
+use Rattle.code_of.specs.Operators.{name_code, self_code, operator_code, number_opcode, number_code}
 use Rattle.code_of.specs.Expressions.{made_by, made_in, count, Wanted, is_last_item, field_of, wanted_after, nils_code, set_list, exp_code, exps_code, fields_code}
-use Rattle.code_of.specs.Conditions.{line_of, is_not, compared, value_test, test_code}
+use Rattle.code_of.specs.Conditions.{jump_if, pick, line_of, is_not, compared, value_test, test_code}
 use Rattle.code_core.specs.declared.opcode.Opcode.{Opcode}
 use Rattle.code_core.specs.declared.opcode.Opcode.TheVariants.{Eq, Lt, Le}
 use Rattle.code_of.specs.Jumps.{Landing, Visible, Reach, label_in, leads}
@@ -66,24 +67,56 @@ name_lines cs (GlobalIn n) text t line h = lines_both (loads cs (StrConst text) 
 name_lines cs (GlobalOf u) text t line h =
     either (nat_lt (number_in cs (StrConst text)) 256) _ _ (h, tt) (h, lines_both (loads cs (StrConst text) (t + 1) line) _ (loads_lines cs (StrConst text) (t + 1) line h) (h, tt))
 
-operator_lines : (op : BinOp) (t line : ℕ) → LineFits line → LinesFit (operator_code op t line)
-operator_lines Plus t line h = (h, (h, tt))
-operator_lines Minus t line h = (h, (h, tt))
-operator_lines Times t line h = (h, (h, tt))
-operator_lines Modulo t line h = (h, (h, tt))
-operator_lines Idiv t line h = (h, (h, tt))
-operator_lines Band t line h = (h, (h, tt))
-operator_lines Bor t line h = (h, (h, tt))
-operator_lines Bxor t line h = (h, (h, tt))
-operator_lines ShiftLeft t line h = (h, (h, tt))
-operator_lines ShiftRight t line h = (h, (h, tt))
-operator_lines Join t line h = (h, tt)
-operator_lines Equal t line h = (h, (h, (h, (h, tt))))
-operator_lines Ne t line h = (h, (h, (h, (h, tt))))
-operator_lines Less t line h = (h, (h, (h, (h, tt))))
-operator_lines AtMost t line h = (h, (h, (h, (h, tt))))
-operator_lines Gt t line h = (h, (h, (h, (h, tt))))
-operator_lines Ge t line h = (h, (h, (h, (h, tt))))
+operator_lines : (op : BinOp) (x y t line : ℕ) → LineFits line → LinesFit (operator_code op x y t line)
+operator_lines Plus x y t line h = (h, (h, tt))
+operator_lines Minus x y t line h = (h, (h, tt))
+operator_lines Times x y t line h = (h, (h, tt))
+operator_lines Modulo x y t line h = (h, (h, tt))
+operator_lines Idiv x y t line h = (h, (h, tt))
+operator_lines Band x y t line h = (h, (h, tt))
+operator_lines Bor x y t line h = (h, (h, tt))
+operator_lines Bxor x y t line h = (h, (h, tt))
+operator_lines ShiftLeft x y t line h = (h, (h, tt))
+operator_lines ShiftRight x y t line h = (h, (h, tt))
+operator_lines Join x y t line h = (h, tt)
+operator_lines Equal x y t line h = (h, (h, (h, (h, tt))))
+operator_lines Ne x y t line h = (h, (h, (h, (h, tt))))
+operator_lines Less x y t line h = (h, (h, (h, (h, tt))))
+operator_lines AtMost x y t line h = (h, (h, (h, (h, tt))))
+operator_lines Gt x y t line h = (h, (h, (h, (h, tt))))
+operator_lines Ge x y t line h = (h, (h, (h, (h, tt))))
+
+number_lines : (op : BinOp) (x n t line : ℕ) → LineFits line → LinesFit (number_code op x n t line)
+number_lines Plus x n t line h = (h, (h, tt))
+number_lines Minus x n t line h = (h, (h, tt))
+number_lines ShiftRight x n t line h = (h, (h, tt))
+number_lines Equal x n t line h = (h, (h, (h, (h, tt))))
+number_lines Ne x n t line h = (h, (h, (h, (h, tt))))
+number_lines Less x n t line h = (h, (h, (h, (h, tt))))
+number_lines AtMost x n t line h = (h, (h, (h, (h, tt))))
+number_lines Gt x n t line h = (h, (h, (h, (h, tt))))
+number_lines Ge x n t line h = (h, (h, (h, (h, tt))))
+number_lines Times x n t line h = tt
+number_lines Modulo x n t line h = tt
+number_lines Idiv x n t line h = tt
+number_lines Band x n t line h = tt
+number_lines Bor x n t line h = tt
+number_lines Bxor x n t line h = tt
+number_lines ShiftLeft x n t line h = tt
+number_lines Join x n t line h = tt
+
+unless_lines : (at : Option ℕ) (xs ys : List Coded) → LinesFit xs → LinesFit ys → LinesFit (unless at xs ++ ys)
+unless_lines None xs ys h k = lines_both xs ys h k
+unless_lines (Some r) xs ys h k = k
+
+operands_lines : (s : Second) (at : Option ℕ) (first code : List Coded) (t : ℕ) (by num : (x y : ℕ) → List Coded) → LinesFit first → LinesFit code → ((x y : ℕ) → LinesFit (by x y)) → ((x n : ℕ) → LinesFit (num x n))
+    → LinesFit (operands_code s at first code t by num)
+operands_lines s at first code t by num h k g f = unless_lines at first _ h (second s)
+  where
+    second : (s : Second) → LinesFit (second_code s code t (by (seat at t)) (num (seat at t)))
+    second made = lines_both code _ k (g (seat at t) (t + 1))
+    second (a_local r) = g (seat at t) r
+    second (a_number n) = f (seat at t) n
 
 nils_lines : (wanted : Wanted) (t line : ℕ) → LineFits line → LinesFit (nils_code wanted t line)
 nils_lines None t line h = tt
@@ -129,7 +162,9 @@ module _ (cs : List Const) where
         lines_both (exp_code cs o t j 2) _ (exp_lines o t j 2 w.1.0) (lines_both (self_code cs name.text t line) _ (method_lines cs name.text t line w.0)
         (lines_both (exps_code cs es None (t + 2) (j + made_by o) line) _ (exps_lines es None (t + 2) (j + made_by o) line w.0 w.1.1.1) (w.0, tt)))
     exp_lines (Unary line op e) t j c w = lines_both (exp_code cs e t j 2) _ (exp_lines e t j 2 w.1) (w.0, tt)
-    exp_lines (Binary line op e d) t j c w = lines_both (exp_code cs e t j 2) _ (exp_lines e t j 2 w.1.0) (lines_both (exp_code cs d (t + 1) (j + made_by e) 2) _ (exp_lines d (t + 1) (j + made_by e) 2 w.1.1) (operator_lines op t line w.0))
+    exp_lines (Binary line op e d) t j c w =
+        operands_lines (second_of op d) (first_of (second_of op d) e) (exp_code cs e t j 2) (exp_code cs d (t + 1) (j + made_by e) 2) t (λ x y. operator_code op x y t line) (λ x n. number_code op x n t line)
+        (exp_lines e t j 2 w.1.0) (exp_lines d (t + 1) (j + made_by e) 2 w.1.1) (λ x y. operator_lines op x y t line w.0) (λ x n. number_lines op x n t line w.0)
     exp_lines (And line e d) t j c w = lines_both (exp_code cs e t j 2) _ (exp_lines e t j 2 w.1.0) (w.0, (w.0, exp_lines d t (j + made_by e) 2 w.1.1))
     exp_lines (Or line e d) t j c w = lines_both (exp_code cs e t j 2) _ (exp_lines e t j 2 w.1.0) (w.0, (w.0, exp_lines d t (j + made_by e) 2 w.1.1))
     exp_lines (Paren line e) t j c w = exp_lines e t j 2 w.1
@@ -205,7 +240,10 @@ module _ (cs : List Const) where
       lines_both (test_code cs e false far t j) _ (test_lines e false far t j w.1.0) (test_lines d k ahead t (j + made_by e) w.1.1)
   test_lines (Binary line op e d) k ahead t j w =
       compared_lines op _ _ (value_lines (Binary line op e d) k ahead t j w)
-      (λ o s q. lines_both (exp_code cs e t j 2) _ (exp_lines e t j 2 w.1.0) (lines_both (exp_code cs d (t + 1) (j + made_by e) 2) _ (exp_lines d (t + 1) (j + made_by e) 2 w.1.1) (w.0, (w.0, tt))))
+      (λ o s q. let field = cond q (not k) k in
+      operands_lines (second_of op d) (first_of (second_of op d) e) (exp_code cs e t j 2) (exp_code cs d (t + 1) (j + made_by e) 2) t
+      (λ x y. jump_if o (pick s x y) (pick s y x) field ahead line) (λ x n. jump_if (number_opcode op) x (n + 127) field ahead line)
+      (exp_lines e t j 2 w.1.0) (exp_lines d (t + 1) (j + made_by e) 2 w.1.1) (λ x y. (w.0, (w.0, tt))) (λ x n. (w.0, (w.0, tt))))
   test_lines (True line) k ahead t j w = either k _ _ tt (w, tt)
   test_lines (Nil line) k ahead t j w = value_lines (Nil line) k ahead t j w
   test_lines (False line) k ahead t j w = value_lines (False line) k ahead t j w

@@ -1,5 +1,5 @@
 -- The code of each condition is a piece, where its jumps lead to a place that may be landed on.
-use Rattle.std.proofs.Common.{◌≡◌, ℕ, ◌+◌, ◌<◌, ◌≤◌, ◌^◌, lit<, Bool, true, false, not, List, ◌++◌, length, Option, refl, arith, length-append}
+use Rattle.std.proofs.Common.{◌≡◌, ℕ, ◌+◌, ◌<◌, ◌≤◌, ◌^◌, lit<, Bool, true, false, not, List, ◌++◌, length, Option, Some, None, refl, arith, length-append}
 use Rattle.tree_core.specs.declared.operator.UnOp.{UnOp}
 use Rattle.tree_core.specs.declared.operator.UnOp.TheVariants.{Neg, BitNot, Not as Negation, Len as Length}
 use Rattle.tree_core.specs.declared.operator.BinOp.{BinOp}
@@ -13,16 +13,19 @@ use Rattle.code_of.specs.Coded.{Coded}
 use Rattle.code_of.specs.Constants.{of_exp}
 use Rattle.code_of.specs.Expressions.{made_by, exp_code}
 use Rattle.code_of.specs.Conditions.{jump_if, pick, line_of, value_test, test_code}
+use Rattle.code_of.specs.Operands.{greatest, numeral_of, Second, a_number, a_local, made, second_of, first_of, operands_code}
+use Rattle.code_of.specs.Operators.{number_opcode}
+use Rattle.code_of.proofs.Operands.{numeral_form, second_number, second_local, first_local}
 use Rattle.code_of.specs.CodeOf.{from_exp}
 use Rattle.code_checked.specs.Near.{ExpIsNear}
 use Rattle.code_checked.proofs.Pieces.{closed, Land, Piece, both, nothing}
-use Rattle.code_checked.proofs.Words.{IsFirst, first_test, first_eq, first_lt, first_le}
+use Rattle.code_checked.proofs.Words.{IsFirst, first_test, first_eq, first_lt, first_le, first_eq_i, first_lt_i, first_le_i, first_gt_i, first_ge_i}
 use Rattle.code_checked.proofs.Found.{Grows, grows_then}
 use Rattle.code_checked.proofs.Loads.{Whole, Functions}
 use Rattle.code_checked.proofs.Seams.{ending}
 use Rattle.code_checked.proofs.Jumping.{over_piece, test_over}
 use Rattle.code_checked.proofs.Growing.{grows_exp, after_exp}
-use Rattle.code_checked.proofs.ExpForms.{exp_register}
+use Rattle.code_checked.proofs.ExpForms.{exp_register, local_near}
 use Rattle.code_checked.proofs.Exps.{one_law}
 
 picked : (second : Bool) (x y : ℕ) → x < 2 ^ 8 → y < 2 ^ 8 → pick second x y < 2 ^ 8
@@ -55,26 +58,26 @@ module _ (p : Prototype) (W : Whole p) (source : Option (List ℕ)) where
 
   -- both operands lead to one place, or the first one leads past the second
   module _ (e d : Exp) (law_e : TestLaw e) (law_d : TestLaw d) where
-    abbrev second_of : (k : Bool) → (ahead t j : ℕ) → List Coded
-    second_of k ahead t j = test_code p.own.constants d k ahead t (j + made_by e)
+    abbrev second_test : (k : Bool) → (ahead t j : ℕ) → List Coded
+    second_test k ahead t j = test_code p.own.constants d k ahead t (j + made_by e)
 
     away_law : (first_wants k : Bool) (H : Type 0) (ahead t j pc size q : ℕ) (cs : List Const) (rest : Prototypes) → ExpIsNear source p e size t → ExpIsNear source p d size t → size ≤ t → Grows (of_exp d (of_exp e cs)) p.own.constants → Functions p j (from_exp source e (from_exp source d rest))
-        → (H → length (test_code p.own.constants e first_wants (length (second_of k ahead t j) + ahead) t j ++ second_of k ahead t j) + ahead < 2 ^ 24)
-        → q ≡ pc + length (test_code p.own.constants e first_wants (length (second_of k ahead t j) + ahead) t j ++ second_of k ahead t j) + ahead → (H → Land p q)
-        → Piece p H closed closed pc (test_code p.own.constants e first_wants (length (second_of k ahead t j) + ahead) t j ++ second_of k ahead t j)
+        → (H → length (test_code p.own.constants e first_wants (length (second_test k ahead t j) + ahead) t j ++ second_test k ahead t j) + ahead < 2 ^ 24)
+        → q ≡ pc + length (test_code p.own.constants e first_wants (length (second_test k ahead t j) + ahead) t j ++ second_test k ahead t j) + ahead → (H → Land p q)
+        → Piece p H closed closed pc (test_code p.own.constants e first_wants (length (second_test k ahead t j) + ahead) t j ++ second_test k ahead t j)
     away_law first_wants k H ahead t j pc size q cs rest near_e near_d le g fs short place to =
-        let second = second_of k ahead t j in
+        let second = second_test k ahead t j in
         let first = test_code p.own.constants e first_wants (length second + ahead) t j in
         let sum = length-append first second in
         both p (law_e H first_wants (length second + ahead) t j pc size q cs (from_exp source d rest) near_e le (grows_then (of_exp e cs) (of_exp d (of_exp e cs)) p.own.constants (grows_exp d (of_exp e cs)) g) fs (λ h. let f = short h in omega (arith, f, sum)) (omega (arith, place, sum)) to)
         (law_d H k ahead t (j + made_by e) (pc + length first) size q (of_exp e cs) rest near_d le g (after_exp source p e j (from_exp source d rest) fs) (λ h. let f = short h in omega (arith, f, sum)) (omega (arith, place, sum)) to)
 
     past_law : (first_wants k : Bool) (H : Type 0) (ahead t j pc size q : ℕ) (cs : List Const) (rest : Prototypes) → ExpIsNear source p e size t → ExpIsNear source p d size t → size ≤ t → Grows (of_exp d (of_exp e cs)) p.own.constants → Functions p j (from_exp source e (from_exp source d rest))
-        → (H → length (test_code p.own.constants e first_wants (length (second_of k ahead t j) + 0) t j ++ second_of k ahead t j) + ahead < 2 ^ 24)
-        → q ≡ pc + length (test_code p.own.constants e first_wants (length (second_of k ahead t j) + 0) t j ++ second_of k ahead t j) + ahead → (H → Land p q)
-        → Piece p H closed closed pc (test_code p.own.constants e first_wants (length (second_of k ahead t j) + 0) t j ++ second_of k ahead t j)
+        → (H → length (test_code p.own.constants e first_wants (length (second_test k ahead t j) + 0) t j ++ second_test k ahead t j) + ahead < 2 ^ 24)
+        → q ≡ pc + length (test_code p.own.constants e first_wants (length (second_test k ahead t j) + 0) t j ++ second_test k ahead t j) + ahead → (H → Land p q)
+        → Piece p H closed closed pc (test_code p.own.constants e first_wants (length (second_test k ahead t j) + 0) t j ++ second_test k ahead t j)
     past_law first_wants k H ahead t j pc size q cs rest near_e near_d le g fs short place to =
-        let second = second_of k ahead t j in
+        let second = second_test k ahead t j in
         let first = test_code p.own.constants e first_wants (length second + 0) t j in
         let sum = length-append first second in
         let end : ℕ = pc + length (first ++ second) in
@@ -94,30 +97,66 @@ module _ (p : Prototype) (W : Whole p) (source : Option (List ℕ)) where
 
   -- comparisons
   module _ (line : ℕ) (op : BinOp) (e d : Exp) where
-    abbrev compared_code : Opcode → (swapped field : Bool) → (ahead t j : ℕ) → List Coded
-    compared_code opcode swapped field ahead t j =
-        exp_code p.own.constants e t j 2 ++ (exp_code p.own.constants d (t + 1) (j + made_by e) 2 ++ jump_if opcode (pick swapped t (t + 1)) (pick swapped (t + 1) t) field ahead line)
+    abbrev by_registers : Opcode → (swapped field : Bool) → (ahead x y : ℕ) → List Coded
+    by_registers opcode swapped field ahead x y = jump_if opcode (pick swapped x y) (pick swapped y x) field ahead line
 
-    compare_law : (opcode : Opcode) → IsFirst p opcode Jmp → (swapped field : Bool) → (H : Type 0) (ahead t j pc : ℕ) → Leads (λ ahead. compared_code opcode swapped field ahead t j) (Binary line op e d) H ahead t j pc
-    compare_law opcode is_first swapped field H ahead t j pc size q cs rest near le g fs short place to =
-        let first = exp_code p.own.constants e t j 2 in
-        let second = exp_code p.own.constants d (t + 1) (j + made_by e) 2 in
-        let last = jump_if opcode (pick swapped t (t + 1)) (pick swapped (t + 1) t) field ahead line in
-        let a = length-append first (second ++ last) in
-        let b = length-append second last in
-        let r = near.0 in
-        both p (one_law p W source e H t j pc size cs (from_exp source d rest) near.1.0 le (grows_then (of_exp e cs) (of_exp d (of_exp e cs)) p.own.constants (grows_exp d (of_exp e cs)) g) fs)
-        (both p (one_law p W source d H (t + 1) (j + made_by e) (pc + length first) size (of_exp e cs) rest near.1.1 (omega (arith, le)) g (after_exp source p e j (from_exp source d rest) fs))
-        (test_over p opcode is_first (pick swapped t (t + 1)) (pick swapped (t + 1) t) field ahead (pc + length first + length second) q line (picked swapped t (t + 1) (omega (arith, r)) (omega (arith, r))) (picked swapped (t + 1) t (omega (arith, r)) (omega (arith, r)))
-        (λ h. let f = short h in omega (arith, f)) (omega (arith, place, a, b)) to))
+    abbrev by_number : (field : Bool) → (ahead x n : ℕ) → List Coded
+    by_number field ahead x n = jump_if (number_opcode op) x (n + 127) field ahead line
+
+    abbrev compared_code : Second → Option ℕ → Opcode → (swapped field : Bool) → (ahead t j : ℕ) → List Coded
+    compared_code s at opcode swapped field ahead t j =
+        operands_code s at (exp_code p.own.constants e t j 2) (exp_code p.own.constants d (t + 1) (j + made_by e) 2) t (by_registers opcode swapped field ahead) (by_number field ahead)
+
+    compare_law : (opcode : Opcode) → IsFirst p opcode Jmp → IsFirst p (number_opcode op) Jmp → (swapped field : Bool) → (H : Type 0) (ahead t j pc : ℕ)
+        → Leads (λ ahead. compared_code (second_of op d) (first_of (second_of op d) e) opcode swapped field ahead t j) (Binary line op e d) H ahead t j pc
+    compare_law opcode is_first number_first swapped field H ahead t j pc size q cs rest near le g fs short place to = by (second_of op d) (first_of (second_of op d) e) refl refl short place
+      where
+        first : List Coded
+        first = exp_code p.own.constants e t j 2
+
+        second : List Coded
+        second = exp_code p.own.constants d (t + 1) (j + made_by e) 2
+
+        tf : t + 1 < 2 ^ 8
+        tf = let r = near.0 in omega (arith, r)
+
+        first_piece : Piece p H closed closed pc first
+        first_piece = one_law p W source e H t j pc size cs (from_exp source d rest) near.1.0 le (grows_then (of_exp e cs) (of_exp d (of_exp e cs)) p.own.constants (grows_exp d (of_exp e cs)) g) fs
+
+        compared : (x y at : ℕ) → x < 2 ^ 8 → y < 2 ^ 8 → (H → ahead < 2 ^ 24) → q ≡ at + 2 + ahead → Piece p H closed closed at (by_registers opcode swapped field ahead x y)
+        compared x y at xf yf few is = test_over p opcode is_first (pick swapped x y) (pick swapped y x) field ahead at q line (picked swapped x y xf yf) (picked swapped y x yf xf) few is to
+
+        numbered : (x n at : ℕ) → numeral_of d (greatest op) ≡ Some n → x < 2 ^ 8 → (H → ahead < 2 ^ 24) → q ≡ at + 2 + ahead → Piece p H closed closed at (by_number field ahead x n)
+        numbered x n at e xf few is = let small = (numeral_form op d n e).small in test_over p (number_opcode op) number_first x (n + 127) field ahead at q line xf (omega (arith, small)) few is to
+
+        by : (s : Second) (at : Option ℕ) → second_of op d ≡ s → first_of s e ≡ at → (H → length (compared_code s at opcode swapped field ahead t j) + ahead < 2 ^ 24) → q ≡ pc + length (compared_code s at opcode swapped field ahead t j) + ahead
+            → Piece p H closed closed pc (compared_code s at opcode swapped field ahead t j)
+        by made (Some x) is at_is short place = absurd (cc)
+        by made None is at_is short place =
+            let last = by_registers opcode swapped field ahead t (t + 1) in
+            let a = length-append first (second ++ last) in
+            let b = length-append second last in
+            both p first_piece
+            (both p (one_law p W source d H (t + 1) (j + made_by e) (pc + length first) size (of_exp e cs) rest near.1.1 (omega (arith, le)) g (after_exp source p e j (from_exp source d rest) fs))
+            (compared t (t + 1) (pc + length first + length second) (omega (arith, tf)) tf (λ h. let f = short h in omega (arith, f)) (omega (arith, place, a, b))))
+        by (a_local r) None is at_is short place =
+            let a = length-append first (by_registers opcode swapped field ahead t r) in
+            both p first_piece (compared t r (pc + length first) (omega (arith, tf)) (local_near source p d size (t + 1) r (second_local op d r is) near.1.1) (λ h. let f = short h in omega (arith, f)) (omega (arith, place, a)))
+        by (a_local r) (Some x) is at_is short place =
+            compared x r pc (local_near source p e size t x (first_local (a_local r) e x at_is) near.1.0) (local_near source p d size (t + 1) r (second_local op d r is) near.1.1) (λ h. let f = short h in omega (arith, f)) (omega (arith, place))
+        by (a_number n) None is at_is short place =
+            let a = length-append first (by_number field ahead t n) in
+            both p first_piece (numbered t n (pc + length first) (second_number op d n is) (omega (arith, tf)) (λ h. let f = short h in omega (arith, f)) (omega (arith, place, a)))
+        by (a_number n) (Some x) is at_is short place =
+            numbered x n pc (second_number op d n is) (local_near source p e size t x (first_local (a_number n) e x at_is) near.1.0) (λ h. let f = short h in omega (arith, f)) (omega (arith, place))
 
   binary_law : (line : ℕ) (op : BinOp) (e d : Exp) → TestLaw (Binary line op e d)
-  binary_law line Equal e d H k ahead t j pc = compare_law line Equal e d Eq (first_eq p) false (not k) H ahead t j pc
-  binary_law line Ne e d H k ahead t j pc = compare_law line Ne e d Eq (first_eq p) false k H ahead t j pc
-  binary_law line Less e d H k ahead t j pc = compare_law line Less e d Lt (first_lt p) false (not k) H ahead t j pc
-  binary_law line AtMost e d H k ahead t j pc = compare_law line AtMost e d Le (first_le p) false (not k) H ahead t j pc
-  binary_law line Gt e d H k ahead t j pc = compare_law line Gt e d Lt (first_lt p) true (not k) H ahead t j pc
-  binary_law line Ge e d H k ahead t j pc = compare_law line Ge e d Le (first_le p) true (not k) H ahead t j pc
+  binary_law line Equal e d H k ahead t j pc = compare_law line Equal e d Eq (first_eq p) (first_eq_i p) false (not k) H ahead t j pc
+  binary_law line Ne e d H k ahead t j pc = compare_law line Ne e d Eq (first_eq p) (first_eq_i p) false k H ahead t j pc
+  binary_law line Less e d H k ahead t j pc = compare_law line Less e d Lt (first_lt p) (first_lt_i p) false (not k) H ahead t j pc
+  binary_law line AtMost e d H k ahead t j pc = compare_law line AtMost e d Le (first_le p) (first_le_i p) false (not k) H ahead t j pc
+  binary_law line Gt e d H k ahead t j pc = compare_law line Gt e d Lt (first_lt p) (first_gt_i p) true (not k) H ahead t j pc
+  binary_law line Ge e d H k ahead t j pc = compare_law line Ge e d Le (first_le p) (first_ge_i p) true (not k) H ahead t j pc
   binary_law line Plus e d H k ahead t j pc = value_law (Binary line Plus e d) H k ahead t j pc
   binary_law line Minus e d H k ahead t j pc = value_law (Binary line Minus e d) H k ahead t j pc
   binary_law line Times e d H k ahead t j pc = value_law (Binary line Times e d) H k ahead t j pc

@@ -3,6 +3,8 @@ use Rattle.std.specs.Prelude.{nat_lt, ◌%◌, ◌/◌}
 use Rattle.code_core.specs.Instruction.{abc, op_ax}
 use Rattle.std.proofs.Common.{◌≡◌, ℕ, ◌+◌, ◌<◌, ◌≤◌, ◌^◌, lit<, Bool, true, false, cond, List, [], ◌∷◌, ◌++◌, length, Option, Some, None, refl, sym, ap, subst, ◌∙◌, arith, length-append}
 use Rattle.tree_core.specs.declared.name.Name.{Name}
+use Rattle.tree_core.specs.declared.name.Place.{Place}
+use Rattle.tree_core.specs.declared.name.Place.TheVariants.{Unset, Upvalue, GlobalIn, GlobalOf, Local as LocalPlace}
 use Rattle.tree_core.specs.Tree.{Body, BodyOf, Exp, Nil, True, False, Int, Str, Vararg, Function, Var, Index, Call, Method, Unary, Binary, And, Or, Paren, Table, Exps, EndExps, MoreExps, Fields, EndFields, MoreFields, Field, Item, Keyed}
 use Rattle.tree_core.specs.declared.operator.UnOp.{UnOp}
 use Rattle.tree_core.specs.declared.operator.BinOp.{BinOp}
@@ -14,7 +16,10 @@ use Rattle.code_of.specs.Coded.{Coded, with_abc}
 use Rattle.code_of.specs.Constants.{with_constant, of_exp, of_exps, of_fields}
 use Rattle.code_of.specs.Expressions.{made_by, count, is_open, ends_open, list_field, one_less, nils_code, set_list, exp_code, exps_code, fields_code, is_last_item}
 use Rattle.code_of.specs.CodeOf.{parts_of, from_exp, from_exps, from_fields, from_body}
-use Rattle.code_checked.specs.Near.{IsRegister, ExpIsNear, ExpsAreNear, FieldsAreNear}
+use Rattle.code_of.specs.Operands.{local_at, local_of, Second, a_number, a_local, made, second_of, first_of, operands_code}
+use Rattle.code_of.specs.Operators.{operator_code, number_code}
+use Rattle.code_of.proofs.Operands.{some_is, second_number, second_local, first_local}
+use Rattle.code_checked.specs.Near.{IsRegister, NameIsNear, ExpIsNear, ExpsAreNear, FieldsAreNear}
 use Rattle.code_checked.proofs.Pieces.{closed, listed, Piece, both, nothing}
 use Rattle.code_checked.proofs.Words.{simple, simple_get_table}
 use Rattle.code_checked.proofs.Found.{Grows, grows_then, grows_with, is_in}
@@ -22,7 +27,7 @@ use Rattle.code_of.proofs.Constants.{same_text}
 use Rattle.code_checked.proofs.Loads.{Whole, Functions, closure_piece, set_table_piece, method_piece}
 use Rattle.code_checked.proofs.Seams.{alike}
 use Rattle.code_checked.proofs.Calls.{call_piece, list_piece}
-use Rattle.code_checked.proofs.Operators.{prefix_piece, operator_piece}
+use Rattle.code_checked.proofs.Operators.{prefix_piece, operator_piece, number_piece}
 use Rattle.code_checked.proofs.Lists.{list_at, mark_of, open_mark, gives_at, same_either, list_at_some, takes_list_field, field_below, HaveRoom, room_next, room_field, nils_piece}
 use Rattle.code_checked.proofs.Growing.{grows_exp, grows_exps, grows_fields, after_exp}
 
@@ -49,6 +54,34 @@ exp_register source p (And line e d) size t h = h.0
 exp_register source p (Or line e d) size t h = h.0
 exp_register source p (Paren line e) size t h = h.0
 exp_register source p (Table line fs) size t h = h.0
+
+-- a local's register has 8 bits
+
+place_near : (ups : ℕ) (q : Place) (r : ℕ) → local_at q ≡ Some r → NameIsNear ups q → r < 2 ^ 8
+place_near ups (LocalPlace n) r e h = let same = some_is n r e in omega (arith, same, h)
+place_near ups Unset r e h = absurd (cc)
+place_near ups (Upvalue u) r e h = absurd (cc)
+place_near ups (GlobalIn n) r e h = absurd (cc)
+place_near ups (GlobalOf u) r e h = absurd (cc)
+
+pub local_near : (source : Option (List ℕ)) (p : Prototype) (e : Exp) (size t r : ℕ) → local_of e ≡ Some r → ExpIsNear source p e size t → r < 2 ^ 8
+local_near source p (Var line name) size t r e h = place_near (length p.own.upvalues) name.place r e h.1
+local_near source p (Paren line inner) size t r e h = local_near source p inner size t r e h.1
+local_near source p (Nil line) size t r e h = absurd (cc)
+local_near source p (True line) size t r e h = absurd (cc)
+local_near source p (False line) size t r e h = absurd (cc)
+local_near source p (Int line z) size t r e h = absurd (cc)
+local_near source p (Str line bytes) size t r e h = absurd (cc)
+local_near source p (Vararg line) size t r e h = absurd (cc)
+local_near source p (Function line body) size t r e h = absurd (cc)
+local_near source p (Index line o k) size t r e h = absurd (cc)
+local_near source p (Call line f es) size t r e h = absurd (cc)
+local_near source p (Method line o name es) size t r e h = absurd (cc)
+local_near source p (Unary line op inner) size t r e h = absurd (cc)
+local_near source p (Binary line op left right) size t r e h = absurd (cc)
+local_near source p (And line left right) size t r e h = absurd (cc)
+local_near source p (Or line left right) size t r e h = absurd (cc)
+local_near source p (Table line fs) size t r e h = absurd (cc)
 
 -- the items of a constructor that are stored by their number
 abbrev pub positional : Fields → ℕ
@@ -199,11 +232,35 @@ module _ (p : Prototype) (W : Whole p) (source : Option (List ℕ)) (H : Type 0)
       both p (one_e t j pc size cs rest near.1 le g fs) (prefix_piece p op t line (omega (arith, r)))
 
   pub binary_form : (line : ℕ) (op : BinOp) (e d : Exp) → OneLaw e → OneLaw d → ExpLaw (Binary line op e d)
-  binary_form line op e d one_e one_d t j c pc size cs rest near le cf g fs =
-      let r = near.0 in
-      both p (one_e t j pc size cs (from_exp source d rest) near.1.0 le (grows_then (of_exp e cs) (of_exp d (of_exp e cs)) p.own.constants (grows_exp d (of_exp e cs)) g) fs)
-      (both p (one_d (t + 1) (j + made_by e) _ size (of_exp e cs) rest near.1.1 (omega (arith, le)) g (after_exp source p e j (from_exp source d rest) fs))
-      (operator_piece p op t line r))
+  binary_form line op e d one_e one_d t j c pc size cs rest near le cf g fs = by (second_of op d) (first_of (second_of op d) e) refl refl
+    where
+      first_code : List Coded
+      first_code = exp_code C e t j 2
+
+      code : List Coded
+      code = exp_code C d (t + 1) (j + made_by e) 2
+
+      tf : t < 2 ^ 8
+      tf = let r = near.0 in omega (arith, r)
+
+      uf : t + 1 < 2 ^ 8
+      uf = let r = near.0 in omega (arith, r)
+
+      first_piece : Piece p H closed closed pc first_code
+      first_piece = one_e t j pc size cs (from_exp source d rest) near.1.0 le (grows_then (of_exp e cs) (of_exp d (of_exp e cs)) p.own.constants (grows_exp d (of_exp e cs)) g) fs
+
+      by : (s : Second) (at : Option ℕ) → second_of op d ≡ s → first_of s e ≡ at
+          → Piece p H closed closed pc (operands_code s at first_code code t (λ x y. operator_code op x y t line) (λ x n. number_code op x n t line))
+      by made (Some x) is at_is = absurd (cc)
+      by made None is at_is =
+          both p first_piece
+          (both p (one_d (t + 1) (j + made_by e) (pc + length first_code) size (of_exp e cs) rest near.1.1 (omega (arith, le)) g (after_exp source p e j (from_exp source d rest) fs))
+          (operator_piece p op t (t + 1) t line tf uf tf))
+      by (a_local r) None is at_is = both p first_piece (operator_piece p op t r t line tf (local_near source p d size (t + 1) r (second_local op d r is) near.1.1) tf)
+      by (a_local r) (Some x) is at_is =
+          operator_piece p op x r t line (local_near source p e size t x (first_local (a_local r) e x at_is) near.1.0) (local_near source p d size (t + 1) r (second_local op d r is) near.1.1) tf
+      by (a_number n) None is at_is = both p first_piece (number_piece p op d t n t line (second_number op d n is) tf tf)
+      by (a_number n) (Some x) is at_is = number_piece p op d x n t line (second_number op d n is) (local_near source p e size t x (first_local (a_number n) e x at_is) near.1.0) tf
 
   pub paren_form : (line : ℕ) (e : Exp) → OneLaw e → ExpLaw (Paren line e)
   paren_form line e one_e t j c pc size cs rest near le cf g fs =

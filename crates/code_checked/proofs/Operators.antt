@@ -1,22 +1,24 @@
 -- Pieces of operators whose operands stand in registers, and of tests.
-use Rattle.std.proofs.Common.{◌≡◌, ℕ, suc, ◌+◌, ◌<◌, ◌^◌, lit<, Bool, true, false, ◌==◌, [], ◌∷◌, refl, ap, subst, ◌∙◌, arith}
+use Rattle.std.proofs.Common.{◌≡◌, ℕ, suc, ◌+◌, ◌-◌, ◌<◌, ◌≤◌, ◌^◌, lit<, Some, Bool, true, false, ◌==◌, [], ◌∷◌, refl, ap, subst, ◌∙◌, arith}
 use Rattle.std.specs.List.{list_any}
 use Rattle.tree_core.specs.declared.operator.UnOp.{UnOp}
 use Rattle.tree_core.specs.declared.operator.UnOp.TheVariants.{Neg, BitNot, Not as Negation, Len as Length}
 use Rattle.tree_core.specs.declared.operator.BinOp.{BinOp}
 use Rattle.tree_core.specs.declared.operator.BinOp.TheVariants.{Add as Plus, Sub as Minus, Mul as Times, Mod as Modulo, Idiv, Band, Bor, Bxor, Shl as ShiftLeft, Shr as ShiftRight, Concat as Join, Eq as Equal, Ne, Lt as Less, Le as AtMost, Gt, Ge}
+use Rattle.tree_core.specs.Tree.{Exp}
 use Rattle.code_core.specs.declared.opcode.Opcode.{Opcode}
-use Rattle.code_core.specs.declared.opcode.Opcode.TheVariants.{LFalseSkip, LoadTrue, Add, Sub, Mul, Mod, IDiv, BAnd, BOr, BXor, Shl, Shr, MmBin, Unm, BNot, Not, Len, Concat, Eq, Lt, Le, Jmp}
+use Rattle.code_core.specs.declared.opcode.Opcode.TheVariants.{LFalseSkip, LoadTrue, Add, Sub, Mul, Mod, IDiv, BAnd, BOr, BXor, Shl, Shr, AddI, ShrI, MmBin, MmBinI, EqI, LtI, LeI, GtI, GeI, Unm, BNot, Not, Len, Concat, Eq, Lt, Le, Jmp}
 use Rattle.code_core.specs.Instruction.{abc, op_ax}
 use Rattle.code_core.specs.Fields.{events}
 use Rattle.code_core.specs.Prototype.{Prototype}
 use Rattle.code_core.proofs.FieldLemmas.{opcode_of-abc, opcode_of-ax, c_of-abc}
 use Rattle.code_of.specs.Coded.{with_abc, jump_over}
-use Rattle.code_of.specs.Operators.{prefix_code, arithmetic_code, truth_code, operator_code}
-use Rattle.code_checked.specs.Near.{IsRegister}
+use Rattle.code_of.specs.Operands.{greatest, numeral_of}
+use Rattle.code_of.specs.Operators.{prefix_code, arithmetic_code, truth_code, operator_code, sum_code, number_code}
+use Rattle.code_of.proofs.Operands.{numeral_is, numeral_none}
 use Rattle.code_checked.proofs.Pieces.{closed, Land, Piece}
 use Rattle.code_checked.proofs.Units.{Single, one_jump, two, two_jump}
-use Rattle.code_checked.proofs.Words.{abc_fits, ax_fits, pair, simple, IsFirst, first_add, first_sub, first_mul, first_mod, first_i_div, first_b_and, first_b_or, first_b_xor, first_shl, first_shr, first_eq, first_lt, first_le, last_event, last_jump, simple_unm, simple_b_not, simple_not, simple_len, simple_concat, simple_load_true}
+use Rattle.code_checked.proofs.Words.{abc_fits, ax_fits, pair, simple, IsFirst, first_add, first_sub, first_mul, first_mod, first_i_div, first_b_and, first_b_or, first_b_xor, first_shl, first_shr, first_eq, first_lt, first_le, first_add_i, first_shr_i, first_eq_i, first_lt_i, first_le_i, first_gt_i, first_ge_i, last_event, last_number_event, last_jump, simple_unm, simple_b_not, simple_not, simple_len, simple_concat, simple_load_true}
 use Rattle.code_checked.proofs.Seams.{lands_over, ending, three}
 
 module _ (p : Prototype) where
@@ -27,14 +29,25 @@ module _ (p : Prototype) where
   prefix_piece Length t line tf = simple p Len (simple_len p) t t 0 line tf tf (lit< tt)
 
   -- an operation and its event
-  arithmetic_piece : {H : Type 0} {pc : ℕ} (op : Opcode) → IsFirst p op MmBin → (event t line : ℕ) → list_any (λ e. event == e) events ≡ true → event < 2 ^ 8 → IsRegister t → Piece p H closed closed pc (arithmetic_code op event t line)
-  arithmetic_piece {H} {pc} op first event t line known ef r =
-      let tf : t < 2 ^ 8 = omega (arith, r) in
-      let uf : t + 1 < 2 ^ 8 = omega (arith, r) in
-      two p closed (abc op t t (t + 1) false) (abc MmBin t (t + 1) event false) line line (record {
-        couple = pair p op MmBin first (last_event p) (abc op t t (t + 1) false) (abc MmBin t (t + 1) event false) (opcode_of-abc op t t (t + 1) false) (abc_fits op t t (t + 1) false tf tf uf)
-            (opcode_of-abc MmBin t (t + 1) event false) (abc_fits MmBin t (t + 1) event false tf uf ef)
-            (ap (λ c. list_any (λ e. c == e) events) (c_of-abc MmBin t (t + 1) event false tf uf ef) ∙ known);
+  arithmetic_piece : {H : Type 0} {pc : ℕ} (op : Opcode) → IsFirst p op MmBin → (event x y t line : ℕ) → list_any (λ e. event == e) events ≡ true → event < 2 ^ 8 → x < 2 ^ 8 → y < 2 ^ 8 → t < 2 ^ 8
+      → Piece p H closed closed pc (arithmetic_code op event x y t line)
+  arithmetic_piece {H} {pc} op first event x y t line known ef xf yf tf =
+      two p closed (abc op t x y false) (abc MmBin x y event false) line line (record {
+        couple = pair p op MmBin first (last_event p) (abc op t x y false) (abc MmBin x y event false) (opcode_of-abc op t x y false) (abc_fits op t x y false tf xf yf)
+            (opcode_of-abc MmBin x y event false) (abc_fits MmBin x y event false xf yf ef)
+            (ap (λ c. list_any (λ e. c == e) events) (c_of-abc MmBin x y event false xf yf ef) ∙ known);
+        still = λ pc. refl;
+      })
+
+  -- with a numeral
+  sum_piece : {H : Type 0} {pc : ℕ} (op : Opcode) → IsFirst p op MmBinI → (field event x n t line : ℕ) → list_any (λ e. event == e) events ≡ true → event < 2 ^ 8 → field < 2 ^ 8 → n ≤ 128 → x < 2 ^ 8 → t < 2 ^ 8
+      → Piece p H closed closed pc (sum_code op field event x n t line)
+  sum_piece {H} {pc} op first field event x n t line known ef ff small xf tf =
+      let nf : n + 127 < 2 ^ 8 = omega (arith, small) in
+      two p closed (abc op t x field false) (abc MmBinI x (n + 127) event false) line line (record {
+        couple = pair p op MmBinI first (last_number_event p) (abc op t x field false) (abc MmBinI x (n + 127) event false) (opcode_of-abc op t x field false) (abc_fits op t x field false tf xf ff)
+            (opcode_of-abc MmBinI x (n + 127) event false) (abc_fits MmBinI x (n + 127) event false xf nf ef)
+            (ap (λ c. list_any (λ e. c == e) events) (c_of-abc MmBinI x (n + 127) event false xf nf ef) ∙ known);
         still = λ pc. refl;
       })
 
@@ -73,21 +86,44 @@ module _ (p : Prototype) where
       (skip_piece t line tf (λ h. let e : pc + 4 ≡ pc + 2 + 2 = omega arith in subst (λ q. Land p q) e h.0.1))
       (simple p LoadTrue (simple_load_true p) t 0 0 line tf (lit< tt) (lit< tt)))
 
-  pub operator_piece : {H : Type 0} {pc : ℕ} (op : BinOp) (t line : ℕ) → IsRegister t → Piece p H closed closed pc (operator_code op t line)
-  operator_piece Plus t line r = arithmetic_piece Add (first_add p) 6 t line refl (lit< tt) r
-  operator_piece Minus t line r = arithmetic_piece Sub (first_sub p) 7 t line refl (lit< tt) r
-  operator_piece Times t line r = arithmetic_piece Mul (first_mul p) 8 t line refl (lit< tt) r
-  operator_piece Modulo t line r = arithmetic_piece Mod (first_mod p) 9 t line refl (lit< tt) r
-  operator_piece Idiv t line r = arithmetic_piece IDiv (first_i_div p) 12 t line refl (lit< tt) r
-  operator_piece Band t line r = arithmetic_piece BAnd (first_b_and p) 13 t line refl (lit< tt) r
-  operator_piece Bor t line r = arithmetic_piece BOr (first_b_or p) 14 t line refl (lit< tt) r
-  operator_piece Bxor t line r = arithmetic_piece BXor (first_b_xor p) 15 t line refl (lit< tt) r
-  operator_piece ShiftLeft t line r = arithmetic_piece Shl (first_shl p) 16 t line refl (lit< tt) r
-  operator_piece ShiftRight t line r = arithmetic_piece Shr (first_shr p) 17 t line refl (lit< tt) r
-  operator_piece Join t line r = simple p Concat (simple_concat p) t 2 0 line (omega (arith, r)) (lit< tt) (lit< tt)
-  operator_piece Equal t line r = truth_piece Eq (first_eq p) t (t + 1) true t line (omega (arith, r)) (omega (arith, r)) (omega (arith, r))
-  operator_piece Ne t line r = truth_piece Eq (first_eq p) t (t + 1) false t line (omega (arith, r)) (omega (arith, r)) (omega (arith, r))
-  operator_piece Less t line r = truth_piece Lt (first_lt p) t (t + 1) true t line (omega (arith, r)) (omega (arith, r)) (omega (arith, r))
-  operator_piece AtMost t line r = truth_piece Le (first_le p) t (t + 1) true t line (omega (arith, r)) (omega (arith, r)) (omega (arith, r))
-  operator_piece Gt t line r = truth_piece Lt (first_lt p) (t + 1) t true t line (omega (arith, r)) (omega (arith, r)) (omega (arith, r))
-  operator_piece Ge t line r = truth_piece Le (first_le p) (t + 1) t true t line (omega (arith, r)) (omega (arith, r)) (omega (arith, r))
+  pub operator_piece : {H : Type 0} {pc : ℕ} (op : BinOp) (x y t line : ℕ) → x < 2 ^ 8 → y < 2 ^ 8 → t < 2 ^ 8 → Piece p H closed closed pc (operator_code op x y t line)
+  operator_piece Plus x y t line xf yf tf = arithmetic_piece Add (first_add p) 6 x y t line refl (lit< tt) xf yf tf
+  operator_piece Minus x y t line xf yf tf = arithmetic_piece Sub (first_sub p) 7 x y t line refl (lit< tt) xf yf tf
+  operator_piece Times x y t line xf yf tf = arithmetic_piece Mul (first_mul p) 8 x y t line refl (lit< tt) xf yf tf
+  operator_piece Modulo x y t line xf yf tf = arithmetic_piece Mod (first_mod p) 9 x y t line refl (lit< tt) xf yf tf
+  operator_piece Idiv x y t line xf yf tf = arithmetic_piece IDiv (first_i_div p) 12 x y t line refl (lit< tt) xf yf tf
+  operator_piece Band x y t line xf yf tf = arithmetic_piece BAnd (first_b_and p) 13 x y t line refl (lit< tt) xf yf tf
+  operator_piece Bor x y t line xf yf tf = arithmetic_piece BOr (first_b_or p) 14 x y t line refl (lit< tt) xf yf tf
+  operator_piece Bxor x y t line xf yf tf = arithmetic_piece BXor (first_b_xor p) 15 x y t line refl (lit< tt) xf yf tf
+  operator_piece ShiftLeft x y t line xf yf tf = arithmetic_piece Shl (first_shl p) 16 x y t line refl (lit< tt) xf yf tf
+  operator_piece ShiftRight x y t line xf yf tf = arithmetic_piece Shr (first_shr p) 17 x y t line refl (lit< tt) xf yf tf
+  operator_piece Join x y t line xf yf tf = simple p Concat (simple_concat p) t 2 0 line tf (lit< tt) (lit< tt)
+  operator_piece Equal x y t line xf yf tf = truth_piece Eq (first_eq p) x y true t line xf yf tf
+  operator_piece Ne x y t line xf yf tf = truth_piece Eq (first_eq p) x y false t line xf yf tf
+  operator_piece Less x y t line xf yf tf = truth_piece Lt (first_lt p) x y true t line xf yf tf
+  operator_piece AtMost x y t line xf yf tf = truth_piece Le (first_le p) x y true t line xf yf tf
+  operator_piece Gt x y t line xf yf tf = truth_piece Lt (first_lt p) y x true t line yf xf tf
+  operator_piece Ge x y t line xf yf tf = truth_piece Le (first_le p) y x true t line yf xf tf
+
+  -- a numeral is at most 128, and its field fits
+  number_truth : {H : Type 0} {pc : ℕ} (op : Opcode) → IsFirst p op Jmp → (x n : ℕ) (k : Bool) (t line : ℕ) → n ≤ 128 → x < 2 ^ 8 → t < 2 ^ 8 → Piece p H closed closed pc (truth_code op x (n + 127) k t line)
+  number_truth op first x n k t line small xf tf = truth_piece op first x (n + 127) k t line xf (omega (arith, small)) tf
+
+  pub number_piece : {H : Type 0} {pc : ℕ} (op : BinOp) (d : Exp) (x n t line : ℕ) → numeral_of d (greatest op) ≡ Some n → x < 2 ^ 8 → t < 2 ^ 8 → Piece p H closed closed pc (number_code op x n t line)
+  number_piece Plus d x n t line e xf tf = let small = (numeral_is d 128 n e).small in sum_piece AddI (first_add_i p) (n + 127) 6 x n t line refl (lit< tt) (omega (arith, small)) small xf tf
+  number_piece Minus d x n t line e xf tf = let small = (numeral_is d 127 n e).small in sum_piece AddI (first_add_i p) (127 - n) 7 x n t line refl (lit< tt) (omega arith) (omega (arith, small)) xf tf
+  number_piece ShiftRight d x n t line e xf tf = let small = (numeral_is d 128 n e).small in sum_piece ShrI (first_shr_i p) (n + 127) 17 x n t line refl (lit< tt) (omega (arith, small)) small xf tf
+  number_piece Equal d x n t line e xf tf = number_truth EqI (first_eq_i p) x n true t line (numeral_is d 128 n e).small xf tf
+  number_piece Ne d x n t line e xf tf = number_truth EqI (first_eq_i p) x n false t line (numeral_is d 128 n e).small xf tf
+  number_piece Less d x n t line e xf tf = number_truth LtI (first_lt_i p) x n true t line (numeral_is d 128 n e).small xf tf
+  number_piece AtMost d x n t line e xf tf = number_truth LeI (first_le_i p) x n true t line (numeral_is d 128 n e).small xf tf
+  number_piece Gt d x n t line e xf tf = number_truth GtI (first_gt_i p) x n true t line (numeral_is d 128 n e).small xf tf
+  number_piece Ge d x n t line e xf tf = number_truth GeI (first_ge_i p) x n true t line (numeral_is d 128 n e).small xf tf
+  number_piece Times d x n t line e xf tf = absurd (numeral_none d n e)
+  number_piece Modulo d x n t line e xf tf = absurd (numeral_none d n e)
+  number_piece Idiv d x n t line e xf tf = absurd (numeral_none d n e)
+  number_piece Band d x n t line e xf tf = absurd (numeral_none d n e)
+  number_piece Bor d x n t line e xf tf = absurd (numeral_none d n e)
+  number_piece Bxor d x n t line e xf tf = absurd (numeral_none d n e)
+  number_piece ShiftLeft d x n t line e xf tf = absurd (numeral_none d n e)
+  number_piece Join d x n t line e xf tf = absurd (numeral_none d n e)

@@ -2,7 +2,7 @@
 use Rattle.std.proofs.Common.{◌≡◌, ℕ, ◌<◌, ◌^◌, Bool, true, false, not, ◌&&◌, ◌==◌, List, [], ◌∷◌, Option, Some, None, refl, ap, ◌∙◌, arith, lt-ltb}
 use Rattle.std.specs.List.{list_any}
 use Rattle.code_core.specs.declared.opcode.Opcode.{Opcode}
-use Rattle.code_core.specs.declared.opcode.Opcode.TheVariants.{Move, LoadI, LoadFalse, LoadTrue, LoadNil, GetTable, Unm, BNot, Not, Len, Concat, Close, Tbc, Add, Sub, Mul, Mod, IDiv, BAnd, BOr, BXor, Shl, Shr, Eq, Lt, Le, Test, NewTable, TForCall, TForLoop, MmBin, ExtraArg, Jmp}
+use Rattle.code_core.specs.declared.opcode.Opcode.TheVariants.{Move, LoadI, LoadFalse, LoadTrue, LoadNil, GetTable, Unm, BNot, Not, Len, Concat, Close, Tbc, Add, Sub, Mul, Mod, IDiv, BAnd, BOr, BXor, Shl, Shr, AddI, ShrI, Eq, Lt, Le, EqI, LtI, LeI, GtI, GeI, Test, NewTable, TForCall, TForLoop, MmBin, MmBinI, ExtraArg, Jmp}
 use Rattle.code_core.specs.declared.instruction.Instruction.{Instruction}
 use Rattle.code_core.specs.Instruction.{abc, abx, op_ax, opcode_of}
 use Rattle.code_core.specs.Fields.{is_whole, constants, upvalues, target, second_half, stands_second, takes_list, opens}
@@ -143,6 +143,27 @@ module _ (p : Prototype) where
   pub first_le : IsFirst Le Jmp
   first_le = record { whole = refl; alone = refl; constant = λ w extra. refl; upvalue = λ w. refl; inner = λ w. refl; half = λ w. refl; gives = λ w. refl; takes = λ w. refl; still = λ pc w. refl; varargs = λ pc. refl }
 
+  pub first_add_i : IsFirst AddI MmBinI
+  first_add_i = record { whole = refl; alone = refl; constant = λ w extra. refl; upvalue = λ w. refl; inner = λ w. refl; half = λ w. refl; gives = λ w. refl; takes = λ w. refl; still = λ pc w. refl; varargs = λ pc. refl }
+
+  pub first_shr_i : IsFirst ShrI MmBinI
+  first_shr_i = record { whole = refl; alone = refl; constant = λ w extra. refl; upvalue = λ w. refl; inner = λ w. refl; half = λ w. refl; gives = λ w. refl; takes = λ w. refl; still = λ pc w. refl; varargs = λ pc. refl }
+
+  pub first_eq_i : IsFirst EqI Jmp
+  first_eq_i = record { whole = refl; alone = refl; constant = λ w extra. refl; upvalue = λ w. refl; inner = λ w. refl; half = λ w. refl; gives = λ w. refl; takes = λ w. refl; still = λ pc w. refl; varargs = λ pc. refl }
+
+  pub first_lt_i : IsFirst LtI Jmp
+  first_lt_i = record { whole = refl; alone = refl; constant = λ w extra. refl; upvalue = λ w. refl; inner = λ w. refl; half = λ w. refl; gives = λ w. refl; takes = λ w. refl; still = λ pc w. refl; varargs = λ pc. refl }
+
+  pub first_le_i : IsFirst LeI Jmp
+  first_le_i = record { whole = refl; alone = refl; constant = λ w extra. refl; upvalue = λ w. refl; inner = λ w. refl; half = λ w. refl; gives = λ w. refl; takes = λ w. refl; still = λ pc w. refl; varargs = λ pc. refl }
+
+  pub first_gt_i : IsFirst GtI Jmp
+  first_gt_i = record { whole = refl; alone = refl; constant = λ w extra. refl; upvalue = λ w. refl; inner = λ w. refl; half = λ w. refl; gives = λ w. refl; takes = λ w. refl; still = λ pc w. refl; varargs = λ pc. refl }
+
+  pub first_ge_i : IsFirst GeI Jmp
+  first_ge_i = record { whole = refl; alone = refl; constant = λ w extra. refl; upvalue = λ w. refl; inner = λ w. refl; half = λ w. refl; gives = λ w. refl; takes = λ w. refl; still = λ pc w. refl; varargs = λ pc. refl }
+
   pub first_test : IsFirst Test Jmp
   first_test = record { whole = refl; alone = refl; constant = λ w extra. refl; upvalue = λ w. refl; inner = λ w. refl; half = λ w. refl; gives = λ w. refl; takes = λ w. refl; still = λ pc w. refl; varargs = λ pc. refl }
 
@@ -154,6 +175,9 @@ module _ (p : Prototype) where
 
   pub last_event : IsLast MmBin
   last_event = record { whole = refl; constant = λ w extra. refl; upvalue = λ w. refl; inner = λ w. refl; half = λ w. refl; gives = λ w. refl; takes = λ w. refl; varargs = λ pc. refl }
+
+  pub last_number_event : IsLast MmBinI
+  last_number_event = record { whole = refl; constant = λ w extra. refl; upvalue = λ w. refl; inner = λ w. refl; half = λ w. refl; gives = λ w. refl; takes = λ w. refl; varargs = λ pc. refl }
 
   pub last_extra : IsLast ExtraArg
   last_extra = record { whole = refl; constant = λ w extra. refl; upvalue = λ w. refl; inner = λ w. refl; half = λ w. refl; gives = λ w. refl; takes = λ w. refl; varargs = λ pc. refl }

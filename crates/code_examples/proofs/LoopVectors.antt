@@ -3,7 +3,7 @@ use Rattle.std.proofs.Common.{true, false, [], ◌∷◌, refl}
 use Rattle.std.specs.Prelude.{negsuc}
 use Rattle.std.specs.Int.{int_wrap}
 use Rattle.code_core.specs.Opcode.{opcodes, number_of}
-use Rattle.code_core.specs.declared.opcode.Opcode.TheVariants.{Move, LoadNil, GetUpval, SetUpval, Add, MmBin, Close, Tbc, Eq, Test, Call, Return, ForLoop, ForPrep, TForPrep, TForCall, TForLoop, Closure}
+use Rattle.code_core.specs.declared.opcode.Opcode.TheVariants.{Move, LoadNil, GetUpval, SetUpval, Add, MmBin, Close, Tbc, EqI, Test, Call, Return, ForLoop, ForPrep, TForPrep, TForCall, TForLoop, Closure}
 use Rattle.code_core.specs.Instruction.{abc, abx}
 use Rattle.code_core.specs.Prototype.{Prototype}
 use Rattle.int_core.specs.Value.{known, nil, boolean, integer, object, a_table}
@@ -29,12 +29,12 @@ unfolding opcodes number_of
 repeat_code = refl
 
 abbrev pub breaks_out_code : Prototype
-breaks_out_code = hand 1 false 9 [] []
-    (variable "it" 0 17 ∷ hidden 4 16 ∷ hidden 4 16 ∷ hidden 4 16 ∷ hidden 4 16 ∷ variable "k" 5 13 ∷ variable "g" 6 13 ∷ [])
+breaks_out_code = hand 1 false 8 [] []
+    (variable "it" 0 15 ∷ hidden 4 14 ∷ hidden 4 14 ∷ hidden 4 14 ∷ hidden 4 14 ∷ variable "k" 5 11 ∷ variable "g" 6 11 ∷ [])
     (hand 0 false 1 [] (("k", 5) ∷ []) [] [] (abc GetUpval 0 0 0 false ∷ abc Return 0 2 0 false ∷ []) ∷ [])
-    (abc Move 1 0 0 false ∷ load_int 2 1 ∷ load_int 3 2 ∷ abc LoadNil 4 0 0 false ∷ abx TForPrep 1 8
-    ∷ abx Closure 6 0 ∷ abc Move 7 5 0 false ∷ load_int 8 3 ∷ abc Eq 7 8 0 false ∷ jump 2 ∷ abc Close 1 0 0 false ∷ jump 4
-    ∷ abc Close 5 0 0 false ∷ abc TForCall 1 0 1 false ∷ abx TForLoop 1 10 ∷ abc Close 1 0 0 false ∷ abc Return 1 1 0 true ∷ [])
+    (abc Move 1 0 0 false ∷ load_int 2 1 ∷ load_int 3 2 ∷ abc LoadNil 4 0 0 false ∷ abx TForPrep 1 6
+    ∷ abx Closure 6 0 ∷ abc EqI 5 130 0 false ∷ jump 2 ∷ abc Close 1 0 0 false ∷ jump 4
+    ∷ abc Close 5 0 0 false ∷ abc TForCall 1 0 1 false ∷ abx TForLoop 1 8 ∷ abc Close 1 0 0 false ∷ abc Return 1 1 0 true ∷ [])
 
 generic_for_code : Compiles breaks_out breaks_out_code
 unfolding opcodes number_of
@@ -67,12 +67,12 @@ unfolding opcodes number_of int_wrap
 closed_after_generic_for = (refl, refl)
 
 abbrev pub continues_code : Prototype
-continues_code = hand 0 false 7 [] [] (hidden 3 15 ∷ hidden 3 15 ∷ hidden 3 15 ∷ variable "i" 4 14 ∷ variable "j" 5 14 ∷ [])
+continues_code = hand 0 false 6 [] [] (hidden 3 13 ∷ hidden 3 13 ∷ hidden 3 13 ∷ variable "i" 4 12 ∷ variable "j" 5 12 ∷ [])
     (hand 0 false 4 [] (("i", 3) ∷ ("j", 4) ∷ []) [] []
     (abc GetUpval 2 0 0 false ∷ abc GetUpval 3 1 0 false ∷ abc Add 2 2 3 false ∷ abc MmBin 2 3 6 false ∷ abc SetUpval 2 0 0 false ∷ abc Return 0 1 0 false ∷ []) ∷ [])
-    (load_int 0 1 ∷ load_int 1 2 ∷ load_int 2 1 ∷ abx ForPrep 0 10
-    ∷ abc Move 4 3 0 false ∷ abc Move 5 4 0 false ∷ load_int 6 1 ∷ abc Eq 5 6 0 false ∷ jump 2 ∷ abc Close 3 0 0 false ∷ jump 2
-    ∷ abx Closure 5 0 ∷ abc Call 5 1 1 false ∷ abc Close 3 0 0 false ∷ abx ForLoop 0 11 ∷ abc Return 0 1 0 false ∷ [])
+    (load_int 0 1 ∷ load_int 1 2 ∷ load_int 2 1 ∷ abx ForPrep 0 8
+    ∷ abc Move 4 3 0 false ∷ abc EqI 4 128 0 false ∷ jump 2 ∷ abc Close 3 0 0 false ∷ jump 2
+    ∷ abx Closure 5 0 ∷ abc Call 5 1 1 false ∷ abc Close 3 0 0 false ∷ abx ForLoop 0 9 ∷ abc Return 0 1 0 false ∷ [])
 
 numeric_for_code : Compiles continues continues_code
 unfolding opcodes number_of
@@ -86,10 +86,10 @@ jumps_about = fun ("a" ∷ []) [] (block (
     ∷ when (bin Equal (loc "i" 4) (int 2)) (Goto 1 (no_variable "found") ∷ []) ∷ [])) ∷ []))
 
 abbrev pub jumps_about_code : Prototype
-jumps_about_code = hand 1 false 7 [] [] (variable "a" 0 17 ∷ hidden 3 16 ∷ hidden 3 16 ∷ hidden 3 16 ∷ variable "i" 4 15 ∷ []) []
-    (load_int 1 3 ∷ load_int 2 1 ∷ abc Move 3 0 0 false ∷ abx ForPrep 1 11
-    ∷ abc Close 5 0 0 false ∷ jump 2 ∷ abc Close 1 0 0 false ∷ jump 8
-    ∷ abc Move 5 4 0 false ∷ load_int 6 2 ∷ abc Eq 5 6 0 false ∷ jump 2 ∷ abc Close 5 0 0 false ∷ jump_back 8 ∷ abc Close 4 0 0 false ∷ abx ForLoop 1 12 ∷ abc Return 1 1 0 true ∷ [])
+jumps_about_code = hand 1 false 6 [] [] (variable "a" 0 15 ∷ hidden 3 14 ∷ hidden 3 14 ∷ hidden 3 14 ∷ variable "i" 4 13 ∷ []) []
+    (load_int 1 3 ∷ load_int 2 1 ∷ abc Move 3 0 0 false ∷ abx ForPrep 1 9
+    ∷ abc Close 5 0 0 false ∷ jump 2 ∷ abc Close 1 0 0 false ∷ jump 6
+    ∷ abc EqI 4 129 0 false ∷ jump 2 ∷ abc Close 5 0 0 false ∷ jump_back 6 ∷ abc Close 4 0 0 false ∷ abx ForLoop 1 10 ∷ abc Return 1 1 0 true ∷ [])
 
 jump_code : Compiles jumps_about jumps_about_code
 unfolding opcodes number_of

@@ -1,21 +1,30 @@
 -- Small sources whose code has, word for word, the instructions that Lua's own compiler makes of them: each list is that of `luac -l`, Lua 5.4.4.
-use Rattle.std.proofs.Common.{true, false, [], ◌∷◌, refl}
+use Rattle.std.proofs.Common.{◌≡◌, ℕ, true, false, List, [], ◌∷◌, length, take, Some, refl}
 use Prim.Native.String.{String}
 use Rattle.code_core.specs.Opcode.{opcodes, number_of}
-use Rattle.code_core.specs.declared.opcode.Opcode.TheVariants.{LoadFalse, GetTabUp, Eq, Lt, Le, Test, Call, Return, VarArg, VarArgPrep}
+use Rattle.code_core.specs.declared.opcode.Opcode.TheVariants.{Move, LoadFalse, LFalseSkip, LoadTrue, GetTabUp, Add, Mod, AddI, ShrI, MmBin, MmBinI, Eq, Lt, Le, EqI, LeI, GtI, GeI, Test, Call, Return, VarArg, VarArgPrep}
+use Rattle.code_core.specs.declared.instruction.Instruction.{Instruction}
 use Rattle.code_core.specs.Instruction.{abc}
-use Rattle.tree_core.specs.declared.operator.BinOp.TheVariants.{Eq as Equal, Ne, Lt as Less, Le as AtMost, Gt, Ge}
+use Rattle.tree_core.specs.declared.operator.BinOp.TheVariants.{Add as Plus, Sub as Minus, Mod as Modulo, Shr as ShiftRight, Eq as Equal, Ne, Lt as Less, Le as AtMost, Gt, Ge}
 use Rattle.tree_core.specs.declared.operator.UnOp.TheVariants.{Not as Negation}
 use Rattle.tree_core.specs.Tree.{Body, Stat, Exp, True, False, Vararg, Unary, And, Or, Paren, While, If, IfElse, arms}
-use Rattle.tree_terms.proofs.Forms.{of_local, global, call, bin, block, returning, does, when, vararg_fun}
-use Rattle.code_means.proofs.Forms.{jump, jump_back}
-use Rattle.code_examples.proofs.Hand.{Lists}
+use Rattle.tree_terms.proofs.Forms.{declared, of_local, loc, global, int, call, bin, block, returning, locals, loc_is, does, when, vararg_fun}
+use Rattle.code_means.proofs.Forms.{load_int, jump, jump_back}
+use Rattle.code_of.specs.CodeOf.{code_of}
+use Rattle.code_examples.proofs.Hand.{source, Lists}
 
 abbrev calls : String → Exp
 calls text = call (global text) []
 
+abbrev chunk : List Stat → Body
+chunk ss = vararg_fun [] (of_local "_ENV" 0 ∷ []) (block ss)
+
 abbrev main : Stat → Body
-main s = vararg_fun [] (of_local "_ENV" 0 ∷ []) (block (s ∷ []))
+main s = chunk (s ∷ [])
+
+-- all but the last RETURN, whose field k Lua's own compiler sets where variables have to be closed, and we where locals are in scope
+abbrev Begins : Body → List Instruction → Type 0
+Begins b words = take (length words) (code_of (Some source) b).own.code ≡ words
 
 -- while f() do g() end
 waits : Lists (main (While 1 (calls "f") (block (does (calls "g") ∷ []))))
@@ -101,3 +110,41 @@ returns : Lists (main (If 1 (arms ((Vararg 1, returning [] (global "a" ∷ [])) 
     ∷ abc Return 0 1 1 false ∷ [])
 unfolding opcodes number_of
 returns = refl
+
+-- operands that are locals and numerals
+
+abbrev two : (m n : ℕ) → Stat
+two m n = locals (declared "a" 0 ∷ declared "b" 1 ∷ []) (int m ∷ int n ∷ [])
+
+-- local a,b = 1,2 if not (a == 1 or b ~= 2) then print(a) end
+in_place : Begins (chunk (two 1 2 ∷ when (Unary 1 Negation (Paren 1 (Or 1 (bin Equal (loc "a" 0) (int 1)) (bin Ne (loc "b" 1) (int 2))))) (does (call (global "print") (loc "a" 0 ∷ [])) ∷ []) ∷ []))
+    (abc VarArgPrep 0 0 0 false ∷ load_int 0 1 ∷ load_int 1 2 ∷ abc EqI 0 128 0 true ∷ jump 5 ∷ abc EqI 1 129 0 false ∷ jump 3 ∷ abc GetTabUp 2 0 0 false
+    ∷ abc Move 3 0 0 false ∷ abc Call 2 2 1 false ∷ [])
+unfolding opcodes number_of
+in_place = refl
+
+-- local a,b = 1,2 local c,d,e = a + b,a - 1,(b) >> 2 local f = a < b
+sums : Begins (chunk (two 1 2
+    ∷ locals (declared "c" 2 ∷ declared "d" 3 ∷ declared "e" 4 ∷ []) (bin Plus (loc "a" 0) (loc "b" 1) ∷ bin Minus (loc "a" 0) (int 1) ∷ bin ShiftRight (Paren 1 (loc "b" 1)) (int 2) ∷ [])
+    ∷ loc_is "f" 5 (bin Less (loc "a" 0) (loc "b" 1)) ∷ []))
+    (abc VarArgPrep 0 0 0 false ∷ load_int 0 1 ∷ load_int 1 2 ∷ abc Add 2 0 1 false ∷ abc MmBin 0 1 6 false ∷ abc AddI 3 0 126 false ∷ abc MmBinI 0 128 7 false
+    ∷ abc ShrI 4 1 129 false ∷ abc MmBinI 1 129 17 false ∷ abc Lt 0 1 0 true ∷ jump 1 ∷ abc LFalseSkip 5 0 0 false ∷ abc LoadTrue 5 0 0 false ∷ [])
+unfolding opcodes number_of
+sums = refl
+
+-- local a,b = 0,10 while a < b and b >= 3 do f(a + 1,b % a) end
+counts : Begins (chunk (two 0 10
+    ∷ While 1 (And 1 (bin Less (loc "a" 0) (loc "b" 1)) (bin Ge (loc "b" 1) (int 3))) (block (does (call (global "f") (bin Plus (loc "a" 0) (int 1) ∷ bin Modulo (loc "b" 1) (loc "a" 0) ∷ [])) ∷ [])) ∷ []))
+    (abc VarArgPrep 0 0 0 false ∷ load_int 0 0 ∷ load_int 1 10 ∷ abc Lt 0 1 0 false ∷ jump 9 ∷ abc GeI 1 130 0 false ∷ jump 7 ∷ abc GetTabUp 2 0 0 false
+    ∷ abc AddI 3 0 128 false ∷ abc MmBinI 0 128 6 false ∷ abc Mod 4 1 0 false ∷ abc MmBin 1 0 9 false ∷ abc Call 2 3 1 false ∷ jump_back 11 ∷ [])
+unfolding opcodes number_of
+counts = refl
+
+-- local a,b = 1,2 local c,d,e = a > 5,b <= 128,a == b
+truths : Begins (chunk (two 1 2
+    ∷ locals (declared "c" 2 ∷ declared "d" 3 ∷ declared "e" 4 ∷ []) (bin Gt (loc "a" 0) (int 5) ∷ bin AtMost (loc "b" 1) (int 128) ∷ bin Equal (loc "a" 0) (loc "b" 1) ∷ []) ∷ []))
+    (abc VarArgPrep 0 0 0 false ∷ load_int 0 1 ∷ load_int 1 2 ∷ abc GtI 0 132 0 true ∷ jump 1 ∷ abc LFalseSkip 2 0 0 false ∷ abc LoadTrue 2 0 0 false
+    ∷ abc LeI 1 255 0 true ∷ jump 1 ∷ abc LFalseSkip 3 0 0 false ∷ abc LoadTrue 3 0 0 false ∷ abc Eq 0 1 0 true ∷ jump 1 ∷ abc LFalseSkip 4 0 0 false
+    ∷ abc LoadTrue 4 0 0 false ∷ [])
+unfolding opcodes number_of
+truths = refl

@@ -3,7 +3,7 @@ use Rattle.std.proofs.Common.{true, false, [], ◌∷◌, refl}
 use Rattle.std.specs.Prelude.{pos, negsuc}
 use Rattle.std.specs.Int.{int_wrap}
 use Rattle.code_core.specs.Opcode.{opcodes, number_of}
-use Rattle.code_core.specs.declared.opcode.Opcode.TheVariants.{Eq, Move, LoadI, LoadK, LFalseSkip, LoadTrue, GetUpval, GetTabUp, GetTable, SetTable, NewTable, OpSelf, Sub, MmBin, Unm, Not, Len, Concat, Lt, Le, Test, Call, TailCall, Return, SetList, VarArg, VarArgPrep, ExtraArg}
+use Rattle.code_core.specs.declared.opcode.Opcode.TheVariants.{EqI, GtI, Move, LoadI, LoadK, LFalseSkip, LoadTrue, GetUpval, GetTabUp, GetTable, SetTable, NewTable, OpSelf, Sub, MmBin, Unm, Not, Len, Concat, Lt, Le, Test, Call, TailCall, Return, SetList, VarArg, VarArgPrep, ExtraArg}
 use Rattle.code_core.specs.declared.proto.Const.TheVariants.{Int as IntConst}
 use Rattle.code_core.specs.Instruction.{abc, abx, op_ax}
 use Rattle.code_core.specs.Prototype.{Prototype}
@@ -41,9 +41,9 @@ abbrev decides : Body
 decides = fun ("a" ∷ "b" ∷ []) [] (returning [] (Or 1 (And 1 (loc "a" 0) (Unary 1 Negation (loc "b" 1))) (bin AtMost (loc "a" 0) (loc "b" 1)) ∷ []))
 
 abbrev pub decides_code : Prototype
-decides_code = hand 2 false 4 [] [] (variable "a" 0 14 ∷ variable "b" 0 14 ∷ []) []
-    (abc Move 2 0 0 false ∷ abc Test 2 0 0 false ∷ jump 2 ∷ abc Move 2 1 0 false ∷ abc Not 2 2 0 false ∷ abc Test 2 0 0 true ∷ jump 6
-    ∷ abc Move 2 0 0 false ∷ abc Move 3 1 0 false ∷ abc Le 2 3 0 true ∷ jump 1 ∷ abc LFalseSkip 2 0 0 false ∷ abc LoadTrue 2 0 0 false ∷ abc Return 2 2 0 true ∷ [])
+decides_code = hand 2 false 3 [] [] (variable "a" 0 12 ∷ variable "b" 0 12 ∷ []) []
+    (abc Move 2 0 0 false ∷ abc Test 2 0 0 false ∷ jump 2 ∷ abc Move 2 1 0 false ∷ abc Not 2 2 0 false ∷ abc Test 2 0 0 true ∷ jump 4
+    ∷ abc Le 0 1 0 true ∷ jump 1 ∷ abc LFalseSkip 2 0 0 false ∷ abc LoadTrue 2 0 0 false ∷ abc Return 2 2 0 true ∷ [])
 
 truth_code : Compiles decides decides_code
 unfolding opcodes number_of
@@ -65,8 +65,8 @@ chooses = fun ("a" ∷ []) [] (returning (
     (loc "a" 0 ∷ []))
 
 abbrev pub chooses_code : Prototype
-chooses_code = hand 1 false 4 [] [] (variable "a" 0 17 ∷ []) []
-    (abc Move 1 0 0 false ∷ load_int 2 1 ∷ abc Lt 2 1 0 false ∷ jump 3
+chooses_code = hand 1 false 4 [] [] (variable "a" 0 15 ∷ []) []
+    (abc GtI 0 128 0 false ∷ jump 3
     ∷ load_int 1 1 ∷ abc Return 1 2 0 true ∷ jump 8 ∷ abc Move 1 0 0 false ∷ abc Test 1 0 0 false ∷ jump 3 ∷ load_int 3 2 ∷ abc Move 0 3 0 false ∷ jump 2
     ∷ load_int 3 3 ∷ abc Move 0 3 0 false ∷ abc Move 1 0 0 false ∷ abc Return 1 2 0 true ∷ [])
 
@@ -92,9 +92,9 @@ tests = fun ("a" ∷ "b" ∷ []) [] (block (
     If 1 (arms ((Or 1 (Unary 1 Negation (loc "a" 0)) (And 1 (bin Less (loc "a" 0) (loc "b" 1)) (bin Ne (loc "b" 1) (int 1))), returning [] (loc "a" 0 ∷ [])) ∷ [])) ∷ []))
 
 abbrev pub tests_code : Prototype
-tests_code = hand 2 false 4 [] [] (variable "a" 0 14 ∷ variable "b" 0 14 ∷ []) []
-    (abc Move 2 0 0 false ∷ abc Test 2 0 0 false ∷ jump 8 ∷ abc Move 2 0 0 false ∷ abc Move 3 1 0 false ∷ abc Lt 2 3 0 false ∷ jump 6
-    ∷ abc Move 2 1 0 false ∷ load_int 3 1 ∷ abc Eq 2 3 0 true ∷ jump 2 ∷ abc Move 2 0 0 false ∷ abc Return 2 2 0 true ∷ abc Return 2 1 0 true ∷ [])
+tests_code = hand 2 false 3 [] [] (variable "a" 0 10 ∷ variable "b" 0 10 ∷ []) []
+    (abc Move 2 0 0 false ∷ abc Test 2 0 0 false ∷ jump 4 ∷ abc Lt 0 1 0 false ∷ jump 4
+    ∷ abc EqI 1 128 0 true ∷ jump 2 ∷ abc Move 2 0 0 false ∷ abc Return 2 2 0 true ∷ abc Return 2 1 0 true ∷ [])
 
 conditions_code : Compiles tests tests_code
 unfolding opcodes number_of
@@ -144,9 +144,9 @@ abbrev swaps : Body
 swaps = fun ("a" ∷ "b" ∷ []) [] (returning (assigns (loc "a" 0 ∷ loc "b" 1 ∷ []) (loc "b" 1 ∷ loc "a" 0 ∷ []) ∷ []) (bin Minus (loc "a" 0) (loc "b" 1) ∷ []))
 
 abbrev pub swaps_code : Prototype
-swaps_code = hand 2 false 8 [] [] (variable "a" 0 9 ∷ variable "b" 0 9 ∷ []) []
+swaps_code = hand 2 false 8 [] [] (variable "a" 0 7 ∷ variable "b" 0 7 ∷ []) []
     (abc Move 6 1 0 false ∷ abc Move 7 0 0 false ∷ abc Move 1 7 0 false ∷ abc Move 0 6 0 false
-    ∷ abc Move 2 0 0 false ∷ abc Move 3 1 0 false ∷ abc Sub 2 2 3 false ∷ abc MmBin 2 3 7 false ∷ abc Return 2 2 0 true ∷ [])
+    ∷ abc Sub 2 0 1 false ∷ abc MmBin 0 1 7 false ∷ abc Return 2 2 0 true ∷ [])
 
 swap_code : Compiles swaps swaps_code
 unfolding opcodes number_of

@@ -1,5 +1,6 @@
 pub mod Numbers
 pub mod Joining
+pub mod Seats
 pub mod Rows
 pub mod Ends
 pub mod Going

@@ -1,6 +1,6 @@
 -- Conditions by their forms.
-use Rattle.std.proofs.Common.{◌≡◌, ℕ, ◌+◌, Bool, true, false, List, ◌++◌, length, Option, Some, None, Result, Vec, Global, refl, sym, ap, ap₂, ◌∙◌, cond, arith, append_assoc}
-use Rattle.std.specs.Prelude.{not, IfOk}
+use Rattle.std.proofs.Common.{◌≡◌, ℕ, ◌+◌, Bool, true, false, List, ◌++◌, length, Option, Some, None, Result, Vec, Global, refl, sym, ap, ap₂, ◌∙◌, cond, arith, subst}
+use Rattle.std.specs.Prelude.{not, IfOk, IfSome}
 use Rattle.std.specs.declared.alloc.AllocError.{AllocError}
 use Rattle.std.proofs.lemmas.Result.{IfOk-weaker}
 use Rattle.tree_core.specs.declared.operator.BinOp.{BinOp}
@@ -11,12 +11,16 @@ use Rattle.code_core.specs.declared.proto.Const.{Const}
 use Rattle.code_of.specs.Coded.{Coded}
 use Rattle.code_of.specs.Conditions.{jump_if, pick, compared, is_not, line_of, value_test, test_code}
 use Rattle.code_of.specs.Expressions.{exp_code, made_by}
+use Rattle.code_of.specs.Operands.{second_of, first_of, seat, operands_code}
+use Rattle.code_of.specs.Operators.{number_opcode}
 use Rattle.code_expr.specs.declared.conditions.Comparison.{Comparison}
 use Rattle.code_expr.specs.Leading.{led_on, Opened}
 use Rattle.code_expr.specs.Listing.{Listing, followed}
-use Rattle.code_expr.specs.Testing.{is_valued, compared_by, either_test, Tests}
+use Rattle.code_expr.specs.declared.operands.Second.{Second as Standing}
+use Rattle.code_expr.specs.Operands.{standing, seated_code, done_code}
+use Rattle.code_expr.specs.Testing.{is_valued, compared_by, compared_code, registers_test, number_test, either_test, Tests}
+use Rattle.code_expr.proofs.Seats.{seated}
 use Rattle.code_expr.proofs.Leading.{opened_remade, opened_coded, opened_behind, opened_from, decided_here, decided_away}
-use Rattle.code_expr.proofs.Joining.{then_made}
 
 abbrev Places : Type 0
 Places = Result (Vec ℕ Global) AllocError
@@ -24,10 +28,8 @@ Places = Result (Vec ℕ Global) AllocError
 abbrev Compares : Option Comparison → BinOp → Type 0
 Compares o op = (other : List Coded) (by : Opcode → Bool → Bool → List Coded) → compared op other by ≡ compared_by o other by
 
-abbrev pub compared_code : Listing → (w : Bool) → (t : ℕ) → Comparison → (line : ℕ) → (e d : Exp) → (ahead : ℕ) → List Coded
-compared_code s w t c line e d ahead =
-    exp_code s.constants e t s.made 2 ++ (exp_code s.constants d (t + 1) (s.made + made_by e) 2
-    ++ jump_if c.opcode (pick c.swapped t (t + 1)) (pick c.swapped (t + 1) t) (cond c.wanted (not w) w) ahead line)
+pub operator_is : (o : Option Comparison) (c : Comparison) (op : BinOp) → o ≡ Some c → IfSome o (λ x. x.op ≡ op) → c.op ≡ op
+operator_is o c op is h = subst (λ x. IfSome x (λ y. y.op ≡ op)) is h
 
 module _ (s q : Listing) (w : Bool) (t : ℕ) (r : Places) where
   pub by_value_tests :
@@ -36,25 +38,27 @@ module _ (s q : Listing) (w : Bool) (t : ℕ) (r : Places) where
   by_value_tests e same = IfOk-weaker r (λ places. Opened s q (λ ahead. value_test s.constants e w ahead t s.made) (made_by e) places.items) (λ places. Tests s q e w t places.items)
       (λ places o. opened_coded s q _ _ (made_by e) places.items same o)
 
-  abbrev by_comparison : (line : ℕ) → (e d : Exp) → (ahead : ℕ) → Opcode → Bool → Bool → List Coded
-  by_comparison line e d ahead opcode swapped wanted =
-      exp_code s.constants e t s.made 2 ++ (exp_code s.constants d (t + 1) (s.made + made_by e) 2
-      ++ jump_if opcode (pick swapped t (t + 1)) (pick swapped (t + 1) t) (cond wanted (not w) w) ahead line)
+  abbrev by_comparison : (line : ℕ) → (op : BinOp) → (e d : Exp) → (ahead : ℕ) → Opcode → Bool → Bool → List Coded
+  by_comparison line op e d ahead opcode swapped wanted =
+      let k = cond wanted (not w) w in
+      operands_code (second_of op d) (first_of (second_of op d) e) (exp_code s.constants e t s.made 2) (exp_code s.constants d (t + 1) (s.made + made_by e) 2) t
+      (λ x y. jump_if opcode (pick swapped x y) (pick swapped y x) k ahead line) (λ x n. jump_if (number_opcode op) x (n + 127) k ahead line)
 
   pub comparison_tests :
-      (op : BinOp) (o : Option Comparison) (c : Comparison) (line : ℕ) (e d : Exp) → Compares o op → o ≡ Some c
-      → IfOk r (λ places. Opened s q (compared_code s w t c line e d) (made_by e + made_by d) places.items) → IfOk r (λ places. Tests s q (Binary line op e d) w t places.items)
-  comparison_tests op o c line e d is o_is = IfOk-weaker r (λ places. Opened s q (compared_code s w t c line e d) (made_by e + made_by d) places.items) (λ places. Tests s q (Binary line op e d) w t places.items)
+      (op : BinOp) (o : Option Comparison) (c : Comparison) (line : ℕ) (e d : Exp) → Compares o op → o ≡ Some c → c.op ≡ op
+      → IfOk r (λ places. Opened s q (λ ahead. compared_code s.constants c e d w ahead t s.made line) (made_by e + made_by d) places.items) → IfOk r (λ places. Tests s q (Binary line op e d) w t places.items)
+  comparison_tests op o c line e d is o_is op_is = IfOk-weaker r (λ places. Opened s q (λ ahead. compared_code s.constants c e d w ahead t s.made line) (made_by e + made_by d) places.items) (λ places. Tests s q (Binary line op e d) w t places.items)
       (λ places x. opened_coded s q _ _ (made_by e + made_by d) places.items
-      (λ ahead. sym (is (value_test s.constants (Binary line op e d) w ahead t s.made) (by_comparison line e d ahead)
-      ∙ ap (λ p. compared_by p (value_test s.constants (Binary line op e d) w ahead t s.made) (by_comparison line e d ahead)) o_is)) x)
+      (λ ahead. ap (λ o. by_comparison line o e d ahead c.opcode c.swapped c.wanted) op_is
+      ∙ sym (is (value_test s.constants (Binary line op e d) w ahead t s.made) (by_comparison line op e d ahead)
+      ∙ ap (λ p. compared_by p (value_test s.constants (Binary line op e d) w ahead t s.made) (by_comparison line op e d ahead)) o_is)) x)
 
   pub other_tests :
       (op : BinOp) (o : Option Comparison) (line : ℕ) (e d : Exp) → Compares o op → o ≡ None
       → IfOk r (λ places. Opened s q (λ ahead. value_test s.constants (Binary line op e d) w ahead t s.made) (made_by e + made_by d) places.items) → IfOk r (λ places. Tests s q (Binary line op e d) w t places.items)
   other_tests op o line e d is o_is = by_value_tests (Binary line op e d)
-      (λ ahead. sym (is (value_test s.constants (Binary line op e d) w ahead t s.made) (by_comparison line e d ahead)
-      ∙ ap (λ p. compared_by p (value_test s.constants (Binary line op e d) w ahead t s.made) (by_comparison line e d ahead)) o_is))
+      (λ ahead. sym (is (value_test s.constants (Binary line op e d) w ahead t s.made) (by_comparison line op e d ahead)
+      ∙ ap (λ p. compared_by p (value_test s.constants (Binary line op e d) w ahead t s.made) (by_comparison line op e d ahead)) o_is))
 
 -- an expression that is tested by its value
 
@@ -93,25 +97,24 @@ value_opened s r q e w t line places line_is e1 o =
     (λ ahead. ap (λ n. value ++ jump_if Test t 0 (not w) ahead n) line_is)
     (opened_behind s r q value (made_by e) (λ ahead. jump_if Test t 0 (not w) ahead line) 0 places e1 o))
 
+-- the operands of a comparison stand there, and then they are compared
 pub compared_opened :
-    (s r q u : Listing) (c : Comparison) (w : Bool) (t above x y : ℕ) (k : Bool) (line : ℕ) (e d : Exp) (places : List ℕ)
-    → above ≡ t + 1 → r ≡ followed s (exp_code s.constants e t s.made 2) (made_by e) → q ≡ followed r (exp_code r.constants d above r.made 2) (made_by d)
-    → x ≡ pick c.swapped t above → y ≡ pick c.swapped above t → k ≡ cond c.wanted (not w) w
-    → Opened q u (λ ahead. jump_if c.opcode x y k ahead line) 0 places
-    → Opened s u (compared_code s w t c line e d) (made_by e + made_by d) places
-compared_opened s r q u c w t above x y k line e d places above_is e1 e2 x_is y_is k_is o =
+    (s r u : Listing) (c : Comparison) (w k : Bool) (t line : ℕ) (e d : Exp) (first : ℕ) (second : Standing) (places : List ℕ)
+    → r ≡ followed s (seated_code (second_of c.op d) (first_of (second_of c.op d) e) (exp_code s.constants e t s.made 2) (exp_code s.constants d (t + 1) (s.made + made_by e) 2)) (made_by e + made_by d)
+    → first ≡ seat (first_of (second_of c.op d) e) t → second ≡ standing (second_of c.op d) t → k ≡ cond c.wanted (not w) w
+    → Opened r u (λ ahead. done_code second first (registers_test c k ahead line) (number_test c k ahead line)) 0 places
+    → Opened s u (λ ahead. compared_code s.constants c e d w ahead t s.made line) (made_by e + made_by d) places
+compared_opened s r u c w k t line e d first second places seated_is first_is second_is k_is o =
+    let z = second_of c.op d in
     let left = exp_code s.constants e t s.made 2 in
     let right = exp_code s.constants d (t + 1) (s.made + made_by e) 2 in
-    let both : q ≡ followed s (left ++ right) (made_by e + made_by d) =
-    then_made s r q left (made_by e) (λ c j. exp_code c d above j 2) (made_by d) e1 e2 ∙ ap (λ n. followed s (left ++ exp_code s.constants d n (s.made + made_by e) 2) (made_by e + made_by d)) above_is in
-    let first : x ≡ pick c.swapped t (t + 1) = x_is ∙ ap (pick c.swapped t) above_is in
-    let second : y ≡ pick c.swapped (t + 1) t = y_is ∙ ap (λ n. pick c.swapped n t) above_is in
-    opened_remade s u (compared_code s w t c line e d) (made_by e + made_by d + 0) (made_by e + made_by d) places (omega arith)
-    (opened_coded s u (λ ahead. (left ++ right) ++ jump_if c.opcode x y k ahead line) (compared_code s w t c line e d) (made_by e + made_by d + 0) places
-    (λ ahead. append_assoc left right (jump_if c.opcode x y k ahead line)
-    ∙ ap₂ (λ m n. left ++ (right ++ jump_if c.opcode m n k ahead line)) first second
-    ∙ ap (λ b. left ++ (right ++ jump_if c.opcode (pick c.swapped t (t + 1)) (pick c.swapped (t + 1) t) b ahead line)) k_is)
-    (opened_behind s q u (left ++ right) (made_by e + made_by d) (λ ahead. jump_if c.opcode x y k ahead line) 0 places both o))
+    let front = seated_code z (first_of z e) left right in
+    opened_remade s u (λ ahead. compared_code s.constants c e d w ahead t s.made line) (made_by e + made_by d + 0) (made_by e + made_by d) places (omega arith)
+    (opened_coded s u (λ ahead. front ++ done_code second first (registers_test c k ahead line) (number_test c k ahead line)) (λ ahead. compared_code s.constants c e d w ahead t s.made line) (made_by e + made_by d + 0) places
+    (λ ahead. ap₂ (λ y x. front ++ done_code y x (registers_test c k ahead line) (number_test c k ahead line)) second_is first_is
+    ∙ ap (λ b. front ++ done_code (standing z t) (seat (first_of z e) t) (registers_test c b ahead line) (number_test c b ahead line)) k_is
+    ∙ sym (seated z e left right t (registers_test c (cond c.wanted (not w) w) ahead line) (number_test c (cond c.wanted (not w) w) ahead line)))
+    (opened_behind s r u front (made_by e + made_by d) (λ ahead. done_code second first (registers_test c k ahead line) (number_test c k ahead line)) 0 places seated_is o))
 
 -- `and` and `or`, of which the second operand is what the first one's place makes it
 

@@ -1,6 +1,7 @@
 pub mod Indexed
 pub mod Leading
 pub mod Listing
+pub mod Operands
 pub mod Parts
 pub mod Patches
 pub mod Testing

@@ -1,15 +1,18 @@
 // Conditions: expressions of which only the truth is wanted (Lua 5.4 manual, 3.3.4 and 3.4.5).
-ghost use Rattle.std.specs.Prelude.{◌≡◌, ◌+◌, ◌++◌, [], ◌∷◌, List, Bool, cond, not, OnOk, IfOk, length};
+ghost use Rattle.std.specs.Prelude.{◌≡◌, ◌+◌, [], ◌∷◌, List, Bool, cond, not, OnOk, IfOk, IfSome, length};
 ghost use Rattle.tree_core.specs.Plain.{plain_exp};
 ghost use Rattle.code_core.specs.declared.opcode.Opcode as opcode;
 ghost use Rattle.code_of.specs.Coded.{Coded, jump_over};
 ghost use Rattle.code_of.specs.Conditions.{jump_if, pick, compared, value_test};
-ghost use Rattle.code_of.specs.Expressions.{exp_code, made_by};
+ghost use Rattle.code_of.specs.Expressions.{made_by};
 ghost use Rattle.code_expr.specs.Leading.{Opened};
 ghost use Rattle.code_expr.specs.Listing.{listed};
-ghost use Rattle.code_expr.specs.Testing.{compared_by, either_test, Tests};
+ghost use Rattle.code_expr.specs.Operands.{done_code};
+ghost use Rattle.code_expr.specs.Testing.{compared_by, compared_code, registers_test, number_test, either_test, Tests};
 
-use crate::emitter::{Emitter, next};
+use crate::emitter::Emitter;
+use crate::operands::{Operands, Second};
+use crate::operators::{field_of, number_opcode};
 use code_core::Opcode;
 use std::alloc::AllocError;
 use tree_core::{BinOp, Exp, ExpNode, UnOp};
@@ -17,7 +20,9 @@ use tree_core::{BinOp, Exp, ExpNode, UnOp};
 /// How a comparison is made.
 #[derive(Clone, Copy, Debug, PartialEq, Eq)]
 pub(crate) struct Comparison {
-    /// The instruction.
+    /// The operator.
+    pub(crate) op: BinOp,
+    /// The instruction for two registers.
     pub(crate) opcode: Opcode,
     /// Whether it takes the right operand first.
     pub(crate) swapped: bool,
@@ -27,7 +32,8 @@ pub(crate) struct Comparison {
 
 /// How an operator compares, or none for one that does not.
 fn comparing(op: BinOp) -> Option<Comparison>
-    ensures { (other : List Coded) (by : opcode.Opcode → Bool → Bool → List Coded) → compared op other by ≡ compared_by result other by }
+    ensures code { (other : List Coded) (by : opcode.Opcode → Bool → Bool → List Coded) → compared op other by ≡ compared_by result other by }
+    ensures operator { IfSome result (λ comparison. comparison.op ≡ op) }
 {
     let (opcode, swapped, wanted) = match op {
         BinOp::Eq => (Opcode::Eq, false, true),
@@ -49,6 +55,7 @@ fn comparing(op: BinOp) -> Option<Comparison>
         | BinOp::Concat => return None,
     };
     Some(Comparison {
+        op,
         opcode,
         swapped,
         wanted,
@@ -144,14 +151,63 @@ impl Emitter {
         free: usize,
         line: u32,
     ) -> Result<Vec<usize>, AllocError>
-        ensures { IfOk result (λ places. Opened self.old self.new (λ ahead. exp_code self.old.constants (plain_exp left.now) free self.old.made 2 ++ (exp_code self.old.constants (plain_exp right.now) (free + 1) (self.old.made + made_by (plain_exp left.now)) 2 ++ jump_if comparison.now.opcode (pick comparison.now.swapped free (free + 1)) (pick comparison.now.swapped (free + 1) free) (cond comparison.now.wanted (not wanted) wanted) ahead line)) (made_by (plain_exp left.now) + made_by (plain_exp right.now)) places.items) }
+        ensures { IfOk result (λ places. Opened self.old self.new (λ ahead. compared_code self.old.constants comparison.now (plain_exp left.now) (plain_exp right.now) wanted ahead free self.old.made line) (made_by (plain_exp left.now) + made_by (plain_exp right.now)) places.items) }
     {
-        let above = next(free)?;
-        self.expression(left, free, 2)?;
-        self.expression(right, above, 2)?;
-        let x = pick(comparison.swapped, free, above);
-        let y = pick(comparison.swapped, above, free);
+        let operands = self.operands(comparison.op, left, right, free)?;
         let k = flag(comparison, wanted);
+        let away = self.test_operands(comparison, operands, k, line)?;
+        Ok(away)
+    }
+
+    /// Writes the comparison of operands, where they stand, and the jump behind it.
+    fn test_operands(
+        &mut self,
+        comparison: &Comparison,
+        operands: Operands,
+        k: bool,
+        line: u32,
+    ) -> Result<Vec<usize>, AllocError>
+        ensures { IfOk result (λ places. Opened self.old self.new (λ ahead. done_code operands.second operands.first (registers_test comparison.now k ahead line) (number_test comparison.now k ahead line)) 0 places.items) }
+    {
+        let first = operands.first;
+        match operands.second {
+            Second::Number(number) => self.test_number(comparison, first, number, k, line),
+            Second::Register(register) => {
+                self.test_registers(comparison, first, register, k, line)
+            }
+        }
+    }
+
+    /// Writes the comparison of a register and a numeral, and the jump behind it.
+    fn test_number(
+        &mut self,
+        comparison: &Comparison,
+        first: usize,
+        number: usize,
+        k: bool,
+        line: u32,
+    ) -> Result<Vec<usize>, AllocError>
+        ensures { IfOk result (λ places. Opened self.old self.new (λ ahead. number_test comparison.now k ahead line first number) 0 places.items) }
+    {
+        let field = field_of(number)?;
+        let opcode = number_opcode(comparison.op);
+        let away = self.test(opcode, first, field, k, line)?;
+        Ok(away)
+    }
+
+    /// Writes the comparison of two registers, and the jump behind it.
+    fn test_registers(
+        &mut self,
+        comparison: &Comparison,
+        first: usize,
+        second: usize,
+        k: bool,
+        line: u32,
+    ) -> Result<Vec<usize>, AllocError>
+        ensures { IfOk result (λ places. Opened self.old self.new (λ ahead. registers_test comparison.now k ahead line first second) 0 places.items) }
+    {
+        let x = pick(comparison.swapped, first, second);
+        let y = pick(comparison.swapped, second, first);
         let away = self.test(comparison.opcode, x, y, k, line)?;
         Ok(away)
     }

@@ -1,13 +1,17 @@
 // Expressions (Lua 5.4 manual, 3.4), whose values go to registers.
-ghost use Rattle.std.specs.Prelude.{◌≡◌, ◌+◌, OnOk, IfOk, map, nat_eq};
+ghost use Rattle.std.specs.Prelude.{◌≡◌, ◌+◌, ◌++◌, OnOk, IfOk, map, nat_eq};
 ghost use Rattle.tree_core.specs.Tree.{exps, fields, Call, Method, Index, Binary, Unary, Table};
 ghost use Rattle.tree_core.specs.Plain.{plain_exp, plain_exps, plain_field};
 ghost use Rattle.code_of.specs.Expressions.{exp_code, exps_code, either_code, made_by, made_in, made_in_fields, made_by_field};
+ghost use Rattle.code_of.specs.Operands.{local_of, second_of, first_of, seat, unless};
 ghost use Rattle.code_expr.specs.Listing.{followed};
+ghost use Rattle.code_expr.specs.declared.operands.Second.TheVariants.{Register};
+ghost use Rattle.code_expr.specs.Operands.{standing, seated_code};
 ghost use Rattle.code_expr.specs.Parts.{item_code, keyed_code, field_code, items_after};
 
 use crate::emitter::{Emitter, next};
 use crate::lists::{field_where, fills, item_field, list_field, stored_field, wanted_where};
+use crate::operands::{Operands, Second, local_of, staying};
 use code_core::Opcode;
 use std::alloc::AllocError;
 use tree_core::{BinOp, Exp, ExpNode, Field, Name, UnOp};
@@ -66,10 +70,65 @@ impl Emitter {
     ) -> Result<(), AllocError>
         ensures { OnOk result (self.new ≡ followed self.old (exp_code self.old.constants (Binary line op (plain_exp left.now) (plain_exp right.now)) target self.old.made 2) (made_by (Binary line op (plain_exp left.now) (plain_exp right.now)))) }
     {
-        self.expression(left, target, 2)?;
-        self.expression(right, next(target)?, 2)?;
-        self.operator(op, target, line)?;
+        let operands = self.operands(op, left, right, target)?;
+        self.apply(op, operands, target, line)?;
         Ok(())
+    }
+
+    /// Writes the operands of an operator whose result goes to a register, and answers where they stand.
+    #[cycle(expressions)]
+    pub(crate) fn operands(
+        &mut self,
+        op: BinOp,
+        left: &Exp,
+        right: &Exp,
+        target: usize,
+    ) -> Result<Operands, AllocError>
+        ensures code { OnOk result (self.new ≡ followed self.old (seated_code (second_of op (plain_exp right.now)) (first_of (second_of op (plain_exp right.now)) (plain_exp left.now)) (exp_code self.old.constants (plain_exp left.now) target self.old.made 2) (exp_code self.old.constants (plain_exp right.now) (target + 1) (self.old.made + made_by (plain_exp left.now)) 2)) (made_by (plain_exp left.now) + made_by (plain_exp right.now))) }
+        ensures places { IfOk result (λ operands. operands ≡ record { first = seat (first_of (second_of op (plain_exp right.now)) (plain_exp left.now)) target; second = standing (second_of op (plain_exp right.now)) target }) }
+    {
+        match staying(op, right) {
+            Some(second) => self.beside(left, second, target),
+            None => self.both(left, right, target),
+        }
+    }
+
+    /// Writes the first operand beside a second one that stays where it is.
+    #[cycle(expressions)]
+    fn beside(&mut self, left: &Exp, second: Second, target: usize) -> Result<Operands, AllocError>
+        ensures code { OnOk result (self.new ≡ followed self.old (unless (local_of (plain_exp left.now)) (exp_code self.old.constants (plain_exp left.now) target self.old.made 2)) (made_by (plain_exp left.now))) }
+        ensures places { IfOk result (λ operands. operands ≡ record { first = seat (local_of (plain_exp left.now)) target; second = second }) }
+    {
+        let first = self.operand(left, target)?;
+        Ok(Operands { first, second })
+    }
+
+    /// Writes both operands into registers.
+    #[cycle(expressions)]
+    fn both(&mut self, left: &Exp, right: &Exp, target: usize) -> Result<Operands, AllocError>
+        ensures code { OnOk result (self.new ≡ followed self.old (exp_code self.old.constants (plain_exp left.now) target self.old.made 2 ++ exp_code self.old.constants (plain_exp right.now) (target + 1) (self.old.made + made_by (plain_exp left.now)) 2) (made_by (plain_exp left.now) + made_by (plain_exp right.now))) }
+        ensures places { IfOk result (λ operands. operands ≡ record { first = target; second = Register (target + 1) }) }
+    {
+        let above = next(target)?;
+        self.expression(left, target, 2)?;
+        self.expression(right, above, 2)?;
+        Ok(Operands {
+            first: target,
+            second: Second::Register(above),
+        })
+    }
+
+    /// Writes an operand, if it does not stay in its own register, and answers the register in which it stands.
+    #[cycle(expressions)]
+    fn operand(&mut self, exp: &Exp, target: usize) -> Result<usize, AllocError>
+        ensures code { OnOk result (self.new ≡ followed self.old (unless (local_of (plain_exp exp.now)) (exp_code self.old.constants (plain_exp exp.now) target self.old.made 2)) (made_by (plain_exp exp.now))) }
+        ensures place { IfOk result (λ register. register ≡ seat (local_of (plain_exp exp.now)) target) }
+    {
+        if let Some(register) = local_of(exp) {
+            return Ok(register);
+        }
+        self.expression(exp, target, 2)?;
+        Ok(target)
     }
 
     /// Writes a value that is indexed and its key.

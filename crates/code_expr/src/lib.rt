@@ -1,4 +1,4 @@
-// The code of expressions (Lua 5.4 manual, 3.4), written into the code of the function that they stand in.
+//! The code of expressions (Lua 5.4 manual, 3.4), written into the code of the function that they stand in.
 #![tactic(auto)]
 
 mod collecting;
@@ -8,6 +8,7 @@ mod emitter;
 mod expressions;
 mod lists;
 mod names;
+mod operands;
 mod operators;
 mod word;
 

@@ -1,9 +1,11 @@
-// Operators, whose operands stand in registers.
-ghost use Rattle.std.specs.Prelude.{◌≡◌, OnOk};
-ghost use Rattle.code_of.specs.Operators.{arithmetic_code, truth_code, operator_code, prefix_code, prefix_opcode};
+// Operators, whose operands stand in registers or are numerals.
+ghost use Rattle.std.specs.Prelude.{◌≡◌, ◌+◌, OnOk, IfOk};
+ghost use Rattle.code_of.specs.Operators.{arithmetic_code, sum_code, truth_code, operator_code, number_code, number_opcode, prefix_code, prefix_opcode};
 ghost use Rattle.code_expr.specs.Listing.{listed};
+ghost use Rattle.code_expr.specs.Operands.{done_code};
 
-use crate::emitter::{Emitter, next};
+use crate::emitter::Emitter;
+use crate::operands::{Operands, Second};
 use code_core::Opcode;
 use std::alloc::AllocError;
 use tree_core::{BinOp, UnOp};
@@ -20,6 +22,38 @@ fn prefix_opcode(op: UnOp) -> Opcode
     }
 }
 
+/// The field of a numeral, which is 127 more.
+pub(crate) fn field_of(number: usize) -> Result<usize, AllocError>
+    ensures { IfOk result (λ field. field ≡ number + 127) }
+{
+    number.checked_add(127).ok_or(AllocError)
+}
+
+/// The opcode of a comparison with a numeral; of an operator that does not compare some opcode.
+pub(crate) fn number_opcode(op: BinOp) -> Opcode
+    ensures { result ≡ number_opcode op }
+{
+    match op {
+        BinOp::Lt => Opcode::LtI,
+        BinOp::Le => Opcode::LeI,
+        BinOp::Gt => Opcode::GtI,
+        BinOp::Ge => Opcode::GeI,
+        BinOp::Eq
+        | BinOp::Ne
+        | BinOp::Add
+        | BinOp::Sub
+        | BinOp::Mul
+        | BinOp::Mod
+        | BinOp::Idiv
+        | BinOp::Band
+        | BinOp::Bor
+        | BinOp::Bxor
+        | BinOp::Shl
+        | BinOp::Shr
+        | BinOp::Concat => Opcode::EqI,
+    }
+}
+
 impl Emitter {
     /// Does a prefix operator to the value of a register.
     pub(crate) fn prefix(&mut self, op: UnOp, target: usize, line: u32) -> Result<(), AllocError>
@@ -28,29 +62,53 @@ impl Emitter {
         self.put_abc(prefix_opcode(op), target, target, 0, line)
     }
 
-    /// Does an operator to the values of a register and the one above it.
-    pub(crate) fn operator(&mut self, op: BinOp, target: usize, line: u32) -> Result<(), AllocError>
-        ensures { OnOk result (self.new ≡ listed self.old (operator_code op target line)) }
+    /// Does an operator to its operands, where they stand.
+    pub(crate) fn apply(
+        &mut self,
+        op: BinOp,
+        operands: Operands,
+        target: usize,
+        line: u32,
+    ) -> Result<(), AllocError>
+        ensures { OnOk result (self.new ≡ listed self.old (done_code operands.second operands.first (λ x y. operator_code op x y target line) (λ x n. number_code op x n target line))) }
     {
-        let right = next(target)?;
+        match operands.second {
+            Second::Number(number) => self.with_number(op, operands.first, number, target, line),
+            Second::Register(register) => {
+                self.operator(op, operands.first, register, target, line)
+            }
+        }
+    }
+
+    /// Does an operator to the values of two registers. Those of `..` follow each other from the target on.
+    fn operator(
+        &mut self,
+        op: BinOp,
+        x: usize,
+        y: usize,
+        target: usize,
+        line: u32,
+    ) -> Result<(), AllocError>
+        ensures { OnOk result (self.new ≡ listed self.old (operator_code op x y target line)) }
+    {
         match op {
-            BinOp::Add => self.arithmetic(Opcode::Add, 6, target, line),
-            BinOp::Sub => self.arithmetic(Opcode::Sub, 7, target, line),
-            BinOp::Mul => self.arithmetic(Opcode::Mul, 8, target, line),
-            BinOp::Mod => self.arithmetic(Opcode::Mod, 9, target, line),
-            BinOp::Idiv => self.arithmetic(Opcode::IDiv, 12, target, line),
-            BinOp::Band => self.arithmetic(Opcode::BAnd, 13, target, line),
-            BinOp::Bor => self.arithmetic(Opcode::BOr, 14, target, line),
-            BinOp::Bxor => self.arithmetic(Opcode::BXor, 15, target, line),
-            BinOp::Shl => self.arithmetic(Opcode::Shl, 16, target, line),
-            BinOp::Shr => self.arithmetic(Opcode::Shr, 17, target, line),
+            BinOp::Add => self.arithmetic(Opcode::Add, 6, x, y, target, line),
+            BinOp::Sub => self.arithmetic(Opcode::Sub, 7, x, y, target, line),
+            BinOp::Mul => self.arithmetic(Opcode::Mul, 8, x, y, target, line),
+            BinOp::Mod => self.arithmetic(Opcode::Mod, 9, x, y, target, line),
+            BinOp::Idiv => self.arithmetic(Opcode::IDiv, 12, x, y, target, line),
+            BinOp::Band => self.arithmetic(Opcode::BAnd, 13, x, y, target, line),
+            BinOp::Bor => self.arithmetic(Opcode::BOr, 14, x, y, target, line),
+            BinOp::Bxor => self.arithmetic(Opcode::BXor, 15, x, y, target, line),
+            BinOp::Shl => self.arithmetic(Opcode::Shl, 16, x, y, target, line),
+            BinOp::Shr => self.arithmetic(Opcode::Shr, 17, x, y, target, line),
             BinOp::Concat => self.put_abc(Opcode::Concat, target, 2, 0, line),
-            BinOp::Eq => self.truth(Opcode::Eq, target, right, true, target, line),
-            BinOp::Ne => self.truth(Opcode::Eq, target, right, false, target, line),
-            BinOp::Lt => self.truth(Opcode::Lt, target, right, true, target, line),
-            BinOp::Le => self.truth(Opcode::Le, target, right, true, target, line),
-            BinOp::Gt => self.truth(Opcode::Lt, right, target, true, target, line),
-            BinOp::Ge => self.truth(Opcode::Le, right, target, true, target, line),
+            BinOp::Eq => self.truth(Opcode::Eq, x, y, true, target, line),
+            BinOp::Ne => self.truth(Opcode::Eq, x, y, false, target, line),
+            BinOp::Lt => self.truth(Opcode::Lt, x, y, true, target, line),
+            BinOp::Le => self.truth(Opcode::Le, x, y, true, target, line),
+            BinOp::Gt => self.truth(Opcode::Lt, y, x, true, target, line),
+            BinOp::Ge => self.truth(Opcode::Le, y, x, true, target, line),
         }
     }
 
@@ -59,17 +117,70 @@ impl Emitter {
         &mut self,
         op: Opcode,
         event: usize,
+        x: usize,
+        y: usize,
         target: usize,
         line: u32,
     ) -> Result<(), AllocError>
-        ensures { OnOk result (self.new ≡ listed self.old (arithmetic_code op event target line)) }
+        ensures { OnOk result (self.new ≡ listed self.old (arithmetic_code op event x y target line)) }
     {
-        let right = next(target)?;
-        self.put_abc(op, target, target, right, line)?;
-        self.put_abc(Opcode::MmBin, target, right, event, line)
+        self.put_abc(op, target, x, y, line)?;
+        self.put_abc(Opcode::MmBin, x, y, event, line)
     }
 
-    /// Whether a comparison of two registers comes to k.
+    /// Does an operator to the value of a register and a numeral.
+    fn with_number(
+        &mut self,
+        op: BinOp,
+        x: usize,
+        number: usize,
+        target: usize,
+        line: u32,
+    ) -> Result<(), AllocError>
+        ensures { OnOk result (self.new ≡ listed self.old (number_code op x number target line)) }
+    {
+        let raised = field_of(number)?;
+        let lowered = 127usize.saturating_sub(number);
+        match op {
+            BinOp::Add => self.sum(Opcode::AddI, raised, 6, x, number, target, line),
+            BinOp::Sub => self.sum(Opcode::AddI, lowered, 7, x, number, target, line),
+            BinOp::Shr => self.sum(Opcode::ShrI, raised, 17, x, number, target, line),
+            BinOp::Eq => self.truth(Opcode::EqI, x, raised, true, target, line),
+            BinOp::Ne => self.truth(Opcode::EqI, x, raised, false, target, line),
+            BinOp::Lt => self.truth(Opcode::LtI, x, raised, true, target, line),
+            BinOp::Le => self.truth(Opcode::LeI, x, raised, true, target, line),
+            BinOp::Gt => self.truth(Opcode::GtI, x, raised, true, target, line),
+            BinOp::Ge => self.truth(Opcode::GeI, x, raised, true, target, line),
+            BinOp::Mul
+            | BinOp::Mod
+            | BinOp::Idiv
+            | BinOp::Band
+            | BinOp::Bor
+            | BinOp::Bxor
+            | BinOp::Shl
+            | BinOp::Concat => Ok(()),
+        }
+    }
+
+    /// A sum with a numeral, a difference or a shift by one, and its event.
+    fn sum(
+        &mut self,
+        op: Opcode,
+        field: usize,
+        event: usize,
+        x: usize,
+        number: usize,
+        target: usize,
+        line: u32,
+    ) -> Result<(), AllocError>
+        ensures { OnOk result (self.new ≡ listed self.old (sum_code op field event x number target line)) }
+    {
+        let operand = field_of(number)?;
+        self.put_abc(op, target, x, field, line)?;
+        self.put_abc(Opcode::MmBinI, x, operand, event, line)
+    }
+
+    /// Whether a comparison of two registers, or of one with a numeral's field, comes to k.
     fn truth(
         &mut self,
         op: Opcode,

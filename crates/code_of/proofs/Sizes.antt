@@ -7,9 +7,12 @@ use Rattle.code_core.specs.declared.opcode.Opcode.{Opcode}
 use Rattle.tree_activation.specs.Activation.{line_of_end}
 use Rattle.code_core.specs.declared.opcode.Opcode.TheVariants.{Close, Eq, Lt, Le, ForLoop, ForPrep, TForPrep, TForCall, TForLoop, Return}
 use Rattle.code_core.specs.declared.proto.Const.{Const}
-use Rattle.code_of.specs.Conditions.{compared, is_not, value_test, test_code}
+use Rattle.code_of.specs.Conditions.{jump_if, pick, compared, is_not, value_test, test_code}
 use Rattle.code_of.specs.Coded.{Coded, with_abc, with_abx, jump_over, jump_back, leaving_by}
 use Rattle.code_of.specs.Expressions.{made_by, made_in, exp_code, exps_code}
+use Rattle.code_of.specs.Operands.{second_of, first_of}
+use Rattle.code_of.specs.Operators.{number_opcode}
+use Rattle.code_of.proofs.Operands.{operands_sized}
 use Rattle.code_of.specs.Jumps.{Landing, Visible, Reach, label_in, leads}
 use Rattle.code_of.specs.Levels.{made_by_stat, made_in_arms, made_in_stats, made_in_block, closing_after, closings_after}
 use Rattle.tree_terms.specs.Levels.{level_after, levels_after, levels_in}
@@ -78,7 +81,10 @@ module _ (cs : List Const) where
       (anywhere e (test_sized e) false _ _ t j) (test_sized d k ahead t (j + made_by e))
   test_sized (Binary line op e d) k ahead t j =
       compared_sized op _ _ _ _ (value_sized (Binary line op e d) k ahead t j)
-      (λ o s w. both_sized (exp_code cs e t j 2) _ (exp_code cs e t j 2) _ refl (both_sized (exp_code cs d (t + 1) (j + made_by e) 2) _ (exp_code cs d (t + 1) (j + made_by e) 2) _ refl refl))
+      (λ o s w. let field = cond w (not k) k in
+      operands_sized (second_of op d) (first_of (second_of op d) e) (exp_code cs e t j 2) (exp_code cs d (t + 1) (j + made_by e) 2) t
+      (λ x y. jump_if o (pick s x y) (pick s y x) field ahead line) (λ x y. jump_if o (pick s x y) (pick s y x) field 0 line)
+      (λ x n. jump_if (number_opcode op) x (n + 127) field ahead line) (λ x n. jump_if (number_opcode op) x (n + 127) field 0 line) (λ x y. refl) (λ x n. refl))
   test_sized (True line) k ahead t j = true_sized k ahead line
   test_sized (Nil line) k ahead t j = value_sized (Nil line) k ahead t j
   test_sized (False line) k ahead t j = value_sized (False line) k ahead t j

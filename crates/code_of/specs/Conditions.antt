@@ -12,8 +12,10 @@ use Rattle.code_core.specs.declared.proto.Const.{Const}
 use Rattle.code_core.specs.Instruction.{abc}
 use Rattle.code_of.specs.Coded.{Coded, jump_over}
 use Rattle.code_of.specs.Expressions.{made_by, exp_code}
+use Rattle.code_of.specs.Operands.{second_of, first_of, operands_code}
+use Rattle.code_of.specs.Operators.{number_opcode}
 
--- an instruction that finds a truth in registers x and y, and the jump behind it, which is taken where that truth is `field` and else passed
+-- an instruction that finds a truth of x and y, and the jump behind it, which is taken where that truth is `field` and else passed
 abbrev pub jump_if : Opcode → (x y : ℕ) → (field : Bool) → (ahead line : ℕ) → List Coded
 jump_if op x y field ahead line = (abc op x y 0 field, line) ∷ jump_over ahead line ∷ []
 
@@ -32,6 +34,15 @@ compared AtMost other by = by Le false true
 compared Gt other by = by Lt true true
 compared Ge other by = by Le true true
 compared _ other by = other
+
+abbrev pub is_compared : BinOp → Bool
+is_compared Equal = true
+is_compared Ne = true
+is_compared Less = true
+is_compared AtMost = true
+is_compared Gt = true
+is_compared Ge = true
+is_compared _ = false
 
 abbrev pub is_not : UnOp → Bool
 is_not Negation = true
@@ -76,7 +87,8 @@ module _ (constants : List Const) where
       test_code e false (length second + cond k 0 ahead) t j ++ second
   test_code (Binary line op e d) k ahead t j =
       compared op (value_test (Binary line op e d) k ahead t j)
-      (λ opcode swapped wanted. exp_code constants e t j 2 ++ (exp_code constants d (t + 1) (j + made_by e) 2
-      ++ jump_if opcode (pick swapped t (t + 1)) (pick swapped (t + 1) t) (cond wanted (not k) k) ahead line))
+      (λ opcode swapped wanted. operands_code (second_of op d) (first_of (second_of op d) e) (exp_code constants e t j 2) (exp_code constants d (t + 1) (j + made_by e) 2) t
+      (λ x y. jump_if opcode (pick swapped x y) (pick swapped y x) (cond wanted (not k) k) ahead line)
+      (λ x n. jump_if (number_opcode op) x (n + 127) (cond wanted (not k) k) ahead line))
   test_code (True line) k ahead t j = cond k [] (jump_over ahead line ∷ [])
   test_code e k ahead t j = value_test e k ahead t j

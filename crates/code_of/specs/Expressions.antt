@@ -1,4 +1,4 @@
--- The code of expressions (Lua 5.4 manual, 3.4). Each operand has a register of its own, from t on; nothing above the locals is held below t.
+-- The code of expressions (Lua 5.4 manual, 3.4). Values go to registers from t on; nothing above the locals is held below t.
 -- Functions that a function makes are numbered in the order of the text, from j on.
 use Rattle.std.specs.Prelude.{ℕ, zero, suc, ◌+◌, ◌-◌, ◌/◌, ◌%◌, Bool, true, false, cond, List, [], ◌∷◌, ◌++◌, length, nat_lt, Option, Some, None}
 use Rattle.tree_core.specs.Tree.{Exp, Nil, True, False, Int, Str, Vararg, Function, Var, Index, Call, Method, Unary, Binary, And, Or, Paren, Table, Exps, EndExps, MoreExps, Fields, EndFields, MoreFields, Field, Item, Keyed}
@@ -9,7 +9,8 @@ use Rattle.code_core.specs.declared.proto.Const.TheVariants.{Str as StrConst}
 use Rattle.code_core.specs.Instruction.{abc, op_ax}
 use Rattle.code_of.specs.Coded.{Coded, with_abc, with_abx, jump_over}
 use Rattle.code_of.specs.Constants.{loads, loads_integer}
-use Rattle.code_of.specs.Operators.{name_code, self_code, prefix_code, operator_code}
+use Rattle.code_of.specs.Operands.{second_of, first_of, operands_code}
+use Rattle.code_of.specs.Operators.{name_code, self_code, prefix_code, operator_code, number_code}
 
 -- how many functions an expression makes itself
 abbrev mutual
@@ -122,7 +123,9 @@ module _ (constants : List Const) where
         exp_code object t j 2 ++ (self_code constants name.text t line
         ++ (exps_code es None (t + 2) (j + made_by object) line ++ with_abc CallCode t (list_field 1 es) c line ∷ []))
     exp_code (Unary line op e) t j c = exp_code e t j 2 ++ prefix_code op t line
-    exp_code (Binary line op e d) t j c = exp_code e t j 2 ++ (exp_code d (t + 1) (j + made_by e) 2 ++ operator_code op t line)
+    exp_code (Binary line op e d) t j c =
+        operands_code (second_of op d) (first_of (second_of op d) e) (exp_code e t j 2) (exp_code d (t + 1) (j + made_by e) 2) t
+        (λ x y. operator_code op x y t line) (λ x n. number_code op x n t line)
     exp_code (And line e d) t j c = either_code false (exp_code e t j 2) (exp_code d t (j + made_by e) 2) t line
     exp_code (Or line e d) t j c = either_code true (exp_code e t j 2) (exp_code d t (j + made_by e) 2) t line
     exp_code (Paren line e) t j c = exp_code e t j 2

@@ -1,5 +1,6 @@
 pub mod Coded
 pub mod Constants
+pub mod Operands
 pub mod Operators
 pub mod Expressions
 pub mod Conditions

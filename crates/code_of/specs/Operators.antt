@@ -1,5 +1,5 @@
--- The code of operators and names, whose operands stand in registers (lopcodes.h of Lua 5.4).
-use Rattle.std.specs.Prelude.{ℕ, ◌+◌, Bool, true, false, cond, List, [], ◌∷◌, ◌++◌, nat_lt}
+-- The code of operators and names, whose operands stand in registers or are numerals (lopcodes.h of Lua 5.4).
+use Rattle.std.specs.Prelude.{ℕ, ◌+◌, ◌-◌, Bool, true, false, cond, List, [], ◌∷◌, ◌++◌, nat_lt}
 use Rattle.tree_core.specs.declared.name.Place.{Place}
 use Rattle.tree_core.specs.declared.name.Place.TheVariants.{Unset, Upvalue, GlobalIn, GlobalOf}
 use Rattle.tree_core.specs.declared.name.Place.TheVariants.{Local as LocalPlace}
@@ -8,7 +8,7 @@ use Rattle.tree_core.specs.declared.operator.UnOp.TheVariants.{Neg, BitNot, Not 
 use Rattle.tree_core.specs.declared.operator.BinOp.{BinOp}
 use Rattle.tree_core.specs.declared.operator.BinOp.TheVariants.{Add as Plus, Sub as Minus, Mul as Times, Mod as Modulo, Idiv, Band, Bor, Bxor, Shl as ShiftLeft, Shr as ShiftRight, Concat as Join, Eq as Equal, Ne, Lt as Less, Le as AtMost, Gt, Ge}
 use Rattle.code_core.specs.declared.opcode.Opcode.{Opcode}
-use Rattle.code_core.specs.declared.opcode.Opcode.TheVariants.{Move, LFalseSkip, LoadTrue, GetUpval, GetTabUp, GetTable, OpSelf, Add, Sub, Mul, Mod, IDiv, BAnd, BOr, BXor, Shl, Shr, MmBin, Unm, BNot, Not, Len, Concat, Eq, Lt, Le}
+use Rattle.code_core.specs.declared.opcode.Opcode.TheVariants.{Move, LFalseSkip, LoadTrue, GetUpval, GetTabUp, GetTable, OpSelf, Add, Sub, Mul, Mod, IDiv, BAnd, BOr, BXor, Shl, Shr, AddI, ShrI, MmBin, MmBinI, Unm, BNot, Not, Len, Concat, Eq, Lt, Le, EqI, LtI, LeI, GtI, GeI}
 use Rattle.code_core.specs.declared.proto.Const.{Const}
 use Rattle.code_core.specs.declared.proto.Const.TheVariants.{Str}
 use Rattle.code_core.specs.Instruction.{abc}
@@ -50,30 +50,55 @@ prefix_opcode Length = Len
 abbrev pub prefix_code : UnOp → (t line : ℕ) → List Coded
 prefix_code op t line = with_abc (prefix_opcode op) t t 0 line ∷ []
 
--- the operands stand in registers t and t + 1, and the result goes to t. MMBIN names the event by its number in ltm.h
+-- the operands stand in registers x and y, and the result goes to t. MMBIN names the event by its number in ltm.h
 
-abbrev pub arithmetic_code : Opcode → (event t line : ℕ) → List Coded
-arithmetic_code op event t line = with_abc op t t (t + 1) line ∷ with_abc MmBin t (t + 1) event line ∷ []
+abbrev pub arithmetic_code : Opcode → (event x y t line : ℕ) → List Coded
+arithmetic_code op event x y t line = with_abc op t x y line ∷ with_abc MmBin x y event line ∷ []
 
--- true where the comparison of registers x and y comes to k
+-- true where the comparison of x and y comes to k
 abbrev pub truth_code : Opcode → (x y : ℕ) → (k : Bool) → (t line : ℕ) → List Coded
 truth_code op x y k t line = (abc op x y 0 k, line) ∷ jump_over 1 line ∷ with_abc LFalseSkip t 0 0 line ∷ with_abc LoadTrue t 0 0 line ∷ []
 
-abbrev pub operator_code : BinOp → (t line : ℕ) → List Coded
-operator_code Plus t line = arithmetic_code Add 6 t line
-operator_code Minus t line = arithmetic_code Sub 7 t line
-operator_code Times t line = arithmetic_code Mul 8 t line
-operator_code Modulo t line = arithmetic_code Mod 9 t line
-operator_code Idiv t line = arithmetic_code IDiv 12 t line
-operator_code Band t line = arithmetic_code BAnd 13 t line
-operator_code Bor t line = arithmetic_code BOr 14 t line
-operator_code Bxor t line = arithmetic_code BXor 15 t line
-operator_code ShiftLeft t line = arithmetic_code Shl 16 t line
-operator_code ShiftRight t line = arithmetic_code Shr 17 t line
-operator_code Join t line = with_abc Concat t 2 0 line ∷ []
-operator_code Equal t line = truth_code Eq t (t + 1) true t line
-operator_code Ne t line = truth_code Eq t (t + 1) false t line
-operator_code Less t line = truth_code Lt t (t + 1) true t line
-operator_code AtMost t line = truth_code Le t (t + 1) true t line
-operator_code Gt t line = truth_code Lt (t + 1) t true t line
-operator_code Ge t line = truth_code Le (t + 1) t true t line
+-- the operands of `..` stand in t and t + 1
+abbrev pub operator_code : BinOp → (x y t line : ℕ) → List Coded
+operator_code Plus x y t line = arithmetic_code Add 6 x y t line
+operator_code Minus x y t line = arithmetic_code Sub 7 x y t line
+operator_code Times x y t line = arithmetic_code Mul 8 x y t line
+operator_code Modulo x y t line = arithmetic_code Mod 9 x y t line
+operator_code Idiv x y t line = arithmetic_code IDiv 12 x y t line
+operator_code Band x y t line = arithmetic_code BAnd 13 x y t line
+operator_code Bor x y t line = arithmetic_code BOr 14 x y t line
+operator_code Bxor x y t line = arithmetic_code BXor 15 x y t line
+operator_code ShiftLeft x y t line = arithmetic_code Shl 16 x y t line
+operator_code ShiftRight x y t line = arithmetic_code Shr 17 x y t line
+operator_code Join x y t line = with_abc Concat t 2 0 line ∷ []
+operator_code Equal x y t line = truth_code Eq x y true t line
+operator_code Ne x y t line = truth_code Eq x y false t line
+operator_code Less x y t line = truth_code Lt x y true t line
+operator_code AtMost x y t line = truth_code Le x y true t line
+operator_code Gt x y t line = truth_code Lt y x true t line
+operator_code Ge x y t line = truth_code Le y x true t line
+
+-- The second operand is a numeral in the instruction. A difference is the sum with the opposite; its event is told the numeral itself
+
+abbrev pub sum_code : Opcode → (field event x n t line : ℕ) → List Coded
+sum_code op field event x n t line = with_abc op t x field line ∷ with_abc MmBinI x (n + 127) event line ∷ []
+
+abbrev pub number_opcode : BinOp → Opcode
+number_opcode Less = LtI
+number_opcode AtMost = LeI
+number_opcode Gt = GtI
+number_opcode Ge = GeI
+number_opcode _ = EqI
+
+abbrev pub number_code : BinOp → (x n t line : ℕ) → List Coded
+number_code Plus x n t line = sum_code AddI (n + 127) 6 x n t line
+number_code Minus x n t line = sum_code AddI (127 - n) 7 x n t line
+number_code ShiftRight x n t line = sum_code ShrI (n + 127) 17 x n t line
+number_code Equal x n t line = truth_code EqI x (n + 127) true t line
+number_code Ne x n t line = truth_code EqI x (n + 127) false t line
+number_code Less x n t line = truth_code LtI x (n + 127) true t line
+number_code AtMost x n t line = truth_code LeI x (n + 127) true t line
+number_code Gt x n t line = truth_code GtI x (n + 127) true t line
+number_code Ge x n t line = truth_code GeI x (n + 127) true t line
+number_code _ x n t line = []

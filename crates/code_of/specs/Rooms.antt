@@ -7,7 +7,8 @@ use Rattle.code_core.specs.declared.proto.Const.{Const}
 use Rattle.code_core.specs.declared.proto.Const.TheVariants.{Str as StrConst}
 use Rattle.code_of.specs.Constants.{number_in}
 use Rattle.code_of.specs.Expressions.{Wanted, field_of, wanted_after, is_last_item}
-use Rattle.code_of.specs.Conditions.{is_not}
+use Rattle.code_of.specs.Conditions.{is_not, is_compared}
+use Rattle.code_of.specs.Operands.{second_of, first_of, operands_room}
 
 abbrev pub room_of_values : (field : ℕ) → ℕ
 room_of_values zero = 1
@@ -35,7 +36,7 @@ module _ (cs : List Const) where
     room_of (Call line f es) field = max (room_of f 2) (max (room_of_list 1 es None) (room_of_values field))
     room_of (Method line object name es) field = max (room_of object 2) (max (max (room_of_self name.text) (room_of_list 2 es None)) (room_of_values field))
     room_of (Unary line op e) field = room_of e 2
-    room_of (Binary line op e d) field = max (room_of e 2) (1 + room_of d 2)
+    room_of (Binary line op e d) field = operands_room 1 (second_of op d) (first_of (second_of op d) e) (room_of e 2) (room_of d 2)
     room_of (And line e d) field = max (room_of e 2) (room_of d 2)
     room_of (Or line e d) field = max (room_of e 2) (room_of d 2)
     room_of (Paren line e) field = room_of e 2
@@ -57,6 +58,8 @@ module _ (cs : List Const) where
   abbrev pub room_of_test : Exp → ℕ
   room_of_test (Paren line e) = room_of_test e
   room_of_test (Unary line op e) = cond (is_not op) (room_of_test e) (room_of e 2)
+  room_of_test (Binary line op e d) =
+      operands_room (cond (is_compared op) 0 1) (second_of op d) (first_of (second_of op d) e) (room_of e 2) (room_of d 2)
   room_of_test (And line e d) = max (room_of_test e) (room_of_test d)
   room_of_test (Or line e d) = max (room_of_test e) (room_of_test d)
   room_of_test (True line) = 0

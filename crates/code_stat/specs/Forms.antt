@@ -2,10 +2,9 @@
 use Rattle.std.specs.Prelude.{ℕ, ◌+◌, Bool, true, false, cond, ◌&&◌, List, [], ◌∷◌, ◌++◌, length, Option, Some, None}
 use Rattle.tree_core.specs.Tree.{Block, Stats, Stat, Empty, Label, If, IfElse, Arms, Exp}
 use Rattle.tree_terms.specs.Labels.{are_void}
-use Rattle.code_core.specs.declared.opcode.Opcode.TheVariants.{Test, Close, ForLoop, ForPrep, TForPrep, TForCall, TForLoop}
+use Rattle.code_core.specs.declared.opcode.Opcode.TheVariants.{Close, ForLoop, ForPrep, TForPrep, TForCall, TForLoop}
 use Rattle.code_core.specs.declared.proto.Const.{Const}
-use Rattle.code_core.specs.Instruction.{abc}
-use Rattle.code_of.specs.Coded.{Coded, with_abc, with_abx, jump_over, jump_back}
+use Rattle.code_of.specs.Coded.{Coded, with_abc, with_abx, jump_back}
 use Rattle.code_of.specs.Expressions.{made_by}
 use Rattle.code_of.specs.Jumps.{Visible, Reach}
 use Rattle.code_of.specs.Parts.{bounds_code, steps_code}

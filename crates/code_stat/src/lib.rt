@@ -1,4 +1,4 @@
-// The code of statements (Lua 5.4 manual, 3.3), written into the code of the function that they stand in.
+//! The code of statements (Lua 5.4 manual, 3.3), written into the code of the function that they stand in.
 #![tactic(auto)]
 
 mod forms;

@@ -19,7 +19,7 @@ use Rattle.code_core.proofs.FieldLemmas.{opcode_of-abc, a_of-abc, b_of-abc, c_of
 use Rattle.machine_core.specs.World.{Wait, for_value}
 use Rattle.machine_core.specs.World as world
 use Rattle.machine_core.specs.Text.{read, Text, read_register, own, trap}
-use Rattle.machine_core.specs.InstructionRows.{row_of, rest_at, rest_by, to_register, handled, event_numbered, integer_of_shape, with_register}
+use Rattle.machine_core.specs.InstructionRows.{row_of, rest, rest_at, rest_by, to_register, to_register_before, handled, event_numbered, integer_of_shape, with_register}
 use Rattle.machine_core.specs.Talk.{before, talk_step, says_so, heard}
 use Rattle.code_of.specs.Operators.{operator_code, arithmetic_code}
 use Rattle.exp_laws.proofs.Steps.{row_step, own_step}
@@ -30,7 +30,7 @@ pub record Arithmetic (op : BinOp) : Type 0 where
   pub event : Event
   pub number : ℕ
   pub small : number < 2 ^ 8
-  pub emits : (t line : ℕ) → operator_code op t line ≡ arithmetic_code opcode number t line
+  pub emits : (x y t line : ℕ) → operator_code op x y t line ≡ arithmetic_code opcode number x y t line
   pub row : (p : Prototype) (pc : ℕ) (w : Instruction) → row_of p pc opcode w ≡ with_register event w
   pub means : (line : ℕ) (v w : Value) (a : tree.Activation) (k : List Work) → binary op line v w a k ≡ arithmetic_of event line v w a k
   pub numbered : event_numbered number ≡ Some event
@@ -49,16 +49,16 @@ IsArithmetic ShiftRight = Unit {0}
 IsArithmetic _ = ⊥
 
 pub arithmetic_by : (op : BinOp) → IsArithmetic op → Arithmetic op
-arithmetic_by Plus h = record { opcode = Add; event = of_add; number = 6; small = lit< tt; emits = λ t line. refl; row = λ p pc w. refl; means = λ line v w a k. refl; numbered = refl }
-arithmetic_by Minus h = record { opcode = Sub; event = of_sub; number = 7; small = lit< tt; emits = λ t line. refl; row = λ p pc w. refl; means = λ line v w a k. refl; numbered = refl }
-arithmetic_by Times h = record { opcode = Mul; event = of_mul; number = 8; small = lit< tt; emits = λ t line. refl; row = λ p pc w. refl; means = λ line v w a k. refl; numbered = refl }
-arithmetic_by Modulo h = record { opcode = Mod; event = of_mod; number = 9; small = lit< tt; emits = λ t line. refl; row = λ p pc w. refl; means = λ line v w a k. refl; numbered = refl }
-arithmetic_by Idiv h = record { opcode = IDiv; event = of_idiv; number = 12; small = lit< tt; emits = λ t line. refl; row = λ p pc w. refl; means = λ line v w a k. refl; numbered = refl }
-arithmetic_by Band h = record { opcode = BAnd; event = of_band; number = 13; small = lit< tt; emits = λ t line. refl; row = λ p pc w. refl; means = λ line v w a k. refl; numbered = refl }
-arithmetic_by Bor h = record { opcode = BOr; event = of_bor; number = 14; small = lit< tt; emits = λ t line. refl; row = λ p pc w. refl; means = λ line v w a k. refl; numbered = refl }
-arithmetic_by Bxor h = record { opcode = BXor; event = of_bxor; number = 15; small = lit< tt; emits = λ t line. refl; row = λ p pc w. refl; means = λ line v w a k. refl; numbered = refl }
-arithmetic_by ShiftLeft h = record { opcode = Shl; event = of_shl; number = 16; small = lit< tt; emits = λ t line. refl; row = λ p pc w. refl; means = λ line v w a k. refl; numbered = refl }
-arithmetic_by ShiftRight h = record { opcode = Shr; event = of_shr; number = 17; small = lit< tt; emits = λ t line. refl; row = λ p pc w. refl; means = λ line v w a k. refl; numbered = refl }
+arithmetic_by Plus h = record { opcode = Add; event = of_add; number = 6; small = lit< tt; emits = λ x y t line. refl; row = λ p pc w. refl; means = λ line v w a k. refl; numbered = refl }
+arithmetic_by Minus h = record { opcode = Sub; event = of_sub; number = 7; small = lit< tt; emits = λ x y t line. refl; row = λ p pc w. refl; means = λ line v w a k. refl; numbered = refl }
+arithmetic_by Times h = record { opcode = Mul; event = of_mul; number = 8; small = lit< tt; emits = λ x y t line. refl; row = λ p pc w. refl; means = λ line v w a k. refl; numbered = refl }
+arithmetic_by Modulo h = record { opcode = Mod; event = of_mod; number = 9; small = lit< tt; emits = λ x y t line. refl; row = λ p pc w. refl; means = λ line v w a k. refl; numbered = refl }
+arithmetic_by Idiv h = record { opcode = IDiv; event = of_idiv; number = 12; small = lit< tt; emits = λ x y t line. refl; row = λ p pc w. refl; means = λ line v w a k. refl; numbered = refl }
+arithmetic_by Band h = record { opcode = BAnd; event = of_band; number = 13; small = lit< tt; emits = λ x y t line. refl; row = λ p pc w. refl; means = λ line v w a k. refl; numbered = refl }
+arithmetic_by Bor h = record { opcode = BOr; event = of_bor; number = 14; small = lit< tt; emits = λ x y t line. refl; row = λ p pc w. refl; means = λ line v w a k. refl; numbered = refl }
+arithmetic_by Bxor h = record { opcode = BXor; event = of_bxor; number = 15; small = lit< tt; emits = λ x y t line. refl; row = λ p pc w. refl; means = λ line v w a k. refl; numbered = refl }
+arithmetic_by ShiftLeft h = record { opcode = Shl; event = of_shl; number = 16; small = lit< tt; emits = λ x y t line. refl; row = λ p pc w. refl; means = λ line v w a k. refl; numbered = refl }
+arithmetic_by ShiftRight h = record { opcode = Shr; event = of_shr; number = 17; small = lit< tt; emits = λ x y t line. refl; row = λ p pc w. refl; means = λ line v w a k. refl; numbered = refl }
 arithmetic_by _ h = absurd h
 
 pub integer_same : (s : Shape) → integer_of_shape s ≡ integer_in s
@@ -85,11 +85,13 @@ module _ (p : Prototype) where
       ∙ own_step p (read_register x) (λ u _. own (read_register y) (λ v _. handled p a.pc w (Some event) (read u ∷ read v ∷ []))) [] a c (lt-ltb x (length a.registers) x_room)
       ∙ own_step p (read_register y) (λ v _. handled p a.pc w (Some event) (read 0 ∷ read v ∷ [])) (nth a.registers x ∷ []) a c (lt-ltb y (length a.registers) y_room)
 
-  -- and its answer goes to the register of the instruction in front of it
-  pub event_rest : (t x y number pc : ℕ) (op : Opcode) → at p pc ≡ Some (abc op t x y false) → at p (pc + 1) ≡ Some (abc MmBin x y number false) → t < 2 ^ 8
+  -- and the answer of an event goes to the register of the instruction in front of it
+  pub event_rest : (half op : Opcode) (t x field y number pc : ℕ) → at p pc ≡ Some (abc op t x field false) → at p (pc + 1) ≡ Some (abc half x y number false) → t < 2 ^ 8
+      → rest {V = Value} for_value p (pc + 1) half (abc half x y number false) ≡ to_register_before p (pc + 1)
       → rest_at {V = Value} for_value p (pc + 1) ≡ to_register t (read 0)
-  event_rest t x y number pc op front here fits =
+  event_rest half op t x field y number pc front here fits comes =
       ap (λ o. elim o as (λ _. Text) [ None ↦ trap | Some w ↦ rest_by {V = Value} for_value p (pc + 1) w (opcode_of w) ]) here
-      ∙ ap (rest_by {V = Value} for_value p (pc + 1) (abc MmBin x y number false)) (opcode_of-abc MmBin x y number false)
+      ∙ ap (rest_by {V = Value} for_value p (pc + 1) (abc half x y number false)) (opcode_of-abc half x y number false)
+      ∙ comes
       ∙ ap (λ o. elim o as (λ _. Text) [ None ↦ trap | Some w ↦ to_register (a_of w) (read 0) ]) (front_of pc ∙ front)
-      ∙ ap (λ r. to_register r (read 0)) (a_of-abc op t x y false fits)
+      ∙ ap (λ r. to_register r (read 0)) (a_of-abc op t x field false fits)

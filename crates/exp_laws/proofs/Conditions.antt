@@ -1,25 +1,22 @@
 -- The law of a condition: both come to the place behind it where the truth is k, and else to the place that its jumps lead to.
-use Rattle.std.proofs.Common.{◌⊎◌, inl, inr, ◌≡◌, ℕ, ◌+◌, ◌<◌, ◌≤◌, Bool, true, false, cond, not, List, [], ◌∷◌, ◌++◌, length, refl, sym, ap, ap₂, subst, ◌∙◌, arith, length-append, pos}
-use Rattle.int_core.specs.Value.{Value, known, boolean, nth, shape, holds, same_truth}
-use Rattle.int_core.specs.Operations.{Operation, equal, less, less_equal}
+use Rattle.std.proofs.Common.{◌⊎◌, inl, inr, ◌≡◌, ℕ, ◌+◌, ◌<◌, ◌≤◌, ◌^◌, Bool, true, false, cond, not, List, [], ◌∷◌, ◌++◌, length, refl, sym, ap, subst, ◌∙◌, arith, length-append, pos}
+use Rattle.int_core.specs.Value.{Value, known, boolean, integer, nth, shape, holds, same_truth}
+use Rattle.int_core.specs.Operations.{Operation}
 use Rattle.int_core.specs.Ask.{operates, Captured}
 use Rattle.tree_core.specs.declared.operator.UnOp.TheVariants.{Neg, BitNot, Not as Negation, Len as Length}
 use Rattle.tree_core.specs.declared.operator.BinOp.{BinOp}
 use Rattle.tree_core.specs.declared.operator.BinOp.TheVariants.{Add as Plus, Sub as Minus, Mul as Times, Mod as Modulo, Idiv, Band, Bor, Bxor, Shl as ShiftLeft, Shr as ShiftRight, Concat as Join, Eq as Equal, Ne, Lt as Less, Le as AtMost, Gt, Ge}
 use Rattle.tree_core.specs.Tree.{Exp, Nil, True, False, Int, Str, Vararg, Function, Var, Index, Call, Method, Unary, Binary, And, Or, Paren, Table}
-use Rattle.tree_activation.specs.Work.{give, evaluate, Work, Pending, operand_of, left_of, right_of, and_right, or_right, first_only}
+use Rattle.tree_activation.specs.Work.{give, evaluate, Work, Pending, operand_of, right_of, and_right, or_right, first_only}
 use Rattle.tree_activation.specs.Work as tree
 use Rattle.tree_activation.specs.Asking.{first}
-use Rattle.tree_activation.specs.Expressions.{binary, truth_of}
+use Rattle.tree_activation.specs.Expressions.{truth_of}
 use Rattle.code_core.specs.declared.opcode.Opcode.{Opcode}
-use Rattle.code_core.specs.declared.opcode.Opcode.TheVariants.{Jmp, Test, Eq, Lt, Le}
-use Rattle.code_core.specs.declared.instruction.Instruction.{Instruction}
-use Rattle.code_core.specs.Instruction.{op_ax, a_of, b_of}
-use Rattle.code_core.specs.Prototype.{Prototype}
+use Rattle.code_core.specs.declared.opcode.Opcode.TheVariants.{Jmp, Test}
+use Rattle.code_core.specs.Instruction.{op_ax}
 use Rattle.machine_core.specs.World.{for_truth}
-use Rattle.machine_core.specs.Text.{read, own, read_register, go_by}
-use Rattle.machine_core.specs.InstructionRows.{row_of, compares}
-use Rattle.machine_core.specs.Talk.{before, amid, talk, says_so, heard}
+use Rattle.machine_core.specs.Text.{go_by}
+use Rattle.machine_core.specs.Talk.{before, amid, talk, talk_step, says_so, heard}
 use Rattle.code_of.specs.Coded.{Coded, jump_over}
 use Rattle.code_of.specs.Expressions.{made_by, exp_code}
 use Rattle.exp_laws.specs.Setting.{Setting}
@@ -31,43 +28,39 @@ use Rattle.exp_laws.proofs.Placing.{HasAt, has_front, has_back, here_abc}
 use Rattle.exp_laws.proofs.Asking.{asks_alike}
 use Rattle.exp_laws.proofs.Steps.{go_step}
 use Rattle.exp_laws.proofs.Tests.{test_on, test_past, jump_step}
-use Rattle.exp_laws.proofs.Comparisons.{told_truth, compare_step, compare_rest}
+use Rattle.exp_laws.proofs.Comparisons.{Comparison, comparison_by, told_truth, compare_rest}
+use Rattle.exp_laws.proofs.OperatorForms.{one_of, compared_so, numbered_so}
+use Rattle.exp_laws.proofs.Operands.{operands_goes}
 use Rattle.exp_laws.proofs.Going.{next_there, at_place}
 use Rattle.exp_laws.proofs.Exps.{exp_same, room_some}
-use Rattle.code_of.specs.Conditions.{jump_if, pick, compared, line_of, value_test, test_code}
+use Rattle.code_of.specs.Conditions.{jump_if, pick, compared, is_compared, line_of, value_test, test_code}
+use Rattle.code_of.specs.Operands.{second_of, first_of, operands_code, operands_room}
+use Rattle.code_of.specs.Operators.{number_opcode}
 
 -- operators that compare, and the others
 
-pub record Compares (op : BinOp) : Type 0 where
-  pub opcode : Opcode
-  pub operation : Operation
-  pub wanted : Bool
-  pub swapped : Bool
-  pub emits : (other : List Coded) (by : Opcode → (swapped wanted : Bool) → List Coded) → compared op other by ≡ by opcode swapped wanted
-  pub row : (p : Prototype) (pc : ℕ) (w : Instruction) → row_of p pc opcode w ≡ own (read_register (a_of w)) (λ x _. own (read_register (b_of w)) (λ y _. compares operation (read x) (read y) w))
-  pub means : (line : ℕ) (v w : Value) (a : tree.Activation) (k : List Work) → binary op line v w a k ≡ truth_of operation wanted (pick swapped v w) (pick swapped w v) line a k
+pub record Other (op : BinOp) : Type 0 where
+  pub tests : (other : List Coded) (by : Opcode → (swapped wanted : Bool) → List Coded) → compared op other by ≡ other
+  pub compares_not : is_compared op ≡ false
 
-abbrev Other : BinOp → Type 0
-Other op = (other : List Coded) (by : Opcode → (swapped wanted : Bool) → List Coded) → compared op other by ≡ other
-
-sort : (op : BinOp) → Compares op ⊎ Other op
-sort Equal = inl (record { opcode = Eq; operation = equal; wanted = true; swapped = false; emits = λ o b. refl; row = λ p pc w. refl; means = λ line v w a k. refl })
-sort Ne = inl (record { opcode = Eq; operation = equal; wanted = false; swapped = false; emits = λ o b. refl; row = λ p pc w. refl; means = λ line v w a k. refl })
-sort Less = inl (record { opcode = Lt; operation = less; wanted = true; swapped = false; emits = λ o b. refl; row = λ p pc w. refl; means = λ line v w a k. refl })
-sort AtMost = inl (record { opcode = Le; operation = less_equal; wanted = true; swapped = false; emits = λ o b. refl; row = λ p pc w. refl; means = λ line v w a k. refl })
-sort Gt = inl (record { opcode = Lt; operation = less; wanted = true; swapped = true; emits = λ o b. refl; row = λ p pc w. refl; means = λ line v w a k. refl })
-sort Ge = inl (record { opcode = Le; operation = less_equal; wanted = true; swapped = true; emits = λ o b. refl; row = λ p pc w. refl; means = λ line v w a k. refl })
-sort Plus = inr (λ o b. refl)
-sort Minus = inr (λ o b. refl)
-sort Times = inr (λ o b. refl)
-sort Modulo = inr (λ o b. refl)
-sort Idiv = inr (λ o b. refl)
-sort Band = inr (λ o b. refl)
-sort Bor = inr (λ o b. refl)
-sort Bxor = inr (λ o b. refl)
-sort ShiftLeft = inr (λ o b. refl)
-sort ShiftRight = inr (λ o b. refl)
-sort Join = inr (λ o b. refl)
+sort : (op : BinOp) → Comparison op ⊎ Other op
+sort Equal = inl (comparison_by Equal tt)
+sort Ne = inl (comparison_by Ne tt)
+sort Less = inl (comparison_by Less tt)
+sort AtMost = inl (comparison_by AtMost tt)
+sort Gt = inl (comparison_by Gt tt)
+sort Ge = inl (comparison_by Ge tt)
+sort Plus = inr (record { tests = λ o b. refl; compares_not = refl })
+sort Minus = inr (record { tests = λ o b. refl; compares_not = refl })
+sort Times = inr (record { tests = λ o b. refl; compares_not = refl })
+sort Modulo = inr (record { tests = λ o b. refl; compares_not = refl })
+sort Idiv = inr (record { tests = λ o b. refl; compares_not = refl })
+sort Band = inr (record { tests = λ o b. refl; compares_not = refl })
+sort Bor = inr (record { tests = λ o b. refl; compares_not = refl })
+sort Bxor = inr (record { tests = λ o b. refl; compares_not = refl })
+sort ShiftLeft = inr (record { tests = λ o b. refl; compares_not = refl })
+sort ShiftRight = inr (record { tests = λ o b. refl; compares_not = refl })
+sort Join = inr (record { tests = λ o b. refl; compares_not = refl })
 
 -- the field k of the instruction is right
 
@@ -147,25 +140,24 @@ module _ (S : Setting) (pending : List Pending) where
       (jump_step S.code (of_code S pending (pc + 1) regs opened) c ahead there.0 has.1.1.0 (omega (arith, inside, S.short)) there.1)
       (at_place S pending n (pc + 1 + (ahead + 1)) (pc + 2 + ahead) opened s regs c far (away refl)))
 
-  -- two values are compared, which stand in any two registers
-  pub compare_goes : (op : BinOp) (f : Compares op) (k : Bool) (x y u ahead line n pc opened : ℕ) (s : tree.State) (v z : Value) (env regs : List Value) (c : Captured) (w : List Work)
-      → HasAt S pc (jump_if f.opcode x y (cond f.wanted (not k) k) ahead line) → pc + 2 + ahead < length S.code.own.code → x < S.code.own.stack → y < S.code.own.stack
-      → Rel S.hidden S.code.own.stack pending env c regs → nth regs x ≡ v → nth regs y ≡ z
-      → Rattle.tree_activation.specs.Activation.step s ≡ truth_of f.operation f.wanted v z line (of_tree S pending env c) w
+  -- two values are compared, wherever they stand
+  compare_goes : (opcode : Opcode) (operation : Operation) (wanted k : Bool) (x y u ahead line n pc opened : ℕ) (s : tree.State) (v z : Value) (env regs : List Value) (c : Captured) (w : List Work)
+      → HasAt S pc (jump_if opcode x y (cond wanted (not k) k) ahead line) → pc + 2 + ahead < length S.code.own.code → x < 2 ^ 8
+      → Rel S.hidden S.code.own.stack pending env c regs
+      → talk_step S.code (before (of_code S pending pc regs opened) c) ≡ says_so (operates operation (v ∷ z ∷ [])) S.code (of_code S pending pc regs opened) c (λ q b d. heard for_truth S.code q b d)
+      → Rattle.tree_activation.specs.Activation.step s ≡ truth_of operation wanted v z line (of_tree S pending env c) w
       → GoesIf n u env regs (pc + 2) w k true → GoesIf n u env regs (pc + 2 + ahead) w k false
       → Agree S n s (before (of_code S pending pc regs opened) c)
-  compare_goes op f k x y u ahead line n pc opened s v z env regs c w has inside x_room y_room rel x_is y_is e on away =
-      let field = cond f.wanted (not k) k in
-      asks_alike S pending n for_truth told_truth s _ (operates f.operation (v ∷ z ∷ [])) (operates f.operation (v ∷ z ∷ [])) line pc opened u env regs c w
-      (λ vs. give (known (boolean (cond f.wanted (holds (shape (first vs))) (not (holds (shape (first vs)))))) ∷ [])) e
-      (compare_step S.code f.opcode f.operation x y field (of_code S pending pc regs opened) c has.0 (f.row S.code pc) (omega (arith, S.small)) (omega (arith, S.small)) (omega (arith, rel.room)) (omega (arith, rel.room))
-      ∙ ap₂ (λ u z. says_so (operates f.operation (u ∷ z ∷ [])) S.code (of_code S pending pc regs opened) c (λ q b d. heard for_truth S.code q b d)) x_is y_is)
-      (λ m. (refl, refl)) refl rel (here_abc S f.opcode x y 0 field line pc (jump_over ahead line ∷ []) has)
-      (λ ws env1 regs1 c1 af. let truth = cond f.wanted (holds (shape (first ws))) (not (holds (shape (first ws)))) in
+  compare_goes opcode operation wanted k x y u ahead line n pc opened s v z env regs c w has inside x_fits rel asks_so e on away =
+      let field = cond wanted (not k) k in
+      asks_alike S pending n for_truth told_truth s _ (operates operation (v ∷ z ∷ [])) (operates operation (v ∷ z ∷ [])) line pc opened u env regs c w
+      (λ vs. give (known (boolean (cond wanted (holds (shape (first vs))) (not (holds (shape (first vs)))))) ∷ [])) e asks_so
+      (λ m. (refl, refl)) refl rel (here_abc S opcode x y 0 field line pc (jump_over ahead line ∷ []) has)
+      (λ ws env1 regs1 c1 af. let truth = cond wanted (holds (shape (first ws))) (not (holds (shape (first ws)))) in
       as_code S n _ _ (amid (go_by (cond (not (same_truth truth k)) (pos 1) (pos 2))) (ws ++ []) (of_code S pending pc regs1 opened) c1)
-      (compare_rest S.code f.opcode x y field ws (of_code S pending pc regs1 opened) c1 has.0 (omega (arith, S.small))
-      ∙ ap (λ b. talk S.code (go_by (cond b (pos 1) (pos 2))) (ws ++ []) (of_code S pending pc regs1 opened) c1) (field_right (holds (shape (first ws))) f.wanted k))
-      (decided (same_truth truth k) x y f.opcode field ahead line n pc opened _ regs1 (ws ++ []) c1 has inside
+      (compare_rest S.code opcode x y field ws (of_code S pending pc regs1 opened) c1 has.0 x_fits
+      ∙ ap (λ b. talk S.code (go_by (cond b (pos 1) (pos 2))) (ws ++ []) (of_code S pending pc regs1 opened) c1) (field_right (holds (shape (first ws))) wanted k))
+      (decided (same_truth truth k) x y opcode field ahead line n pc opened _ regs1 (ws ++ []) c1 has inside
       (λ is. on (known (boolean truth) ∷ []) env1 regs1 c1 opened af is) (λ is. away (known (boolean truth) ∷ []) env1 regs1 c1 opened af is)))
 
   -- what every condition does
@@ -232,14 +224,6 @@ module _ (S : Setting) (pending : List Pending) where
   pub placed_still : (e : Exp) (m n j : ℕ) → m ≡ n → IsPlaced S e n j → IsPlaced S e m j
   placed_still e m n j same h = subst (λ z. IsPlaced S e z j) (sym same) h
 
-  pub one_of : (b : Bool) (x y limit : ℕ) → x < limit → y < limit → pick b x y < limit
-  one_of true x y limit h g = g
-  one_of false x y limit h g = h
-
-  pub picked : (b : Bool) (x y : ℕ) (v w : Value) (regs : List Value) → nth regs x ≡ v → nth regs y ≡ w → nth regs (pick b x y) ≡ pick b v w
-  picked true x y v w regs e d = d
-  picked false x y v w regs e d = e
-
   pub test_same : (e : Exp) → TestSame e
   test_same (Paren line e) k ahead t j n pc opened env regs c w bound has ok inside le room rel on away =
       go_left S n _ (tree.at (evaluate e) (of_tree S pending env c) (first_only ∷ w)) _ refl
@@ -282,46 +266,47 @@ module _ (S : Setting) (pending : List Pending) where
       (short k k (first vs) n t _ _ _ o1 env regs env1 regs1 c1 w (ap (λ b. same_truth b k) (truth_not _ false is)) (or_place k pc (length front) (length second) ahead (length (front ++ second)) whole) af on away)))
   test_same (Binary line op e d) k ahead t j n pc opened env regs c w bound has ok inside le room rel on away = by (sort op)
     where
-      first_code : List Coded
-      first_code = exp_code S.code.own.constants e t j 2
-
-      second_code : List Coded
-      second_code = exp_code S.code.own.constants d (t + 1) (j + made_by e) 2
-
       other : List Coded
       other = value_test S.code.own.constants (Binary line op e d) k ahead t j
 
-      code_by : Opcode → (swapped wanted : Bool) → List Coded
-      code_by opcode swapped wanted = exp_code S.code.own.constants e t j 2 ++ (exp_code S.code.own.constants d (t + 1) (j + made_by e) 2
-          ++ jump_if opcode (pick swapped t (t + 1)) (pick swapped (t + 1) t) (cond wanted (not k) k) ahead line)
+      by_registers : Opcode → (swapped wanted : Bool) → (x y : ℕ) → List Coded
+      by_registers opcode swapped wanted x y = jump_if opcode (pick swapped x y) (pick swapped y x) (cond wanted (not k) k) ahead line
 
-      by : Compares op ⊎ Other op → Agree S n (tree.at (evaluate (Binary line op e d)) (of_tree S pending env c) w) (before (of_code S pending pc regs opened) c)
-      by (inr is) =
-          let size = ap length (is other code_by) in
-          by_value (Binary line op e d) k ahead t j n pc opened env regs c w bound (subst (HasAt S pc) (is other code_by) has) ok (omega (arith, inside, size)) le room rel
+      by_number : (wanted : Bool) → (x m : ℕ) → List Coded
+      by_number wanted x m = jump_if (number_opcode op) x (m + 127) (cond wanted (not k) k) ahead line
+
+      code_by : Opcode → (swapped wanted : Bool) → List Coded
+      code_by opcode swapped wanted =
+          operands_code (second_of op d) (first_of (second_of op d) e) (exp_code S.code.own.constants e t j 2) (exp_code S.code.own.constants d (t + 1) (j + made_by e) 2) t
+          (by_registers opcode swapped wanted) (by_number wanted)
+
+      by : Comparison op ⊎ Other op → Agree S n (tree.at (evaluate (Binary line op e d)) (of_tree S pending env c) w) (before (of_code S pending pc regs opened) c)
+      by (inr f) =
+          let is = f.tests other code_by in
+          let size = ap length is in
+          let own : ◌≡◌ {A = ℕ} (cond (is_compared op) 0 1) 1 = ap (λ b. cond b 0 1) f.compares_not in
+          by_value (Binary line op e d) k ahead t j n pc opened env regs c w bound (subst (HasAt S pc) is has) ok (omega (arith, inside, size)) le
+          (subst (λ b. t + operands_room b (second_of op d) (first_of (second_of op d) e) (room_of S.code.own.constants e 2) (room_of S.code.own.constants d 2) ≤ S.code.own.stack) own room) rel
           (if_at n t _ _ env regs w k true (omega (arith, size)) on) (if_at n t _ _ env regs w k false (omega (arith, size)) away)
       by (inl f) =
-          let size = ap length (f.emits other code_by) in
-          let there = subst (HasAt S pc) (f.emits other code_by) has in
-          let last_code = jump_if f.opcode (pick f.swapped t (t + 1)) (pick f.swapped (t + 1) t) (cond f.wanted (not k) k) ahead line in
-          let whole = length-append (exp_code S.code.own.constants e t j 2) (exp_code S.code.own.constants d (t + 1) (j + made_by e) 2 ++ last_code) in
-          let rest = length-append (exp_code S.code.own.constants d (t + 1) (j + made_by e) 2) last_code in
-          let behind = has_back S pc first_code (second_code ++ last_code) there in
-          let some = room_some S.code.own.constants d in
+          let is = f.tests other code_by in
+          let size = ap length is in
+          let end = pc + length (code_by f.opcode f.swapped f.wanted) in
           go_left S n _ (tree.at (evaluate e) (of_tree S pending env c) (right_of line op d ∷ w)) _ refl
-          (exp_same S pending e t j n pc opened env regs c (right_of line op d ∷ w) bound (has_front S pc first_code (second_code ++ last_code) there) ok.0 (omega (arith, inside, size, whole)) le (omega arith) rel
-          (λ vs env1 regs1 c1 o1 af eq one. go_left S n _ (tree.at (evaluate d) (of_tree S pending env1 c1) (left_of line op (first vs) ∷ w)) _ refl
-          (exp_same S pending d (t + 1) (j + made_by e) n (pc + length first_code) o1 env1 regs1 c1 (left_of line op (first vs) ∷ w) bound (has_front S (pc + length first_code) second_code last_code behind)
-          (placed_still d _ _ _ af.size ok.1) (omega (arith, inside, size, whole, rest)) (omega (arith, le, af.size)) (omega arith) af.rel
-          (λ ws env2 regs2 c2 o2 af2 eq2 one2. let both = after_then S.hidden S.code.own.stack pending env regs env1 regs1 env2 regs2 c1 c2 t (t + 1) (omega arith) af af2 in
-          let left_is = af2.keeps t (omega (arith, le, af.size)) (omega arith) ∙ eq in
-          compare_goes op f k (pick f.swapped t (t + 1)) (pick f.swapped (t + 1) t) t ahead line n (pc + length first_code + length second_code) o2 _ (pick f.swapped (first vs) (first ws)) (pick f.swapped (first ws) (first vs)) env2 regs2 c2 w
-          (has_back S (pc + length first_code) second_code last_code behind) (omega (arith, inside, size, whole, rest))
-          (one_of f.swapped t (t + 1) S.code.own.stack (omega (arith, room, some)) (omega (arith, room, some))) (one_of f.swapped (t + 1) t S.code.own.stack (omega (arith, room, some)) (omega (arith, room, some)))
-          af2.rel (picked f.swapped t (t + 1) (first vs) (first ws) regs2 left_is eq2) (picked f.swapped (t + 1) t (first ws) (first vs) regs2 eq2 left_is)
-          (f.means line (first vs) (first ws) (of_tree S pending env2 c2) w)
-          (if_at n t _ _ env2 regs2 w k true (omega (arith, size, whole, rest)) (if_after n t _ env regs env2 regs2 c2 w k true both on))
-          (if_at n t _ _ env2 regs2 w k false (omega (arith, size, whole, rest)) (if_after n t _ env regs env2 regs2 c2 w k false both away))))))
+          (operands_goes S pending op line e d (by_registers f.opcode f.swapped f.wanted) (by_number f.wanted) n t end env regs w (cond (is_compared op) 0 1) j pc opened c (exp_same S pending e) (exp_same S pending d)
+          (room_some S.code.own.constants e) (room_some S.code.own.constants d) bound (subst (HasAt S pc) is has) ok.0 ok.1 refl (omega (arith, inside, size)) le room rel
+          (λ x y place o1 v ws env1 regs1 c1 af x_room y_room x_is y_is seats here ends.
+          compare_goes f.opcode f.operation f.wanted k (pick f.swapped x y) (pick f.swapped y x) t ahead line n place o1 _ (pick f.swapped v (first ws)) (pick f.swapped (first ws) v) env1 regs1 c1 w here (omega (arith, inside, size, ends))
+          (one_of S pending f.swapped x y (2 ^ 8) (omega (arith, x_room, S.small)) (omega (arith, y_room, S.small))) af.rel
+          (compared_so S pending op f x y place o1 (cond f.wanted (not k) k) v (first ws) env1 regs1 c1 here.0 x_room y_room af.rel x_is y_is) (f.means line v (first ws) (of_tree S pending env1 c1) w)
+          (if_at n t _ _ env1 regs1 w k true (omega (arith, size, ends)) (if_after n t _ env regs env1 regs1 c1 w k true af on))
+          (if_at n t _ _ env1 regs1 w k false (omega (arith, size, ends)) (if_after n t _ env regs env1 regs1 c1 w k false af away)))
+          (λ x m place o1 v env1 regs1 c1 af x_room x_is form here ends. let z = known (integer (pos m)) in
+          compare_goes (number_opcode op) f.operation f.wanted k x (m + 127) t ahead line n place o1 _ (pick f.swapped v z) (pick f.swapped z v) env1 regs1 c1 w here (omega (arith, inside, size, ends))
+          (omega (arith, x_room, S.small)) af.rel
+          (numbered_so S pending op f x m place o1 (cond f.wanted (not k) k) v env1 regs1 c1 here.0 x_room form.numeral.small af.rel x_is) (f.means line v z (of_tree S pending env1 c1) w)
+          (if_at n t _ _ env1 regs1 w k true (omega (arith, size, ends)) (if_after n t _ env regs env1 regs1 c1 w k true af on))
+          (if_at n t _ _ env1 regs1 w k false (omega (arith, size, ends)) (if_after n t _ env regs env1 regs1 c1 w k false af away))))
   test_same (True line) true ahead t j n pc opened env regs c w bound has ok inside le room rel on away =
       go_left S n _ (tree.at (give (known (boolean true) ∷ [])) (of_tree S pending env c) w) _ refl
       (at_place S pending n pc (pc + 0) opened _ regs c (omega arith) (on (known (boolean true) ∷ []) env regs c opened (after_none S.hidden S.code.own.stack pending env regs c t rel) refl))

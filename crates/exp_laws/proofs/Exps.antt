@@ -3,7 +3,7 @@ use Rattle.std.proofs.Common.{◌≡◌, ℕ, ◌+◌, ◌-◌, ◌<◌, ◌≤�
 use Rattle.int_core.specs.Value.{Value, a_table, object as reference, same_truth, known, nil, boolean, nth, shape, holds}
 use Rattle.int_core.specs.Ask.{Captured, goes_on}
 use Rattle.tree_core.specs.Tree.{Exp, Nil, True, False, Int, Str, Vararg, Function, Var, Index, Call, Method, Unary, Binary, And, Or, Paren, Table, Exps, EndExps, MoreExps, Fields, EndFields, MoreFields, Item, Keyed}
-use Rattle.tree_activation.specs.Work.{Purpose, for_call, evaluate, give, collect, construct, item_of, keyed_value, keyed_store, callee_of, method_of, listed, Work, Pending, key_of, object_of, operand_of, right_of, left_of, and_right, or_right, first_only}
+use Rattle.tree_activation.specs.Work.{Purpose, for_call, evaluate, give, collect, construct, item_of, keyed_value, keyed_store, callee_of, method_of, listed, Work, Pending, key_of, object_of, operand_of, right_of, and_right, or_right, first_only}
 use Rattle.tree_activation.specs.Work as tree
 use Rattle.tree_activation.specs.Activation.{takes_all, step}
 use Rattle.tree_activation.specs.Asking.{first}
@@ -15,7 +15,9 @@ use Rattle.code_core.specs.Check.{fixed, open_from}
 use Rattle.machine_core.specs.Talk.{before}
 use Rattle.code_of.specs.Coded.{with_abc, jump_over}
 use Rattle.code_of.specs.Constants.{is_small}
-use Rattle.code_of.specs.Operators.{self_code, prefix_code, operator_code}
+use Rattle.code_of.specs.Operands.{second_of, first_of}
+use Rattle.code_of.proofs.Operands.{some_operands}
+use Rattle.code_of.specs.Operators.{self_code, prefix_code, operator_code, number_code}
 use Rattle.code_of.specs.Expressions.{made_by, count, is_open, ends_open, Wanted, results_field, one_less, field_of, wanted_after, list_field, exp_code, exps_code, fields_code, set_list}
 use Rattle.exp_laws.specs.Setting.{Setting}
 use Rattle.exp_laws.proofs.Registers.{Rel, After, after_none, after_then, lower}
@@ -35,7 +37,8 @@ use Rattle.code_of.specs.Rooms.{room_of, room_of_fields, room_of_list, room_of_v
 use Rattle.code_of.proofs.Rooms.{name_room, self_room}
 use Rattle.exp_laws.proofs.Going.{Given, Filled, Goes, GoesFilled, at_place, goes_at, goes_after, one_goes}
 use Rattle.exp_laws.proofs.NameForms.{constant_goes, integer_goes, index_goes, name_goes}
-use Rattle.exp_laws.proofs.OperatorForms.{unary_goes, binary_goes, decides_goes}
+use Rattle.exp_laws.proofs.OperatorForms.{unary_goes, binary_goes, number_goes, decides_goes}
+use Rattle.exp_laws.proofs.Operands.{ExpSame, operands_goes}
 
 and_decides : {A : Type 0} (x y : A) (b : Bool) → same_truth b false ≡ true → cond b x y ≡ y
 and_decides x y false e = refl
@@ -67,7 +70,7 @@ room_some cs (Index line object key) = let h = room_some cs object in omega (ari
 room_some cs (Call line f es) = let h = room_some cs f in omega (arith, h)
 room_some cs (Method line object name es) = let h = room_some cs object in omega (arith, h)
 room_some cs (Unary line op e) = room_some cs e
-room_some cs (Binary line op e d) = let h = room_some cs e in omega (arith, h)
+room_some cs (Binary line op e d) = some_operands (second_of op d) (first_of (second_of op d) e) (room_of cs e 2) (room_of cs d 2) (room_some cs e)
 room_some cs (And line e d) = let h = room_some cs e in omega (arith, h)
 room_some cs (Or line e d) = let h = room_some cs e in omega (arith, h)
 room_some cs (Paren line e) = room_some cs e
@@ -156,15 +159,7 @@ module _ (S : Setting) (pending : List Pending) where
       → GoesBy n e field t env regs (pc + length (exp_code S.code.own.constants e t j field)) k
       → Agree S n (tree.at (evaluate e) (of_tree S pending env c) k) (before (of_code S pending pc regs opened) c)
 
-  abbrev pub ExpSame : Exp → Type 0
-  ExpSame e =
-      (t j n pc opened : ℕ) (env regs : List Value) (c : Captured) (k : List Work)
-      → n ≤ S.bound → HasAt S pc (exp_code S.code.own.constants e t j 2) → IsPlaced S e (length env) j → pc + length (exp_code S.code.own.constants e t j 2) < length S.code.own.code
-      → length env ≤ t → t + room_of S.code.own.constants e 2 ≤ S.code.own.stack → Rel S.hidden S.code.own.stack pending env c regs
-      → Goes S pending n (is_open e) t env regs (pc + length (exp_code S.code.own.constants e t j 2)) k
-      → Agree S n (tree.at (evaluate e) (of_tree S pending env c) k) (before (of_code S pending pc regs opened) c)
-
-  one_same : (e : Exp) → AllSame e → ExpSame e
+  one_same : (e : Exp) → AllSame e → ExpSame S pending e
   one_same e all t j n pc opened env regs c k bound has ok inside le room rel goes =
       all 2 t j n pc opened env regs c k bound has (lit< tt) ok inside le room rel
       (first_by n e t env regs (pc + length (exp_code S.code.own.constants e t j 2)) k goes)
@@ -368,24 +363,16 @@ module _ (S : Setting) (pending : List Pending) where
         (λ vs env1 regs1 c1 o1 af eq one. unary_goes S pending op n false line t (pc + length code) o1 vs env1 regs1 c1 k (has_back S pc code last_code has) (omega (arith, inside, sum)) (omega (arith, le, af.size)) (omega (arith, room, some)) af.rel eq
         (goes_at S pending n false t _ (pc + length (code ++ last_code)) env1 regs1 k (omega (arith, sum)) (goes_after S pending n false t _ env regs env1 regs1 c1 k af goes))))
     all_same (Binary line op e d) field t j n pc opened env regs c k bound has fits ok inside le room rel goes =
-        let first_code = exp_code S.code.own.constants e t j 2 in
-        let second_code = exp_code S.code.own.constants d (t + 1) (j + made_by e) 2 in
-        let last_code = operator_code op t line in
-        let behind = has_back S pc first_code (second_code ++ last_code) has in
-        let whole = length-append first_code (second_code ++ last_code) in
-        let rest = length-append second_code last_code in
-        let some = room_some S.code.own.constants d in
+        let constants = S.code.own.constants in
+        let end = pc + length (exp_code constants (Binary line op e d) t j 2) in
+        let some = some_operands (second_of op d) (first_of (second_of op d) e) (room_of constants e 2) (room_of constants d 2) (room_some constants e) in
         go_left S n _ (tree.at (evaluate e) (of_tree S pending env c) (right_of line op d ∷ k)) _ refl
-        (one_same e (all_same e) t j n pc opened env regs c (right_of line op d ∷ k) bound (has_front S pc first_code (second_code ++ last_code) has) ok.0 (omega (arith, inside, whole)) le (omega arith) rel
-        (λ vs env1 regs1 c1 o1 af eq one. go_left S n _ (tree.at (evaluate d) (of_tree S pending env1 c1) (left_of line op (first vs) ∷ k)) _ refl
-        (one_same d (all_same d) (t + 1) (j + made_by e) n (pc + length first_code) o1 env1 regs1 c1 (left_of line op (first vs) ∷ k) bound (has_front S (pc + length first_code) second_code last_code behind)
-        (placed d _ _ _ af.size ok.1) (omega (arith, inside, whole, rest)) (omega (arith, le, af.size)) (omega arith) af.rel
-        (λ ws env2 regs2 c2 o2 af2 eq2 one2. binary_goes S pending op n false line t (pc + length first_code + length second_code) o2 (first vs) ws env2 regs2 c2 k
-        (has_back S (pc + length first_code) second_code last_code behind) (omega (arith, inside, whole, rest)) (omega (arith, le, af.size, af2.size)) (omega (arith, some)) af2.rel
-        (af2.keeps t (omega (arith, le, af.size)) (omega arith) ∙ eq) eq2
-        (goes_at S pending n false t _ (pc + length (first_code ++ (second_code ++ last_code))) env2 regs2 k (omega (arith, whole, rest))
-        (goes_after S pending n false t _ env regs env2 regs2 c2 k
-        (after_then S.hidden S.code.own.stack pending env regs env1 regs1 env2 regs2 c1 c2 t (t + 1) (omega arith) af af2) goes))))))
+        (operands_goes S pending op line e d (λ x y. operator_code op x y t line) (λ x m. number_code op x m t line) n t end env regs k 1 j pc opened c (one_same e (all_same e)) (one_same d (all_same d)) (room_some constants e) (room_some constants d)
+        bound has ok.0 ok.1 refl inside le room rel
+        (λ x y place o1 v ws env1 regs1 c1 af x_room y_room x_is y_is seats here ends. binary_goes S pending op n false line x y t place o1 v ws env1 regs1 c1 k here (omega (arith, inside, ends)) (omega (arith, le, af.size)) (omega (arith, room, some)) x_room y_room seats af.rel x_is y_is
+        (goes_at S pending n false t _ end env1 regs1 k ends (goes_after S pending n false t _ env regs env1 regs1 c1 k af goes)))
+        (λ x m place o1 v env1 regs1 c1 af x_room x_is form here ends. number_goes S pending op d m form n false line x t place o1 v env1 regs1 c1 k here (omega (arith, inside, ends)) (omega (arith, le, af.size)) (omega (arith, room, some)) x_room af.rel x_is
+        (goes_at S pending n false t _ end env1 regs1 k ends (goes_after S pending n false t _ env regs env1 regs1 c1 k af goes))))
     all_same (And line e d) field t j n pc opened env regs c k bound has fits ok inside le room rel goes =
         let first_code = exp_code S.code.own.constants e t j 2 in
         let second_code = exp_code S.code.own.constants d t (j + made_by e) 2 in
@@ -600,7 +587,7 @@ module _ (S : Setting) (pending : List Pending) where
         (after_then S.hidden S.code.own.stack pending env1 regs1 env2 regs2 env3 regs3 c2 c3 t t (omega arith) (lower S.hidden S.code.own.stack pending env1 regs1 env2 regs2 c2 (t + 2) t (omega arith) af2) (lower S.hidden S.code.own.stack pending env2 regs2 env3 regs3 c3 (t + 1) t (omega arith) af3))) goes)))))))
 
   -- the code of an expression of which one value is wanted
-  pub exp_same : (e : Exp) → ExpSame e
+  pub exp_same : (e : Exp) → ExpSame S pending e
   exp_same e = one_same e (all_same e)
 
   -- the code of a call or of `...` with any field C

@@ -25,4 +25,6 @@ pub mod Loads
 pub mod Prefixes
 pub mod Tests
 pub mod Comparisons
+pub mod Sums
+pub mod Operands
 pub mod Conditions

@@ -2,13 +2,14 @@
 use Rattle.std.proofs.Common.{◌≡◌, ℕ, zero, suc, ◌+◌, ◌<◌, ◌≤◌, ◌^◌, lit<, pos, negsuc, ◌+ℤ◌, ◌-ℤ◌, Bool, true, false, cond, List, [], ◌∷◌, ◌++◌, length, take, Option, Some, None, refl, sym, ap, ap₂, subst, ◌∙◌, arith, length-append}
 use Rattle.std.specs.Prelude.{codes, nat_lt}
 use borrow.Author.Tests.{lt-ltb}
-use Rattle.int_core.specs.Value.{Value, known, nil, bind, nth, range, write, shape, holds, is_nil}
+use Rattle.int_core.specs.Value.{Value, known, nil, bind, nth, range, write, shape, holds, is_nil, fitted}
+use Rattle.int_core.proofs.ValueLemmas.{length_fitted}
 use Rattle.int_core.specs.Ask.{calls, pays, marks, values_in, Reply, values, faulted, left, Captured, brought, Next, goes_on, stuck, IsChecked}
 use Rattle.tree_core.specs.declared.name.Name.{Name}
 use Rattle.tree_core.specs.Tree.{Block, GenFor, Exps, EndExps}
 use Rattle.tree_activation.specs.Work.{Control, complete, collect, for_iterating, mark, run, pay, leave_scope, test_round, enter_round, iterating, Work, Pending}
 use Rattle.tree_activation.specs.Work as tree
-use Rattle.tree_activation.specs.Asking.{first, fitted, go, with_pending}
+use Rattle.tree_activation.specs.Asking.{first, go, with_pending}
 use Rattle.tree_activation.specs.Asking as trees
 use Rattle.tree_activation.specs.Statements.{point_of}
 use Rattle.code_core.specs.declared.opcode.Opcode.TheVariants.{Close, TForPrep, TForCall, TForLoop}
@@ -48,7 +49,7 @@ use Rattle.stat_laws.proofs.Standing.{strong, part, ascends_under, below_higher,
 use Rattle.stat_laws.proofs.Labels.{Jumps, jumps_within}
 use Rattle.stat_laws.proofs.Blocks.{has_some, below_more, StatLaw}
 use Rattle.stat_laws.proofs.Forms.{BlockLaw, loop_jumps}
-use Rattle.stat_laws.proofs.Values.{length_fitted, rel_declared, numbers_both}
+use Rattle.stat_laws.proofs.Values.{rel_declared, numbers_both}
 use Rattle.stat_laws.proofs.Assigning.{rel_assigned}
 use Rattle.stat_laws.proofs.Rounds.{told_iterator, again_text, round_text, preparing, prepare_step, iterator_step, iterator_rest, round_step}
 

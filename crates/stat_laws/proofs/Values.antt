@@ -1,13 +1,13 @@
 -- Declarations of locals, to be closed or not, and calls that are statements.
 use Rattle.std.proofs.Common.{◌≡◌, ℕ, zero, suc, ◌+◌, ◌-◌, ◌<◌, ◌≤◌, lit<, Bool, true, false, cond, List, [], ◌∷◌, ◌++◌, length, Some, ⊎_elim, refl, sym, ap, subst, ◌∙◌, arith, append_assoc, length-append}
-use Rattle.int_core.specs.Value.{Value, nth}
+use Rattle.int_core.specs.Value.{Value, nth, fitted}
+use Rattle.int_core.proofs.ValueLemmas.{length_fitted}
 use Rattle.int_core.specs.Ask.{Captured}
 use Rattle.tree_core.specs.declared.name.Declared.{Declared}
 use Rattle.tree_core.specs.declared.name.Name.{Name}
 use Rattle.tree_core.specs.Tree.{Body, Local, LocalFunction, CallStat, Exp, Exps, EndExps}
 use Rattle.tree_activation.specs.Work.{Control, complete, collect, evaluate, give, for_declaration, dropped, mark, Work, Pending, State}
 use Rattle.tree_activation.specs.Work as tree
-use Rattle.tree_activation.specs.Asking.{fitted}
 use Rattle.tree_activation.specs.Statements.{is_closed, marks_closed}
 use Rattle.code_core.specs.declared.opcode.Opcode.TheVariants.{Tbc}
 use Rattle.machine_core.specs.Talk.{before}
@@ -35,11 +35,6 @@ use Rattle.stat_laws.proofs.Closing.{AllBelow}
 use Rattle.stat_laws.proofs.Standing.{numbers, below_higher, ascends_under}
 use Rattle.stat_laws.proofs.Blocks.{StatLaw, below_more}
 use Rattle.list_laws.proofs.Tests.{split}
-
-pub length_fitted : (n : ℕ) (vs : List Value) → length (fitted n vs) ≡ n
-length_fitted zero vs = refl
-length_fitted (suc n) [] = ap suc (length_fitted n [])
-length_fitted (suc n) (v ∷ vs) = ap suc (length_fitted n vs)
 
 pub nth_fitted : (n : ℕ) (vs : List Value) (i : ℕ) → i < n → nth (fitted n vs) i ≡ nth vs i
 nth_fitted zero vs i h = absurd (omega arith)

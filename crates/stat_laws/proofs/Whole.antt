@@ -3,12 +3,12 @@ use Rattle.std.proofs.Common.{◌≡◌, ℕ, zero, suc, ◌+◌, ◌<◌, ◌�
 use Rattle.std.proofs.lemmas.List.{length-map}
 use Rattle.std.specs.Prelude.{nat_lt, slice_get, option_map, pos, negsuc, ℤ}
 use Rattle.std.proofs.lemmas.Option.{slice_get-map}
-use Rattle.int_core.specs.Value.{Value, known, nil, nth, bind}
+use Rattle.int_core.specs.Value.{Value, known, nil, nth, bind, fitted}
+use Rattle.int_core.proofs.ValueLemmas.{length_fitted}
 use Rattle.int_core.specs.Ask.{Captured}
 use Rattle.tree_core.specs.Tree.{Block, Falls, Returns, Body, BodyOf, EndStats}
 use Rattle.tree_activation.specs.Work.{complete, run, finish, leave_scope, end_of_body, Work, Pending, Passed, falls_off, returns_list, when_captured}
 use Rattle.tree_activation.specs.Work as tree
-use Rattle.tree_activation.specs.Asking as trees
 use Rattle.tree_activation.specs.Activation.{line_of_end}
 use Rattle.tree_activation.specs.Statements.{point_of}
 use Rattle.code_core.specs.declared.opcode.Opcode.TheVariants.{Return, VarArgPrep}
@@ -17,7 +17,6 @@ use Rattle.code_core.specs.declared.proto.Const.{Const}
 use Rattle.code_core.specs.Prototype.{Prototype}
 use Rattle.code_core.proofs.FieldLemmas.{opcode_of-abc, a_of-abc}
 use Rattle.machine_core.specs.InstructionRows.{next}
-use Rattle.machine_core.specs.Moves as moves
 use Rattle.machine_core.specs.Moves.{line_of}
 use Rattle.machine_core.specs.Talk.{before}
 use Rattle.code_means.specs.Means.{Means}
@@ -44,7 +43,7 @@ use Rattle.stat_laws.proofs.Returns.{return_step, return_ends, return_some}
 use Rattle.stat_laws.proofs.Ending.{ends_alike}
 use Rattle.exp_laws.proofs.Returning.{returns_alike}
 use Rattle.exp_laws.proofs.Calls.{behind_fits}
-use Rattle.stat_laws.proofs.Values.{length_fitted, nth_fitted}
+use Rattle.stat_laws.proofs.Values.{nth_fitted}
 use Rattle.stat_laws.proofs.Naming.{BlockIsNamed}
 use Rattle.stat_laws.proofs.Scopes.{body_named}
 use Rattle.stat_laws.proofs.Statements.{stats_goes}
@@ -55,18 +54,13 @@ use Rattle.stat_laws.proofs.Raised.{stats_up, return_up}
 
 -- arguments in locals and in registers
 
-length_registers : (n : ℕ) (vs : List Value) → length (moves.fitted n vs) ≡ n
-length_registers zero vs = refl
-length_registers (suc n) [] = ap suc (length_registers n [])
-length_registers (suc n) (v ∷ vs) = ap suc (length_registers n vs)
-
-nth_registers : (stack n : ℕ) (vs : List Value) (r : ℕ) → r < n → n ≤ stack → nth (moves.fitted stack (take n vs)) r ≡ nth vs r
+nth_registers : (stack n : ℕ) (vs : List Value) (r : ℕ) → r < n → n ≤ stack → nth (fitted stack (take n vs)) r ≡ nth vs r
 nth_registers stack zero vs r h le = absurd (omega arith)
 nth_registers zero (suc n) vs r h le = absurd (omega arith)
 nth_registers (suc stack) (suc n) [] zero h le = refl
 nth_registers (suc stack) (suc n) [] (suc r) h le = nth_none stack r
   where
-    nth_none : (stack r : ℕ) → nth (moves.fitted stack []) r ≡ known nil
+    nth_none : (stack r : ℕ) → nth (fitted stack []) r ≡ known nil
     nth_none zero r = refl
     nth_none (suc stack) zero = refl
     nth_none (suc stack) (suc r) = nth_none stack r
@@ -215,7 +209,7 @@ module _ (source : Option (List ℕ)) where
   body_alike N below (BodyOf params vararg inner ups line) fits arguments =
       opens S (back_field vararg (length params)) vararg N (length params) line _ regs (has_front S 0 begin whole has) (omega (arith, sized, some))
       (block_runs S (back_field vararg (length params)) inner N (length params) (length begin) (omega arith) at_whole (omega (arith, sized)) (raised inner fits.0.placed fits.1) (λ r a. absurd a) (body_named source params vararg inner ups line)
-      (trees.fitted (length params) arguments) regs 0 (length_fitted (length params) arguments) rel)
+      (fitted (length params) arguments) regs 0 (length_fitted (length params) arguments) rel)
     where
       p : Prototype
       p = code_of source (BodyOf params vararg inner ups line)
@@ -224,7 +218,7 @@ module _ (source : Option (List ℕ)) where
       S = setting source (code_of source (BodyOf params vararg inner ups line)) N (cond vararg (drop (length params) arguments) []) fits.0.small fits.0.short
 
       regs : List Value
-      regs = moves.fitted (code_of source (BodyOf params vararg inner ups line)).own.stack (take (length params) arguments)
+      regs = fitted (code_of source (BodyOf params vararg inner ups line)).own.stack (take (length params) arguments)
 
       begin : List Coded
       begin = opening vararg (length params) line
@@ -244,11 +238,11 @@ module _ (source : Option (List ℕ)) where
       some : 1 ≤ length whole
       some = whole_some (of_block inner []) (back_field vararg (length params)) inner (length params) (length begin)
 
-      rel : Rel S.hidden S.code.own.stack [] (trees.fitted (length params) arguments) no_cells regs
+      rel : Rel S.hidden S.code.own.stack [] (fitted (length params) arguments) no_cells regs
       rel =
           let wide = length_fitted (length params) arguments in
           let room = fits.0.room in
-          let all = length_registers (code_of source (BodyOf params vararg inner ups line)).own.stack (take (length params) arguments) in
+          let all = length_fitted (code_of source (BodyOf params vararg inner ups line)).own.stack (take (length params) arguments) in
           record {
             agree = λ r lr. nth_fitted (length params) arguments r (omega (arith, lr, wide)) ∙ sym (nth_registers (code_of source (BodyOf params vararg inner ups line)).own.stack (length params) arguments r (omega (arith, lr, wide)) room);
             held = tt;

@@ -7,7 +7,7 @@ use Rattle.code_of.specs.Expressions.{made_by}
 use Rattle.code_expr.specs.Leading.{led_on, Opened}
 use Rattle.code_expr.specs.Testing.{Tests, either_test, is_valued}
 use Rattle.code_expr.proofs.Leading.{opened_at}
-use Rattle.code_expr.proofs.Testing.{by_value_tests, valued_is, comparison_tests, other_tests, either_here, either_away}
+use Rattle.code_expr.proofs.Testing.{by_value_tests, valued_is, operator_is, comparison_tests, other_tests, either_here, either_away}
 use Rattle.code_expr.proofs.emitter.Emitter.+conditions.Goals as goal
 
 pub condition-returns-in-Some : goal.condition-returns-in-Some
@@ -18,7 +18,7 @@ condition-returns-in-Some t c =
     let is : plain_exp c.args.exp.now ≡ tree.Binary line c.in-Binary.op e d =
     ap (λ node. plain_exp_node node line) c.in-Binary.is ∙ ap₂ (λ x y. tree.Binary line c.in-Binary.op (plain_exp x) (plain_exp y)) (sym c.deref-in-Some.ensures) (sym c.deref-in-Some-2.ensures) in
     subst (λ x. IfOk c.compare.result (λ places. Tests c.args.self.now c.compare.new.self x c.args.wanted c.args.free places.items)) (sym is)
-    (comparison_tests c.args.self.now c.compare.new.self c.args.wanted c.args.free c.compare.result c.in-Binary.op c.comparing.result c.in-Some.comparison line e d c.comparing.ensures c.in-Some.is c.compare.ensures)
+    (comparison_tests c.args.self.now c.compare.new.self c.args.wanted c.args.free c.compare.result c.in-Binary.op c.comparing.result c.in-Some.comparison line e d c.comparing.ensures.code c.in-Some.is (operator_is c.comparing.result c.in-Some.comparison c.in-Binary.op c.in-Some.is c.comparing.ensures.operator) c.compare.ensures)
 
 pub condition-returns-in-None : goal.condition-returns-in-None
 condition-returns-in-None t c =
@@ -27,7 +27,7 @@ condition-returns-in-None t c =
     let d = plain_exp c.in-Binary.right.value in
     let is : plain_exp c.args.exp.now ≡ tree.Binary line c.in-Binary.op e d = ap (λ node. plain_exp_node node line) c.in-Binary.is in
     subst (λ x. IfOk c.by_value.result (λ places. Tests c.args.self.now c.by_value.new.self x c.args.wanted c.args.free places.items)) (sym is)
-    (other_tests c.args.self.now c.by_value.new.self c.args.wanted c.args.free c.by_value.result c.in-Binary.op c.comparing.result line e d c.comparing.ensures c.in-None.is
+    (other_tests c.args.self.now c.by_value.new.self c.args.wanted c.args.free c.by_value.result c.in-Binary.op c.comparing.result line e d c.comparing.ensures.code c.in-None.is
     (subst (λ x. IfOk c.by_value.result (λ places. Opened c.args.self.now c.by_value.new.self (λ ahead. value_test c.args.self.now.constants x c.args.wanted ahead c.args.free c.args.self.now.made) (made_by x) places.items)) is c.by_value.ensures))
 
 pub condition-returns-in-Neg : goal.condition-returns-in-Neg

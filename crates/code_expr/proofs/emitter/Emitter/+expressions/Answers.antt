@@ -5,12 +5,16 @@ use Rattle.code_core.specs.declared.opcode.Opcode.TheVariants.{Test, GetTable, S
 use Rattle.code_core.specs.declared.opcode.Opcode.TheVariants.{Call as CallCode}
 use Rattle.code_core.specs.Instruction.{abc, op_ax}
 use Rattle.code_of.specs.Coded.{with_abc}
-use Rattle.code_of.specs.Operators.{self_code, prefix_code, operator_code}
+use Rattle.code_of.specs.Operands.{local_of, second_of, first_of, seat}
+use Rattle.code_expr.specs.declared.operands.Second.TheVariants.{Register}
+use Rattle.code_of.specs.Operators.{self_code, prefix_code, operator_code, number_code}
+use Rattle.code_expr.specs.Operands.{standing, seated_code, done_code}
+use Rattle.code_expr.proofs.Seats.{seated, local_written, beside_written, beside_stands, both_written, both_stand}
 use Rattle.code_of.specs.Expressions.{exp_code, exps_code, set_list, list_field, made_by, made_in}
 use Rattle.code_expr.specs.Listing.{listed, followed}
 use Rattle.code_expr.proofs.Joining.{then_made, then_listed, listed_then, jumped}
 use Rattle.code_expr.proofs.Going.{fields_from, next_exp, next_field}
-use Rattle.std.proofs.lemmas.Result.{on_ok_weaker}
+use Rattle.std.proofs.lemmas.Result.{on_ok_weaker, IfOk-weaker}
 use Rattle.std.proofs.Common.{ap₂}
 use Rattle.tree_core.specs.Plain.{plain_exp_node}
 use Rattle.tree_core.proofs.Rows.{plain-call, plain-method}
@@ -42,12 +46,58 @@ unary-returns t c =
 pub binary-returns : goal.binary-returns
 binary-returns t c =
     let k = c.args.self.now.constants in
+    let e = plain_exp c.args.left.now in
+    let d = plain_exp c.args.right.now in
+    let s = second_of c.args.op d in
+    let left = exp_code k e c.args.target c.args.self.now.made 2 in
+    let right = exp_code k d (c.args.target + 1) (c.args.self.now.made + made_by e) 2 in
+    let last = done_code (standing s c.args.target) (seat (first_of s e) c.args.target) (λ x y. operator_code c.args.op x y c.args.target c.args.line) (λ x n. number_code c.args.op x n c.args.target c.args.line) in
+    let applied : c.apply.new.self ≡ listed c.operands.new.self last = rw c.in_ok-operands.ensures.places at c.in_ok-apply.ensures in
+    then_listed c.args.self.now c.operands.new.self c.apply.new.self (seated_code s (first_of s e) left right) (made_by e + made_by d) (λ k. last) c.in_ok-operands.ensures.code applied
+    ∙ ap (λ code. followed c.args.self.now code (made_by e + made_by d))
+    (sym (seated s e left right c.args.target (λ x y. operator_code c.args.op x y c.args.target c.args.line) (λ x n. number_code c.args.op x n c.args.target c.args.line)))
+
+pub operand-returns-in-Some-clause-code : goal.operand-returns-in-Some-clause-code
+operand-returns-in-Some-clause-code t c =
+    local_written c.args.self.now (plain_exp c.args.exp.now) c.in-Some.register (exp_code c.args.self.now.constants (plain_exp c.args.exp.now) c.args.target c.args.self.now.made 2) (sym c.local_of.ensures ∙ c.in-Some.is)
+
+pub both-returns-clause-code : goal.both-returns-clause-code
+both-returns-clause-code t c =
+    let k = c.args.self.now.constants in
     let right : c.expression-2.new.self ≡ followed c.expression.new.self (exp_code c.expression.new.self.constants (plain_exp c.args.right.now) (c.args.target + 1) c.expression.new.self.made 2) (made_by (plain_exp c.args.right.now)) =
-    rw c.in_ok-next.ensures at c.in_ok-expression-2.ensures in
-    then_made c.args.self.now c.expression.new.self c.operator.new.self (exp_code k (plain_exp c.args.left.now) c.args.target c.args.self.now.made 2) (made_by (plain_exp c.args.left.now))
-    (λ k j. exp_code k (plain_exp c.args.right.now) (c.args.target + 1) j 2 ++ operator_code c.args.op c.args.target c.args.line) (made_by (plain_exp c.args.right.now)) c.in_ok-expression.ensures
-    (then_listed c.expression.new.self c.expression-2.new.self c.operator.new.self (exp_code c.expression.new.self.constants (plain_exp c.args.right.now) (c.args.target + 1) c.expression.new.self.made 2) (made_by (plain_exp c.args.right.now))
-    (λ k. operator_code c.args.op c.args.target c.args.line) right c.in_ok-operator.ensures)
+    rw c.in_ok-above.ensures at c.in_ok-expression-2.ensures in
+    then_made c.args.self.now c.expression.new.self c.expression-2.new.self (exp_code k (plain_exp c.args.left.now) c.args.target c.args.self.now.made 2) (made_by (plain_exp c.args.left.now))
+    (λ k j. exp_code k (plain_exp c.args.right.now) (c.args.target + 1) j 2) (made_by (plain_exp c.args.right.now)) c.in_ok-expression.ensures right
+
+pub operands-returns-in-Some-clause-code : goal.operands-returns-in-Some-clause-code
+operands-returns-in-Some-clause-code t c =
+    let k = c.args.self.now.constants in
+    let e = plain_exp c.args.left.now in
+    let d = plain_exp c.args.right.now in
+    on_ok_weaker c.beside.result (beside_written c.args.self.now c.beside.new.self c.args.op d e c.in-Some.second (exp_code k e c.args.target c.args.self.now.made 2) (exp_code k d (c.args.target + 1) (c.args.self.now.made + made_by e) 2)
+    (sym c.staying.ensures ∙ c.in-Some.is)) c.beside.ensures.code
+
+pub operands-returns-in-Some-clause-places : goal.operands-returns-in-Some-clause-places
+operands-returns-in-Some-clause-places t c =
+    let e = plain_exp c.args.left.now in
+    let s = second_of c.args.op (plain_exp c.args.right.now) in
+    IfOk-weaker c.beside.result (λ o. o ≡ record { first = seat (local_of e) c.args.target; second = c.in-Some.second }) (λ o. o ≡ record { first = seat (first_of s e) c.args.target; second = standing s c.args.target })
+    (λ o h. beside_stands s c.in-Some.second e c.args.target o (sym c.staying.ensures ∙ c.in-Some.is) h) c.beside.ensures.places
+
+pub operands-returns-in-None-clause-code : goal.operands-returns-in-None-clause-code
+operands-returns-in-None-clause-code t c =
+    let k = c.args.self.now.constants in
+    let e = plain_exp c.args.left.now in
+    let d = plain_exp c.args.right.now in
+    on_ok_weaker c.both.result (both_written c.args.self.now c.both.new.self (second_of c.args.op d) e (exp_code k e c.args.target c.args.self.now.made 2) (exp_code k d (c.args.target + 1) (c.args.self.now.made + made_by e) 2) (made_by e + made_by d)
+    (sym c.staying.ensures ∙ c.in-None.is)) c.both.ensures.code
+
+pub operands-returns-in-None-clause-places : goal.operands-returns-in-None-clause-places
+operands-returns-in-None-clause-places t c =
+    let e = plain_exp c.args.left.now in
+    let s = second_of c.args.op (plain_exp c.args.right.now) in
+    IfOk-weaker c.both.result (λ o. o ≡ record { first = c.args.target; second = Register (c.args.target + 1) }) (λ o. o ≡ record { first = seat (first_of s e) c.args.target; second = standing s c.args.target })
+    (λ o h. both_stand s e c.args.target o (sym c.staying.ensures ∙ c.in-None.is) h) c.both.ensures.places
 
 pub index-returns : goal.index-returns
 index-returns t c =
@@ -154,8 +204,11 @@ keyed-returns t c =
 
 -- the second part of a tree is no greater than the greater one
 
-pub binary-expression-requires-2 : goal.binary-expression-requires-2
-binary-expression-requires-2 t c = (omega (arith, c.decreases), tt)
+pub operands-beside-requires : goal.operands-beside-requires
+operands-beside-requires t c = (omega (arith, c.decreases), tt)
+
+pub both-expression-requires-2 : goal.both-expression-requires-2
+both-expression-requires-2 t c = (omega (arith, c.decreases), tt)
 
 pub index-expression-requires-2 : goal.index-expression-requires-2
 index-expression-requires-2 t c = (omega (arith, c.decreases), tt)

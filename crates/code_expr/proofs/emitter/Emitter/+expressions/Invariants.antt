@@ -33,37 +33,49 @@ abbrev greatest_field : List Field → ℕ
 greatest_field fs = most (λ f. w_this.weight Field field_size f) fs
 
 abbrev pub decreases-expression : goal.decreases-expression
-decreases-expression l = 3 * the_size l.exp.now
+decreases-expression l = 5 * the_size l.exp.now
 
 abbrev pub decreases-unary : goal.decreases-unary
-decreases-unary l = 3 * the_size l.operand.now + 1
+decreases-unary l = 5 * the_size l.operand.now + 1
 
 abbrev pub decreases-binary : goal.decreases-binary
-decreases-binary l = 3 * max (the_size l.left.now) (the_size l.right.now) + 1
+decreases-binary l = 5 * max (the_size l.left.now) (the_size l.right.now) + 4
+
+abbrev pub decreases-operands : goal.decreases-operands
+decreases-operands l = 5 * max (the_size l.left.now) (the_size l.right.now) + 3
+
+abbrev pub decreases-beside : goal.decreases-beside
+decreases-beside l = 5 * the_size l.left.now + 2
+
+abbrev pub decreases-both : goal.decreases-both
+decreases-both l = 5 * max (the_size l.left.now) (the_size l.right.now) + 1
+
+abbrev pub decreases-operand : goal.decreases-operand
+decreases-operand l = 5 * the_size l.exp.now + 1
 
 abbrev pub decreases-index : goal.decreases-index
-decreases-index l = 3 * max (the_size l.object.now) (the_size l.key.now) + 1
+decreases-index l = 5 * max (the_size l.object.now) (the_size l.key.now) + 1
 
 abbrev pub decreases-either : goal.decreases-either
-decreases-either l = 3 * max (the_size l.first.now) (the_size l.second.now) + 1
+decreases-either l = 5 * max (the_size l.first.now) (the_size l.second.now) + 1
 
 abbrev pub decreases-call : goal.decreases-call
-decreases-call l = 3 * max (the_size l.called.now) (greatest l.arguments.now.items) + 2
+decreases-call l = 5 * max (the_size l.called.now) (greatest l.arguments.now.items) + 2
 
 abbrev pub decreases-method : goal.decreases-method
-decreases-method l = 3 * max (the_size l.object.now) (greatest l.arguments.now.items) + 2
+decreases-method l = 5 * max (the_size l.object.now) (greatest l.arguments.now.items) + 2
 
 abbrev pub decreases-list : goal.decreases-list
-decreases-list l = 3 * greatest l.list.now.items + 1
+decreases-list l = 5 * greatest l.list.now.items + 1
 
 abbrev pub decreases-table : goal.decreases-table
-decreases-table l = 3 * greatest_field l.list.now.items + 1
+decreases-table l = 5 * greatest_field l.list.now.items + 1
 
 abbrev pub decreases-field : goal.decreases-field
-decreases-field l = 3 * field_size l.field.now
+decreases-field l = 5 * field_size l.field.now
 
 abbrev pub decreases-item : goal.decreases-item
-decreases-item l = 3 * the_size l.value.now + 1
+decreases-item l = 5 * the_size l.value.now + 1
 
 abbrev pub decreases-keyed : goal.decreases-keyed
-decreases-keyed l = 3 * max (the_size l.key.now) (the_size l.value.now) + 1
+decreases-keyed l = 5 * max (the_size l.key.now) (the_size l.value.now) + 1

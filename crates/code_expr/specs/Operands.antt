@@ -1,0 +1,37 @@
+-- Where operands stand once they are written.
+use Rattle.std.specs.Prelude.{ℕ, ◌+◌, List, ◌++◌, Option, Some, None}
+use Rattle.code_of.specs.Coded.{Coded}
+use Rattle.code_of.specs.Operands.{Second, a_number, a_local, made, unless}
+use Rattle.code_expr.specs.declared.operands.Second.{Second as Standing}
+use Rattle.code_expr.specs.declared.operands.Second.TheVariants.{Number, Register}
+
+abbrev pub number_of_second : Second → Option ℕ
+number_of_second (a_number n) = Some n
+number_of_second _ = None
+
+abbrev pub local_of_second : Second → Option ℕ
+local_of_second (a_local r) = Some r
+local_of_second _ = None
+
+-- a second operand that is not made
+abbrev pub staying : Second → Option Standing
+staying (a_number n) = Some (Number n)
+staying (a_local r) = Some (Register r)
+staying made = None
+
+-- the second operand of an operator whose result goes to register t
+abbrev pub standing : Second → (t : ℕ) → Standing
+standing (a_number n) t = Number n
+standing (a_local r) t = Register r
+standing made t = Register (t + 1)
+
+-- the code of both operands
+abbrev pub seated_code : Second → Option ℕ → (first second : List Coded) → List Coded
+seated_code made at first second = first ++ second
+seated_code (a_local r) at first second = unless at first
+seated_code (a_number n) at first second = unless at first
+
+-- what is done with them, with the second one's register or with its number
+abbrev pub done_code : Standing → (x : ℕ) → (by_register by_number : (x y : ℕ) → List Coded) → List Coded
+done_code (Number n) x by_register by_number = by_number x n
+done_code (Register y) x by_register by_number = by_register x y

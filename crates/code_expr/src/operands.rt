@@ -1,0 +1,158 @@
+// Where the operands of an operator stand.
+ghost use Rattle.std.specs.Prelude.{◌≡◌};
+ghost use Rattle.tree_core.specs.Plain.{plain_exp};
+ghost use Rattle.code_of.specs.Operands.{local_at, local_of, greatest, up_to, numeral_of, second_of};
+ghost use Rattle.code_expr.specs.Operands.{number_of_second, local_of_second, staying};
+
+use tree_core::{BinOp, Exp, ExpNode, Name, Place};
+
+/// Where the second operand of an operator stands.
+#[derive(Clone, Copy, Debug, PartialEq, Eq)]
+pub(crate) enum Second {
+    /// It is a numeral in the instruction.
+    Number(usize),
+    /// It is in a register.
+    Register(usize),
+}
+
+/// Where both operands of an operator stand.
+#[derive(Clone, Copy, Debug, PartialEq, Eq)]
+pub(crate) struct Operands {
+    /// The register of the first one.
+    pub(crate) first: usize,
+    /// The second one.
+    pub(crate) second: Second,
+}
+
+/// The register of a local variable, or none for another name.
+fn local_at(name: &Name) -> Option<usize>
+    ensures { result ≡ local_at name.now.place }
+{
+    match name.place {
+        Place::Local(register) => Some(usize::from(register)),
+        Place::Unset | Place::Upvalue(_) | Place::GlobalIn(_) | Place::GlobalOf(_) => None,
+    }
+}
+
+/// The register of the local variable that an expression names, in brackets or not.
+pub(crate) fn local_of(exp: &Exp) -> Option<usize>
+    ensures { result ≡ local_of (plain_exp exp.now) }
+{
+    match &exp.node {
+        ExpNode::Var(name) => local_at(name),
+        ExpNode::Paren(inner) => local_of(inner),
+        ExpNode::Nil
+        | ExpNode::True
+        | ExpNode::False
+        | ExpNode::Int(_)
+        | ExpNode::Str(_)
+        | ExpNode::Vararg
+        | ExpNode::Function(_)
+        | ExpNode::Index(_, _)
+        | ExpNode::Call(_, _)
+        | ExpNode::Method(_, _, _)
+        | ExpNode::Unary(_, _)
+        | ExpNode::Binary(_, _, _)
+        | ExpNode::And(_, _)
+        | ExpNode::Or(_, _)
+        | ExpNode::Table(_) => None,
+    }
+}
+
+/// The greatest numeral that the instruction of an operator may hold, or none.
+fn greatest(op: BinOp) -> Option<usize>
+    ensures { result ≡ greatest op }
+{
+    match op {
+        BinOp::Add
+        | BinOp::Shr
+        | BinOp::Eq
+        | BinOp::Ne
+        | BinOp::Lt
+        | BinOp::Le
+        | BinOp::Gt
+        | BinOp::Ge => Some(128),
+        BinOp::Sub => Some(127),
+        BinOp::Mul
+        | BinOp::Mod
+        | BinOp::Idiv
+        | BinOp::Band
+        | BinOp::Bor
+        | BinOp::Bxor
+        | BinOp::Shl
+        | BinOp::Concat => None,
+    }
+}
+
+/// An integer from 0 to some number, or none.
+#[tactic(auto, using(crate::proofs::Seats::below, crate::proofs::Seats::above))]
+fn up_to(most: usize, integer: i64) -> Option<usize>
+    ensures { result ≡ up_to most integer }
+{
+    if integer < 0 {
+        return None;
+    }
+    let number = integer as usize;
+    if number > most {
+        return None;
+    }
+    Some(number)
+}
+
+/// An expression that is a numeral of at most some number, or none.
+fn numeral_of(exp: &Exp, most: Option<usize>) -> Option<usize>
+    ensures { result ≡ numeral_of (plain_exp exp.now) most }
+{
+    match &exp.node {
+        ExpNode::Int(integer) => up_to(most?, *integer),
+        ExpNode::Nil
+        | ExpNode::True
+        | ExpNode::False
+        | ExpNode::Str(_)
+        | ExpNode::Vararg
+        | ExpNode::Function(_)
+        | ExpNode::Var(_)
+        | ExpNode::Index(_, _)
+        | ExpNode::Call(_, _)
+        | ExpNode::Method(_, _, _)
+        | ExpNode::Unary(_, _)
+        | ExpNode::Binary(_, _, _)
+        | ExpNode::And(_, _)
+        | ExpNode::Or(_, _)
+        | ExpNode::Paren(_)
+        | ExpNode::Table(_) => None,
+    }
+}
+
+/// The second operand of an operator as a numeral in the instruction, or none.
+#[tactic(auto, using(crate::proofs::Seats::second_numeral))]
+fn numeral(op: BinOp, exp: &Exp) -> Option<usize>
+    ensures { result ≡ number_of_second (second_of op (plain_exp exp.now)) }
+{
+    numeral_of(exp, greatest(op))
+}
+
+/// The register of a local that is the second operand of an operator and no numeral, or none.
+#[tactic(auto, using(crate::proofs::Seats::second_joins, crate::proofs::Seats::second_number, crate::proofs::Seats::second_local))]
+fn local(op: BinOp, exp: &Exp) -> Option<usize>
+    ensures { result ≡ local_of_second (second_of op (plain_exp exp.now)) }
+{
+    if op == BinOp::Concat || numeral_of(exp, greatest(op)).is_some() {
+        return None;
+    }
+    local_of(exp)
+}
+
+/// Where the second operand of an operator stays, or none for one that is made.
+#[tactic(auto, using(crate::proofs::Seats::none_stays))]
+pub(crate) fn staying(op: BinOp, exp: &Exp) -> Option<Second>
+    ensures { result ≡ staying (second_of op (plain_exp exp.now)) }
+{
+    if let Some(number) = numeral(op, exp) {
+        return Some(Second::Number(number));
+    }
+    match local(op, exp) {
+        Some(register) => Some(Second::Register(register)),
+        None => None,
+    }
+}

@@ -1,0 +1,202 @@
+-- What operands are, by where they stand.
+use Rattle.std.proofs.Common.{leb-true, ◌≡◌, ℕ, ◌+◌, ◌≤◌, max, pos, negsuc, Bool, true, false, cond, List, ◌++◌, length, Option, Some, None, refl, sym, ap, ◌∙◌, arith, length-append}
+use Rattle.std.specs.Prelude.{nat_le}
+use Rattle.tree_core.specs.declared.operator.BinOp.{BinOp}
+use Rattle.tree_core.specs.declared.operator.BinOp.TheVariants.{Add as Plus, Sub as Minus, Mul as Times, Mod as Modulo, Idiv, Band, Bor, Bxor, Shl as ShiftLeft, Shr as ShiftRight, Concat as Join, Eq as Equal, Ne, Lt as Less, Le as AtMost, Gt, Ge}
+use Rattle.tree_core.specs.Tree.{Exp, Nil, True, False, Int, Str, Vararg, Function, Var, Index, Call, Method, Unary, Binary, And, Or, Paren, Table}
+use Rattle.code_of.specs.Coded.{Coded}
+use Rattle.code_of.specs.Expressions.{made_by}
+use Rattle.code_of.specs.Operands.{local_of, greatest, numeral_of, joins, Second, a_number, a_local, made, second_by, second_of, first_of, unless, seat, second_code, operands_code, operands_room}
+
+-- a numeral, and a local
+
+abbrev number_part : Second → Option ℕ
+number_part (a_number n) = Some n
+number_part _ = None
+
+abbrev local_part : Second → Option ℕ
+local_part (a_local r) = Some r
+local_part _ = None
+
+pub second_number : (op : BinOp) (d : Exp) (n : ℕ) → second_of op d ≡ a_number n → numeral_of d (greatest op) ≡ Some n
+second_number op d n e = by (joins op) (numeral_of d (greatest op)) (local_of d) e
+  where
+    by : (b : Bool) (number local : Option ℕ) → cond b made (second_by number local) ≡ a_number n → number ≡ Some n
+    by true number local e = let no : None ≡ Some n = ap number_part e in absurd (cc)
+    by false (Some m) local e = ap number_part e
+    by false None (Some r) e = ap number_part e
+    by false None None e = ap number_part e
+
+pub second_local : (op : BinOp) (d : Exp) (r : ℕ) → second_of op d ≡ a_local r → local_of d ≡ Some r
+second_local op d r e = by (joins op) (numeral_of d (greatest op)) (local_of d) e
+  where
+    by : (b : Bool) (number local : Option ℕ) → cond b made (second_by number local) ≡ a_local r → local ≡ Some r
+    by true number local e = let no : None ≡ Some r = ap local_part e in absurd (cc)
+    by false (Some m) local e = let no : None ≡ Some r = ap local_part e in absurd (cc)
+    by false None (Some q) e = ap local_part e
+    by false None None e = ap local_part e
+
+pub record IsNumeral (d : Exp) (n most : ℕ) : Type 0 where
+  pub line : ℕ
+  pub is : d ≡ Int line (pos n)
+  pub small : n ≤ most
+
+pub some_is : (m n : ℕ) → Some m ≡ Some n → m ≡ n
+some_is m n e = ap (λ o. elim o as (λ _. ℕ) [ None ↦ m | Some k ↦ k ]) e
+
+pub numeral_is : (d : Exp) (most n : ℕ) → numeral_of d (Some most) ≡ Some n → IsNumeral d n most
+numeral_is (Int line (pos m)) most n e = by (nat_le m most) refl e
+  where
+    by : (b : Bool) → nat_le m most ≡ b → cond b (Some m) None ≡ Some n → IsNumeral (Int line (pos m)) n most
+    by true le e = let same = some_is m n e in let below = leb-true m most le in record { line = line; is = ap (λ k. Int line (pos k)) same; small = omega (arith, same, below) }
+    by false le e = absurd (cc)
+numeral_is (Int line (negsuc m)) most n e = absurd (cc)
+numeral_is (Nil line) most n e = absurd (cc)
+numeral_is (True line) most n e = absurd (cc)
+numeral_is (False line) most n e = absurd (cc)
+numeral_is (Str line bytes) most n e = absurd (cc)
+numeral_is (Vararg line) most n e = absurd (cc)
+numeral_is (Function line body) most n e = absurd (cc)
+numeral_is (Var line name) most n e = absurd (cc)
+numeral_is (Index line object key) most n e = absurd (cc)
+numeral_is (Call line f es) most n e = absurd (cc)
+numeral_is (Method line object name es) most n e = absurd (cc)
+numeral_is (Unary line op e) most n h = absurd (cc)
+numeral_is (Binary line op e d) most n h = absurd (cc)
+numeral_is (And line e d) most n h = absurd (cc)
+numeral_is (Or line e d) most n h = absurd (cc)
+numeral_is (Paren line e) most n h = absurd (cc)
+numeral_is (Table line fs) most n h = absurd (cc)
+
+-- some operators have none
+pub numeral_none : (d : Exp) (n : ℕ) → numeral_of d None ≡ Some n → ⊥
+numeral_none (Int line z) n e = absurd (cc)
+numeral_none (Nil line) n e = absurd (cc)
+numeral_none (True line) n e = absurd (cc)
+numeral_none (False line) n e = absurd (cc)
+numeral_none (Str line bytes) n e = absurd (cc)
+numeral_none (Vararg line) n e = absurd (cc)
+numeral_none (Function line body) n e = absurd (cc)
+numeral_none (Var line name) n e = absurd (cc)
+numeral_none (Index line object key) n e = absurd (cc)
+numeral_none (Call line f es) n e = absurd (cc)
+numeral_none (Method line object name es) n e = absurd (cc)
+numeral_none (Unary line op e) n h = absurd (cc)
+numeral_none (Binary line op e d) n h = absurd (cc)
+numeral_none (And line e d) n h = absurd (cc)
+numeral_none (Or line e d) n h = absurd (cc)
+numeral_none (Paren line e) n h = absurd (cc)
+numeral_none (Table line fs) n h = absurd (cc)
+
+-- no operator takes a greater one than its field holds
+pub numeral_form : (op : BinOp) (d : Exp) (n : ℕ) → numeral_of d (greatest op) ≡ Some n → IsNumeral d n 128
+numeral_form Plus d n e = numeral_is d 128 n e
+numeral_form ShiftRight d n e = numeral_is d 128 n e
+numeral_form Equal d n e = numeral_is d 128 n e
+numeral_form Ne d n e = numeral_is d 128 n e
+numeral_form Less d n e = numeral_is d 128 n e
+numeral_form AtMost d n e = numeral_is d 128 n e
+numeral_form Gt d n e = numeral_is d 128 n e
+numeral_form Ge d n e = numeral_is d 128 n e
+numeral_form Minus d n e = let h = numeral_is d 127 n e in let le = h.small in record { line = h.line; is = h.is; small = omega (arith, le) }
+numeral_form Times d n e = absurd (numeral_none d n e)
+numeral_form Modulo d n e = absurd (numeral_none d n e)
+numeral_form Idiv d n e = absurd (numeral_none d n e)
+numeral_form Band d n e = absurd (numeral_none d n e)
+numeral_form Bor d n e = absurd (numeral_none d n e)
+numeral_form Bxor d n e = absurd (numeral_none d n e)
+numeral_form ShiftLeft d n e = absurd (numeral_none d n e)
+numeral_form Join d n e = absurd (numeral_none d n e)
+
+-- the operands of `..` are made
+
+not_local : (r : ℕ) → made ≡ a_local r → ⊥
+not_local r e = let no : None ≡ Some r = ap local_part e in absurd (cc)
+
+not_number : (n : ℕ) → made ≡ a_number n → ⊥
+not_number n e = let no : None ≡ Some n = ap number_part e in absurd (cc)
+
+joins_made : (op : BinOp) (d : Exp) → joins op ≡ true → second_of op d ≡ made
+joins_made op d joined = ap (λ b. cond b made (second_by (numeral_of d (greatest op)) (local_of d))) joined
+
+pub local_no_join : (op : BinOp) (d : Exp) (r : ℕ) → second_of op d ≡ a_local r → joins op ≡ true → ⊥
+local_no_join op d r e joined = not_local r (sym (joins_made op d joined) ∙ e)
+
+pub number_no_join : (op : BinOp) (d : Exp) (n : ℕ) → second_of op d ≡ a_number n → joins op ≡ true → ⊥
+number_no_join op d n e joined = not_number n (sym (joins_made op d joined) ∙ e)
+
+-- a local makes no function
+pub local_makes : (e : Exp) (r : ℕ) → local_of e ≡ Some r → made_by e ≡ 0
+local_makes (Var line name) r h = refl
+local_makes (Paren line e) r h = local_makes e r h
+local_makes (Int line z) r h = refl
+local_makes (Nil line) r h = refl
+local_makes (True line) r h = refl
+local_makes (False line) r h = refl
+local_makes (Str line bytes) r h = refl
+local_makes (Vararg line) r h = refl
+local_makes (Function line body) r h = absurd (cc)
+local_makes (Index line object key) r h = absurd (cc)
+local_makes (Call line f es) r h = absurd (cc)
+local_makes (Method line object name es) r h = absurd (cc)
+local_makes (Unary line op e) r h = absurd (cc)
+local_makes (Binary line op e d) r h = absurd (cc)
+local_makes (And line e d) r h = absurd (cc)
+local_makes (Or line e d) r h = absurd (cc)
+local_makes (Table line fs) r h = absurd (cc)
+
+-- the first operand stays where it is a local and the second one is not made
+
+pub first_local : (s : Second) (e : Exp) (r : ℕ) → first_of s e ≡ Some r → local_of e ≡ Some r
+first_local made e r h = absurd (cc)
+first_local (a_number n) e r h = h
+first_local (a_local q) e r h = h
+
+-- sizes
+
+unless_sized : (at : Option ℕ) (xs ys xs' ys' : List Coded) → length xs ≡ length xs' → length ys ≡ length ys' → length (unless at xs ++ ys) ≡ length (unless at xs' ++ ys')
+unless_sized None xs ys xs' ys' e d = length-append xs ys ∙ (omega (arith, e, d)) ∙ sym (length-append xs' ys')
+unless_sized (Some r) xs ys xs' ys' e d = d
+
+pub operands_sized : (s : Second) (at : Option ℕ) (first code : List Coded) (t : ℕ) (by by' num num' : (x y : ℕ) → List Coded)
+    → ((x y : ℕ) → length (by x y) ≡ length (by' x y)) → ((x n : ℕ) → length (num x n) ≡ length (num' x n))
+    → length (operands_code s at first code t by num) ≡ length (operands_code s at first code t by' num')
+operands_sized s at first code t by by' num num' e d = unless_sized at first _ first _ refl (second s)
+  where
+    second : (s : Second) → length (second_code s code t (by (seat at t)) (num (seat at t))) ≡ length (second_code s code t (by' (seat at t)) (num' (seat at t)))
+    second made =
+        let a = length-append code (by (seat at t) (t + 1)) in
+        let b = length-append code (by' (seat at t) (t + 1)) in
+        let h = e (seat at t) (t + 1) in
+        omega (arith, a, b, h)
+    second (a_local r) = e (seat at t) r
+    second (a_number n) = d (seat at t) n
+
+pub operands_short : (s : Second) (at : Option ℕ) (first code : List Coded) (t : ℕ) (by num : (x y : ℕ) → List Coded) (m : ℕ) → ((x y : ℕ) → length (by x y) ≤ m) → ((x n : ℕ) → length (num x n) ≤ m)
+    → length (operands_code s at first code t by num) ≤ length first + (length code + m)
+operands_short s at first code t by num m e d = front at (second_code s code t (by (seat at t)) (num (seat at t))) (second s)
+  where
+    front : (at : Option ℕ) (rest : List Coded) → length rest ≤ length code + m → length (unless at first ++ rest) ≤ length first + (length code + m)
+    front None rest h = let a = length-append first rest in omega (arith, a, h)
+    front (Some r) rest h = omega (arith, h)
+
+    second : (s : Second) → length (second_code s code t (by (seat at t)) (num (seat at t))) ≤ length code + m
+    second made = let a = length-append code (by (seat at t) (t + 1)) in let h = e (seat at t) (t + 1) in omega (arith, a, h)
+    second (a_local r) = let h = e (seat at t) r in omega (arith, h)
+    second (a_number n) = let h = d (seat at t) n in omega (arith, h)
+
+-- registers
+
+pub some_operands : (s : Second) (at : Option ℕ) (first second : ℕ) → 1 ≤ first → 1 ≤ operands_room 1 s at first second
+some_operands made at first second h = omega (arith, h)
+some_operands (a_local r) None first second h = h
+some_operands (a_local r) (Some x) first second h = omega arith
+some_operands (a_number n) None first second h = h
+some_operands (a_number n) (Some x) first second h = omega arith
+
+pub few_operands : (own : ℕ) (s : Second) (at : Option ℕ) (first second : ℕ) → own ≤ 1 → operands_room own s at first second ≤ max first (1 + second)
+few_operands own made at first second h = omega arith
+few_operands own (a_local r) None first second h = omega arith
+few_operands own (a_local r) (Some x) first second h = omega (arith, h)
+few_operands own (a_number n) None first second h = omega arith
+few_operands own (a_number n) (Some x) first second h = omega (arith, h)
