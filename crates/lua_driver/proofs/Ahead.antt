@@ -16,21 +16,11 @@ use Rattle.machine_moves.specs.Ending.{ending_of}
 use Rattle.machine_moves.specs.declared.ending.Ending.{Ending as Kept}
 use Rattle.machine_moves.specs.declared.ending.Ending.TheVariants.{Go}
 use Rattle.step_laws.specs.Steps.{Does, IsReady}
+use Rattle.running_frame.proofs.Chained.{steps_then}
 use Rattle.lua_driver.specs.Turns.{GoesFurther, Reaches}
 use Rattle.lua_driver.proofs.Reaching.{distance, comes_nearer, differ, reached_more, reached_none}
 
 -- some steps and some more
-
-steps_then : (rows : ℕ → Row) (n m : ℕ) (e : Ending) (W : World) → steps rows (n + m) e W ≡ and_then (steps rows n e W) (steps rows m)
-steps_then rows zero m e W = let k : zero + m ≡ m = omega arith in ap (λ n. steps rows n e W) k
-steps_then rows (suc n) m e W =
-    let k : suc n + m ≡ suc (n + m) = omega arith in
-    ap (λ n. steps rows n e W) k ∙ by (step rows e W) (steps_then rows n m)
-  where
-    by : (o : Outcome) → ((e : Ending) (W : World) → steps rows (n + m) e W ≡ and_then (steps rows n e W) (steps rows m))
-        → and_then o (steps rows (n + m)) ≡ and_then (and_then o (steps rows n)) (steps rows m)
-    by trapped h = refl
-    by (ends e W) h = h e W
 
 reached_further : {rows : ℕ → Row} {from at to : Ending} {old mid new : Memory} {fuel left less : ℕ} → Reaches rows from old fuel mid left at → Reaches rows at mid left new less to → Reaches rows from old fuel new less to
 reached_further {rows} {from} {at} {to} {old} {mid} {new} {fuel} {left} {less} r s = record {

@@ -1,6 +1,7 @@
 -- A return to a Lua frame that waits: the values move, and that frame goes on with them. These are two steps of the machine.
 use Rattle.std.proofs.Common.{◌≡◌, ℕ, ◌+◌, ◌<◌, ◌≤◌, List, [], ◌++◌, length, Option, Some, None, refl, ap, sym, subst, ◌∙◌, arith, Bool, false}
 use Rattle.std.specs.Prelude.{◌^◌, map}
+use Rattle.std.proofs.Math.Seq.{drop-append_seam}
 use Rattle.library_rows.specs.Library.{all_entries}
 use Rattle.int_core.specs.Value.{Value, bind, boolean, is_known, last}
 use Rattle.machine_core.specs.World.{Frame, lua, pcall, xpcall, handler, closing, World, Stack, stack_of}
@@ -29,7 +30,6 @@ use Rattle.machine_moves.specs.Ending.{ending_of}
 use Rattle.machine_moves.specs.Tops.{shape_of}
 use Rattle.machine_moves.specs.declared.ending.Ending.{Ending as KeptEnding}
 use Rattle.machine_moves.specs.declared.ending.Ending.TheVariants.{Go, Spent}
-use Rattle.instruction_forms.specs.declared.form.Form.TheVariants.{ReturnSome}
 use Rattle.machine_calls.specs.Tails.{Drops}
 use Rattle.machine_calls.proofs.Left.{left_is}
 use Rattle.machine_returns.specs.Waking.{HasWait, IsSolid, WaitsSo, Wakes}
@@ -47,6 +47,7 @@ use Rattle.lua_driver.specs.Returning.{Returns}
 use Rattle.lua_driver.specs.Turns.{GoesFurther}
 use Rattle.lua_driver.proofs.Ahead.{at_once}
 use Rattle.lua_driver.proofs.AnyRows.{none_called, none_called_safe}
+use Rattle.lua_driver.proofs.Few.{steps_by_form}
 use Rattle.lua_driver.proofs.Reaching.{reached_more, reached_none}
 
 -- a world in memory in which these values move
@@ -95,18 +96,24 @@ sees_still W M vs told m s = record {
 
 module _ (W gone M : Memory) (values : List Kept) (r : Returns W values) (top : Top) (d : Drops W gone) (m : (fuel : ℕ) → plain M fuel ≡ moved (plain gone fuel) (map (value W.strings) values))
     (sees : Makes gone gone see_top [] [] (shape_of (runs_main (plain gone 0)) top)) where
+  abbrev vs : List Value
+  vs = map (value W.strings) values
+
+  abbrev told : TopShape
+  told = shape_of (runs_main (plain gone 0)) top
+
+  row_leads : (e : KeptEnding) → ((in_main : Bool) → handed (shape_of in_main top) ≡ stop (ending_of e)) → (v : ℕ) (env : List Value) → Leads (expand (return_text r.from r.count v (is_known (boolean false)))) env W M (ending_of e)
+  row_leads e h v env =
+      first (λ w _. leave_row (results w)) (r.gives env)
+      (first (λ _ top. handed top) (left_is W gone M r.runs.runs.place (env ++ vs) (results (length env)) vs told r.runs.runs.is d m (drop-append_seam env vs) (sees_still gone M vs told m sees))
+      (subst (λ (row : Row). Leads row ((env ++ vs) ++ []) M M (ending_of e)) (sym (h (runs_main (plain gone 0)))) ended))
+
   pub leaves : (e : KeptEnding) → ((in_main : Bool) → handed (shape_of in_main top) ≡ stop (ending_of e)) → (e ≡ Spent → ⊥) → (rows : ℕ → Row) (fuel : ℕ) → Does rows go W fuel M fuel (ending_of e)
   leaves e h n rows fuel =
-      let vs = map (value W.strings) values in
-      let in_main = runs_main (plain gone 0) in
-      let told = shape_of in_main top in
-      let leads : Leads (expand (return_text r.from r.count 0 (is_known (boolean false)))) [] W M (ending_of e) =
-      first (λ w _. leave_row (results w)) (r.gives [])
-      (first (λ _ top. handed top) (left_is W gone M r.runs.runs.place vs (results 0) vs told r.runs.runs.is d m refl (sees_still gone M vs told m sees))
-      (subst (λ (row : Row). Leads row (vs ++ []) M M (ending_of e)) (sym (h in_main)) ended)) in
-      let steps : Steps (expand (returns r.from r.count)) [] W fuel M fuel (ending_of e) =
-      steps_first (λ v s. expand (return_text r.from r.count v s)) (r.none []) (steps_of fuel (not_spent e n) leads) in
-      instruction_is_step rows W M fuel fuel (ending_of e) (ReturnSome r.from r.count) r.runs.runs r.runs.has steps
+      let place = r.runs.runs.place in
+      let steps : (env : List Value) → Steps (expand (returns r.from r.count)) env W fuel M fuel (ending_of e) =
+      λ env. steps_first (λ v s. expand (return_text r.from r.count v s)) (r.none env) (steps_of fuel (not_spent e n) (row_leads e h (length env) (env ++ []))) in
+      instruction_is_step rows W M fuel fuel (ending_of e) r.form r.runs.runs r.runs.has (steps_by_form values r.returns r.gives steps place.function.code place.top.own.pc)
 
 module _ (W gone : Memory) (values : List Kept) (r : Returns W values) (ready : IsReady (length all_entries) go W) (still : W.moving.items ≡ []) (top : Top)
     (d : Drops W gone) (rest : gone ≡ record W { cells = gone.cells; coros = gone.coros }) (listed : CellsAreListed gone) (sees : Makes gone gone see_top [] [] (shape_of (runs_main (plain gone 0)) top)) where

@@ -1,12 +1,13 @@
 -- Returns of a value or of none.
-use Rattle.std.specs.Prelude.{◌≡◌, ◌≤◌, ℕ, true, false, List, [], ◌∷◌, Some, length, map}
+use Rattle.std.specs.Prelude.{◌≡◌, ◌≤◌, ℕ, suc, true, false, List, [], ◌∷◌, Some, length, map}
 use Rattle.code_core.specs.declared.opcode.Opcode.{Opcode}
 use Rattle.code_core.specs.Instruction.{a_of, opcode_of}
 use Rattle.int_core.specs.Value.{Value, boolean, is_known, nil}
 use Rattle.machine_core.specs.Text.{read_registers, see_pending}
 use Rattle.machine_core.specs.Moves.{on_own}
 use Rattle.table_core.specs.declared.value.Value.{Value as Kept}
-use Rattle.instruction_forms.specs.declared.form.Form.TheVariants.{ReturnSome}
+use Rattle.instruction_forms.specs.declared.form.Form.{Form}
+use Rattle.instruction_forms.specs.declared.form.Form.TheVariants.{Return, ReturnSome}
 use Rattle.instruction_forms.specs.Waiting.{form_at}
 use Rattle.lua_heap.specs.declared.world.World.{World as Memory}
 use Rattle.lua_heap.specs.Reading.{value}
@@ -17,13 +18,20 @@ use Rattle.machine_step.specs.Places.{RunsForm}
 use Rattle.lua_driver.specs.declared.returning.Returned.{Returned}
 use Rattle.lua_driver.specs.declared.returning.Returned.TheVariants.{Nothing, One, More}
 
+-- instructions that return the values of so many registers from one on: RETURN is told one more
+pub data ReturnsFrom (from count : ℕ) : Form → Type 0 where
+  without_number : ReturnsFrom from count (ReturnSome from count)
+  by_number : (told : ℕ) → told ≡ suc count → ReturnsFrom from count (Return from told)
+
 -- a frame that runs at this word returns so many values
 pub record ReturnsFew (here : Here) (count : ℕ) : Type 0 where
   pub runs : here.runs ≡ true
   pub opcode : Opcode
   pub is_opcode : opcode_of here.word ≡ Some opcode
-  pub form : form_at opcode here.word ≡ Some (ReturnSome (a_of here.word) count)
-  pub has : HasForm opcode here.word (ReturnSome (a_of here.word) count)
+  pub form : Form
+  pub is_form : form_at opcode here.word ≡ Some form
+  pub has : HasForm opcode here.word form
+  pub returns : ReturnsFrom (a_of here.word) count form
 
 abbrev pub AreTold : List Kept → Returned → Type 0
 AreTold values Nothing = values ≡ []
@@ -35,7 +43,9 @@ pub record Returns (W : Memory) (values : List Kept) : Type 0 where
   pub pc : ℕ
   pub from : ℕ
   pub count : ℕ
-  pub runs : RunsForm W pc (ReturnSome from count)
+  pub form : Form
+  pub runs : RunsForm W pc form
+  pub returns : ReturnsFrom from count form
   pub none : (env : List Value) → Makes W W (on_own (see_pending 0)) env [] (is_known (boolean false))
   pub gives : (env : List Value) → Makes W W (on_own (read_registers from count)) env (map (value W.strings) values) (is_known nil)
   pub few : length values ≤ 1

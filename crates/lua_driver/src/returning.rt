@@ -1,5 +1,5 @@
 // Returns of a value or of none to a Lua frame that waits for what comes: what is left of that frame's instruction is done at once (luaD_poscall of ldo.c).
-ghost use Rattle.std.specs.Prelude.{◌≡◌, ℕ, [], IfOk, IfSome, length};
+ghost use Rattle.std.specs.Prelude.{◌≡◌, ℕ, suc, [], IfOk, IfSome, length};
 ghost use Rattle.library_rows.specs.Library.{all_entries};
 ghost use Rattle.machine_core.specs.Moves.{Row, go};
 ghost use Rattle.machine_moves.specs.Ending.{ending_of};
@@ -44,7 +44,7 @@ pub(crate) fn step_on(world: &mut World, budget: &mut u64, here: Here) -> Result
     }
 }
 
-/// How many values a frame returns that runs at this word, if that is a RETURN0 or a RETURN1.
+/// How many values a frame returns that runs at this word, if that is a return of one value or of none.
 fn count_returned(here: Here) -> Option<usize>
     ensures { IfSome result (λ count. ReturnsFew here count) }
 {
@@ -52,8 +52,20 @@ fn count_returned(here: Here) -> Option<usize>
         return None;
     }
     match here.word.opcode() {
+        Some(Opcode::Return) => few_of(here.word.b()),
         Some(Opcode::Return0) => Some(0),
         Some(Opcode::Return1) => Some(1),
+        _ => None,
+    }
+}
+
+/// How many values a RETURN gives that is told one more, where that is one or none.
+fn few_of(told: u8) -> Option<usize>
+    ensures { IfSome result (λ count. told ≡ suc count) }
+{
+    match told {
+        1 => Some(0),
+        2 => Some(1),
         _ => None,
     }
 }

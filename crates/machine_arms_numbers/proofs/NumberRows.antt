@@ -22,10 +22,10 @@ use Rattle.machine_core.specs.World.{Cell, for_truth}
 use Rattle.machine_core.specs.Text.{Arg, arg, own, read, written, write_register, read_register, read_constant, go_by, Text, raise}
 use Rattle.machine_core.specs.InstructionRows.{fast, integer_of_shape, next, skip, with_register, with_constant, compares, with_number}
 use Rattle.machine_sound.proofs.Lists.{some_is}
-use Rattle.table_core.specs.Value.{value_eq}
+use Rattle.table_core.specs.Value.{value_eq, are_tables}
 use Rattle.table_core.specs.declared.value.TableId.{TableId}
 use Rattle.table_core.specs.declared.value.Value.TheVariants.{Nil, Bool as Boolean, Int, Str, Prim, Table, Func, Coro}
-use Rattle.machine_arms_numbers.specs.Numbers.{integer_in, are_tables, equal_at_once, event_of, has_registers, has_constant, ordered_by}
+use Rattle.machine_arms_numbers.specs.Numbers.{integer_in, equal_at_once, event_of, has_registers, has_constant, ordered_by}
 
 pub is_integer : (v : Kept) (n : ℤ) → Some n ≡ integer_in v → v ≡ Int n
 is_integer (Int m) n e = ap Int (sym (some_is refl e))

@@ -3,9 +3,9 @@ use Rattle.std.specs.Prelude.{ℕ, zero, suc, ◌+◌, ℤ, pos, negsuc, int_lt,
 use Rattle.code_core.specs.declared.opcode.Opcode.{Opcode}
 use Rattle.code_core.specs.declared.opcode.Opcode.TheVariants.{Move, LoadI, LoadK, LoadKx, LoadFalse, LFalseSkip, LoadTrue, LoadNil, AddI, ShrI, ShlI, Not, Test, TestSet, AddK, SubK, MulK, ModK, IDivK, BAndK, BOrK, BXorK, Add, Sub, Mul, Mod, IDiv, BAnd, BOr, BXor, Shl, Shr, Lt, Le, LtI, LeI, GtI, GeI}
 use Rattle.int_core.specs.Operations.{Event, of_add, of_sub, of_mul, of_mod, of_idiv, of_band, of_bor, of_bxor, of_shl, of_shr}
-use Rattle.table_core.specs.Value.{value_eq}
+use Rattle.table_core.specs.Value.{value_eq, are_tables}
 use Rattle.table_core.specs.declared.value.Value.{Value}
-use Rattle.table_core.specs.declared.value.Value.TheVariants.{Nil, Bool as Boolean, Int, Table}
+use Rattle.table_core.specs.declared.value.Value.TheVariants.{Nil, Bool as Boolean, Int}
 
 abbrev pub integer_in : Value → Option ℤ
 integer_in (Int n) = Some n
@@ -15,10 +15,6 @@ abbrev pub is_truthy : Value → Bool
 is_truthy Nil = false
 is_truthy (Boolean b) = b
 is_truthy _ = true
-
-abbrev pub are_tables : Value → Value → Bool
-are_tables (Table m) (Table n) = true
-are_tables _ _ = false
 
 -- equality, where no handler decides it: two tables may have one, unless they are the same
 abbrev pub equal_at_once : Value → Value → Option Bool

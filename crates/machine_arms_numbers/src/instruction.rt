@@ -51,24 +51,25 @@ pub fn run_instruction(
         Opcode::AddI => Some(add_number(words, constants, registers, i, pc)),
         Opcode::ShrI => Some(shift_right_by(words, constants, registers, i, pc)),
         Opcode::ShlI => Some(shift_number_left(words, constants, registers, i, pc)),
-        Opcode::AddK
-        | Opcode::SubK
-        | Opcode::MulK
-        | Opcode::ModK
-        | Opcode::IDivK
-        | Opcode::BAndK
-        | Opcode::BOrK
-        | Opcode::BXorK => with_constant(op, words, constants, registers, i, pc),
-        Opcode::Add
-        | Opcode::Sub
-        | Opcode::Mul
-        | Opcode::Mod
-        | Opcode::IDiv
-        | Opcode::BAnd
-        | Opcode::BOr
-        | Opcode::BXor
-        | Opcode::Shl
-        | Opcode::Shr => with_registers(op, words, constants, registers, i, pc),
+        // An arm for each operator, so that the choice is not made a second time in it.
+        Opcode::AddK => with_constant(Opcode::AddK, words, constants, registers, i, pc),
+        Opcode::SubK => with_constant(Opcode::SubK, words, constants, registers, i, pc),
+        Opcode::MulK => with_constant(Opcode::MulK, words, constants, registers, i, pc),
+        Opcode::ModK => with_constant(Opcode::ModK, words, constants, registers, i, pc),
+        Opcode::IDivK => with_constant(Opcode::IDivK, words, constants, registers, i, pc),
+        Opcode::BAndK => with_constant(Opcode::BAndK, words, constants, registers, i, pc),
+        Opcode::BOrK => with_constant(Opcode::BOrK, words, constants, registers, i, pc),
+        Opcode::BXorK => with_constant(Opcode::BXorK, words, constants, registers, i, pc),
+        Opcode::Add => with_registers(Opcode::Add, words, constants, registers, i, pc),
+        Opcode::Sub => with_registers(Opcode::Sub, words, constants, registers, i, pc),
+        Opcode::Mul => with_registers(Opcode::Mul, words, constants, registers, i, pc),
+        Opcode::Mod => with_registers(Opcode::Mod, words, constants, registers, i, pc),
+        Opcode::IDiv => with_registers(Opcode::IDiv, words, constants, registers, i, pc),
+        Opcode::BAnd => with_registers(Opcode::BAnd, words, constants, registers, i, pc),
+        Opcode::BOr => with_registers(Opcode::BOr, words, constants, registers, i, pc),
+        Opcode::BXor => with_registers(Opcode::BXor, words, constants, registers, i, pc),
+        Opcode::Shl => with_registers(Opcode::Shl, words, constants, registers, i, pc),
+        Opcode::Shr => with_registers(Opcode::Shr, words, constants, registers, i, pc),
         Opcode::Unm => negate(words, constants, registers, i, pc),
         Opcode::BNot => complement(words, constants, registers, i, pc),
         Opcode::Not => Some(negate_truth(words, constants, registers, i, pc)),
@@ -76,10 +77,12 @@ pub fn run_instruction(
         Opcode::Eq => equal_registers(words, constants, registers, i, pc),
         Opcode::EqK => equal_constant(words, constants, registers, i, pc),
         Opcode::EqI => equal_number(words, constants, registers, i, pc),
-        Opcode::Lt | Opcode::Le => order_registers(op, words, constants, registers, i, pc),
-        Opcode::LtI | Opcode::LeI | Opcode::GtI | Opcode::GeI => order_number(
-            op, words, constants, registers, i, pc,
-        ),
+        Opcode::Lt => order_registers(Opcode::Lt, words, constants, registers, i, pc),
+        Opcode::Le => order_registers(Opcode::Le, words, constants, registers, i, pc),
+        Opcode::LtI => order_number(Opcode::LtI, words, constants, registers, i, pc),
+        Opcode::LeI => order_number(Opcode::LeI, words, constants, registers, i, pc),
+        Opcode::GtI => order_number(Opcode::GtI, words, constants, registers, i, pc),
+        Opcode::GeI => order_number(Opcode::GeI, words, constants, registers, i, pc),
         Opcode::Test => Some(test(words, constants, registers, i, pc)),
         Opcode::TestSet => Some(test_set(words, constants, registers, i, pc)),
         Opcode::ForLoop => for_loop(words, constants, registers, i, pc, fuel),

@@ -80,7 +80,7 @@ kept_open texts (Open k g p) co f q e =
     (k, ap (λ g. Open k g p) y ∙ ap (λ p. Open k f p) z, x)
 
 module _ (g : Around) (cells : List KeptCell) (register a : ℕ) (none : ClosesNothing g cells register) (l : register ≤ a) where
-  stays : (regs : List Value) → close_from g.context.coroutine (length g.context.below) a regs (map (cell g.texts) cells) ≡ map (cell g.texts) cells
+  pub stays : (regs : List Value) → close_from g.context.coroutine (length g.context.below) a regs (map (cell g.texts) cells) ≡ map (cell g.texts) cells
   stays regs = closes_none g.context.coroutine (length g.context.below) a regs (map (cell g.texts) cells) (λ n q e.
       let x = map_get (cell g.texts) cells n (open_at g.context.coroutine (length g.context.below) q) e in
       let k = kept_open g.texts x.0 g.context.coroutine (length g.context.below) q x.2 in

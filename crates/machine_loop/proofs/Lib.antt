@@ -1,3 +1,3 @@
 mod Stepping
 pub mod Alike
-mod Closing
+pub mod Closing

@@ -23,7 +23,7 @@ use Rattle.lua_heap.specs.declared.world.Func.{Func}
 use Rattle.lua_heap.specs.Cells.{AreListed, CellsAreListed, open_cells_in}
 use Rattle.lua_heap.specs.Codes.{functions, code_or_none, prototype_at, IsCode as IsCodeKept}
 use Rattle.lua_heap.specs.Law.{CheckedCodeIsThere}
-use Rattle.lua_heap.specs.Plain.{plain}
+use Rattle.lua_heap.specs.Plain.{function, plain}
 use Rattle.lua_heap.specs.Reading.{value}
 use Rattle.lua_heap.specs.Strings.{AreApart, AreShort}
 use Rattle.machine_arms_tables.specs.Frame.{Code as LoopCode, AreOpenAlike}
@@ -36,6 +36,7 @@ use Rattle.machine_moves.proofs.OfCode.{function_kept, code_is}
 use Rattle.step_laws.specs.Steps.{IsReady}
 use Rattle.step_laws.proofs.Ready.{ready_by_fuel}
 use Rattle.running_frame.specs.declared.place.Here.{Here}
+use Rattle.running_frame.specs.Calling.{AreFunctions}
 use Rattle.running_frame.specs.Here.{is_none, IsHere}
 use Rattle.running_frame.specs.Standing.{standing, MayRun, IsHereIn, apart, IsApart}
 use Rattle.running_frame.proofs.Words.{few_words}
@@ -187,3 +188,24 @@ ready_there primitives rows old new fuel left safe k o x = record {
   after = ready_by_fuel primitives go new left 0 (subst (StepGood primitives) x.1 (runs_good primitives rows safe x.0 go (plain old fuel) (ready_by_fuel primitives go old 0 fuel k.after)));
   order = o;
 }
+
+-- the functions of a world in memory
+
+module _ (g : Running) (W : Memory) (h : IsApart g W) (law : CheckedCodeIsThere) where
+  abbrev machine_function : Func → Function
+  machine_function f = function (functions W.codes) f
+
+  function_at : (n : ℕ) (f : Func) → slice_get W.funcs.objects n ≡ Some f → slice_get (plain W 0).functions n ≡ Some (machine_function f)
+  function_at n f e = get_map machine_function W.funcs.objects n f e
+
+  code_within : (n : ℕ) (f : Func) → slice_get W.funcs.objects n ≡ Some f → f.code.0 < length (functions W.codes)
+  code_within n f e = law (functions W.codes) f.code.0 (h.after.sound.solid.functions n (machine_function f) (function_at n f e)).code
+
+  pub are_functions : AreFunctions (plain W 0).functions W.funcs.objects W.codes
+  are_functions = record {
+    have = record { code_there = λ n f e. let l = code_within n f e in let k = h.order.codes.count in omega (arith, l, k) };
+    known = λ n f code e c.
+        let ps = functions W.codes in
+        let says = h.order.codes.each f.code.0 (prototype_at ps f.code.0) code (prototype_there ps f.code.0 (code_within n f e)) c in
+        record { function = machine_function f; is = function_at n f e; words = says.words; params = says.params; vararg = says.vararg; stack = says.stack };
+  }

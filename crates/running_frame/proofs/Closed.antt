@@ -19,7 +19,7 @@ use Rattle.running_frame.specs.Standing.{IsClosedFrom, MayRun}
 
 -- the number of the frame on top
 
-frame_count : (f : Kept → Value) (s : KeptStack) (below : List Frame) (t : LuaFrame) → frames f s ≡ below ++ lua t ∷ [] → length s.frames ≡ length below + 1
+pub frame_count : (f : Kept → Value) (s : KeptStack) (below : List Frame) (t : LuaFrame) → frames f s ≡ below ++ lua t ∷ [] → length s.frames ≡ length below + 1
 frame_count f s below t e = sym (length-map s.frames (frame_of f)) ∙ ap length e ∙ length-append below (lua t ∷ [])
 
 -- nothing was taken, and nothing is pending

@@ -7,16 +7,18 @@ use Rattle.machine_focus.specs.Focus.{stacked, Reaches}
 use Rattle.machine_focus.specs.Law.{IsReady as IsHeldReady}
 use Rattle.table_core.specs.Table.{Contents}
 use Rattle.table_core.specs.declared.value.Value.{Value as Kept}
-use Rattle.lua_stack.specs.Frames.{KeptStack, frames, HasLuaTop, OnTop, with_pc, with_registers}
+use Rattle.lua_stack.specs.Frames.{KeptStack, cell_at, frames, HasLuaTop, OnTop, with_pc, with_registers}
 use Rattle.lua_stack.specs.Lending.{with_top}
 use Rattle.lua_stack.proofs.Lent.{lent_becomes}
 use Rattle.lua_heap.specs.declared.world.Cell.{Cell}
 use Rattle.lua_heap.specs.Plain.{heap, cell}
 use Rattle.lua_heap.specs.Reading.{value}
 use Rattle.machine_view.specs.View.{whole}
-use Rattle.machine_arms_tables.specs.Frame.{Code, moment, IsReadyAt, RunsTo}
+use Rattle.machine_view.proofs.Here.{ready_is_at}
+use Rattle.machine_arms_tables.specs.Frame.{AreOpenAlike, Code, moment, IsReadyAt, RunsTo}
 use Rattle.machine_loop.specs.Running.{Running}
-use Rattle.running_frame.specs.Standing.{standing, MayRun}
+use Rattle.machine_loop.proofs.Alike.{still_open}
+use Rattle.running_frame.specs.Standing.{standing, MayRun, RunsAt}
 use Rattle.running_frame.proofs.Held.{reaches_by, frame_is, activation_is}
 
 module _ (g : Running) (k : Code) (s : KeptStack) (ts : List Contents) (cs : List Cell) (fuel : ℕ) (m : MayRun g k s ts cs fuel) (r : List Kept) (pc : ℕ) (waits : m.top.wait ≡ running)
@@ -36,6 +38,10 @@ module _ (g : Running) (k : Code) (s : KeptStack) (ts : List Contents) (cs : Lis
     upvalues_are = m.closure.upvalues_are;
     texts_are = m.closure.texts_are;
   }
+
+  -- its frames are those of the world that is held apart
+  pub frames_are : frames (value g.around.texts) s ≡ g.around.context.below ++ lua (record { function = g.around.context.function; wait = running; own = own_with r pc }) ∷ []
+  frames_are = m.is ∙ ap (λ (t : LuaFrame). g.around.context.below ++ lua t ∷ []) (frame_is m.top g.around.context.function (own_with r pc) m.function waits own_is)
 
   -- other values in its registers
 
@@ -72,3 +78,30 @@ module _ (g : Running) (k : Code) (s : KeptStack) (ts : List Contents) (cs : Lis
           ap (λ fs. stacked g.around.context.base g.around.context.coroutine fs (heap g.around.texts ts' g.string_metatable) (map (cell g.around.texts) cs') left [])
           (sym (b ∙ on_top moved (own_with q to) refl refl
           (activation_is moved.own to (map (value g.around.texts) q) g.around.varargs g.around.pending g.around.opened refl refl m.varargs m.pending m.opened)))
+
+  -- where it runs then
+  pub runs_at : (u : KeptStack) (ts' : List Contents) (cs' : List Cell) (q : List Kept) (to left : ℕ) → IsReadyAt g.around g.string_metatable k (moment ts' cs' q to left)
+      → frames (value g.around.texts) u ≡ g.around.context.below ++ lua (with_pc to (with_registers (map (value g.around.texts) q) m.top)) ∷ [] → u.open_cells ≡ s.open_cells → AreOpenAlike cs cs'
+      → RunsAt g k u ts' cs' left to
+  runs_at u ts' cs' q to left h b l a = record {
+    may = record {
+      top = moved;
+      is = b;
+      function = m.function;
+      varargs = m.varargs;
+      pending = m.pending;
+      opened = m.opened;
+      within = (ready_is_at g.around _ _ _ _ _ _ _ h.ready).there;
+      closure = m.closure;
+      listed = λ id co frame register own there. ap (cell_at frame register) l ∙ m.listed id co frame register own (still_open cs' cs (sym a) id.0 co frame register there);
+      ready = λ w. subst (λ own. IsHeldReady g.around.primitives g.around.rows g.around.context (record { heap = heap g.around.texts ts' g.string_metatable; cells = map (cell g.around.texts) cs'; fuel = left; own = own })) (sym own_moved) h.ready.frame;
+    };
+    runs = waits;
+    at_pc = refl;
+  }
+    where
+      moved : LuaFrame
+      moved = with_pc to (with_registers (map (value g.around.texts) q) m.top)
+
+      own_moved : moved.own ≡ own_with q to
+      own_moved = activation_is moved.own to (map (value g.around.texts) q) g.around.varargs g.around.pending g.around.opened refl refl m.varargs m.pending m.opened

@@ -1,5 +1,6 @@
 -- The word at the place of the Lua frame on top is there, whether the frame runs or waits.
 use Rattle.std.proofs.Common.{◌≡◌, ℕ, Some, refl, ap, sym, ◌∙◌, Bool, true, false}
+use Rattle.std.specs.Prelude.{not}
 use Rattle.code_core.specs.Check.{at}
 use Rattle.int_core.specs.Value.{Value}
 use Rattle.machine_core.specs.World.{Wait, running, Place, place_of}
@@ -10,6 +11,11 @@ use Rattle.move_laws.specs.Memory.{IsSound, StandsAt}
 use Rattle.step_laws.specs.Steps.{WaitsAt}
 use Rattle.step_laws.proofs.Ready.{running_is_at, waiting_is_at}
 use Rattle.running_frame.specs.Here.{HasWord, is_none}
+
+-- what a negated test says
+pub runs_where : (b : Bool) → not b ≡ false → b ≡ true
+runs_where true e = refl
+runs_where false e = absurd (cc)
 
 pub none_is : (w : Wait Value) → is_none w ≡ true → w ≡ running
 none_is running h = refl

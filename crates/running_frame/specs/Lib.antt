@@ -1,2 +1,5 @@
 pub mod Here
 pub mod Standing
+pub mod Upvalues
+pub mod Calling
+pub mod Returning

@@ -44,9 +44,11 @@ pub record MayRun (g : Running) (k : Code) (s : KeptStack) (tables : List Conten
   pub ready : top.wait ≡ running
       → IsReady g.around.primitives g.around.rows g.around.context (record { heap = heap g.around.texts tables g.string_metatable; cells = map (cell g.around.texts) cells; fuel = fuel; own = top.own })
 
--- it runs
-abbrev pub RunsOnTop : Running → KeptStack → Type 0
-RunsOnTop g s = (below : List Frame) (t : LuaFrame) → frames (value g.around.texts) s ≡ below ++ lua t ∷ [] → t.wait ≡ running
+-- it runs, at this place
+pub record RunsAt (g : Running) (k : Code) (s : KeptStack) (tables : List Contents) (cells : List Cell) (fuel pc : ℕ) : Type 0 where
+  pub may : MayRun g k s tables cells fuel
+  pub runs : may.top.wait ≡ running
+  pub at_pc : may.top.own.pc ≡ pc
 
 -- from this register on no cell of the frame on top is open, and none of its variables is still to be closed
 pub record IsClosedFrom (s : KeptStack) (register : ℕ) : Type 0 where

@@ -1,5 +1,5 @@
 // The Lua frame on top of the coroutine that runs.
-ghost use Rattle.std.specs.Prelude.{ℕ, length};
+ghost use Rattle.std.specs.Prelude.{◌≡◌, ℕ, [], IfSome, length};
 ghost use Rattle.lua_heap.specs.Plain.{plain};
 ghost use Rattle.library_rows.specs.Library.{all_entries};
 ghost use Rattle.machine_core.specs.Moves.{Row, go};
@@ -11,14 +11,14 @@ ghost use Rattle.step_laws.specs.Steps.{IsReady};
 ghost use Rattle.running_frame.specs.Here.{IsHere};
 ghost use Rattle.running_frame.specs.Standing.{IsApart};
 
+use crate::frames::run_frame_on_top;
 use crate::place::{Here, find_here, running};
-use crate::stack::run_stack;
 use lua_heap::law::checked_code_is_there;
 use lua_heap::{Coro, World};
 use machine_arms_tables::Closure;
 
-/// Runs the Lua frame on top as long as it goes on by itself: some steps of the machine, none where the frame waits. The world is ready for the next
-/// step, of whatever kind, which is at the place that is answered.
+/// Runs the Lua frame on top as long as it goes on by itself, and the functions that it calls: some steps of the machine, none where the frame waits. The world
+/// is ready for the next step, of whatever kind, which is at the place that is answered.
 pub fn run_ahead(world: &mut World, budget: &mut u64) -> Here
     ghost rows: { ℕ → Row }
     requires safe { PrimitivesSafe (length all_entries) rows }
@@ -30,16 +30,36 @@ pub fn run_ahead(world: &mut World, budget: &mut u64) -> Here
     if !world.moving.is_empty() {
         return find_here(world);
     }
+    for _ in 0..u64::MAX {
+        if let Some(here) = run_frame(world, budget) {
+            return here;
+        }
+    }
+    find_here(world)
+}
+
+/// Runs the frame on top of a world in which nothing moves. `None` where another frame is on top then.
+fn run_frame(world: &mut World, budget: &mut u64) -> Option<Here>
+    ghost rows: { ℕ → Row }
+    requires safe { PrimitivesSafe (length all_entries) rows }
+    requires ready { IsReady (length all_entries) go world.old }
+    requires still { world.old.moving.items ≡ [] }
+    ensures reaches { Reaches rows (plain world.old budget.old) (plain world.new budget.new) }
+    ensures ready { IsReady (length all_entries) go world.new }
+    ensures here { IfSome result (λ here. IsHere world.new here) }
+    ensures still { world.new.moving.items ≡ [] }
+{
     run_top(world, budget)
 }
 
-/// Runs the frame on top, which is held apart from a world in which nothing moves.
-fn run_top(world: &mut World, budget: &mut u64) -> Here
+/// Runs it, held apart from that world.
+fn run_top(world: &mut World, budget: &mut u64) -> Option<Here>
     ghost g: { Running }
     requires { IsApart g world.old }
     ensures reaches { Reaches g.around.rows (plain world.old budget.old) (plain world.new budget.new) }
-    ensures here { IsHere world.new result }
+    ensures here { IfSome result (λ here. IsHere world.new here) }
     ensures order { InOrder world.new }
+    ensures still { world.new.moving ≡ world.old.moving }
 {
     checked_code_is_there();
     world.strings.len();
@@ -53,13 +73,17 @@ fn run_top(world: &mut World, budget: &mut u64) -> Here
                 constants: &code.constants,
                 upvalues: &function.cells,
             };
-            run_stack(
+            run_frame_on_top(
                 stack,
                 closure,
+                code.stack as usize,
                 &world.strings,
+                &world.funcs,
+                &world.codes,
                 &mut world.tables,
                 &mut world.cells,
                 budget,
+                co,
             )
         }
         _ => unreachable!(),

@@ -3,8 +3,12 @@
 #![tactic(auto)]
 
 mod ahead;
+mod calling;
+mod frames;
 mod place;
+mod returning;
 mod stack;
+mod upvalues;
 
 pub use ahead::run_ahead;
 pub use place::{Here, find_here};

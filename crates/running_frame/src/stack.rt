@@ -1,20 +1,21 @@
 // The frame on top of a stack, over the function that it runs.
-ghost use Rattle.std.specs.Prelude.{◌≡◌, IfSome};
+ghost use Rattle.std.specs.Prelude.{◌≡◌, IfSome, true};
 ghost use Rattle.lua_stack.specs.Frames.{HasLuaTop};
 ghost use Rattle.machine_arms_tables.specs.Frame.{AreOpenAlike, code};
 ghost use Rattle.machine_focus.specs.Focus.{Reaches};
-ghost use Rattle.machine_loop.specs.Running.{Running};
-ghost use Rattle.running_frame.specs.Standing.{IsAboveLast, IsClosedFrom, IsHereIn, MayRun, RunsOnTop, standing};
+ghost use Rattle.machine_loop.specs.Running.{ClosesNothing, Running};
+ghost use Rattle.running_frame.specs.Standing.{IsAboveLast, IsClosedFrom, IsHereIn, MayRun, RunsAt, standing};
 
 use crate::place::{Here, here_at, is_none};
+use crate::upvalues::read_open;
 use lua_heap::{Cell, Strings};
 use lua_stack::{OpenCell, Stack};
 use machine_arms_tables::Closure;
 use machine_loop::run_frame;
 use object_pool::Pool;
-use table_core::Table;
+use table_core::{CoroId, Table};
 
-/// Runs the frame on top, where it does not wait, up to an instruction that takes more than the frame.
+/// Runs the frame on top, where it does not wait, up to an instruction that takes more than the frame and the variables of those below.
 pub(crate) fn run_stack(
     stack: &mut Stack,
     closure: Closure,
@@ -22,11 +23,14 @@ pub(crate) fn run_stack(
     tables: &mut Pool<Table>,
     cells: &mut Pool<Cell>,
     budget: &mut u64,
+    co: CoroId,
 ) -> Here
     ghost g: { Running }
-    requires { MayRun g (code closure strings.now) stack.old tables.old.objects cells.old.objects budget.old }
+    requires may { MayRun g (code closure strings.now) stack.old tables.old.objects cells.old.objects budget.old }
+    requires own { co.0 ≡ g.around.context.coroutine }
     ensures reaches { Reaches g.around.rows (standing g stack.old tables.old.objects cells.old.objects budget.old) (standing g stack.new tables.new.objects cells.new.objects budget.new) }
     ensures here { IsHereIn g (code closure.entry strings.now) stack.new result }
+    ensures runs { result.runs ≡ true → RunsAt g (code closure.entry strings.now) stack.new tables.new.objects cells.new.objects budget.new result.pc }
     ensures opened { AreOpenAlike cells.old.objects cells.new.objects }
     ensures listed { stack.new.open_cells ≡ stack.old.open_cells }
 {
@@ -36,10 +40,12 @@ pub(crate) fn run_stack(
         return here_at(closure.words, start, false);
     }
     let closed = closed_from(stack);
-    run_on_top(stack, closure, strings, tables, cells, budget, closed)
+    run_on_top(
+        stack, closure, strings, tables, cells, budget, co, closed, start,
+    )
 }
 
-/// Runs the frame on top, which does not wait. The loop needs no limit: between two units of the budget a frame goes ahead in its code.
+/// Runs the frame on top, which does not wait.
 fn run_on_top(
     stack: &mut Stack,
     closure: Closure,
@@ -47,18 +53,78 @@ fn run_on_top(
     tables: &mut Pool<Table>,
     cells: &mut Pool<Cell>,
     budget: &mut u64,
+    co: CoroId,
     closed: Option<usize>,
+    start: usize,
 ) -> Here
     ghost g: { Running }
-    requires may { MayRun g (code closure strings.now) stack.old tables.old.objects cells.old.objects budget.old }
-    requires runs { RunsOnTop g stack.old }
-    requires closed { IfSome closed (λ register. IsClosedFrom stack.old register) }
+    requires runs { RunsAt g (code closure strings.now) stack.old tables.old.objects cells.old.objects budget.old start }
+    requires closed { IfSome closed (λ register. ClosesNothing g.around cells.old.objects register) }
+    requires own { co.0 ≡ g.around.context.coroutine }
     ensures reaches { Reaches g.around.rows (standing g stack.old tables.old.objects cells.old.objects budget.old) (standing g stack.new tables.new.objects cells.new.objects budget.new) }
     ensures here { IsHereIn g (code closure.entry strings.now) stack.new result }
+    ensures runs { RunsAt g (code closure.entry strings.now) stack.new tables.new.objects cells.new.objects budget.new result.pc }
     ensures opened { AreOpenAlike cells.old.objects cells.new.objects }
     ensures listed { stack.new.open_cells ≡ stack.old.open_cells }
 {
-    let start = stack.pc();
+    let pc = run_rounds(
+        stack, closure, strings, tables, cells, budget, co, closed, start,
+    );
+    here_at(closure.words, pc, true)
+}
+
+/// Runs it from the place `start` on, and tells where it stops. The loop over instructions has the frame's own registers alone, so what stands in a register
+/// of a frame below is read between two rounds of it.
+fn run_rounds(
+    stack: &mut Stack,
+    closure: Closure,
+    strings: &Strings,
+    tables: &mut Pool<Table>,
+    cells: &mut Pool<Cell>,
+    budget: &mut u64,
+    co: CoroId,
+    closed: Option<usize>,
+    start: usize,
+) -> usize
+    ghost g: { Running }
+    requires runs { RunsAt g (code closure strings.now) stack.old tables.old.objects cells.old.objects budget.old start }
+    requires closed { IfSome closed (λ register. ClosesNothing g.around cells.old.objects register) }
+    requires own { co.0 ≡ g.around.context.coroutine }
+    ensures reaches { Reaches g.around.rows (standing g stack.old tables.old.objects cells.old.objects budget.old) (standing g stack.new tables.new.objects cells.new.objects budget.new) }
+    ensures runs { RunsAt g (code closure.entry strings.now) stack.new tables.new.objects cells.new.objects budget.new result }
+    ensures opened { AreOpenAlike cells.old.objects cells.new.objects }
+    ensures listed { stack.new.open_cells ≡ stack.old.open_cells }
+{
+    let mut pc = start;
+    for _ in 0..u64::MAX {
+        let at = run_round(stack, closure, strings, tables, cells, budget, closed, pc);
+        let Some(next) = read_open(stack, closure, cells, co, at) else {
+            return at;
+        };
+        pc = next;
+    }
+    pc
+}
+
+/// One round of that loop. It needs no limit: between two units of the budget a frame goes ahead in its code.
+fn run_round(
+    stack: &mut Stack,
+    closure: Closure,
+    strings: &Strings,
+    tables: &mut Pool<Table>,
+    cells: &mut Pool<Cell>,
+    budget: &mut u64,
+    closed: Option<usize>,
+    start: usize,
+) -> usize
+    ghost g: { Running }
+    requires runs { RunsAt g (code closure strings.now) stack.old tables.old.objects cells.old.objects budget.old start }
+    requires closed { IfSome closed (λ register. ClosesNothing g.around cells.old.objects register) }
+    ensures reaches { Reaches g.around.rows (standing g stack.old tables.old.objects cells.old.objects budget.old) (standing g stack.new tables.new.objects cells.new.objects budget.new) }
+    ensures runs { RunsAt g (code closure.entry strings.now) stack.new tables.new.objects cells.new.objects budget.new result }
+    ensures opened { AreOpenAlike cells.old.objects cells.new.objects }
+    ensures listed { stack.new.open_cells ≡ stack.old.open_cells }
+{
     let registers = stack.registers_mut();
     let exit = run_frame(
         closure,
@@ -72,11 +138,11 @@ fn run_on_top(
         closed,
     );
     stack.set_pc(exit.pc);
-    here_at(closure.words, exit.pc, true)
+    exit.pc
 }
 
 /// From which register on no cell of the frame on top is open. None is said where a variable there is still to be closed.
-fn closed_from(stack: &mut Stack) -> Option<usize>
+pub(crate) fn closed_from(stack: &mut Stack) -> Option<usize>
     requires { HasLuaTop stack.old }
     ensures kept { stack.new ≡ stack.old }
     ensures closed { IfSome result (λ register. IsClosedFrom stack.new register) }

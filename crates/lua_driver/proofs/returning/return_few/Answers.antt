@@ -6,11 +6,10 @@ use Rattle.machine_core.specs.Text.{read_registers}
 use Rattle.move_laws.specs.Memory.{CanDo}
 use Rattle.step_laws.proofs.Ready.{ready_is_sound}
 use Rattle.machine_returns.proofs.Tops.{can_see, solid_of}
-use Rattle.machine_step.proofs.ByForm.{returns_there}
 use Rattle.loaded_code.specs.Laws.{library}
 use Rattle.source_builds.proofs.Knowing.{read_all, read_map}
 use Rattle.lua_driver.proofs.Ahead.{at_once}
-use Rattle.lua_driver.proofs.Few.{returns_so, runs_few}
+use Rattle.lua_driver.proofs.Few.{registers_there, returns_so, runs_few}
 use Rattle.lua_driver.proofs.returning.return_few.Goals as goal
 
 pub see_pending-requires : goal.see_pending-requires
@@ -22,7 +21,7 @@ pub read_registers-requires : goal.read_registers-requires
 read_registers-requires c =
     let s = ready_is_sound (length all_entries) _ c.args.world.now c.requires.ready in
     let a : c.from.result ≡ a_of c.args.here.word = search rules in
-    subst (λ from. CanDo c.args.world.now (read_registers from c.args.count)) (sym a) (returns_there (runs_few s c.requires.here c.requires.few) s)
+    subst (λ from. CanDo c.args.world.now (read_registers from c.args.count)) (sym a) (registers_there (runs_few s c.requires.here c.requires.few) c.requires.few.returns s)
 
 pub leave_with-requires-clause-returns : goal.leave_with-requires-clause-returns
 leave_with-requires-clause-returns c =

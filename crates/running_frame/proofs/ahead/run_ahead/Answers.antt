@@ -1,26 +1,23 @@
-use Rattle.std.proofs.Common.{rules, ◌≡◌, length, ap}
+use Rattle.std.proofs.Common.{rules, ◌≡◌, length}
 use Rattle.std.proofs.lemmas.List.{nil_from_length}
-use Rattle.library_rows.specs.Library.{all_entries}
-use Rattle.step_laws.proofs.Ready.{go_has_frame}
-use Rattle.running_frame.specs.Standing.{apart, place_or_any}
-use Rattle.running_frame.proofs.Apart.{ready_there}
+use Rattle.running_frame.proofs.Chained.{reaches_none, reaches_then}
 use Rattle.running_frame.proofs.ahead.run_ahead.Goals as goal
 
-pub run_top-requires : goal.run_top-requires
-run_top-requires g c =
+pub loop-init : goal.loop-init
+loop-init g c =
     let W = c.args.world.now in
-    let f = go_has_frame (length all_entries) W c.requires.1 in
     let none : length W.moving.items ≡ 0 = search rules in
-    record {
-      place = f.place;
-      is = f.is;
-      held = ap (λ o. apart (length all_entries) g.rows W (place_or_any o)) f.is;
-      still = nil_from_length W.moving.items none;
-      safe = c.requires.0;
-      after = c.requires.1.after;
-      order = c.requires.1.order;
-    }
+    record { reaches = reaches_none g.rows _; ready = c.requires.1; still = nil_from_length W.moving.items none }
 
-pub returns-clause-ready : goal.returns-clause-ready
-returns-clause-ready g c =
-    ready_there (length all_entries) g.rows c.args.world.now c.run_top.new.world c.args.budget.now c.run_top.new.budget c.requires.0 c.requires.1 c.run_top.ensures.order c.run_top.ensures.reaches
+pub run_frame-requires : goal.run_frame-requires
+run_frame-requires g c = (c.requires.0, (c.loop.invariant.ready, c.loop.invariant.still))
+
+pub returns-in-Some-clause-reaches : goal.returns-in-Some-clause-reaches
+returns-in-Some-clause-reaches g c = reaches_then g.rows c.loop.invariant.reaches c.run_frame.ensures.reaches
+
+pub loop-preserved : goal.loop-preserved
+loop-preserved g c = record {
+  reaches = reaches_then g.rows c.loop.invariant.reaches c.run_frame.ensures.reaches;
+  ready = c.run_frame.ensures.ready;
+  still = c.run_frame.ensures.still;
+}

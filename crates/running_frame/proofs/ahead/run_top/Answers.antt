@@ -1,12 +1,15 @@
-use Rattle.std.proofs.Common.{◌≡◌, refl, subst}
+use Rattle.std.proofs.Common.{◌≡◌, refl, ap, sym, subst, ◌∙◌}
+use Rattle.std.proofs.lemmas.Option.{IfSome_then}
 use Rattle.machine_focus.specs.Focus.{Reaches}
 use Rattle.move_laws.proofs.Order.{lists_same, order_after}
-use Rattle.move_laws.proofs.Running.{has_stack, lua_top, of_top}
+use Rattle.machine_loop.specs.Running.{Running}
+use Rattle.move_laws.proofs.Running.{has_stack, lua_top, of_top, shown}
 use Rattle.machine_moves.proofs.OfCode.{function_kept, function_there}
 use Rattle.machine_moves.proofs.Stacks.{within, with_stack, found_runs}
 use Rattle.machine_arms_tables.specs.Frame.{Code as LoopCode}
+use Rattle.running_frame.specs.Calling.{AreFunctions}
 use Rattle.running_frame.specs.Standing.{IsHereIn, MayRun, standing}
-use Rattle.running_frame.proofs.Apart.{of_held, may_run, here_in, went, number_there, code_says, cells_are, with_parts, listed_alike}
+use Rattle.running_frame.proofs.Apart.{are_functions, of_held, may_run, here_in, went, number_there, code_says, cells_are, with_parts, listed_alike}
 use Rattle.running_frame.proofs.ahead.run_top.Goals as goal
 
 pub running-co-requires : goal.running-co-requires
@@ -36,8 +39,8 @@ get-code-requires g c =
     let n : c.function.result.0 ≡ h.place.top.function = of_top W c.running-co.result c.in-Running.stack h.place (λ f t. c.function.result.0 ≡ t.function) r h.is c.function.ensures in
     number_there g.g W h c.function.result.0 c.get-function.result.now n c.get-function.ensures c.checked_code_is_there.ensures
 
-pub run_stack-requires : goal.run_stack-requires
-run_stack-requires g c =
+pub run_frame_on_top-requires : goal.run_frame_on_top-requires
+run_frame_on_top-requires g c =
     let W = c.args.world.now in
     let h = c.requires in
     let s = c.in-Running.stack in
@@ -49,48 +52,57 @@ run_stack-requires g c =
     let says = code_says g.g W h c.function.result.0 f n c.get-function.ensures c.checked_code_is_there.ensures code c.get-code.ensures in
     let same = cells_are g.g W h c.function.result.0 f n c.get-function.ensures in
     let runs =
-    may_run g.g.around.primitives g.g.around.rows W h.place h.is h.still c.running-co.result s r code f.code.0 f.cells.items fuel h.safe h.after h.order says same c.len.ensures.apart c.len.ensures.short in
-    rw (c.deref.ensures.value, c.deref-in-Running.ensures.value, c.deref-in-Running-2.ensures.value)
-    (of_held (λ g. MayRun g (record { words = code.words.items; constants = code.constants.items; upvalues = f.cells.items; texts = W.strings }) s W.tables.objects W.cells.objects fuel) g.g h runs)
+    may_run g.g.around.primitives g.g.around.rows W h.place h.is h.still c.running-co.result s r code f.code.0 f.cells.items fuel h.safe h.after h.order says same c.len.ensures.apart c.len.ensures.short in (
+      rw (c.deref.ensures.value, c.deref-in-Running.ensures.value, c.deref-in-Running-2.ensures.value)
+          (of_held (λ g. MayRun g (record { words = code.words.items; constants = code.constants.items; upvalues = f.cells.items; texts = W.strings }) s W.tables.objects W.cells.objects fuel) g.g h runs),
+      (
+        sym (shown W c.running-co.result s h.place r h.is).coroutine ∙ ap (λ (g : Running). g.around.context.coroutine) (sym h.held),
+        (
+          subst (λ (g : Running). AreFunctions g.around.context.base.functions W.funcs.objects W.codes) (sym h.held) (are_functions g.g W h c.checked_code_is_there.ensures),
+          says.stack ∙ ap (λ (g : Running). g.around.context.closure.code.own.stack) (sym h.held),
+        ),
+      ),
+    )
 
 pub returns-clause-reaches : goal.returns-clause-reaches
 returns-clause-reaches g c =
     let W = c.args.world.now in
     let h = c.requires in
     let s = c.in-Running.stack in
-    let u = c.run_stack.new.stack in
-    let tables = c.run_stack.new.tables in
-    let cells = c.run_stack.new.cells in
+    let u = c.run_frame_on_top.new.stack in
+    let tables = c.run_frame_on_top.new.tables in
+    let cells = c.run_frame_on_top.new.cells in
     let fuel = c.args.budget.now in
-    let left = c.run_stack.new.budget in
+    let left = c.run_frame_on_top.new.budget in
     let r = found_runs c.get_mut.result.now s c.running-co.ensures c.get_mut.ensures.value c.in-Running.is in
     let x =
-    subst (λ k. Reaches g.g.around.rows (standing k s W.tables.objects W.cells.objects fuel) (standing k u tables.objects cells.objects left)) h.held c.run_stack.ensures.reaches in
+    subst (λ k. Reaches g.g.around.rows (standing k s W.tables.objects W.cells.objects fuel) (standing k u tables.objects cells.objects left)) h.held c.run_frame_on_top.ensures.reaches in
     went g.g.around.primitives g.g.around.rows W h.place h.is h.still c.running-co.result s r tables cells (with_stack (with_parts W tables cells) c.running-co.result u) u fuel left (record { rest = refl; objects = refl }) x
 
 pub returns-clause-order : goal.returns-clause-order
 returns-clause-order g c =
     let W = c.args.world.now in
     let s = c.in-Running.stack in
-    let u = c.run_stack.new.stack in
-    let V = with_stack (with_parts W c.run_stack.new.tables c.run_stack.new.cells) c.running-co.result u in
+    let u = c.run_frame_on_top.new.stack in
+    let V = with_stack (with_parts W c.run_frame_on_top.new.tables c.run_frame_on_top.new.cells) c.running-co.result u in
     let r = found_runs c.get_mut.result.now s c.running-co.ensures c.get_mut.ensures.value c.in-Running.is in
-    order_after c.requires.order refl refl (listed_alike W V c.run_stack.ensures.opened (lists_same W.coros.objects c.running-co.result.0 s u r.there c.run_stack.ensures.listed) c.requires.order.listed)
+    order_after c.requires.order refl refl (listed_alike W V c.run_frame_on_top.ensures.opened (lists_same W.coros.objects c.running-co.result.0 s u r.there c.run_frame_on_top.ensures.listed) c.requires.order.listed)
 
 pub returns-clause-here : goal.returns-clause-here
 returns-clause-here g c =
     let W = c.args.world.now in
     let h = c.requires in
     let s = c.in-Running.stack in
-    let u = c.run_stack.new.stack in
-    let tables = c.run_stack.new.tables in
-    let cells = c.run_stack.new.cells in
+    let u = c.run_frame_on_top.new.stack in
+    let tables = c.run_frame_on_top.new.tables in
+    let cells = c.run_frame_on_top.new.cells in
     let f = c.get-function.result.now in
     let code = c.get-code.result.now in
     let r = found_runs c.get_mut.result.now s c.running-co.ensures c.get_mut.ensures.value c.in-Running.is in
     let n : c.function.result.0 ≡ h.place.top.function = of_top W c.running-co.result s h.place (λ f t. c.function.result.0 ≡ t.function) r h.is c.function.ensures in
     let says = code_says g.g W h c.function.result.0 f n c.get-function.ensures c.checked_code_is_there.ensures code c.get-code.ensures in
     let k : LoopCode = record { words = c.deref.result.now; constants = c.deref-in-Running.result.now; upvalues = c.deref-in-Running-2.result.now; texts = W.strings } in
-    let x = subst (λ g. IsHereIn g k u c.run_stack.result) h.held c.run_stack.ensures.here in
-    here_in g.g.around.primitives g.g.around.rows W h.place h.is h.still c.running-co.result s r tables cells (with_stack (with_parts W tables cells) c.running-co.result u) u code f.code.0 k c.run_stack.result (record { rest = refl; objects = refl }) says
-    c.deref.ensures.value x
+    IfSome_then c.run_frame_on_top.result c.run_frame_on_top.ensures.here
+    (λ here x.
+    here_in g.g.around.primitives g.g.around.rows W h.place h.is h.still c.running-co.result s r tables cells (with_stack (with_parts W tables cells) c.running-co.result u) u code f.code.0 k here (record { rest = refl; objects = refl }) says
+    c.deref.ensures.value (subst (λ g. IsHereIn g k u here) h.held x))

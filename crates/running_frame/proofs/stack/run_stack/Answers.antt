@@ -2,15 +2,16 @@ use Rattle.std.proofs.Common.{sym, ap, subst, ◌∙◌, arith}
 use Rattle.machine_focus.specs.Focus.{Reaches}
 use Rattle.machine_arms_tables.specs.Frame.{code}
 use Rattle.lua_heap.specs.Reading.{value}
-use Rattle.lua_stack.specs.Frames.{KeptStack, frames}
+use Rattle.lua_stack.specs.Frames.{KeptStack}
 use Rattle.running_frame.specs.Here.{is_none}
-use Rattle.running_frame.specs.Standing.{MayRun, standing}
+use Rattle.running_frame.specs.Standing.{MayRun, RunsAt, standing}
+use Rattle.running_frame.proofs.Closed.{closes_nothing}
 use Rattle.running_frame.proofs.Places.{none_is}
 use Rattle.running_frame.proofs.stack.run_stack.Goals as goal
 
 pub here_at-requires : goal.here_at-requires
 here_at-requires g c =
-    let m = c.requires in
+    let m = c.requires.0 in
     let v = value g.g.around.texts in
     let below = g.g.around.context.below in
     let e = c.pc-start.ensures v below m.top m.is in
@@ -19,7 +20,7 @@ here_at-requires g c =
 
 pub returns-then-not-runs-clause-here : goal.returns-then-not-runs-clause-here
 returns-then-not-runs-clause-here g c =
-    let m = c.requires in
+    let m = c.requires.0 in
     let v = value g.g.around.texts in
     let below = g.g.around.context.below in
     record {
@@ -32,18 +33,24 @@ returns-then-not-runs-clause-here g c =
     }
 
 pub closed_from-closed-requires : goal.closed_from-closed-requires
-closed_from-closed-requires g c = let m = c.requires in record { value = value g.g.around.texts; below = g.g.around.context.below; top = m.top; is = m.is }
+closed_from-closed-requires g c = let m = c.requires.0 in record { value = value g.g.around.texts; below = g.g.around.context.below; top = m.top; is = m.is }
 
 pub run_on_top-requires : goal.run_on_top-requires
-run_on_top-requires g c = (
-  subst (λ (s : KeptStack). MayRun g.g (code c.args.closure c.args.strings.now) s c.args.tables.now.objects c.args.cells.now.objects c.args.budget.now) (sym c.closed_from-closed.ensures.kept) c.requires,
-  (
-    λ below t e.
-        let f = ap (frames (value g.g.around.texts)) (sym c.closed_from-closed.ensures.kept) ∙ e in
-        none_is t.wait (sym (c.is_none-runs.ensures g.g.around.texts ∙ ap is_none (c.wait.ensures (value g.g.around.texts) below t f)) ∙ c.if-not-runs.false),
-    c.closed_from-closed.ensures.closed,
-  ),
-)
+run_on_top-requires g c =
+    let m = c.requires.0 in
+    let v = value g.g.around.texts in
+    let below = g.g.around.context.below in
+    let k = code c.args.closure c.args.strings.now in
+    let ts = c.args.tables.now.objects in
+    let cs = c.args.cells.now.objects in
+    let kept = sym c.closed_from-closed.ensures.kept in
+    let runs = none_is m.top.wait (sym (c.is_none-runs.ensures g.g.around.texts ∙ ap is_none (c.wait.ensures v below m.top m.is)) ∙ c.if-not-runs.false) in (
+      subst (λ (s : KeptStack). RunsAt g.g k s ts cs c.args.budget.now c.pc-start.result) kept (record { may = m; runs = runs; at_pc = sym (c.pc-start.ensures v below m.top m.is) }),
+      (
+        closes_nothing g.g k c.closed_from-closed.new.stack ts cs c.args.budget.now (subst (λ (s : KeptStack). MayRun g.g k s ts cs c.args.budget.now) kept m) c.closed_from-closed.result c.closed_from-closed.ensures.closed,
+        c.requires.1,
+      ),
+    )
 
 pub returns-clause-reaches : goal.returns-clause-reaches
 returns-clause-reaches g c =
@@ -51,3 +58,6 @@ returns-clause-reaches g c =
 
 pub returns-clause-listed : goal.returns-clause-listed
 returns-clause-listed g c = c.run_on_top.ensures.listed ∙ ap (λ (s : KeptStack). s.open_cells) c.closed_from-closed.ensures.kept
+
+pub returns-then-not-runs-clause-runs : goal.returns-then-not-runs-clause-runs
+returns-then-not-runs-clause-runs g c = λ e. absurd (let f = sym e ∙ c.here_at.ensures.runs in cc)

@@ -1,0 +1,32 @@
+-- What a call on a stack tests.
+use Rattle.std.proofs.Common.{◌≡◌, ℕ, zero, suc, ◌<◌, ◌≤◌, ◌∷◌, [], List, Option, Some, None, refl, ap, sym, arith, Bool, true}
+use Rattle.code_core.specs.declared.opcode.Opcode.{Opcode}
+use Rattle.code_core.specs.declared.opcode.Opcode.TheVariants.{Call}
+use Rattle.machine_sound.proofs.Lists.{some_is}
+use Rattle.lua_stack.specs.declared.frame.OpenCell.{OpenCell}
+use Rattle.lua_stack.specs.Frames.{AllBelow, KeptStack, NoneFrom, top_number}
+use Rattle.running_frame.specs.Calling.{is_call, one_less}
+
+pub call_is : (o : Option Opcode) → is_call o ≡ true → o ≡ Some Call
+call_is (Some Call) h = refl
+call_is _ h = absurd (cc)
+
+-- numbers that are counted from one
+
+pub none_less : (n : ℕ) → n ≡ 0 → None ≡ one_less n
+none_less n e = ap one_less (sym e)
+
+pub some_less : (n m : ℕ) → n ≡ suc m → Some m ≡ one_less n
+some_less n m e = ap one_less (sym e)
+
+pub less_is : (n m : ℕ) → one_less n ≡ Some m → n ≡ suc m
+less_is zero m e = absurd (cc)
+less_is (suc n) m e = ap suc (some_is {o = Some n} refl e)
+
+below_more : (frame r q : ℕ) (cs : List OpenCell) → r ≤ q → AllBelow frame r cs → AllBelow frame q cs
+below_more frame r q [] l b = tt
+below_more frame r q (c ∷ cs) l b =
+    (record { frame_at_most = b.0.frame_at_most; register_less = λ m. let k = b.0.register_less m in omega (arith, k, l) }, below_more frame r q cs l b.1)
+
+pub none_further : {s : KeptStack} {r q : ℕ} → r ≤ q → NoneFrom s r → NoneFrom s q
+none_further {s} {r} {q} l h = record { below = below_more (top_number s) r q s.open_cells l h.below }

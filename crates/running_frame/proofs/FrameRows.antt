@@ -1,0 +1,145 @@
+-- CALL of a Lua function and returns to a Lua frame that waits for them, with the frame that runs held apart: each is steps of the machine.
+use Rattle.std.proofs.Common.{◌≡◌, ℕ, suc, ◌+◌, List, [], ◌∷◌, ◌++◌, length, drop, Option, Some, None, refl, ap, sym, ◌∙◌, Bool, true, false}
+use Rattle.std.specs.Prelude.{◌==◌, ◌-◌, pos, cond, filter, nat_le, nat_lt, slice_get}
+use Rattle.code_core.specs.Check.{at}
+use Rattle.code_core.specs.Instruction.{a_of, b_of, c_of, opcode_of}
+use Rattle.code_core.specs.declared.instruction.Instruction.{Instruction}
+use Rattle.code_core.specs.declared.opcode.Opcode.{Opcode}
+use Rattle.code_core.specs.declared.opcode.Opcode.TheVariants.{Call, Return}
+use Rattle.code_core.specs.Prototype.{Prototype}
+use Rattle.int_core.specs.Limits.{greatest_depth}
+use Rattle.int_core.specs.Value.{Value, Shape, a_function, boolean, is_known, nil, nth, object, range, write_all}
+use Rattle.machine_core.specs.World.{Function, Cell, for_call, returning, Activation, LuaFrame, Frame, lua, close_from, World}
+use Rattle.machine_core.specs.Text.{Own, behind, blanked, call, close, cut_from, done, drop_pending, fits, is_there, last_pending, leave, own, read, read_register, read_registers, reads, results, see_pending, tells, Text, trap, value_if, write_registers, written}
+use Rattle.machine_core.specs.FrameRows.{at_once, expand, expand_by}
+use Rattle.machine_core.specs.InstructionRows.{counted, is_true, next, read_values, rest_at, rest_by, returned_so, returns, row_of, text_at, text_by, write_values}
+use Rattle.machine_core.specs.MachineStep.{from_world, step, steps}
+use Rattle.machine_core.specs.Moves.{go, made, on_own, Row, ends, run}
+use Rattle.machine_focus.specs.Focus.{Context, Held, Stands, held_own, local, with_pc, world}
+use Rattle.machine_focus.proofs.Calls.{began, call_is, inner, returned}
+use Rattle.machine_focus.proofs.Local.{drop_front, made_is}
+use Rattle.machine_focus.proofs.Places.{own_move, step_is}
+
+module _ (c : Context) (s : Stands c) (h : Held) where
+  -- a move on the frame, and what follows it
+  own_runs : (m : Own) (k : ℕ → Shape → Text) (env : List Value) → fits m c.closure.code h.own ≡ true
+      → run (expand (own m k)) env (world c h) ≡ run (expand (k (length env) (tells m c.closure.code env h.own))) (env ++ reads m c.closure.code env h.own) (world c (held_own c m env h))
+  own_runs m k env f =
+      made_is (on_own m) (λ n s. expand_by at_once (k n s)) env (world c h) (world c (held_own c m env h)) (reads m c.closure.code env h.own) (tells m c.closure.code env h.own)
+      (own_move c s h m env ∙ ap (λ b. cond b (made (world c (held_own c m env h)) (reads m c.closure.code env h.own) (tells m c.closure.code env h.own)) None) f)
+
+  module _ (w : Instruction) (op : Opcode) (at_pc : at c.closure.code h.own.pc ≡ Some w) (is_opcode : opcode_of w ≡ Some op) where
+    text_is : text_at c.closure.code h.own.pc ≡ row_of c.closure.code h.own.pc op w
+    text_is =
+        ap (λ (o : Option Instruction). elim o [ None ↦ trap | Some w ↦ text_by c.closure.code h.own.pc w (opcode_of w) ]) at_pc
+        ∙ ap (text_by c.closure.code h.own.pc w) is_opcode
+
+    row_is : (rows : ℕ → Row) → step rows go (world c h) ≡ from_world (world c h) (run (expand (row_of c.closure.code h.own.pc op w)) [] (world c h))
+    row_is rows = step_is c s h rows ∙ ap (λ t. from_world (world c h) (run (expand t) [] (world c h))) text_is
+
+-- calls
+
+-- what the frame that calls becomes
+abbrev pub giving : Context → ℕ → Activation → LuaFrame
+giving c register now = record {
+  function = c.function;
+  wait = for_call;
+  own = record now { registers = blanked (λ i. nat_lt i register) 0 c.closure.code.own.stack now.registers; pending = filter (λ q. nat_lt q register) now.pending; opened = 0 };
+}
+
+abbrev called_with : ℕ → ℕ → List Own → Text
+called_with f v ms = call (read f) v for_call ms
+
+module _ (c : Context) (s : Stands c) (h : Held) (w : Instruction) (at_pc : at c.closure.code h.own.pc ≡ Some w) (is_call : opcode_of w ≡ Some Call) where
+  pub call_steps : (given id : ℕ) (q : Function) (left : ℕ) → b_of w ≡ suc given → nat_lt (a_of w) (length h.own.registers) ≡ true → nth h.own.registers (a_of w) ≡ object a_function id
+      → nat_le (behind (a_of w + 1) given) (length h.own.registers) ≡ true → slice_get c.base.functions id ≡ Some q → h.fuel ≡ suc left → nat_le (length c.below + 1 + 1) greatest_depth ≡ true → (rows : ℕ → Row)
+      → step rows go (world c h)
+      ≡ ends go (world (inner c (giving c (a_of w) h.own) id q) (record { heap = h.heap; cells = h.cells; fuel = left; own = began q.code (range (a_of w + 1) given h.own.registers) }))
+  call_steps given id q left b there is all fn pay room rows =
+      let W = world c h in
+      let a = a_of w in
+      let p = c.closure.code in
+      let ms = drop_pending a ∷ cut_from a ∷ [] in
+      let x = nth h.own.registers a in
+      row_is c s h w Call at_pc is_call rows
+      ∙ ap (from_world W) (
+      own_runs c s h (read_register a) (λ f _. read_values (a + 1) (b_of w) (λ v _. called_with f v ms)) [] there
+      ∙ ap (λ n. run (expand (read_values (a + 1) n (λ v _. called_with 0 v ms))) (x ∷ []) W) b
+      ∙ own_runs c s h (read_registers (a + 1) given) (λ v _. called_with 0 v ms) (x ∷ []) all
+      ∙ call_is c s h (x ∷ range (a + 1) given h.own.registers) (read 0) 1 for_call ms id q left is fn pay room)
+
+-- returns
+
+-- what is left of the instruction of the frame below: the values go to its registers
+module _ (d : Context) (v : Instruction) (wanted : ℕ) (H : Held) where
+  abbrev handed : List Value → Held
+  handed vs = record H { own = record H.own { registers = write_all (a_of v) (range 0 wanted vs) H.own.registers; pc = H.own.pc + 1 } }
+
+  takes : (vs : List Value) (u : Instruction) → at d.closure.code H.own.pc ≡ Some v → opcode_of v ≡ Some Call → c_of v ≡ suc wanted → nat_le (behind (a_of v) wanted) (length H.own.registers) ≡ true
+      → at d.closure.code (H.own.pc + 1) ≡ Some u → local d (rest_at {V = Value} for_call d.closure.code H.own.pc) vs H ≡ Some (handed vs)
+  takes vs u at_pc is_call wants there behind_is =
+      let p = d.closure.code in
+      let written = record H { own = record H.own { registers = write_all (a_of v) (range 0 wanted vs) H.own.registers } } in
+      ap (λ (o : Option Instruction). local d (elim o [ None ↦ trap | Some w ↦ rest_by {V = Value} for_call p H.own.pc w (opcode_of w) ]) vs H) at_pc
+      ∙ ap (λ o. local d (rest_by {V = Value} for_call p H.own.pc v o) vs H) is_call
+      ∙ ap (λ n. local d (write_values (a_of v) n 0) vs H) wants
+      ∙ ap (λ b. cond b (local d next (vs ++ []) (held_own d (write_registers (a_of v) wanted 0) vs H)) None) there
+      ∙ ap (λ (o : Option Instruction). elim o as (λ _. Option Held) [ None ↦ None | Some _ ↦ Some (with_pc written (H.own.pc + 1)) ]) behind_is
+
+-- the context in the frame below
+abbrev pub outer : Context → List Frame → ℕ → Function → Context
+outer c bs n q = record { base = c.base; coroutine = c.coroutine; below = bs; function = n; closure = q }
+
+abbrev after_seen : (slot from count : ℕ) → Option ℕ → Text
+after_seen slot from count o =
+    cond (is_true (is_known (boolean (is_there o)))) (close (read slot) (written nil) (returning count) (returned_so from count)) (own (read_registers from count) (λ w _. leave (results w)))
+
+module _ (c : Context) (s : Stands c) (h : Held) (from count : ℕ) (there : nat_le (behind from count) (length h.own.registers) ≡ true) where
+  abbrev pub given : List Value
+  given = range from count h.own.registers
+
+  -- nothing is to be closed
+  gives : last_pending 0 h.own.pending ≡ None → (env : List Value)
+      → run (expand (returns from count)) env (world c h) ≡ run (expand (leave (results (length (env ++ []))))) (env ++ [] ++ given) (world c h)
+  gives none env =
+      own_runs c s h (see_pending 0) (λ v there. cond (is_true there) (close (read v) (written nil) (returning count) (returned_so from count)) (own (read_registers from count) (λ w _. leave (results w)))) env refl
+      ∙ ap (λ o. run (expand (after_seen (length env) from count o)) (env ++ value_if h.own.registers o) (world c h)) none
+      ∙ own_runs c s h (read_registers from count) (λ w _. leave (results w)) (env ++ []) there
+
+  -- a RETURN of so many registers reads them first
+  abbrev counts : (a n : ℕ) → Text
+  counts a n = read_values a n (λ _ s. returns a (cond (n == 0) (counted s) (n - 1)))
+
+  pub return_row : (w : Instruction) → from ≡ a_of w → b_of w ≡ suc count → cond (suc count == 0) 0 (suc count - 1) ≡ count
+      → run (expand (row_of c.closure.code h.own.pc Return w)) [] (world c h) ≡ run (expand (returns (a_of w) count)) given (world c h)
+  return_row w f b less =
+      ap (λ n. run (expand (counts (a_of w) n)) [] (world c h)) b
+      ∙ ap (λ a. run (expand (counts a (suc count))) [] (world c h)) (sym f)
+      ∙ own_runs c s h (read_registers from count) (λ _ s. returns from (cond (suc count == 0) (counted s) (suc count - 1))) [] there
+      ∙ ap (λ n. run (expand (returns from n)) given (world c h)) less
+      ∙ ap (λ a. run (expand (returns a count)) given (world c h)) f
+
+module _ (c : Context) (s : Stands c) (h : Held) (w : Instruction) (op : Opcode) (at_pc : at c.closure.code h.own.pc ≡ Some w) (is_opcode : opcode_of w ≡ Some op) (from count : ℕ) (env : List Value)
+    (row : run (expand (row_of c.closure.code h.own.pc op w)) [] (world c h) ≡ run (expand (returns from count)) env (world c h))
+    (none : last_pending 0 h.own.pending ≡ None) (there : nat_le (behind from count) (length h.own.registers) ≡ true)
+    (closed : close_from c.coroutine (length c.below) 0 h.own.registers h.cells ≡ h.cells) where
+  abbrev values : List Value
+  values = range from count h.own.registers
+
+  leaves : (rows : ℕ → Row) → step rows go (world c h) ≡ from_world (world c h) (run (expand (leave (results (length (env ++ []))))) (env ++ [] ++ values) (world c h))
+  leaves rows = row_is c s h w op at_pc is_opcode rows ∙ ap (from_world (world c h)) (row ∙ gives c s h from count there none env)
+
+  module _ (bs : List Frame) (n : ℕ) (q : Function) (a : Activation) (below : c.below ≡ bs ++ lua (record { function = n; wait = for_call; own = a }) ∷ []) (fn : slice_get c.base.functions n ≡ Some q)
+      (v u : Instruction) (wanted : ℕ) where
+    abbrev waiting : Held
+    waiting = record { heap = h.heap; cells = h.cells; fuel = h.fuel; own = a }
+
+    pub return_steps : at q.code a.pc ≡ Some v → opcode_of v ≡ Some Call → c_of v ≡ suc wanted → nat_le (behind (a_of v) wanted) (length a.registers) ≡ true → at q.code (a.pc + 1) ≡ Some u → (rows : ℕ → Row)
+        → steps rows 2 go (world c h) ≡ ends go (world (outer c bs n q) (handed (outer c bs n q) v wanted waiting values))
+    return_steps at_call is_call wants room behind_is rows =
+        let d = outer c bs n q in
+        let after = λ (cs : List Cell). local d (rest_at {V = Value} for_call q.code a.pc) (drop (length (env ++ [])) (env ++ [] ++ values)) (record { heap = h.heap; cells = cs; fuel = h.fuel; own = a }) in
+        let taken = λ (vs : List Value). local d (rest_at {V = Value} for_call q.code a.pc) vs (record { heap = h.heap; cells = h.cells; fuel = h.fuel; own = a }) in
+        returned c d s (record { chain = s.chain; there = s.there; function = fn }) h (env ++ [] ++ values) (length (env ++ [])) a (handed d v wanted waiting values) rows refl refl below
+        (ap after closed ∙ ap taken (drop_front (env ++ []) values) ∙ takes d v wanted waiting values u at_call is_call wants room behind_is)
+        (world c h) (leaves rows)

@@ -1,0 +1,125 @@
+-- GETUPVAL of a variable that stands in a register of the same coroutine is a step that changes a register of the frame on top alone.
+use Rattle.std.proofs.Common.{◌≡◌, ℕ, ◌+◌, ◌<◌, List, [], ◌∷◌, ◌++◌, length, map, Option, Some, None, refl, ap, sym, subst, ◌∙◌, arith, Bool, true}
+use Rattle.std.specs.Prelude.{slice_get, slice_set}
+use Rattle.code_core.specs.Check.{at}
+use Rattle.code_core.specs.Instruction.{a_of, b_of, opcode_of}
+use Rattle.code_core.specs.declared.instruction.Instruction.{Instruction}
+use Rattle.code_core.specs.declared.opcode.Opcode.{Opcode}
+use Rattle.code_core.specs.declared.opcode.Opcode.TheVariants.{GetUpval}
+use Rattle.int_core.specs.Value.{Value, bind}
+use Rattle.machine_core.specs.World.{Cell, open_at, running, Activation, Frame, lua, Coroutine, in_progress, frames_of, read_cell, register_at}
+use Rattle.machine_core.specs.Text.{read, trap}
+use Rattle.machine_core.specs.InstructionRows.{row_of, text_at, text_by, to_register}
+use Rattle.machine_core.specs.MachineStep.{steps, and_then}
+use Rattle.machine_focus.specs.Focus.{Held, cell_at, frames as held_frames, local, world, Reaches}
+use Rattle.machine_focus.proofs.Here.{held_is_step}
+use Rattle.machine_sound.proofs.Lists.{get_map, get_set_same, get_there}
+use Rattle.machine_view.specs.View.{held, IsAt}
+use Rattle.machine_view.proofs.Going.{at_next, puts}
+use Rattle.machine_view.proofs.Places.{register_there}
+use Rattle.table_core.specs.Table.{Contents}
+use Rattle.table_core.specs.declared.value.CellId.{CellId}
+use Rattle.table_core.specs.declared.value.Value.{Value as Kept}
+use Rattle.lua_stack.specs.Frames.{KeptStack, OnTop, TopBecomes, frames, register_in, with_pc, with_registers}
+use Rattle.lua_stack.specs.Lending.{with_top}
+use Rattle.lua_heap.specs.declared.world.Cell.{Cell as KeptCell}
+use Rattle.lua_heap.specs.declared.world.Cell.TheVariants.{Open}
+use Rattle.lua_heap.specs.Plain.{cell, heap}
+use Rattle.lua_heap.specs.Reading.{value}
+use Rattle.machine_arms_tables.specs.Frame.{Code, Moment, moment, IsReadyAt, RunsTo}
+use Rattle.machine_arms_tables.proofs.Steps.{at_opcode}
+use Rattle.machine_loop.specs.Running.{Running}
+use Rattle.running_frame.specs.Standing.{RunsAt, standing}
+use Rattle.running_frame.specs.Upvalues.{GoesOver, ListsOpen, StandsOpen, is_read}
+use Rattle.running_frame.proofs.OnStack.{frames_are, loop_reaches, loop_ready, rewritten, runs_at}
+
+pub read_is : (o : Option Opcode) → is_read o ≡ true → o ≡ Some GetUpval
+read_is (Some GetUpval) h = refl
+read_is _ h = absurd (cc)
+
+pub lists_open : {g : Running} {k : Code} {s : KeptStack} {ts : List Contents} {cs : List KeptCell} {fuel pc : ℕ} (co : ℕ) → co ≡ g.around.context.coroutine → RunsAt g k s ts cs fuel pc → ListsOpen co s cs
+lists_open {s = s} {cs = cs} co e r = subst (λ n. ListsOpen n s cs) (sym e) (record { listed = r.may.listed })
+
+-- what the row comes to
+
+module _ (g : Running) (k : Code) (m : Moment) (here : IsReadyAt g.around g.string_metatable k m) (w : Instruction) (h : IsAt GetUpval w k.words k.constants m.registers m.pc) (s : KeptStack) where
+  abbrev texts : List (List ℕ)
+  texts = g.around.texts
+
+  abbrev held_with : List Kept → ℕ → Held
+  held_with r to = held g.around (heap texts m.tables g.string_metatable) (map (cell texts) m.cells) r to m.fuel
+
+  abbrev now : Held
+  now = held_with m.registers m.pc
+
+  module _ (same : frames (value texts) s ≡ held_frames g.around.context now.own) (v : Kept) (open_there : StandsOpen g.around.context.coroutine k.upvalues s m.cells (b_of w) v) where
+    cell_is : cell_at g.around.context now (b_of w) ≡ Some (open_there.id.0, open_at open_there.coroutine.0 open_there.frame open_there.register)
+    cell_is =
+        ap (λ ns. bind {A = ℕ} {B = ℕ × Cell} (slice_get ns (b_of w)) (λ n. bind (slice_get (map (cell texts) m.cells) n) (λ c. Some (n, c)))) here.upvalues_are
+        ∙ ap (λ o. bind {A = ℕ} {B = ℕ × Cell} o (λ n. bind (slice_get (map (cell texts) m.cells) n) (λ c. Some (n, c)))) (get_map (λ (c : CellId). c.0) k.upvalues (b_of w) open_there.id open_there.named)
+        ∙ ap (λ o. bind {A = Cell} {B = ℕ × Cell} o (λ c. Some (open_there.id.0, c)))
+        (get_map (cell texts) m.cells open_there.id.0 (Open open_there.coroutine open_there.frame open_there.register) open_there.holds)
+
+    value_is : read_cell (world g.around.context now) (open_at open_there.coroutine.0 open_there.frame open_there.register) ≡ Some (value texts v)
+    value_is =
+        let c = g.around.context in
+        let fs = held_frames c now.own in
+        let there = get_there c.base.coroutines c.coroutine here.ready.frame.stands.there in
+        ap (λ n. register_at (slice_set c.base.coroutines c.coroutine (in_progress fs)) n open_there.frame open_there.register) open_there.own
+        ∙ ap (λ o. bind {A = List Frame} {B = Value} (bind {A = Coroutine} {B = List Frame} o frames_of) (λ gs. register_in open_there.frame open_there.register gs))
+        (get_set_same c.base.coroutines c.coroutine there.0 (in_progress fs) there.1)
+        ∙ ap (register_in open_there.frame open_there.register) (sym same)
+        ∙ open_there.has.reads (value texts)
+
+    module _ (q : List Kept) (to : ℕ) (written : q ≡ slice_set m.registers (a_of w) v) (next : to ≡ m.pc + 1) where
+      comes_to : local g.around.context (row_of g.around.context.closure.code m.pc GetUpval w) [] now ≡ Some (held_with q to)
+      comes_to =
+          let c = g.around.context in
+          let x =
+          puts g.around (heap texts m.tables g.string_metatable) (map (cell texts) m.cells) m.registers m.pc m.fuel {env = value texts v ∷ []} {x = read 0} (a_of w) 1 v here.ready.code (at_next h refl next) (register_there h 0 (a_of w) refl) refl written next in
+          ap (λ o. bind {A = ℕ × Cell} {B = Held} o (λ x. bind {A = Value} {B = Held} (read_cell (world c now) x.1) (λ v. local c (to_register (a_of w) (read 0)) (v ∷ []) now))) cell_is
+          ∙ ap (λ o. bind {A = Value} {B = Held} o (λ v. local c (to_register (a_of w) (read 0)) (v ∷ []) now)) value_is
+          ∙ x.is
+
+      pub read_step : IsReadyAt g.around g.string_metatable k (moment m.tables m.cells q to m.fuel) × RunsTo g.around g.string_metatable m (moment m.tables m.cells q to m.fuel)
+      read_step =
+          let p = g.around.context.closure.code in
+          let at_pc : at p m.pc ≡ Some w = ap (λ ws. slice_get ws m.pc) here.ready.code.code.words_are ∙ h.at_pc in
+          let text_is : text_at p m.pc ≡ row_of p m.pc GetUpval w = ap (λ (o : Option Instruction). elim o [ None ↦ trap | Some w ↦ text_by p m.pc w (opcode_of w) ]) at_pc ∙ ap (text_by p m.pc w) h.is_opcode in
+          let x = held_is_step g.around.primitives g.around.rows g.around.context now (held_with q to) here.ready.frame (ap (λ t. local g.around.context t [] now) text_is ∙ comes_to) in
+          (record { ready = record { code = here.ready.code; frame = x.1 }; upvalues_are = here.upvalues_are; texts_are = here.texts_are }, (1, ap (λ o. and_then o (steps g.around.rows 0)) x.0))
+
+-- the frame on top of a stack
+
+module _ (g : Running) (k : Code) (s : KeptStack) (cs : List KeptCell) (pc : ℕ) (r : List Kept) (lent : OnTop s (λ f t. map f r ≡ t.own.registers)) where
+  module _ (ts : List Contents) (fuel : ℕ) (x : RunsAt g k s ts cs fuel pc) where
+    registers_are : map (value g.around.texts) r ≡ x.may.top.own.registers
+    registers_are = lent (value g.around.texts) g.around.context.below x.may.top x.may.is
+
+    pub ready_at : IsReadyAt g.around g.string_metatable k (moment ts cs r pc fuel)
+    ready_at = loop_ready g k s ts cs fuel x.may r pc x.runs (sym x.at_pc) registers_are
+
+    pub read_at : (w : Instruction) → slice_get k.words pc ≡ Some w → opcode_of w ≡ Some GetUpval → IsAt GetUpval w k.words k.constants r pc
+    read_at w e o = at_opcode g.around g.string_metatable k (moment ts cs r pc fuel) ready_at w GetUpval e o
+
+  pub read_goes : (w : Instruction) → slice_get k.words pc ≡ Some w → opcode_of w ≡ Some GetUpval → (v : Kept) → StandsOpen g.around.context.coroutine k.upvalues s cs (b_of w) v
+      → (q : List Kept) → q ≡ slice_set r (a_of w) v → length q ≡ length r → (to : ℕ) → to ≡ pc + 1 → (u : KeptStack) → TopBecomes (with_top s q) u (λ f t. with_pc to t) → GoesOver g k s u cs pc to
+  read_goes w e o v open_there q written long to next u b = record {
+    runs = λ ts fuel x.
+        runs_at g k s ts cs fuel x.may r pc x.runs (sym x.at_pc) (registers_are ts fuel x) u ts cs q to fuel (stepped ts fuel x).0 (becomes ts fuel x) b.cells refl;
+    reaches = λ ts fuel x.
+        loop_reaches g k s ts cs fuel x.may r pc x.runs (sym x.at_pc) (registers_are ts fuel x) u ts cs q to fuel (stepped ts fuel x).1 (becomes ts fuel x);
+    listed = b.cells;
+  }
+    where
+      becomes : (ts : List Contents) (fuel : ℕ) (x : RunsAt g k s ts cs fuel pc)
+          → frames (value g.around.texts) u ≡ g.around.context.below ++ lua (with_pc to (with_registers (map (value g.around.texts) q) x.may.top)) ∷ []
+      becomes ts fuel x =
+          b.top (value g.around.texts) refl g.around.context.below (with_registers (map (value g.around.texts) q) x.may.top)
+          (rewritten g k s ts cs fuel x.may r pc x.runs (sym x.at_pc) (registers_are ts fuel x) q lent long)
+
+      stepped : (ts : List Contents) (fuel : ℕ) → RunsAt g k s ts cs fuel pc
+          → IsReadyAt g.around g.string_metatable k (moment ts cs q to fuel) × RunsTo g.around g.string_metatable (moment ts cs r pc fuel) (moment ts cs q to fuel)
+      stepped ts fuel x =
+          read_step g k (moment ts cs r pc fuel) (ready_at ts fuel x) w (read_at ts fuel x w e o) s
+          (frames_are g k s ts cs fuel x.may r pc x.runs (sym x.at_pc) (registers_are ts fuel x)) v open_there q to written next

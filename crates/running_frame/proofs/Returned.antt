@@ -1,0 +1,248 @@
+-- A return on a stack is two steps of the machine: the frame is left, and the frame below goes on with what it returned.
+use Rattle.std.proofs.Common.{◌≡◌, ◌⊎◌, inl, inr, ℕ, zero, suc, ◌+◌, ◌-◌, ◌<◌, ◌≤◌, List, [], ◌∷◌, ◌++◌, length, map, take, Option, Some, None, refl, ap, sym, subst, ◌∙◌, arith, true, false, length-append}
+use Rattle.std.proofs.lemmas.Bool.Decides.{nat_tests}
+use Rattle.std.specs.Prelude.{IfNone, IfSome, ◌==◌, cond, nat_le, slice_get}
+use Rattle.std.proofs.lemmas.List.{length-map}
+use Rattle.code_core.specs.Check.{at}
+use Rattle.code_core.specs.Instruction.{a_of, b_of, c_of, opcode_of}
+use Rattle.code_core.specs.Prototype.{Prototype}
+use Rattle.code_core.specs.declared.instruction.Instruction.{Instruction}
+use Rattle.code_core.specs.declared.opcode.Opcode.{Opcode}
+use Rattle.code_core.specs.declared.opcode.Opcode.TheVariants.{Return, Return0, Return1}
+use Rattle.int_core.specs.Value.{Value, known, nil, nth, range, without_last, write_all}
+use Rattle.machine_core.specs.World.{for_call, running, Activation, close_from, Wait, LuaFrame, Frame, lua, World}
+use Rattle.machine_core.specs.Text.{behind, last_pending}
+use Rattle.machine_core.specs.InstructionRows.{returns, row_of}
+use Rattle.machine_core.specs.FrameRows.{expand}
+use Rattle.machine_core.specs.Moves.{ends, go, run}
+use Rattle.machine_core.specs.MachineStep.{steps}
+use Rattle.machine_focus.specs.Focus.{Context, Held, Reaches, Stands, stacked, world}
+use Rattle.machine_sound.proofs.Values.{le_true}
+use Rattle.machine_sound.proofs.Lists.{get_front, get_map, get_there, get_within, some_is, without_push}
+use Rattle.machine_view.proofs.Rows.{nth_map}
+use Rattle.table_core.specs.Table.{Contents}
+use Rattle.table_core.specs.declared.value.FuncId.{FuncId}
+use Rattle.table_core.specs.declared.value.Value.{Value as Kept}
+use Rattle.table_core.specs.declared.value.Value.TheVariants.{Nil}
+use Rattle.lua_stack.proofs.Parts.{map_take}
+use Rattle.lua_stack.specs.Frames.{KeptLua, KeptStack, frame_of, frames, kept_lua, lua_of, wait_of}
+use Rattle.lua_heap.specs.declared.codes.Codes.{Codes}
+use Rattle.lua_heap.specs.declared.world.Cell.{Cell as KeptCell}
+use Rattle.lua_heap.specs.declared.world.Func.{Func}
+use Rattle.lua_heap.specs.Plain.{cell, heap}
+use Rattle.lua_heap.specs.Reading.{value}
+use Rattle.machine_arms_tables.specs.Frame.{Code}
+use Rattle.machine_loop.specs.Running.{Running}
+use Rattle.machine_loop.proofs.Closing.{stays}
+use Rattle.running_frame.specs.Calling.{AreFunctions, KnownFunction}
+use Rattle.running_frame.specs.Returning.{Crosses, IsGiven, ReturnsIn, count_of, taken}
+use Rattle.running_frame.specs.Standing.{RunsAt, standing}
+use Rattle.running_frame.proofs.Calls.{less_is}
+use Rattle.running_frame.proofs.Called.{behind_within, called_so, held_on, own_now, ready_held, shape_known, standing_is, word_is}
+use Rattle.running_frame.proofs.Chained.{reaches_none}
+use Rattle.running_frame.proofs.Closed.{closes_nothing, frame_count}
+use Rattle.running_frame.proofs.FrameRows.{given, return_row, return_steps}
+use Rattle.running_frame.proofs.Takers.{splits_at}
+
+-- without its last item, item by item
+map_without : {A B : Type 0} (f : A → B) (xs : List A) → map f (without_last xs) ≡ without_last (map f xs)
+map_without f xs = map_take f (length xs - 1) xs ∙ ap (λ n. take (n - 1) (map f xs)) (sym (length-map xs f))
+
+-- the row of a return, behind what it reads first
+record RowReturns (c : Context) (h : Held) (w : Instruction) (count : ℕ) (o : Option Opcode) : Type 0 where
+  op : Opcode
+  is : o ≡ Some op
+  env : List Value
+  row : run (expand (row_of c.closure.code h.own.pc op w)) [] (world c h) ≡ run (expand (returns (a_of w) count)) env (world c h)
+
+less_counts : (n : ℕ) → cond (suc n == 0) 0 (suc n - 1) ≡ n
+less_counts n =
+    let more : (suc n == 0) ≡ false = grind (arith, nat_tests) in
+    ap (λ b. cond b 0 (suc n - 1)) more ∙ omega arith
+
+row_returns : (c : Context) (s : Stands c) (h : Held) (w : Instruction) (count : ℕ) → nat_le (behind (a_of w) count) (length h.own.registers) ≡ true → (o : Option Opcode) → count_of o (b_of w) ≡ Some count → RowReturns c h w count o
+row_returns c s h w count there (Some Return) e = record {
+  op = Return;
+  is = refl;
+  env = given c s h (a_of w) count there;
+  row = return_row c s h (a_of w) count there w refl (less_is (b_of w) count e) (less_counts count);
+}
+row_returns c s h w count there (Some Return0) e = record {
+  op = Return0;
+  is = refl;
+  env = [];
+  row = ap (λ n. run (expand (returns (a_of w) n)) [] (world c h)) (some_is {o = Some 0} refl e);
+}
+row_returns c s h w count there (Some Return1) e = record {
+  op = Return1;
+  is = refl;
+  env = [];
+  row = ap (λ n. run (expand (returns (a_of w) n)) [] (world c h)) (some_is {o = Some 1} refl e);
+}
+row_returns c s h w count there _ e = absurd (cc)
+
+-- what is given is what the frame below takes
+given_is : (f : Kept → Value) → f Nil ≡ known nil → (registers : List Kept) (register count : ℕ) (v : Kept) → IsGiven registers register count v → (wanted : ℕ) → wanted ≤ 1
+    → range 0 wanted (range register count (map f registers)) ≡ range 0 wanted (f v ∷ [])
+given_is f z registers register count v g zero l = refl
+given_is f z registers register zero v g (suc zero) l = ap (λ v. v ∷ []) (sym z ∙ ap f (sym g))
+given_is f z registers register (suc zero) v g (suc zero) l = ap (λ v. v ∷ []) (nth_map f registers register v g.1)
+given_is f z registers register (suc (suc n)) v g (suc zero) l = absurd (let m = g.0 in cc)
+given_is f z registers register count v g (suc (suc n)) l = absurd (omega (arith, l))
+
+fits_given : (registers : List Kept) (register count : ℕ) (v : Kept) → IsGiven registers register count v → behind register count ≤ length registers
+fits_given registers register zero v g = omega arith
+fits_given registers register (suc n) v g = let l = get_within registers register v g.1 in let m = g.0 in omega (arith, l, m)
+
+module _ (g : Running) (k : Code) (s : KeptStack) (ts : List Contents) (cs : List KeptCell) (fuel pc : ℕ) (r : RunsAt g k s ts cs fuel pc) (u : KeptStack) (funcs : List Func) (codes : Codes) (w : Instruction)
+    (x : ReturnsIn s u funcs codes w) (a : AreFunctions g.around.context.base.functions funcs codes) where
+  abbrev read : Kept → Value
+  read = value g.around.texts
+
+  abbrev ctx : Context
+  ctx = g.around.context
+
+  abbrev own : Activation
+  own = own_now g k s ts cs fuel pc r
+
+  -- the frame below
+
+  abbrev waiting : LuaFrame
+  waiting = lua_of read x.calls.frame
+
+  abbrev caller_at : ℕ → Wait Value → Activation → LuaFrame
+  caller_at n w own = record { function = n; wait = w; own = own }
+
+  count_is : length s.frames ≡ length ctx.below + 1
+  count_is = frame_count read s ctx.below r.may.top r.may.is
+
+  in_below : slice_get ctx.below (length ctx.below - 1) ≡ Some (lua waiting)
+  in_below =
+      let n = count_is in
+      let m = x.calls.many in
+      let l : length ctx.below - 1 < length ctx.below = omega (arith, n, m) in
+      let same : length ctx.below - 1 ≡ length s.frames - 2 = omega (arith, n, m) in
+      sym (get_front ctx.below (lua r.may.top ∷ []) (length ctx.below - 1) l)
+      ∙ ap (λ fs. slice_get fs (length ctx.below - 1)) (sym r.may.is)
+      ∙ ap (slice_get (frames read s)) same
+      ∙ get_map (frame_of read) s.frames (length s.frames - 2) (kept_lua x.calls.frame) x.calls.at
+
+  abbrev lower : List Frame
+  lower = without_last ctx.below
+
+  splits : ctx.below ≡ lower ++ lua waiting ∷ []
+  splits = splits_at ctx.below (lua waiting) in_below
+
+  abbrev number : ℕ
+  number = x.caller.function.0
+
+  waits_so : waiting ≡ caller_at number for_call waiting.own
+  waits_so =
+      ap (λ (id : FuncId). caller_at id.0 (wait_of read x.calls.frame.wait) waiting.own) x.calls.knows.function
+      ∙ ap (λ w. caller_at number (wait_of read w) waiting.own) x.calls.knows.waits
+
+  below_is : ctx.below ≡ lower ++ lua (caller_at number for_call waiting.own) ∷ []
+  below_is = splits ∙ ap (λ (t : LuaFrame). lower ++ lua t ∷ []) waits_so
+
+  -- its CALL
+
+  abbrev known_function : KnownFunction ctx.base.functions number x.takes.code
+  known_function = a.known number x.takes.func x.takes.code x.takes.func_there x.takes.code_there
+
+  abbrev call_word : Instruction
+  call_word = x.takes.takes.word
+
+  at_call : at known_function.function.code waiting.own.pc ≡ Some call_word
+  at_call = ap (λ ws. slice_get ws waiting.own.pc) (sym known_function.words) ∙ ap (slice_get x.takes.code.words.items) x.calls.knows.pc ∙ x.takes.takes.at_pc
+
+  abbrev behind_call : (i : Instruction) × (slice_get x.takes.code.words.items x.taker.to ≡ Some i)
+  behind_call = get_there x.takes.code.words.items x.taker.to x.takes.takes.within
+
+  to_is : x.taker.to ≡ waiting.own.pc + 1
+  to_is = x.takes.takes.next ∙ ap (λ n. n + 1) (sym x.calls.knows.pc)
+
+  at_next : at known_function.function.code (waiting.own.pc + 1) ≡ Some behind_call.0
+  at_next = ap (λ ws. slice_get ws (waiting.own.pc + 1)) (sym known_function.words) ∙ ap (slice_get x.takes.code.words.items) (sym to_is) ∙ behind_call.1
+
+  room : nat_le (behind (a_of call_word) x.taker.count) (length waiting.own.registers) ≡ true
+  room =
+      let l = x.takes.takes.room in
+      let m = x.takes.takes.register in
+      let n = x.calls.knows.size in
+      let o = length-map x.calls.frame.registers read in
+      le_true (behind (a_of call_word) x.taker.count) (length waiting.own.registers) (behind_within (a_of call_word) x.taker.count (length waiting.own.registers) (omega (arith, l, m, n, o)))
+
+  -- the frame on top
+
+  registers_are : map read x.registers ≡ own.registers
+  registers_are = x.are read ctx.below r.may.top r.may.is
+
+  there : nat_le (behind (a_of w) x.count) (length own.registers) ≡ true
+  there =
+      le_true (behind (a_of w) x.count) (length own.registers)
+      (subst (λ n. behind (a_of w) x.count ≤ n) (sym (length-map x.registers read) ∙ ap length registers_are) (fits_given x.registers (a_of w) x.count x.value x.gives))
+
+  none_pending : last_pending 0 own.pending ≡ None
+  none_pending = x.closed.pending read ctx.below r.may.top r.may.is
+
+  none_closed : close_from ctx.coroutine (length ctx.below) 0 own.registers (map (cell g.around.texts) cs) ≡ map (cell g.around.texts) cs
+  none_closed = stays g.around cs 0 0 (closes_nothing g k s ts cs fuel r.may (Some 0) x.closed) (omega arith) own.registers
+
+  -- what both steps come to
+
+  abbrev after : ℕ → (register : ℕ) → List Value → (to : ℕ) → World
+  after n register vs to =
+      stacked ctx.base ctx.coroutine (lower ++ lua (caller_at n running (record waiting.own { registers = write_all register vs waiting.own.registers; pc = to })) ∷ []) (heap g.around.texts ts g.string_metatable) (map (cell g.around.texts) cs) fuel []
+
+  popped_is : frames read x.popped ≡ lower ++ lua waiting ∷ []
+  popped_is =
+      ap (map (frame_of read)) x.pops
+      ∙ map_without (frame_of read) s.frames
+      ∙ ap without_last r.may.is
+      ∙ without_push ctx.below (lua r.may.top)
+      ∙ splits
+
+  values_are : range 0 x.taker.count (read x.value ∷ []) ≡ range 0 x.taker.count (range (a_of w) x.count own.registers)
+  values_are =
+      sym (given_is read refl x.registers (a_of w) x.count x.value x.gives x.taker.count x.takes.takes.few)
+      ∙ ap (λ rs. range 0 x.taker.count (range (a_of w) x.count rs)) registers_are
+
+  standing_after : standing g u ts cs fuel ≡ after number (a_of call_word) (range 0 x.taker.count (range (a_of w) x.count own.registers)) (waiting.own.pc + 1)
+  standing_after =
+      ap (λ fs. stacked ctx.base ctx.coroutine fs (heap g.around.texts ts g.string_metatable) (map (cell g.around.texts) cs) fuel []) (x.hands.top read refl lower waiting popped_is)
+      ∙ ap (λ (id : FuncId). after id.0 x.taker.register (range 0 x.taker.count (read x.value ∷ [])) x.taker.to) x.calls.knows.function
+      ∙ ap (λ n. after number n (range 0 x.taker.count (read x.value ∷ [])) x.taker.to) x.takes.takes.register
+      ∙ ap (λ vs. after number (a_of call_word) vs x.taker.to) values_are
+      ∙ ap (after number (a_of call_word) (range 0 x.taker.count (range (a_of w) x.count own.registers))) to_is
+
+  pub returned_so : slice_get k.words pc ≡ Some w → Reaches g.around.rows (standing g s ts cs fuel) (standing g u ts cs fuel)
+  returned_so word =
+      let stands = (ready_held g k s ts cs fuel pc r).stands in
+      let h = held_on g k s ts cs fuel pc r fuel own in
+      let o = row_returns ctx stands h w x.count there (opcode_of w) x.is in (
+        2,
+        ap (steps g.around.rows 2 go) (standing_is g k s ts cs fuel pc r)
+            ∙ return_steps ctx stands h w o.op (word_is g k s ts cs fuel pc r w word) o.is (a_of w) x.count o.env o.row
+            none_pending there none_closed lower number known_function.function waiting.own below_is known_function.is call_word behind_call.0 x.taker.count
+            at_call x.takes.takes.is_call x.takes.takes.count room at_next g.around.rows
+            ∙ ap (ends go) (sym standing_after),
+      )
+
+-- a call or a return, or neither
+
+crossed_so : (g : Running) (k : Code) (s : KeptStack) (ts : List Contents) (cs : List KeptCell) (fuel pc : ℕ) → RunsAt g k s ts cs fuel pc → (u : KeptStack) (size : ℕ) (funcs : List Func) (codes : Codes) (w : Instruction) (left : ℕ)
+    → AreFunctions g.around.context.base.functions funcs codes → size ≡ g.around.context.closure.code.own.stack → slice_get k.words pc ≡ Some w → Crosses s u size funcs codes w fuel left
+    → Reaches g.around.rows (standing g s ts cs fuel) (standing g u ts cs left)
+crossed_so g k s ts cs fuel pc r u size funcs codes w left a e word (inl x) =
+    let q = shape_known g.around.context.base.functions funcs codes a x.enters.id x.enters.shape x.enters.has in
+    called_so g k s ts cs fuel pc r u size funcs codes w left x q.0 q.1 q.2 e word
+crossed_so g k s ts cs fuel pc r u size funcs codes w left a e word (inr x) =
+    subst (λ (n : ℕ). Reaches g.around.rows (standing g s ts cs fuel) (standing g u ts cs n)) (sym x.1) (returned_so g k s ts cs fuel pc r u funcs codes w x.0 a word)
+
+pub crossed_or_not : (g : Running) (k : Code) (s : KeptStack) (ts : List Contents) (cs : List KeptCell) (fuel pc : ℕ) → RunsAt g k s ts cs fuel pc → (u : KeptStack) (size : ℕ) (funcs : List Func) (codes : Codes) (w : Instruction) (left : ℕ)
+    → AreFunctions g.around.context.base.functions funcs codes → size ≡ g.around.context.closure.code.own.stack → slice_get k.words pc ≡ Some w
+    → (o : Option (Unit {0})) → IfSome o (λ _. Crosses s u size funcs codes w fuel left) → IfNone o ((u ≡ s) × (left ≡ fuel)) → Reaches g.around.rows (standing g s ts cs fuel) (standing g u ts cs left)
+crossed_or_not g k s ts cs fuel pc r u size funcs codes w left a e word None x y =
+    subst (λ (n : ℕ). Reaches g.around.rows (standing g s ts cs fuel) (standing g u ts cs n)) (sym y.1)
+    (subst (λ (u : KeptStack). Reaches g.around.rows (standing g s ts cs fuel) (standing g u ts cs fuel)) (sym y.0) (reaches_none g.around.rows (standing g s ts cs fuel)))
+crossed_or_not g k s ts cs fuel pc r u size funcs codes w left a e word (Some o) x y = crossed_so g k s ts cs fuel pc r u size funcs codes w left a e word x

@@ -1,0 +1,75 @@
+// The frame on top of a stack, and the one that is on top after a call or a return.
+ghost use Rattle.std.specs.Prelude.{◌≡◌, IfNone, IfSome};
+ghost use Rattle.lua_stack.specs.Frames.{HasLuaTop};
+ghost use Rattle.machine_arms_tables.specs.Frame.{AreOpenAlike, code};
+ghost use Rattle.machine_focus.specs.Focus.{Reaches};
+ghost use Rattle.machine_loop.specs.Running.{Running};
+ghost use Rattle.running_frame.specs.Calling.{AreFunctions, HaveCode};
+ghost use Rattle.running_frame.specs.Returning.{Crosses};
+ghost use Rattle.running_frame.specs.Standing.{IsHereIn, MayRun, standing};
+
+use crate::calling::call_function;
+use crate::place::Here;
+use crate::returning::return_value;
+use crate::stack::run_stack;
+use lua_heap::{Cell, Codes, Func, Strings};
+use lua_stack::Stack;
+use machine_arms_tables::Closure;
+use object_pool::Pool;
+use table_core::{CoroId, Table};
+
+/// Runs the frame on top, and tells where it stops. `None` where another frame is on top now, of a function that it called or
+/// to which it returned. `size` is the number of registers of its
+/// code.
+pub(crate) fn run_frame_on_top(
+    stack: &mut Stack,
+    closure: Closure,
+    size: usize,
+    strings: &Strings,
+    funcs: &Pool<Func>,
+    codes: &Codes,
+    tables: &mut Pool<Table>,
+    cells: &mut Pool<Cell>,
+    budget: &mut u64,
+    co: CoroId,
+) -> Option<Here>
+    ghost g: { Running }
+    requires may { MayRun g (code closure strings.now) stack.old tables.old.objects cells.old.objects budget.old }
+    requires own { co.0 ≡ g.around.context.coroutine }
+    requires functions { AreFunctions g.around.context.base.functions funcs.now.objects codes.now }
+    requires size { size ≡ g.around.context.closure.code.own.stack }
+    ensures reaches { Reaches g.around.rows (standing g stack.old tables.old.objects cells.old.objects budget.old) (standing g stack.new tables.new.objects cells.new.objects budget.new) }
+    ensures here { IfSome result (λ here. IsHereIn g (code closure.entry strings.now) stack.new here) }
+    ensures opened { AreOpenAlike cells.old.objects cells.new.objects }
+    ensures listed { stack.new.open_cells ≡ stack.old.open_cells }
+{
+    let here = run_stack(stack, closure, strings, tables, cells, budget, co);
+    if !here.runs {
+        return Some(here);
+    }
+    match cross(stack, size, funcs, codes, budget, here) {
+        Some(()) => None,
+        None => Some(here),
+    }
+}
+
+/// Calls a function, or returns to a frame below, where either changes nothing but the stack.
+fn cross(
+    stack: &mut Stack,
+    size: usize,
+    funcs: &Pool<Func>,
+    codes: &Codes,
+    budget: &mut u64,
+    here: Here,
+) -> Option<()>
+    requires top { HasLuaTop stack.old }
+    requires codes { HaveCode funcs.now.objects codes.now }
+    ensures crosses { IfSome result (λ _. Crosses stack.old stack.new size funcs.now.objects codes.now here.word budget.old budget.new) }
+    ensures kept { IfNone result ((stack.new ≡ stack.old) × (budget.new ≡ budget.old)) }
+    ensures listed { stack.new.open_cells ≡ stack.old.open_cells }
+{
+    match call_function(stack, size, funcs, codes, budget, here.word) {
+        Some(()) => Some(()),
+        None => return_value(stack, funcs, codes, here.word),
+    }
+}

@@ -1,0 +1,186 @@
+// Returns of a value or of none to a Lua frame below that waits for a call, which change nothing but the stack (luaD_poscall of ldo.c).
+ghost use Rattle.std.specs.Prelude.{◌≡◌, ◌+◌, ◌≤◌, [], ◌∷◌, IfNone, IfSome, true};
+ghost use Rattle.code_core.specs.Instruction.{b_of, opcode_of};
+ghost use Rattle.int_core.specs.Value.{range, write_all};
+ghost use Rattle.lua_stack.specs.Frames.{HasLuaTop, HasRegisters, TopBecomes, with_registers};
+ghost use Rattle.lua_stack.specs.Reading.{viewed_lua};
+ghost use Rattle.running_frame.specs.Calling.{HaveCode};
+ghost use Rattle.running_frame.specs.Returning.{HasKept, IsCaller, IsCallerIn, IsGiven, IsTaker, ReturnsIn, TakesIn, count_of, taken};
+ghost use Rattle.running_frame.specs.Standing.{IsClosedFrom};
+
+use crate::calling::{is_call, one_less, register_of};
+use crate::stack::closed_from;
+use crate::upvalues::fetch;
+use code_core::{Instruction, Opcode};
+use lua_heap::{Codes, Func};
+use lua_stack::{FrameView, LuaView, Stack, Wait};
+use object_pool::Pool;
+use table_core::{FuncId, Value};
+
+/// A Lua frame that waits for a call.
+#[derive(Clone, Copy, Debug)]
+pub(crate) struct Caller {
+    function: FuncId,
+    pc: usize,
+    /// How many registers it has.
+    size: usize,
+}
+
+/// What its CALL wants: at most one value, in a register, and where it goes on.
+#[derive(Clone, Copy, Debug)]
+pub(crate) struct Taker {
+    register: usize,
+    count: usize,
+    to: usize,
+}
+
+/// A return of at most one value to a Lua frame whose CALL wants at most one: that frame runs again, behind the CALL. `None`, with all as before, at any other
+/// instruction, and where the return takes more than the stack.
+pub(crate) fn return_value(
+    stack: &mut Stack,
+    funcs: &Pool<Func>,
+    codes: &Codes,
+    i: Instruction,
+) -> Option<()>
+    requires top { HasLuaTop stack.old }
+    requires codes { HaveCode funcs.now.objects codes.now }
+    ensures returns { IfSome result (λ _. ReturnsIn stack.old stack.new funcs.now.objects codes.now i) }
+    ensures kept { IfNone result (stack.new ≡ stack.old) }
+    ensures listed { stack.new.open_cells ≡ stack.old.open_cells }
+{
+    let count = count_returned(i)?;
+    if !closes_nothing(stack) {
+        return None;
+    }
+    let value = given(stack.registers(), i.a() as usize, count)?;
+    let caller = caller_of(stack)?;
+    let taker = taker_of(funcs, codes, caller)?;
+    stack.pop();
+    hand(stack, taker, value);
+    Some(())
+}
+
+/// How many values an instruction returns, where it says so.
+fn count_returned(i: Instruction) -> Option<usize>
+    ensures { result ≡ count_of (opcode_of i) (b_of i) }
+{
+    match i.opcode() {
+        Some(Opcode::Return) => one_less(i.b()),
+        Some(Opcode::Return0) => Some(0),
+        Some(Opcode::Return1) => Some(1),
+        _ => None,
+    }
+}
+
+/// Whether no cell of the frame on top is open, and none of its variables is still to be closed.
+fn closes_nothing(stack: &mut Stack) -> bool
+    requires { HasLuaTop stack.old }
+    ensures kept { stack.new ≡ stack.old }
+    ensures closed { result ≡ true → IsClosedFrom stack.new 0 }
+{
+    match closed_from(stack) {
+        Some(register) => register == 0,
+        None => false,
+    }
+}
+
+/// The value of a register, or nil where none is returned.
+fn given(registers: &[Value], register: usize, count: usize) -> Option<Value>
+    ensures { IfSome result (λ v. IsGiven registers.now register count v) }
+{
+    if count == 0 {
+        return Some(Value::Nil);
+    }
+    if count > 1 {
+        return None;
+    }
+    register_of(registers, register)
+}
+
+/// The frame below, where it is a Lua frame that waits for a call.
+fn caller_of(stack: &Stack) -> Option<Caller>
+    ensures { IfSome result (λ c. IsCaller stack.now c) }
+{
+    let number = stack.len().checked_sub(2)?;
+    match stack.frame_at(number)? {
+        FrameView::Lua(view) => caller_in(view),
+        _ => None,
+    }
+}
+
+/// What is known of it.
+fn caller_in(view: LuaView) -> Option<Caller>
+    ensures { IfSome result (λ c. IsCallerIn (viewed_lua view.entry) c) }
+{
+    let size = view.registers.len().checked_add(view.nils)?;
+    match view.wait {
+        Wait::ForCall => Some(Caller {
+            function: view.function,
+            pc: view.pc,
+            size,
+        }),
+        _ => None,
+    }
+}
+
+/// What its CALL wants.
+fn taker_of(funcs: &Pool<Func>, codes: &Codes, caller: Caller) -> Option<Taker>
+    requires { HaveCode funcs.now.objects codes.now }
+    ensures { IfSome result (λ t. TakesIn funcs.now.objects codes.now caller t) }
+{
+    if caller.function.0 >= funcs.len() {
+        return None;
+    }
+    let code = codes.get(funcs.get(caller.function.0).code);
+    taker_in(&code.words, caller)
+}
+
+/// What the CALL at its place in these words wants.
+fn taker_in(words: &[Instruction], caller: Caller) -> Option<Taker>
+    ensures { IfSome result (λ t. IsTaker words.now caller t) }
+{
+    let to = caller.pc.checked_add(1)?;
+    if to >= words.len() {
+        return None;
+    }
+    let i = fetch(words, caller.pc);
+    if !is_call(i) {
+        return None;
+    }
+    let count = one_less(i.c())?;
+    let register = i.a() as usize;
+    if count > 1 {
+        return None;
+    }
+    if register + count > caller.size {
+        return None;
+    }
+    Some(Taker {
+        register,
+        count,
+        to,
+    })
+}
+
+/// The Lua frame on top gets a value where it wants one, and runs on.
+fn hand(stack: &mut Stack, taker: Taker, value: Value)
+    requires few { taker.count ≤ 1 }
+    requires room { HasKept stack.old (taker.register + taker.count) }
+    ensures { TopBecomes stack.old stack.new (λ f t. taken taker (f value) t) }
+{
+    put(stack, taker, value);
+    stack.set_wait(Wait::Running);
+    stack.set_pc(taker.to);
+}
+
+/// Puts the value where it is wanted.
+fn put(stack: &mut Stack, taker: Taker, value: Value)
+    requires few { taker.count ≤ 1 }
+    requires room { HasRegisters stack.old (taker.register + taker.count) }
+    ensures { TopBecomes stack.old stack.new (λ f t. with_registers (write_all taker.register (range 0 taker.count (f value ∷ [])) t.own.registers) t) }
+{
+    if taker.count == 0 {
+        return;
+    }
+    stack.set(taker.register, value);
+}
