@@ -1,0 +1,4 @@
+mod NewKeys
+mod Keys
+pub mod Loaded
+mod Saved

@@ -1,0 +1,8 @@
+pub mod Values
+mod Heaps
+mod Looks
+mod Library
+mod Moves
+mod Rows
+pub mod Runs
+pub mod Opening
