@@ -9,9 +9,10 @@ abbrev pub Rose : ℕ → ℕ → Type 0
 Rose before now = min (before + 1) (2 ^ 64 - 1) ≤ now
 
 -- The count of faults over one call: it never falls and never passes 2^64 - 1, it rose where the call answers
--- that the device failed, and it is as before where the call answers anything else.
+-- that the device failed, by one fault at most, and it is as before where the call answers anything else.
 pub record HasCause (before now : ℕ) (failed : Bool) : Type 0 where
   pub later : before ≤ now
+  pub once : now ≤ before + 1
   pub bounded : before < 2 ^ 64 → now < 2 ^ 64
   pub rose : OnTrue failed (Rose before now)
   pub only : OnFalse failed (now ≡ before)

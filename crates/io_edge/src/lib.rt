@@ -1,4 +1,4 @@
-// The devices of a program: what it reads from, what it writes to, and its files, which fail only by counted faults.
+//! The devices of a program: what it reads from, what it writes to, and its files, which fail only by counted faults.
 #![tactic(auto)]
 
 mod device;

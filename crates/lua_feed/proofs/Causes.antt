@@ -12,7 +12,7 @@ use Rattle.lua_feed.specs.Faults.{fault_of_line, is_input_fault, is_output_fault
 -- a call that does not use the device
 pub untouched : (before now : ℕ) (failed : Bool) → now ≡ before → failed ≡ false → HasCause before now failed
 untouched before now true e f = absurd (cc)
-untouched before now false e f = record { later = omega (arith, e); bounded = λ h. omega (arith, e, h); rose = tt; only = e }
+untouched before now false e f = record { later = omega (arith, e); once = omega (arith, e); bounded = λ h. omega (arith, e, h); rose = tt; only = e }
 
 -- a fault of the output is none of the input
 pub no_input : (e : FeedFault) {T : Type 0} (r : Result T FeedFault) → r ≡ Err e → of_output e ≡ true → is_input_fault r ≡ false

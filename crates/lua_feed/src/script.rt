@@ -37,7 +37,7 @@ pub fn start(alloc: Global, prelude: Checked, code: Checked) -> Result<World, Al
 }
 
 /// Checked code keeps all rules.
-fn rules_hold(code: &Checked)
+pub fn rules_hold(code: &Checked)
     ensures { IsChecked code.now }
 {
     code.proto();

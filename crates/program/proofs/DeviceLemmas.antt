@@ -3,7 +3,8 @@ use Rattle.std.proofs.Common.{◌≡◌, ℕ, List, [], ◌++◌, length, take, 
 use Rattle.std.specs.Option.{option_map}
 use Rattle.std.proofs.Math.Seq.{take-length}
 use Rattle.io_edge.specs.Content.{FileMap, GrowsByFront, MayEndTelling, KeepsOtherFiles, with_file}
-use Rattle.program.specs.Devices.{Device, GrewIn, Lacks, Holds, OnlyGrows, KeepsOthers}
+use Rattle.program.specs.Devices.{Device, GrewIn, Lacks, Holds, KeepsOthers}
+use Rattle.lua_feed.specs.Feeding.{OnlyGrows}
 
 abbrev pub files_of : (faults faults' : ℕ) (held held' : Option FileMap) → Device FileMap
 files_of faults faults' held held' = record { faults = faults; faults' = faults'; content = held; content' = held' }

@@ -21,14 +21,14 @@ use Rattle.session_images.specs.Prelude.{HasPrelude}
 use Rattle.session_images.specs.Saved.{session_image}
 use Rattle.session_images.specs.Stored.{root_count, IsWrittenAs}
 use Rattle.lua_feed.specs.Faults.{is_input_fault, is_output_fault}
-use Rattle.lua_feed.specs.Feeding.{IsLast, IsFed, IsBrokenOff, IsCutOff, IsFedTo, IsFedFront}
+use Rattle.lua_feed.specs.Feeding.{IsLast, IsFed, IsBrokenOff, IsCutOff, IsFedTo, IsFedFront, OnlyGrows}
 use Rattle.lua_feed.specs.Limits.{usable_lines, passes_limits}
 use Rattle.lua_feed.specs.declared.fault.FeedFault.{FeedFault}
 use Rattle.lua_feed.specs.declared.fault.FeedFault.TheVariants as feeding
 use Rattle.lua_feed.specs.declared.feeding.Close.{Close as Kept}
 use Rattle.program.specs.declared.session.Session.{Session}
 use Rattle.program.specs.declared.session.SessionState.{SessionState}
-use Rattle.program.specs.Devices.{Device, RoseIn, GrewIn, OnlyGrows, IsUntouched, KeepsOthers}
+use Rattle.program.specs.Devices.{Device, RoseIn, GrewIn, IsUntouched, KeepsOthers}
 use Rattle.program.specs.Faults.{fault_of_feeding}
 use Rattle.program.specs.Meaning.{has_ended}
 use Rattle.program.specs.Outcomes as by

@@ -8,13 +8,12 @@ use Rattle.library_rows.specs.PreludeText.{prelude_text}
 use Rattle.prelude_code.specs.Prelude.{IsPreludeCode}
 use Rattle.prelude_stays.specs.Laws.{RunsHavePrelude, GuardedCode}
 use Rattle.source_builds.specs.Builds.{BuildsSources, code_builds}
-use Rattle.machine_runs.specs.Laws.{PreludeOk}
+use Rattle.machine_runs.specs.Laws.{PreludeOk, AreShort}
 use Rattle.machine_runs.specs.Runs.{Run, CodeRun}
 use Rattle.loaded_code.specs.Laws.{library, LoadingIsSafe}
 use Rattle.scripts_mean.specs.Scripts.{PreludeIsAlike}
 use Rattle.session_images.specs.Prelude.{HasPrelude}
 use Rattle.lua_feed.specs.Running.{started}
-use Rattle.program.specs.Meaning.{AreShort}
 use Rattle.program.specs.Sessions.{functions_of}
 use Rattle.program.proofs.MeaningLemmas.{read_of}
 

@@ -6,6 +6,7 @@ pub mod CodeLemmas
 pub mod MeaningLemmas
 mod Limited
 pub mod Endings
+mod LimitLemmas
 pub mod Leaving
 pub mod ImageLemmas
 mod Keeping

@@ -28,7 +28,8 @@ use Rattle.lua_feed.specs.Running.{started}
 use Rattle.lua_feed.proofs.Limits.{within_short}
 use Rattle.program.specs.Checking.{begins_chunk, IsAccepted}
 use Rattle.program.specs.Compiling.{source_name}
-use Rattle.program.specs.Meaning.{MeansOn, EndsWith, IsWaiting, AreShort}
+use Rattle.program.specs.Meaning.{MeansOn, EndsWith, IsWaiting}
+use Rattle.machine_runs.specs.Laws.{AreShort}
 use Rattle.program.specs.Running.{HoldsCode}
 use Rattle.program.specs.Sessions.{status_of_close}
 

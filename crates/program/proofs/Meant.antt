@@ -26,7 +26,8 @@ use Rattle.program.specs.Devices.{Device}
 use Rattle.program.specs.Checking.{begins_chunk, IsAccepted}
 use Rattle.program.specs.Compiling.{source_name}
 use Rattle.program.specs.Running as running
-use Rattle.program.specs.Meaning.{MeansOn, EndsWith, AreShort, has_ended, IsDoneAsMeant}
+use Rattle.program.specs.Meaning.{MeansOn, EndsWith, has_ended, IsDoneAsMeant}
+use Rattle.machine_runs.specs.Laws.{AreShort}
 use Rattle.program.specs.Running.{HoldsCode, RunsOn, IsNotRun}
 use Rattle.program.specs.Sessions as session
 use Rattle.program.specs.Sessions.{status_of_close, IsLeft, Ends}

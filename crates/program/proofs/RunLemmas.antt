@@ -37,7 +37,8 @@ use Rattle.program.specs.Compiling.{source_name, HoldsNoScript}
 use Rattle.program.specs.Faults.{fault_of_file, fault_of_prelude}
 use Rattle.program.specs.Outcomes.{IsCodeIn, IsNoChunkFor, IsNoScriptFor, IsNoCodeFor}
 use Rattle.program.specs.Report.{status_of_fault}
-use Rattle.program.specs.Meaning.{MeansOn, EndsWith, AreShort}
+use Rattle.program.specs.Meaning.{MeansOn, EndsWith}
+use Rattle.machine_runs.specs.Laws.{AreShort}
 use Rattle.session_images.specs.Prelude.{HasPrelude}
 use Rattle.program.specs.Sessions.{functions_of, IsKept}
 use Rattle.program.specs.Running as running

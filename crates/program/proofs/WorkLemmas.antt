@@ -32,7 +32,7 @@ use Rattle.loaded_code.specs.Laws.{library}
 use Rattle.scripts_mean.specs.Scripts.{IsRead, functions_in, RunsAs, ScriptsDo, ScriptsMean, PreludeIsAlike}
 use Rattle.lua_heap.specs.declared.world.World.{World as Memory}
 use Rattle.lua_feed.specs.Faults.{is_input_fault, is_output_fault}
-use Rattle.lua_feed.specs.Feeding.{Does, IsCutOff, IsFedTo, IsFedFront}
+use Rattle.lua_feed.specs.Feeding.{Does, IsCutOff, IsFedTo, IsFedFront, OnlyGrows}
 use Rattle.lua_feed.specs.Limits.{passes_limits}
 use Rattle.lua_feed.specs.Running.{started}
 use Rattle.lua_feed.specs.declared.fault.FeedFault.{FeedFault}
@@ -45,7 +45,6 @@ use Rattle.program.specs.declared.fault.Fault.{Fault}
 use Rattle.program.specs.declared.fault.Fault.TheVariants as fault
 use Rattle.program.specs.declared.session.Session.{Session}
 use Rattle.program.specs.declared.session.SessionState.{SessionState}
-use Rattle.program.specs.Devices.{OnlyGrows}
 use Rattle.program.specs.Faults.{fault_of_prelude, fault_of_text, fault_of_feeding, status_of}
 use Rattle.program.specs.Meaning.{EndsWith, has_ended}
 use Rattle.program.specs.Outcomes.{IsNoScriptFor}

@@ -5,7 +5,8 @@ use Rattle.code_core.specs.Prototype.{Prototype, function_count, instruction_cou
 use Rattle.code_core.specs.Check.{IsChecked}
 use Rattle.chunk_format.specs.Grammar.{BeginsWith, ChunkOf}
 use Rattle.io_edge.specs.Content.{FileMap, GrowsByFront, MayEndTelling}
-use Rattle.program.specs.Devices.{Device, RoseIn, GrewIn, Lacks, Holds, Has, OnlyGrows, IsUntouched}
+use Rattle.program.specs.Devices.{Device, RoseIn, GrewIn, Lacks, Holds, Has, IsUntouched}
+use Rattle.lua_feed.specs.Feeding.{OnlyGrows}
 
 -- the first byte is that of a chunk
 abbrev pub begins_chunk : List ℕ → Bool

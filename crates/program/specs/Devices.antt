@@ -1,5 +1,5 @@
 -- The devices of a call: what they told before it, and what they tell after it.
-use Rattle.std.specs.Prelude.{◌≡◌, ℕ, ◌<◌, List, ◌++◌, Option, Some, None, IfSome}
+use Rattle.std.specs.Prelude.{◌≡◌, ℕ, ◌<◌, List, Option, Some, None, IfSome}
 use Rattle.io_edge.specs.Causes.{Rose}
 use Rattle.io_edge.specs.Content.{FileMap, KeepsOtherFiles, MayEndTelling}
 
@@ -29,10 +29,6 @@ Holds None name content = ⊥
 -- where the files tell their contents, the file of the name has these bytes
 abbrev pub Has : Device FileMap → (name content : List ℕ) → Type 0
 Has files name content = IfSome files.content (λ held. held name ≡ Some content)
-
--- where it tells after the call, a sink has what it had before, and maybe more behind it
-abbrev pub OnlyGrows : Option (List ℕ) → Option (List ℕ) → Type 0
-OnlyGrows before now = IfSome now (λ after. (text : List ℕ) × (more : List ℕ) × (before ≡ Some text) × (after ≡ text ++ more))
 
 -- nothing is read or written, and no call of the device failed
 pub record IsUntouched {T : Type 0} (device : Device T) : Type 0 where

@@ -1,8 +1,7 @@
 -- What the script in a file means (Lua 5.4 manual, 2 and 3), and that it was done.
-use Rattle.std.specs.Prelude.{◌≡◌, ℕ, ◌≤◌, length, List, ◌++◌, Bool, true, false, ◌||◌, nat_eq}
+use Rattle.std.specs.Prelude.{◌≡◌, ℕ, List, ◌++◌, Bool, true, false, ◌||◌, nat_eq}
 use Rattle.std.specs.Option.{option_map}
 use Rattle.load_rows.specs.Loading.{Builds}
-use Rattle.int_core.specs.Value.{greatest_string}
 use Rattle.tree_core.specs.Tree.{Block, Body}
 use Rattle.tree_activation.specs.Work.{when_declared, State}
 use Rattle.scope_core.specs.Places.{placed}
@@ -15,7 +14,6 @@ use Rattle.lua_feed.specs.Limits.{usable_lines}
 use Rattle.lua_meaning.specs.Opening.{primitives, prelude_of}
 use Rattle.lua_meaning.specs.TreeMeaning.{trees, tree_opening}
 use Rattle.runs_alike.specs.Alike.{script}
-use Rattle.machine_sound.specs.Sound.{Each}
 use Rattle.scripts_mean.specs.Scripts.{IsRead, functions_in}
 use Rattle.program.specs.Devices.{Device}
 use Rattle.program.specs.Checking.{begins_chunk}
@@ -44,10 +42,6 @@ EndsWith meaning.is_broken status = ⊥
 abbrev pub IsWaiting : Outcome Body State → Type 0
 IsWaiting (meaning.is_suspended W) = Unit {0}
 IsWaiting _ = ⊥
-
--- strings can hold all lines
-abbrev pub AreShort : List (List ℕ) → Type 0
-AreShort lines = Each (λ (line : List ℕ). length line ≤ greatest_string) lines
 
 -- the statuses of a run that came to an end: it returned, failed, waits for a line and there is none, or a turn has spent its budget
 abbrev pub has_ended : (status : ℕ) → Bool

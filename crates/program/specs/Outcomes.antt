@@ -73,6 +73,12 @@ pub record IsNoSessionFor (prelude : Prototype) (content : List ℕ) (reason : F
   pub refused : IsRefusedFor prelude content why
   pub holds_none : (session : World) → IsSession (functions_of prelude) content session → HasYielded session → ⊥
 
+-- what the line of a 7 tells where a session is left: its image is too large, and it waits for a line then
+abbrev pub LeavesFor : Close → Fault → Type 0
+LeavesFor close fault.InputLimit = ⊥
+LeavesFor close fault.TooLarge = close ≡ is_suspended
+LeavesFor close _ = Unit {0}
+
 -- what is left of a session in memory that closed
 pub data IsLeftBy (W : Memory) (close : Close) (save : Option (List ℕ)) (files : Device FileMap) : (status : ℕ) → Type 0 where
   ended : close ≢ is_suspended → IsUntouched files → IsLeftBy W close save files (status_of_close close)

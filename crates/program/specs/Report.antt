@@ -1,5 +1,5 @@
 -- The line on standard error for each status.
-use Rattle.std.specs.Prelude.{◌≡◌, ℕ, List, [], ◌++◌, Bool, true, ◌||◌, nat_eq, Option, Some, None, codes, decimal}
+use Rattle.std.specs.Prelude.{◌≡◌, ℕ, ◌+◌, ◌≤◌, List, [], ◌++◌, Bool, true, false, ◌||◌, nat_eq, Option, Some, None, IfSome, codes, decimal}
 use Rattle.std.specs.Bool.{MatchBool}
 use Rattle.std.specs.Option.{option_map}
 use Rattle.io_edge.specs.Content.{FileMap, GrowsByFront}
@@ -19,6 +19,7 @@ use Rattle.graph_core.specs.declared.permanents.PermanentKey.TheVariants.{Number
 use Rattle.image_bytes.specs.Format.{Fault as Refusal, of_kind, refused as refused_for}
 use Rattle.image_sound.specs.Fitting.{reads}
 use Rattle.session_images.specs.Stored.{root_count}
+use Rattle.lua_feed.specs.Limits.{passes_limits}
 use Rattle.lua_saving.specs.Saving.{session_reader, session_codes, HasNoSession}
 use Rattle.program.specs.declared.fault.Fault.{Fault}
 use Rattle.program.specs.declared.fault.Fault.TheVariants as fault
@@ -127,14 +128,31 @@ FitsFor (Some (compile script chunk strip)) files reason = (content : List ℕ) 
 FitsFor (Some (work count)) files reason = ScriptFits (work_script count) reason
 FitsFor None files reason = Unit {0}
 
--- the line of a status, which tells what the file's bytes give where the files tell them
-pub data IsErrorLine (command : Option Command) (files : Option FileMap) : ℕ → List ℕ → Type 0 where
-  none : (status : ℕ) → is_quiet status ≡ true → IsErrorLine command files status []
-  of_fault : (reason : Fault) → FitsFor command files reason → IsErrorLine command files (status_of_fault reason) (line_of_fault reason)
+-- what the line of a 7 tells of an input that tells its bytes: a line of it is past the limits, or none is, and so it is the image that is too large
 
--- standard error grows by exactly the line of the status where no write to it fails, and else by a front of it
-pub record IsReported (command : Option Command) (files : Option FileMap) (err : Device (List ℕ)) (status : ℕ) : Type 0 where
+abbrev pub LimitFits : Option (List ℕ) → Fault → Type 0
+LimitFits left fault.InputLimit = IfSome left (λ text. passes_limits 0 text ≡ true)
+LimitFits left fault.TooLarge = IfSome left (λ text. passes_limits 0 text ≡ false)
+LimitFits left _ = Unit {0}
+
+-- only `run` and `resume` answer 7
+abbrev pub LimitFitsFor : Option Command → Option (List ℕ) → Fault → Type 0
+LimitFitsFor (Some (run file budget save)) left reason = LimitFits left reason
+LimitFitsFor (Some (resume image budget save)) left reason = LimitFits left reason
+LimitFitsFor (Some (check file)) left reason = Unit {0}
+LimitFitsFor (Some (compile script chunk strip)) left reason = Unit {0}
+LimitFitsFor (Some (work count)) left reason = Unit {0}
+LimitFitsFor None left reason = Unit {0}
+
+-- the line of a status, which tells what the file's bytes give where the files tell them, and what the input's do where it tells them
+pub data IsErrorLine (command : Option Command) (files : Option FileMap) (left : Option (List ℕ)) : ℕ → List ℕ → Type 0 where
+  none : (status : ℕ) → is_quiet status ≡ true → IsErrorLine command files left status []
+  of_fault : (reason : Fault) → FitsFor command files reason → LimitFitsFor command left reason → IsErrorLine command files left (status_of_fault reason) (line_of_fault reason)
+
+-- standard error grows by exactly the line of the status where no write to it fails, and else by a front of it; and no write follows one that failed
+pub record IsReported (command : Option Command) (files : Option FileMap) (left : Option (List ℕ)) (err : Device (List ℕ)) (status : ℕ) : Type 0 where
   pub line : List ℕ
-  pub line_is : IsErrorLine command files status line
+  pub line_is : IsErrorLine command files left status line
   pub written : ¬ (RoseIn err) → err.content' ≡ option_map (λ text. text ++ line) err.content
   pub front : GrowsByFront line err.content err.content'
+  pub once : err.faults' ≤ err.faults + 1

@@ -10,10 +10,10 @@ use Rattle.prelude_code.specs.Prelude.{IsPreludeCode}
 use Rattle.machine_core.specs.World.{World}
 use Rattle.machine_runs.specs.Runs.{is_suspended, Run, CodeOnward}
 use Rattle.loaded_code.specs.Laws.{library}
-use Rattle.lua_feed.specs.Feeding.{GoesOn}
+use Rattle.lua_feed.specs.Feeding.{GoesOn, OnlyGrows}
 use Rattle.lua_feed.specs.Limits.{usable_lines, passes_limits}
 use Rattle.lua_saving.specs.Saving.{IsSession, HasYielded}
-use Rattle.program.specs.Devices.{Device, RoseIn, GrewIn, Lacks, Holds, Has, OnlyGrows, IsUntouched, KeepsOthers}
+use Rattle.program.specs.Devices.{Device, RoseIn, GrewIn, Lacks, Holds, Has, IsUntouched, KeepsOthers}
 use Rattle.program.specs.Meaning.{has_ended}
 use Rattle.program.specs.Sessions.{functions_of, status_of_close, IsSessionOf, IsKept, IsCutShort, Ends}
 use Rattle.program.specs.declared.session.Session.{Session}

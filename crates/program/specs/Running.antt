@@ -17,13 +17,14 @@ use Rattle.prelude_code.specs.Prelude.{IsPreludeCode}
 use Rattle.lua_meaning.specs.Meaning.{Meaning}
 use Rattle.machine_runs.specs.Runs.{Run, CodeRun, is_suspended}
 use Rattle.loaded_code.specs.Laws.{library}
-use Rattle.lua_feed.specs.Feeding.{Does}
+use Rattle.lua_feed.specs.Feeding.{Does, OnlyGrows}
 use Rattle.lua_feed.specs.Limits.{usable_lines, passes_limits}
 use Rattle.lua_feed.specs.Running.{started}
-use Rattle.program.specs.Devices.{Device, RoseIn, GrewIn, Lacks, Holds, Has, OnlyGrows, IsUntouched, KeepsOthers}
+use Rattle.program.specs.Devices.{Device, RoseIn, GrewIn, Lacks, Holds, Has, IsUntouched, KeepsOthers}
 use Rattle.program.specs.Checking.{begins_chunk, IsAccepted, HoldsNoChunk}
 use Rattle.program.specs.Compiling.{source_name, HoldsNoScript}
-use Rattle.program.specs.Meaning.{MeansOn, EndsWith, IsWaiting, AreShort, has_ended, IsDoneAsMeant, IsMeantShort}
+use Rattle.program.specs.Meaning.{MeansOn, EndsWith, IsWaiting, has_ended, IsDoneAsMeant, IsMeantShort}
+use Rattle.machine_runs.specs.Laws.{AreShort}
 use Rattle.program.specs.Sessions.{status_of_close, IsSessionOf, IsKept, IsCutShort, Ends}
 use Rattle.program.specs.declared.session.Session.{Session}
 

@@ -22,7 +22,8 @@ use Rattle.scripts_mean.specs.Scripts.{IsRead, functions_in}
 use Rattle.lua_feed.specs.Running.{started}
 use Rattle.work_script.specs.Script.{work_script}
 use Rattle.program.specs.declared.session.Session.{Session}
-use Rattle.program.specs.Devices.{Device, RoseIn, GrewIn, OnlyGrows, IsUntouched}
+use Rattle.program.specs.Devices.{Device, RoseIn, GrewIn, IsUntouched}
+use Rattle.lua_feed.specs.Feeding.{OnlyGrows}
 use Rattle.program.specs.Meaning.{EndsWith, has_ended}
 use Rattle.program.specs.Sessions.{status_of_close, IsSessionOf}
 

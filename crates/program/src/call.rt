@@ -1,11 +1,11 @@
 // The program over its devices.
-ghost use Rattle.std.specs.Prelude.{◌≡◌, Option, Some, IfErr, IfOk, map, string_bytes, true};
+ghost use Rattle.std.specs.Prelude.{◌≡◌, ◌+◌, ◌-◌, ◌≤◌, Option, Some, IfErr, IfOk, map, string_bytes, true};
 ghost use Rattle.command_words.specs.Kept.{asked};
 ghost use Rattle.command_words.specs.Words.{AreShort, Command as Asked, IsAsked};
 ghost use Rattle.program.specs.Faults.{status_of};
 ghost use Rattle.source_builds.specs.Readings.{AsRead};
 ghost use Rattle.program.specs.Program.{IsCall, IsUnread};
-ghost use Rattle.program.specs.Report.{FitsFor, IsReported, is_quiet};
+ghost use Rattle.program.specs.Report.{FitsFor, IsReported, LimitFitsFor, is_quiet};
 
 use crate::checking::check_file;
 use crate::compiling::compile_file;
@@ -27,7 +27,8 @@ use std::alloc::Global;
 /// 12 where the prelude is refused, or is not as it was made in an image that no call has written, and the session that went on is to be saved. What the
 /// script prints with a line for each turn's end, the chunk's counts, or the line of the work, go to `out`, and the line of a status of a fault to `err`; a failed
 /// write to `err` changes no status. `run` and `resume` alone read input. Where the status of one of these is 0, 1, 3 or 4, the session that ran is handed back in
-/// `last`, as it stands at the end, whether it is saved or not.
+/// `last`, as it stands at the end, whether it is saved or not. Once `files`, `input` or `out` has failed, none of the three is called again: at most one fault
+/// of theirs is counted.
 pub fn luaris<F: Files, S: Source, K: Sink, E: Sink>(
     alloc: Global,
     words: &[String],
@@ -38,8 +39,9 @@ pub fn luaris<F: Files, S: Source, K: Sink, E: Sink>(
     last: &mut Option<Session>,
 ) -> u8
     ensures call { (command : Option Asked) → IsAsked (map string_bytes words.now) command → AsRead (λ builds. IsCall builds command (record { faults = F.faults files.old; faults' = F.faults files.new; content = F.held files.old; content' = F.held files.new }) (record { faults = S.faults input.old; faults' = S.faults input.new; content = S.left input.old; content' = S.left input.new }) (record { faults = K.faults out.old; faults' = K.faults out.new; content = K.written out.old; content' = K.written out.new }) last.new result) }
-    ensures reports { (command : Option Asked) → IsAsked (map string_bytes words.now) command → IsReported command (F.held files.old) (record { faults = E.faults err.old; faults' = E.faults err.new; content = E.written err.old; content' = E.written err.new }) result }
+    ensures reports { (command : Option Asked) → IsAsked (map string_bytes words.now) command → IsReported command (F.held files.old) (S.left input.old) (record { faults = E.faults err.old; faults' = E.faults err.new; content = E.written err.old; content' = E.written err.new }) result }
     ensures unread { (command : Option Asked) → IsAsked (map string_bytes words.now) command → IsUnread command input.old input.new }
+    ensures once { (F.faults files.new - F.faults files.old) + (S.faults input.new - S.faults input.old) + (K.faults out.new - K.faults out.old) ≤ 1 }
 {
     match perform(alloc, words, files, input, out, last) {
         Ok(status) => status,
@@ -61,8 +63,10 @@ fn perform<F: Files, S: Source, K: Sink>(
 ) -> Result<u8, Fault>
     ensures call { (command : Option Asked) → IsAsked (map string_bytes words.now) command → AsRead (λ builds. IsCall builds command (record { faults = F.faults files.old; faults' = F.faults files.new; content = F.held files.old; content' = F.held files.new }) (record { faults = S.faults input.old; faults' = S.faults input.new; content = S.left input.old; content' = S.left input.new }) (record { faults = K.faults out.old; faults' = K.faults out.new; content = K.written out.old; content' = K.written out.new }) last.new (status_of result)) }
     ensures fits { (command : Option Asked) → IsAsked (map string_bytes words.now) command → IfErr result (λ fault. FitsFor command (F.held files.old) fault) }
+    ensures limits { (command : Option Asked) → IsAsked (map string_bytes words.now) command → IfErr result (λ fault. LimitFitsFor command (S.left input.old) fault) }
     ensures quiet { IfOk result (λ status. is_quiet status ≡ true) }
     ensures unread { (command : Option Asked) → IsAsked (map string_bytes words.now) command → IsUnread command input.old input.new }
+    ensures once { (F.faults files.new - F.faults files.old) + (S.faults input.new - S.faults input.old) + (K.faults out.new - K.faults out.old) ≤ 1 }
 {
     let Some(command) = read_words(words) else {
         return Err(Fault::Words);
@@ -82,8 +86,10 @@ fn carry_out<F: Files, S: Source, K: Sink>(
     requires { AreShort (asked command) }
     ensures call { AsRead (λ builds. IsCall builds (Some (asked command.entry)) (record { faults = F.faults files.old; faults' = F.faults files.new; content = F.held files.old; content' = F.held files.new }) (record { faults = S.faults input.old; faults' = S.faults input.new; content = S.left input.old; content' = S.left input.new }) (record { faults = K.faults out.old; faults' = K.faults out.new; content = K.written out.old; content' = K.written out.new }) last.new (status_of result)) }
     ensures fits { IfErr result (λ fault. FitsFor (Some (asked command.entry)) (F.held files.old) fault) }
+    ensures limits { IfErr result (λ fault. LimitFitsFor (Some (asked command.entry)) (S.left input.old) fault) }
     ensures quiet { IfOk result (λ status. is_quiet status ≡ true) }
     ensures unread { IsUnread (Some (asked command.entry)) input.old input.new }
+    ensures once { (F.faults files.new - F.faults files.old) + (S.faults input.new - S.faults input.old) + (K.faults out.new - K.faults out.old) ≤ 1 }
 {
     match command {
         Command::Run { file, budget, save } => {

@@ -1,7 +1,6 @@
 // The chunk in a file is checked.
-ghost use Rattle.std.specs.Prelude.{◌≡◌, ◌++◌, ◌⊎◌, List, ℕ, IfErr, IfOk, OnErr, OnOk, is_err};
+ghost use Rattle.std.specs.Prelude.{◌≡◌, ◌+◌, ◌-◌, ◌≤◌, ◌++◌, ◌⊎◌, List, ℕ, IfErr, IfOk, OnErr, OnOk, is_err};
 ghost use Rattle.std.specs.Option.{option_map};
-ghost use Rattle.code_core.specs.Check.{IsChecked};
 ghost use Rattle.io_edge.specs.Causes.{HasCause};
 ghost use Rattle.io_edge.specs.Content.{GrowsByFront};
 ghost use Rattle.program.specs.Checking.{IsCheck, report_of};
@@ -16,6 +15,7 @@ use chunk_format::read_chunk;
 use code_core::Checked;
 use io_edge::{Files, Sink, write_all};
 use itoa::Buffer;
+use lua_feed::rules_hold;
 use std::alloc::{AllocError, Global};
 
 /// Writes how many functions and instructions the chunk in a file has, where its code may run.
@@ -27,6 +27,7 @@ pub fn check_file<F: Files, K: Sink>(
 ) -> Result<(), Fault>
     ensures check { IsCheck name.now (record { faults = F.faults files.old; faults' = F.faults files.new; content = F.held files.old; content' = F.held files.new }) (record { faults = K.faults out.old; faults' = K.faults out.new; content = K.written out.old; content' = K.written out.new }) (done_status result) }
     ensures fits { (content : List ℕ) → Holds (F.held files.old) name.now content → IfErr result (λ fault. ChunkFits content fault) }
+    ensures once { (F.faults files.new - F.faults files.old) + (K.faults out.new - K.faults out.old) ≤ 1 }
 {
     let content = files.get(alloc, name)?;
     let checked = checked_chunk(alloc, content.as_slice())?;
@@ -43,13 +44,6 @@ pub fn checked_chunk(alloc: Global, bytes: &[u8]) -> Result<Checked, Fault>
     let checked = check(alloc, proto)?;
     rules_hold(&checked);
     Ok(checked)
-}
-
-/// Checked code keeps all rules.
-pub fn rules_hold(code: &Checked)
-    ensures { IsChecked code.now }
-{
-    code.proto();
 }
 
 fn counts(alloc: Global, checked: &Checked) -> Result<Vec<u8>, AllocError>

@@ -1,5 +1,5 @@
 // The script in a file is compiled into a chunk.
-ghost use Rattle.std.specs.Prelude.{◌≡◌, ◌≤◌, ◌⊎◌, List, ℕ, IfErr, IfOk, length};
+ghost use Rattle.std.specs.Prelude.{◌≡◌, ◌-◌, ◌≤◌, ◌⊎◌, List, ℕ, IfErr, IfOk, length};
 ghost use Rattle.program.specs.Compiling.{IsCompilation, source_name};
 ghost use Rattle.program.specs.Devices.{Holds};
 ghost use Rattle.program.specs.Faults.{done_status};
@@ -22,6 +22,7 @@ pub fn compile_file<F: Files>(
     requires short { length script.now ≤ 65536 }
     ensures call { IsCompilation script.now chunk.now strip (record { faults = F.faults files.old; faults' = F.faults files.new; content = F.held files.old; content' = F.held files.new }) (done_status result) }
     ensures fits { (content : List ℕ) → Holds (F.held files.old) script.now content → IfErr result (λ fault. ScriptFits content fault) }
+    ensures once { F.faults files.new - F.faults files.old ≤ 1 }
 {
     let content = files.get(alloc, script)?;
     let bytes = chunk_of_script(alloc, script, content.as_slice(), strip)?;

@@ -1,5 +1,5 @@
 // The session of an image goes on with the lines of the input.
-ghost use Rattle.std.specs.Prelude.{◌≡◌, ◌⊎◌, List, ℕ, IfErr, IfOk, length, option_map, true};
+ghost use Rattle.std.specs.Prelude.{◌≡◌, ◌+◌, ◌-◌, ◌≤◌, ◌⊎◌, List, ℕ, IfErr, IfOk, length, option_map, true};
 ghost use Rattle.code_core.specs.Prototype.{list_of};
 ghost use Rattle.library_rows.specs.PreludeText.{prelude_functions};
 ghost use Rattle.lua_driver.specs.Turns.{MayGoOn};
@@ -8,7 +8,7 @@ ghost use Rattle.lua_saving.specs.Saving.{HasYielded, IsSession};
 ghost use Rattle.program.specs.Devices.{Holds};
 ghost use Rattle.program.specs.Faults.{status_of};
 ghost use Rattle.program.specs.Outcomes.{IsNoSessionFor};
-ghost use Rattle.program.specs.Report.{ImageFits, is_quiet};
+ghost use Rattle.program.specs.Report.{ImageFits, LimitFits, is_quiet};
 ghost use Rattle.program.specs.Resuming.{IsResume};
 ghost use Rattle.source_builds.specs.Readings.{AsRead};
 ghost use Rattle.program.specs.Sessions.{functions_of};
@@ -40,7 +40,9 @@ pub fn resume_file<F: Files, S: Source, K: Sink>(
 ) -> Result<u8, Fault>
     ensures resume { AsRead (λ builds. IsResume builds name.now budget (option_map (λ image. image.now) save.entry) (record { faults = F.faults files.old; faults' = F.faults files.new; content = F.held files.old; content' = F.held files.new }) (record { faults = S.faults input.old; faults' = S.faults input.new; content = S.left input.old; content' = S.left input.new }) (record { faults = K.faults out.old; faults' = K.faults out.new; content = K.written out.old; content' = K.written out.new }) last.new (status_of result)) }
     ensures fits { (content : List ℕ) → Holds (F.held files.old) name.now content → IfErr result (λ fault. ImageFits content fault) }
+    ensures limits { IfErr result (λ fault. LimitFits (S.left input.old) fault) }
     ensures quiet { IfOk result (λ status. is_quiet status ≡ true) }
+    ensures once { (F.faults files.new - F.faults files.old) + (S.faults input.new - S.faults input.old) + (K.faults out.new - K.faults out.old) ≤ 1 }
 {
     runs_are_one();
     let content = files.get(alloc, name)?;

@@ -1,14 +1,14 @@
 // The code in a file runs on the lines of the input.
-ghost use Rattle.std.specs.Prelude.{◌≡◌, ◌≤◌, ◌⊎◌, List, ℕ, IfErr, IfOk, length, option_map, true};
+ghost use Rattle.std.specs.Prelude.{◌≡◌, ◌+◌, ◌-◌, ◌≤◌, ◌⊎◌, List, ℕ, IfErr, IfOk, length, option_map, true};
 ghost use Rattle.program.specs.Checking.{begins_chunk};
 ghost use Rattle.program.specs.Devices.{Holds};
 ghost use Rattle.program.specs.Faults.{status_of};
 ghost use Rattle.program.specs.Outcomes.{IsCodeIn, IsNoCodeFor};
-ghost use Rattle.program.specs.Report.{CodeFits, is_quiet};
+ghost use Rattle.program.specs.Report.{CodeFits, LimitFits, is_quiet};
 ghost use Rattle.program.specs.Running.{IsRun};
 ghost use Rattle.source_builds.specs.Readings.{AsRead};
 
-use crate::checking::{checked_chunk, rules_hold};
+use crate::checking::checked_chunk;
 use crate::compiling::source_name;
 use crate::fault::Fault;
 use crate::saving::leave_session;
@@ -17,7 +17,7 @@ use code_core::Checked;
 use compile_chunk::{code_of, script_in};
 use io_edge::{Files, LineReader, Sink, Source};
 use loaded_code::loading_is_safe;
-use lua_feed::{feed, start};
+use lua_feed::{feed, rules_hold, start};
 use machine_runs::runs_are_one;
 use prelude_code::prelude_code;
 use prelude_stays::runs_have_the_prelude;
@@ -39,7 +39,9 @@ pub fn run_file<F: Files, S: Source, K: Sink>(
     requires short { length name.now ≤ 65536 }
     ensures run { AsRead (λ builds. IsRun builds name.now budget (option_map (λ image. image.now) save.entry) (record { faults = F.faults files.old; faults' = F.faults files.new; content = F.held files.old; content' = F.held files.new }) (record { faults = S.faults input.old; faults' = S.faults input.new; content = S.left input.old; content' = S.left input.new }) (record { faults = K.faults out.old; faults' = K.faults out.new; content = K.written out.old; content' = K.written out.new }) last.new (status_of result)) }
     ensures fits { (content : List ℕ) → Holds (F.held files.old) name.now content → IfErr result (λ fault. CodeFits content fault) }
+    ensures limits { IfErr result (λ fault. LimitFits (S.left input.old) fault) }
     ensures quiet { IfOk result (λ status. is_quiet status ≡ true) }
+    ensures once { (F.faults files.new - F.faults files.old) + (S.faults input.new - S.faults input.old) + (K.faults out.new - K.faults out.old) ≤ 1 }
 {
     runs_are_one();
     scripts_do_as_they_mean();

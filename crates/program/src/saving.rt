@@ -1,10 +1,10 @@
 // What is left of a session that closed.
-ghost use Rattle.std.specs.Prelude.{◌≡◌, List, ℕ, Option, IfErr, IfOk, IfSome, option_map, true};
+ghost use Rattle.std.specs.Prelude.{◌≡◌, ◌-◌, ◌≤◌, List, ℕ, Option, IfErr, IfOk, IfSome, option_map, true};
 ghost use Rattle.lua_driver.specs.Turns.{MayGoOn};
 ghost use Rattle.lua_feed.specs.Closes.{close_of};
 ghost use Rattle.machine_runs.specs.Runs.{is_suspended};
 ghost use Rattle.program.specs.Faults.{status_of};
-ghost use Rattle.program.specs.Outcomes.{IsLeftBy};
+ghost use Rattle.program.specs.Outcomes.{IsLeftBy, LeavesFor};
 ghost use Rattle.program.specs.Report.{CodeFits, ImageFits, is_quiet};
 
 use crate::fault::Fault;
@@ -26,6 +26,8 @@ pub fn leave_session<F: Files>(
     ensures quiet { IfOk result (λ status. is_quiet status ≡ true) }
     ensures code { (content : List ℕ) → IfErr result (λ fault. CodeFits content fault) }
     ensures image { (content : List ℕ) → IfErr result (λ fault. ImageFits content fault) }
+    ensures limits { IfErr result (λ fault. LeavesFor (close_of close) fault) }
+    ensures once { F.faults files.new - F.faults files.old ≤ 1 }
 {
     match close {
         Close::Returned => Ok(0),
@@ -42,6 +44,8 @@ fn leave_waiting<F: Files>(world: &World, save: Option<&str>, files: &mut F) -> 
     ensures quiet { IfOk result (λ status. is_quiet status ≡ true) }
     ensures code { (content : List ℕ) → IfErr result (λ fault. CodeFits content fault) }
     ensures image { (content : List ℕ) → IfErr result (λ fault. ImageFits content fault) }
+    ensures limits { IfErr result (λ fault. LeavesFor is_suspended fault) }
+    ensures once { F.faults files.new - F.faults files.old ≤ 1 }
 {
     let Some(name) = save else {
         return Ok(3);

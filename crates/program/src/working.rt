@@ -1,5 +1,5 @@
 // A script that is work alone runs.
-ghost use Rattle.std.specs.Prelude.{◌≡◌, ◌++◌, IfErr, IfOk, codes, decimal, true};
+ghost use Rattle.std.specs.Prelude.{◌≡◌, ◌-◌, ◌≤◌, ◌++◌, IfErr, IfOk, codes, decimal, true};
 ghost use Rattle.lua_feed.specs.Closes.{close_of};
 ghost use Rattle.work_script.specs.Script.{work_script as text_of};
 ghost use Rattle.program.specs.Faults.{status_of};
@@ -8,14 +8,14 @@ ghost use Rattle.program.specs.Sessions.{status_of_close};
 ghost use Rattle.program.specs.Working.{IsWork};
 ghost use Rattle.source_builds.specs.Readings.{AsRead};
 
-use crate::checking::{rules_hold, write_output};
+use crate::checking::write_output;
 use crate::fault::Fault;
 use crate::no_input::NoInput;
 use crate::session::{Session, state_at};
 use compile_chunk::code_of;
 use io_edge::{LineReader, Sink};
 use itoa::Buffer;
-use lua_feed::{Close, feed, start};
+use lua_feed::{Close, feed, rules_hold, start};
 use machine_runs::runs_are_one;
 use prelude_code::prelude_code;
 use scripts_mean::{prelude_is_alike, scripts_do_as_they_mean};
@@ -36,6 +36,7 @@ pub fn work<K: Sink>(
     ensures work { AsRead (λ builds. IsWork builds count (record { faults = K.faults out.old; faults' = K.faults out.new; content = K.written out.old; content' = K.written out.new }) last.new (status_of result)) }
     ensures fits { IfErr result (λ fault. ScriptFits (text_of count) fault) }
     ensures quiet { IfOk result (λ status. is_quiet status ≡ true) }
+    ensures once { K.faults out.new - K.faults out.old ≤ 1 }
 {
     runs_are_one();
     scripts_do_as_they_mean();

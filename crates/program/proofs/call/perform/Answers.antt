@@ -7,7 +7,7 @@ use Rattle.source_builds.specs.Readings.{AsRead}
 use Rattle.source_builds.proofs.Knowing.{read_all}
 use Rattle.program.specs.Faults.{status_of}
 use Rattle.program.specs.Program.{IsCall, IsUnread}
-use Rattle.program.specs.Report.{FitsFor}
+use Rattle.program.specs.Report.{FitsFor, LimitFitsFor}
 use Rattle.program.proofs.call.perform.Goals as goal
 
 pub returns-clause-call : goal.returns-clause-call
@@ -23,6 +23,11 @@ pub returns-clause-fits : goal.returns-clause-fits
 returns-clause-fits g c command h =
     subst (λ (o : Option Asked). IfErr c.carry_out.result (λ fault. FitsFor o (g.F.Files.held c.args.files.now) fault))
     (asked_is_one (map string_bytes c.args.words.now) (Some (asked c.in-Some.command)) command c.in-Some.ensures.command h) c.carry_out.ensures.fits
+
+pub returns-clause-limits : goal.returns-clause-limits
+returns-clause-limits g c command h =
+    subst (λ (o : Option Asked). IfErr c.carry_out.result (λ fault. LimitFitsFor o (g.S.Source.left c.args.input.now) fault))
+    (asked_is_one (map string_bytes c.args.words.now) (Some (asked c.in-Some.command)) command c.in-Some.ensures.command h) c.carry_out.ensures.limits
 
 pub returns-clause-unread : goal.returns-clause-unread
 returns-clause-unread g c command h =

@@ -1,4 +1,4 @@
-use Rattle.std.proofs.Common.{rules, ◌≡◌, ℕ, List, Err, refl, ap, ◌∙◌, ◌⊎◌, subst}
+use Rattle.std.proofs.Common.{rules, arith, ◌≡◌, ℕ, List, Err, refl, ap, ◌∙◌, ◌⊎◌, subst}
 use Rattle.program.specs.declared.fault.Fault.TheVariants.{Memory}
 use Rattle.program.specs.Faults.{fault_of_file, done_status}
 use Rattle.program.specs.Outcomes.{IsChunkIn, IsNoChunkFor}
@@ -35,3 +35,15 @@ returns-clause-check g c =
     let counts : IsCounts c.in_ok-content.content.items c.as_slice-2.result.now = counted c.in_ok-content.content.items c.as_slice-2.result.now c.in_ok-checked.checked code (c.as_slice-2.ensures.value ∙ c.in_ok-text.ensures) in
     with_files_kept c.args.name.now _ _ _ _ _ _ _ c.in_ok-content.ensures.cause.only c.in_ok-content.ensures.kept refl
     (written_check c.args.name.now c.in_ok-content.content.items c.as_slice-2.result.now _ _ _ _ _ _ c.write_output.result c.in_ok-content.ensures.found counts c.write_output.ensures.cause c.write_output.ensures.written c.write_output.ensures.front c.write_output.ensures.device)
+
+pub returns-in_err-content-clause-once : goal.returns-in_err-content-clause-once
+returns-in_err-content-clause-once g c = omega (arith, c.in_err-content.ensures.cause.once)
+
+pub returns-in_err-checked-clause-once : goal.returns-in_err-checked-clause-once
+returns-in_err-checked-clause-once g c = omega (arith, c.in_ok-content.ensures.cause.once)
+
+pub returns-in_err-text-clause-once : goal.returns-in_err-text-clause-once
+returns-in_err-text-clause-once g c = omega (arith, c.in_ok-content.ensures.cause.once)
+
+pub returns-clause-once : goal.returns-clause-once
+returns-clause-once g c = omega (arith, c.in_ok-content.ensures.cause.only, c.write_output.ensures.cause.once)

@@ -1,4 +1,4 @@
-use Rattle.std.proofs.Common.{rules, ◌≡◌, ℕ, List, Err, ap, ◌∙◌, ◌⊎◌, subst}
+use Rattle.std.proofs.Common.{rules, arith, ◌≡◌, ℕ, List, Err, ap, ◌∙◌, ◌⊎◌, subst}
 use Rattle.std.specs.Option.{option_map}
 use Rattle.io_edge.specs.Content.{with_file}
 use Rattle.program.specs.declared.fault.Fault.TheVariants.{Device, Memory}
@@ -39,3 +39,15 @@ returns-in_err-put-clause-call g c =
     let own : IsChunk script strip c.in_ok-content.content.items c.in_ok-bytes.bytes.items = subst (λ (s : List ℕ). IsChunk script strip s c.in_ok-bytes.bytes.items) c.as_slice.ensures.value made in
     rw (ap done_status is) (unput_since script c.args.chunk.now strip c.in_ok-content.content.items c.in_ok-bytes.bytes.items _ _ _ _ _ _ c.in_ok-content.ensures.cause.only c.in_ok-content.ensures.kept c.in_ok-content.ensures.found own
     c.in_err-put.ensures.cause c.in_err-put.ensures.failed)
+
+pub returns-in_err-content-clause-once : goal.returns-in_err-content-clause-once
+returns-in_err-content-clause-once g c = omega (arith, c.in_err-content.ensures.cause.once)
+
+pub returns-in_err-bytes-clause-once : goal.returns-in_err-bytes-clause-once
+returns-in_err-bytes-clause-once g c = omega (arith, c.in_ok-content.ensures.cause.once)
+
+pub returns-in_err-put-clause-once : goal.returns-in_err-put-clause-once
+returns-in_err-put-clause-once g c = omega (arith, c.in_ok-content.ensures.cause.only, c.in_err-put.ensures.cause.once)
+
+pub returns-clause-once : goal.returns-clause-once
+returns-clause-once g c = omega (arith, c.in_ok-content.ensures.cause.only, c.in_ok-put.ensures.cause.only)

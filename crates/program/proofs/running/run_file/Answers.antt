@@ -1,9 +1,10 @@
-use Rattle.std.proofs.Common.{rules, ◌≡◌, ◌⊎◌, ℕ, List, Option, Err, refl, ap, subst}
+use Rattle.std.proofs.Common.{rules, arith, ◌≡◌, ◌⊎◌, ◌+◌, ◌-◌, ◌≤◌, ℕ, List, Option, Err, refl, ap, subst}
 use Rattle.std.proofs.lemmas.Result.{err_from_is_err_and}
 use Rattle.machine_core.specs.World.{World}
 use Rattle.machine_runs.specs.Runs.{Run}
 use Rattle.loaded_code.specs.Laws.{library}
 use Rattle.source_builds.proofs.Knowing.{read_all, read_map, read_both}
+use Rattle.source_builds.proofs.Lookups.{read_some}
 use Rattle.io_edge.specs.Lines.{ahead}
 use Rattle.lua_feed.specs.Closes.{close_of}
 use Rattle.lua_feed.specs.Feeding.{Does, IsBrokenOff, IsCutOff, IsFedFront, IsFedTo}
@@ -14,6 +15,7 @@ use Rattle.program.specs.Faults.{fault_of_file, fault_of_prelude, fault_of_feedi
 use Rattle.program.specs.Outcomes.{IsCodeIn, IsNoCodeFor}
 use Rattle.program.proofs.CodeLemmas.{code_tells, memory_fits, feeding_fits}
 use Rattle.program.proofs.Limited.{when_stopped}
+use Rattle.program.proofs.LimitLemmas.{file_limits, prelude_limits, code_limits, feeding_limits, one_past, left_limits, none_past, one_fault}
 use Rattle.program.proofs.Endings.{cut_ran, closed_ran, limit_new, broken_new, front_new, fed_new}
 use Rattle.program.proofs.Keeping.{run_keeps}
 use Rattle.program.proofs.RunLemmas.{unread_run, no_prelude_run, no_code_run, memory_run, run_of, run_since, run_before}
@@ -116,3 +118,74 @@ returns-in_err-close-clause-fits g c =
 
 pub returns-clause-fits : goal.returns-clause-fits
 returns-clause-fits g c content has = c.leave_session-answer.ensures.code content
+
+-- which of its lines a 7 has
+
+pub returns-in_err-content-clause-limits : goal.returns-in_err-content-clause-limits
+returns-in_err-content-clause-limits g c =
+    let is : c.from_residual.result ≡ Err (fault_of_file c.in_err-content.field-0.0) = search rules in
+    rw is (file_limits (g.S.Source.left c.args.input.now) c.in_err-content.field-0.0)
+
+pub returns-in_err-prelude-clause-limits : goal.returns-in_err-prelude-clause-limits
+returns-in_err-prelude-clause-limits g c =
+    let is : c.from_residual-in_err-prelude.result ≡ Err (fault_of_prelude c.in_err-prelude.field-0.0) = search rules in
+    rw is (prelude_limits (g.S.Source.left c.args.input.now) c.in_err-prelude.field-0.0)
+
+pub returns-in_err-code-clause-limits : goal.returns-in_err-code-clause-limits
+returns-in_err-code-clause-limits g c =
+    let is : c.from_residual-in_err-code.result ≡ Err c.in_err-code.field-0.0 = search rules in
+    rw is (code_limits (g.S.Source.left c.args.input.now) c.as_slice.result.now c.in_err-code.field-0.0 c.in_err-code.ensures.refused)
+
+pub returns-in_err-reader-clause-limits : goal.returns-in_err-reader-clause-limits
+returns-in_err-reader-clause-limits g c =
+    let p = err_from_is_err_and c.from_residual-in_err-reader.result c.from_residual-in_err-reader.ensures.1 in
+    let is : c.from_residual-in_err-reader.result ≡ Err Memory = rw (p.1, p.2) refl in
+    rw is tt
+
+pub returns-in_err-world-clause-limits : goal.returns-in_err-world-clause-limits
+returns-in_err-world-clause-limits g c =
+    let p = err_from_is_err_and c.from_residual-in_err-world.result c.from_residual-in_err-world.ensures.1 in
+    let is : c.from_residual-in_err-world.result ≡ Err Memory = rw (p.1, p.2) refl in
+    rw is tt
+
+pub returns-in_err-close-clause-limits : goal.returns-in_err-close-clause-limits
+returns-in_err-close-clause-limits g c =
+    let p = err_from_is_err_and c.from_residual-in_err-close.result c.from_residual-in_err-close.ensures.1 in
+    let is : c.from_residual-in_err-close.result ≡ Err (fault_of_feeding c.in_err-close.field-0.0) = rw (p.1, p.2) refl in
+    let left = g.S.Source.left c.args.input.now in
+    rw is (feeding_limits left c.in_err-close.field-0.0
+    (λ past. one_past c.in_ok-reader.reader _ left (g.K.Sink.written c.args.out.now) (g.K.Sink.written c.feed.new.out) c.in_ok-reader.ensures (read_some (c.in_err-close.ensures.limit past)).2))
+
+pub returns-clause-limits : goal.returns-clause-limits
+returns-clause-limits g c =
+    let left = g.S.Source.left c.args.input.now in
+    let close = close_of c.in_ok-close.close in
+    left_limits left close c.leave_session-answer.result
+    (none_past c.in_ok-reader.reader _ left (g.K.Sink.written c.args.out.now) (g.K.Sink.written c.feed.new.out) close c.feed.new.world c.in_ok-reader.ensures (read_some c.in_ok-close.ensures.fed).2)
+    c.leave_session-answer.ensures.limits
+
+-- and one fault at most is counted
+
+pub returns-in_err-content-clause-once : goal.returns-in_err-content-clause-once
+returns-in_err-content-clause-once g c = omega (arith, c.in_err-content.ensures.cause.once)
+
+pub returns-in_err-prelude-clause-once : goal.returns-in_err-prelude-clause-once
+returns-in_err-prelude-clause-once g c = omega (arith, c.in_ok-content.ensures.cause.once)
+
+pub returns-in_err-code-clause-once : goal.returns-in_err-code-clause-once
+returns-in_err-code-clause-once g c = omega (arith, c.in_ok-content.ensures.cause.once)
+
+pub returns-in_err-reader-clause-once : goal.returns-in_err-reader-clause-once
+returns-in_err-reader-clause-once g c = omega (arith, c.in_ok-content.ensures.cause.once)
+
+pub returns-in_err-world-clause-once : goal.returns-in_err-world-clause-once
+returns-in_err-world-clause-once g c = omega (arith, c.in_ok-content.ensures.cause.once)
+
+pub returns-in_err-close-clause-once : goal.returns-in_err-close-clause-once
+returns-in_err-close-clause-once g c =
+    let fed : (g.S.Source.faults c.feed.new.input - g.S.Source.faults c.args.input.now) + (g.K.Sink.faults c.feed.new.out - g.K.Sink.faults c.args.out.now) ≤ 1
+    = one_fault _ _ _ _ c.in_err-close.field-0.0 c.in_err-close.ensures.input c.in_err-close.ensures.output in
+    omega (arith, c.in_ok-content.ensures.cause.only, fed)
+
+pub returns-clause-once : goal.returns-clause-once
+returns-clause-once g c = omega (arith, c.in_ok-content.ensures.cause.only, c.in_ok-close.ensures.input.only, c.in_ok-close.ensures.output.only, c.leave_session-answer.ensures.once)

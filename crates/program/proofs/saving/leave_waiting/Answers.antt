@@ -1,4 +1,4 @@
-use Rattle.std.proofs.Common.{◌≡◌, ℕ, List, Err, refl, ap, sym, subst, Bor}
+use Rattle.std.proofs.Common.{arith, ◌≡◌, ℕ, List, Err, refl, ap, sym, subst, Bor}
 use Rattle.std.specs.Option.{option_map}
 use Rattle.std.proofs.lemmas.Result.{err_from_is_err_and}
 use Rattle.program.specs.declared.fault.Fault.TheVariants.{Device}
@@ -6,6 +6,7 @@ use Rattle.program.specs.Faults.{fault_of_saving, status_of}
 use Rattle.program.specs.Outcomes.{unnamed, saved, unput}
 use Rattle.lua_saving.specs.Saving.{IsImage}
 use Rattle.program.proofs.Leaving.{not_saved}
+use Rattle.program.proofs.LimitLemmas.{saving_leaves}
 use Rattle.program.proofs.saving.leave_waiting.Goals as goal
 
 pub returns-in_default-clause-left : goal.returns-in_default-clause-left
@@ -27,3 +28,21 @@ pub returns-clause-left : goal.returns-clause-left
 returns-clause-left g c =
     let image : IsImage c.args.world.now c.as_slice.result.now = subst (IsImage c.args.world.now) (sym c.as_slice.ensures.value) c.in_ok-image.ensures.image in
     saved c.in-Some.name.now c.as_slice.result.now refl (ap (option_map (λ (name : Bor (List ℕ)). name.now)) c.in-Some.is) image c.in_ok-put.ensures.cause.only c.in_ok-put.ensures.replaced
+
+pub returns-in_err-image-clause-limits : goal.returns-in_err-image-clause-limits
+returns-in_err-image-clause-limits g c =
+    let p = err_from_is_err_and c.from_residual.result c.from_residual.ensures.1 in
+    let is : c.from_residual.result ≡ Err (fault_of_saving c.in_err-image.field-0.0) = rw (p.1, p.2) refl in
+    rw is (saving_leaves c.in_err-image.field-0.0)
+
+pub returns-in_err-put-clause-limits : goal.returns-in_err-put-clause-limits
+returns-in_err-put-clause-limits g c =
+    let p = err_from_is_err_and c.from_residual-in_err-put.result c.from_residual-in_err-put.ensures.1 in
+    let is : c.from_residual-in_err-put.result ≡ Err Device = rw (p.1, p.2) refl in
+    rw is tt
+
+pub returns-in_err-put-clause-once : goal.returns-in_err-put-clause-once
+returns-in_err-put-clause-once g c = omega (arith, c.in_err-put.ensures.cause.once)
+
+pub returns-clause-once : goal.returns-clause-once
+returns-clause-once g c = omega (arith, c.in_ok-put.ensures.cause.once)

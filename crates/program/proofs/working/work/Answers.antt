@@ -1,4 +1,4 @@
-use Rattle.std.proofs.Common.{rules, ◌≡◌, ◌∙◌, ◌++◌, List, ℕ, Err, [], Some, refl, ap, subst}
+use Rattle.std.proofs.Common.{rules, arith, ◌≡◌, ◌∙◌, ◌++◌, List, ℕ, Err, [], Some, refl, ap, subst}
 use Rattle.std.specs.Prelude.{codes, decimal, length, true}
 use Rattle.std.proofs.lemmas.Result.{err_from_is_err_and, IfErr-weaker}
 use Rattle.machine_core.specs.World.{World}
@@ -167,3 +167,12 @@ returns-in_err-write_output-clause-fits g c =
 
 pub returns-clause-fits : goal.returns-clause-fits
 returns-clause-fits g c = IfErr-weaker c.status_at.result (λ fault. fault ≡ Spent) (λ fault. ScriptFits (work_script c.args.count) fault) (λ fault is. rw is tt) c.status_at.ensures.spent
+
+pub returns-in_err-close-clause-once : goal.returns-in_err-close-clause-once
+returns-in_err-close-clause-once g c = omega (arith, c.in_err-close.ensures.output.once)
+
+pub returns-in_err-write_output-clause-once : goal.returns-in_err-write_output-clause-once
+returns-in_err-write_output-clause-once g c = omega (arith, c.in_ok-close.ensures.output.only, c.in_err-write_output.ensures.cause.once)
+
+pub returns-clause-once : goal.returns-clause-once
+returns-clause-once g c = omega (arith, c.in_ok-close.ensures.output.only, c.in_ok-write_output.ensures.cause.only)
