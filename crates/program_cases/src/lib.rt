@@ -1,8 +1,22 @@
-// Cases of the program's calls over devices in memory: words, files, sources and chunks that are refused, compiled or checked, and devices that fail.
-// They stand in a crate of their own, so that the program is not proved once more for them.
+//! Cases of the program's calls over devices in memory: words, files, sources and chunks that are refused, compiled, checked or run, lines, sessions one after
+//! another, images that are altered, and devices that fail. They stand in a crate of their own, so that the program is not proved once more for them.
 #![tactic(auto)]
 
 #[cfg(test)]
-mod calls;
+mod calling;
+#[cfg(test)]
+mod chains;
+#[cfg(test)]
+mod chunks;
+#[cfg(test)]
+mod commands;
+#[cfg(test)]
+mod faults;
+#[cfg(test)]
+mod images;
+#[cfg(test)]
+mod lines;
 #[cfg(test)]
 mod prelude;
+#[cfg(test)]
+mod sources;

@@ -456,7 +456,7 @@ static LIBRARIES: [Case; 3] = [
 ];
 
 /// Sources that are loaded while the script runs.
-static LOADS: [Case; 14] = [
+static LOADS: [Case; 16] = [
     Case {
         options: "",
         script: "print(load(\"return 1+1\")())",
@@ -519,6 +519,22 @@ static LOADS: [Case; 14] = [
         input: "",
         status: 0,
         out: "nil\tf.lua:1: source refused by rule 1\nreturn\n",
+        err: "",
+    },
+    Case {
+        options: "",
+        script: "print(load(\"x = 1\\ny = = 2\"))",
+        input: "",
+        status: 0,
+        out: "nil\t[string]:2: source refused\nreturn\n",
+        err: "",
+    },
+    Case {
+        options: "",
+        script: "print(load(\"local a <foo> = 1\"))",
+        input: "",
+        status: 0,
+        out: "nil\t[string]:1: source refused by rule 7\nreturn\n",
         err: "",
     },
     Case {

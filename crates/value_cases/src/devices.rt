@@ -83,32 +83,40 @@ fn files_in_memory_fail_at_the_listed_calls(rt: HostRuntime) -> Result<(), Fail>
     Ok(())
 }
 
-/// The lines of an input, each with a bar behind it, and the fault that ended the reading, if one did.
-fn read_lines(
-    alloc: Global,
-    input: &[u8],
-    failing: &[u64],
-) -> Result<(Vec<u8>, Option<LineFault>), Fail> {
-    let bytes = Bytes::of(Vec::from_slice(alloc, input)?);
-    let mut source = MemSource::new(bytes, numbers(alloc, failing)?);
-    let mut reader = LineReader::new(alloc)?;
-    let mut lines = Vec::new(alloc);
+/// Adds the lines of a source, each with a bar behind it, and answers the fault that ended the reading, if one did.
+fn add_lines(
+    lines: &mut Vec<u8>,
+    reader: &mut LineReader,
+    source: &mut MemSource,
+) -> Result<Option<LineFault>, Fail> {
     for _ in 0..4 {
-        match reader.next_line(&mut source) {
+        match reader.next_line(source) {
             Ok(Some(line)) => {
                 lines.extend_from_slice(line.as_slice())?;
                 lines.push(b'|')?;
             }
-            Ok(None) => return Ok((lines, None)),
-            Err(fault) => return Ok((lines, Some(fault))),
+            Ok(None) => return Ok(None),
+            Err(fault) => return Ok(Some(fault)),
         }
     }
     Err(Fail::new("the input has too many lines"))
 }
 
+/// Adds the lines of an input of which these calls fail.
+fn read_lines(
+    alloc: Global,
+    lines: &mut Vec<u8>,
+    input: &[u8],
+    failing: &[u64],
+) -> Result<Option<LineFault>, Fail> {
+    let bytes = Bytes::of(Vec::from_slice(alloc, input)?);
+    let mut source = MemSource::new(bytes, numbers(alloc, failing)?);
+    let mut reader = LineReader::new(alloc)?;
+    add_lines(lines, &mut reader, &mut source)
+}
+
 #[test]
 fn lines_end_before_line_feeds_and_at_the_end(rt: HostRuntime) -> Result<(), Fail> {
-    let alloc = rt.alloc();
     let inputs: [(&[u8], &[u64], &[u8], Option<LineFault>); 4] = [
         (b"", &[], b"", None),
         (b"ab\n\nz", &[], b"ab||z|", None),
@@ -116,13 +124,22 @@ fn lines_end_before_line_feeds_and_at_the_end(rt: HostRuntime) -> Result<(), Fai
         (b"a\nb", &[1], b"a|", Some(LineFault::Failed)),
     ];
     for (input, failing, wanted, fault) in inputs {
-        let answer = read_lines(alloc, input, failing)?;
-        assert_eq!(rt; answer.0.as_slice(), wanted);
-        assert_eq!(rt; answer.1, fault);
+        let mut lines = Vec::new(rt.alloc());
+        assert_eq!(rt; read_lines(rt.alloc(), &mut lines, input, failing)?, fault);
+        assert_eq!(rt; lines.as_slice(), wanted);
     }
+    Ok(())
+}
+
+#[test]
+fn lines_have_a_greatest_length(rt: HostRuntime) -> Result<(), Fail> {
     for (length, fault) in [(1_048_576, None), (1_048_577, Some(LineFault::Limit))] {
-        let input = vec![in alloc; b'x'; length]?;
-        assert_eq!(rt; read_lines(alloc, input.as_slice(), &[])?.1, fault);
+        let input = vec![in rt.alloc(); b'x'; length]?;
+        let mut lines = Vec::new(rt.alloc());
+        assert_eq!(rt;
+            read_lines(rt.alloc(), &mut lines, input.as_slice(), &[])?,
+            fault
+        );
     }
     Ok(())
 }

@@ -1,7 +1,5 @@
 // Scripts that are cut into sessions. Expected values are worked out by hand from the manual: those of the script that is not cut.
-use int_core::{Bytes, Numbers};
-use io_edge::{Files, MemFiles, MemSink, MemSource};
-use program::luaris;
+use crate::calling::{Streams, call, files_with};
 use std::alloc::Global;
 use std::process::Abort;
 use std::test::Fail;
@@ -12,44 +10,6 @@ struct Chain {
     lines: &'static str,
     out: &'static str,
     status: u8,
-}
-
-/// What a call answered, and what it wrote.
-#[derive(Drop)]
-struct Outcome {
-    status: u8,
-    out: MemSink,
-}
-
-fn no_failures(alloc: Global) -> Numbers {
-    Numbers::of(Vec::new(alloc))
-}
-
-/// The words that a line has, with spaces between.
-fn words(alloc: Global, line: &str) -> Result<Vec<String>, Fail> {
-    let mut words = Vec::new(alloc);
-    for word in line.split_whitespace() {
-        words.push(String::from_str(alloc, word)?)?;
-    }
-    Ok(words)
-}
-
-fn call(alloc: Global, line: &str, files: &mut MemFiles, lines: &[u8]) -> Result<Outcome, Fail> {
-    let mut input = MemSource::new(Bytes::of(lines.to_vec(alloc)?), no_failures(alloc));
-    let mut out = MemSink::new(alloc, no_failures(alloc));
-    let mut err = MemSink::new(alloc, no_failures(alloc));
-    let words = words(alloc, line)?;
-    let mut last = None;
-    let status = luaris(
-        alloc,
-        words.as_slice(),
-        files,
-        &mut input,
-        &mut out,
-        &mut err,
-        &mut last,
-    );
-    Ok(Outcome { status, out })
 }
 
 static CHAINS: [Chain; 9] = [
@@ -120,14 +80,18 @@ fn words_of(is_first: bool) -> &'static str {
 
 /// Runs the sessions of a script, each but the first from the image that the one before saved.
 fn run_chain(rt: &impl Abort, alloc: Global, chain: &Chain) -> Result<(), Fail> {
-    let mut files = MemFiles::new(alloc, no_failures(alloc));
-    files.put("s.lua", chain.script.as_bytes())?;
+    let mut files = files_with(alloc, "s.lua", chain.script.as_bytes(), &[])?;
     let mut is_first = true;
     let mut status = 3;
     for (lines, out) in chain.lines.split('|').zip(chain.out.split('|')) {
         assert_eq!(rt; status, 3);
-        let outcome = call(alloc, words_of(is_first), &mut files, lines.as_bytes())?;
-        assert!(rt; outcome.out.written() == out.as_bytes());
+        let outcome = call(
+            alloc,
+            words_of(is_first),
+            &mut files,
+            &Streams::of(lines.as_bytes()),
+        )?;
+        assert!(rt; outcome.out.as_slice() == out.as_bytes());
         status = outcome.status;
         is_first = false;
     }
