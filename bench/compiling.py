@@ -1,155 +1,206 @@
 #!/usr/bin/env python3
-"""Times the compiler on a function with many different constants, and on a block with many labels in a row.
+"""Times the compiler on large sources beside luac.
 
-A repository is made in a folder of its own, with copies of this checkout's crates, with what their checks kept, and a
-program `timed` that makes such sources and compiles them. It is built by `rt run`, which proves what is not proved
-yet. Told are the milliseconds of reading a source (tokens and tree), of resolving its names, and of compiling it, and
-how many times as long compiling took as that of the next smaller source of its kind.
+    bench/compiling.py [--runs N] [--keep FOLDER] [--luac LUAC] [PROGRAM]
 
-    bench/compiling.py [--checkout FOLDER] [--folder FOLDER]
+Each source is compiled to a file by `PROGRAM compile FILE OUT` and by `luac5.4 -o OUT FILE`.
+Told are the least times of several runs on the processor, the time for each byte, and how many times as long the program
+takes as luac: of whole Lua in 64 KiB, 256 KiB and 1 MiB, of functions with many different constants, of blocks with many
+labels, and of `if` with many `elseif`. Where the time grows with the source, that for each byte stays the same.
+
+PROGRAM is crates/luaris/out/luaris beside this folder if none is given; ./luaris builds it. luac5.4 is that of Debian's
+package lua5.4; this is no part of the gate.
 """
 import argparse
 import pathlib
-import shutil
+import random
+import resource
 import subprocess
 import sys
+import tempfile
 
-ROOT = pathlib.Path(__file__).resolve().parent.parent
+LETTERS = "abcdefghijklmnopqrstuvwxyzABCDEFGHIJKLMNOPQRSTUVWXYZ0123456789"
 
-TIMED = '''// Times the compiler on sources of one kind.
-#![tactic(auto)]
-
-use compiler::compile;
-use lua_lex::tokens;
-use lua_parse::parse;
-use lua_scope::resolve;
-use std::alloc::{AllocError, Global};
-use std::io;
-use std::rt::Clock;
-use std::time::Instant;
-
-static LETTERS: &[u8] = b"abcdefghijklmnopqrstuvwxyzABCDEFGHIJKLMNOPQRSTUVWXYZ0123456789";
-
-/// The name of a number, of three letters.
-fn put_name(source: &mut Vec<u8>, number: usize) -> Result<(), AllocError> {
-    source.push(LETTERS[number % 52])?;
-    source.push(LETTERS[number / 52 % 62])?;
-    source.push(LETTERS[number / 3224 % 62])?;
-    Ok(())
-}
-
-fn constants(alloc: Global, count: usize) -> Result<Vec<u8>, AllocError> {
-    let mut source = b"return{".to_vec(alloc)?;
-    for number in 0..count {
-        source.push(b'"')?;
-        put_name(&mut source, number)?;
-        source.push(b'"')?;
-        source.push(b',')?;
-    }
-    source.push(b'}')?;
-    Ok(source)
-}
-
-fn labels(alloc: Global, count: usize) -> Result<Vec<u8>, AllocError> {
-    let mut source = Vec::new(alloc);
-    for number in 0..count {
-        source.push(b':')?;
-        source.push(b':')?;
-        put_name(&mut source, number)?;
-        source.push(b':')?;
-        source.push(b':')?;
-    }
-    Ok(source)
-}
-
-fn measure(rt: &(impl Print + Clock), alloc: Global, kind: &str, count: usize, source: &Vec<u8>) -> Result<(), io::Error> {
-    let start = Instant::now(rt)?;
-    let Ok(list) = tokens(alloc, source.as_slice()) else {
-        return println!(rt; "{kind}\\t{count}\\tno tokens");
-    };
-    let Ok(block) = parse(alloc, &list) else {
-        return println!(rt; "{kind}\\t{count}\\tno tree");
-    };
-    let read = start.elapsed(rt)?.as_micros();
-    let start = Instant::now(rt)?;
-    let Ok(tree) = resolve(alloc, block) else {
-        return println!(rt; "{kind}\\t{count}\\tagainst the rules");
-    };
-    let resolved = start.elapsed(rt)?.as_micros();
-    let start = Instant::now(rt)?;
-    let compiled = compile(alloc, &tree, b"s", true).is_ok();
-    let whole = start.elapsed(rt)?.as_micros();
-    println!(rt; "{kind}\\t{count}\\t{read}\\t{resolved}\\t{whole}\\t{compiled}")
-}
-
-fn main(rt: HostRuntime) -> Result<(), io::Error> {
-    let alloc = rt.alloc();
-    for count in [25000usize, 50000, 100000, 150000] {
-        let Ok(source) = constants(alloc, count) else {
-            return println!(rt; "no memory");
-        };
-        measure(&rt, alloc, "constants", count, &source)?;
-        let Ok(source) = labels(alloc, count.min(100000)) else {
-            return println!(rt; "no memory");
-        };
-        measure(&rt, alloc, "labels", count.min(100000), &source)?;
-    }
-    Ok(())
-}
-'''
+WORDS = "room bag lamp rope door key lantern cellar attic shelf north south east west item count total limit".split()
 
 
-def needed_crates(text):
-    """The lines of crates.txt of the compiler and of what it and the program stand on."""
-    listed = {}
-    for line in text.splitlines():
-        name, colon, uses = line.partition("#")[0].partition(":")
-        if colon:
-            listed[name.strip()] = uses.split()
-    found, waiting = {}, ["compiler", "lua_scope", "lua_parse", "lua_lex"]
-    while waiting:
-        name = waiting.pop()
-        if name in listed and name not in found:
-            found[name] = listed[name]
-            waiting += listed[name]
-    return found
+class Source:
+    """Statements of a source, made in an order that only the seed decides."""
+
+    def __init__(self, seed):
+        self.random = random.Random(seed)
+        self.labels = 0
+
+    def word(self):
+        return self.random.choice(WORDS)
+
+    def numeral(self):
+        value = self.random.randrange(1 << self.random.choice([3, 8, 16, 40]))
+        return self.random.choice([str(value), str(value), hex(value)])
+
+    def string(self):
+        text = " ".join(self.word() for _ in range(self.random.randrange(1, 6)))
+        return self.random.choice(
+            [
+                f'"{text}"',
+                f"'{text}'",
+                f'"{text}\\n\\t\\"{self.word()}\\" \\x41\\065\\u{{20AC}}"',
+                f"[[{text}\n{self.word()}]]",
+                f"[==[{text}]]]==]",
+            ]
+        )
+
+    def name(self):
+        return self.random.choice([self.word(), f"{self.word()}.{self.word()}", f"{self.word()}[{self.numeral()}]"])
+
+    def operand(self, depth):
+        if depth == 0 or self.random.random() < 0.4:
+            return self.random.choice([self.numeral, self.string, self.name, lambda: "nil", lambda: "true"])()
+        return self.random.choice([self.calculation, self.call, self.table, self.chain, self.closure])(depth - 1)
+
+    def calculation(self, depth):
+        operator = self.random.choice("+ - * // % & | ~ << >> .. == ~= < <= > >= and or".split())
+        left, right = self.operand(depth), self.operand(depth)
+        return self.random.choice([f"({left} {operator} {right})", f"({left}) {operator} #{self.word()}", f"not ({right})", f"-{self.word()} {operator} {self.numeral()}"])
+
+    def call(self, depth):
+        return f"{self.word()}({', '.join(self.operand(depth) for _ in range(self.random.randrange(4)))})"
+
+    def chain(self, depth):
+        return f'{self.word()}:{self.word()}({self.operand(depth)}):{self.word()}"{self.word()}".{self.word()}:{self.word()}{{{self.operand(depth)}}}'
+
+    def table(self, depth):
+        fields = []
+        for _ in range(self.random.randrange(6)):
+            value = self.operand(depth)
+            fields.append(self.random.choice([value, f"{self.word()} = {value}", f"[{self.numeral()}] = {value}"]))
+        return "{" + self.random.choice([", ", "; "]).join(fields) + "}"
+
+    def closure(self, depth):
+        return f"function({self.word()}, ...) return {self.operand(depth)}, ... end"
+
+    def function(self, depth):
+        parameters = ", ".join(dict.fromkeys(self.word() for _ in range(self.random.randrange(4))))
+        head = self.random.choice([f"function {self.word()}.{self.word()}:{self.word()}", f"local function {self.word()}", f"function {self.word()}"])
+        return f"{head}({parameters})\n{self.block(depth)}return {self.operand(1)}\nend"
+
+    def loop(self, depth):
+        self.labels += 1
+        label = f"next_{self.labels}"
+        head = self.random.choice(
+            [f"for {self.word()} = 1, {self.numeral()}, 2 do", f"for {self.word()}, value in pairs({self.operand(1)}) do", f"while {self.operand(1)} do"]
+        )
+        return f"{head}\nif {self.operand(1)} then goto {label} end\n{self.block(depth)}::{label}::\nend"
+
+    def repeated(self, depth):
+        return f"repeat\n{self.block(depth)}if {self.operand(1)} then break end\nuntil {self.operand(1)}"
+
+    def branch(self, depth):
+        return f"if {self.operand(2)} then\n{self.block(depth)}elseif {self.operand(1)} then\n{self.block(depth)}else\n{self.block(depth)}end"
+
+    def simple(self, depth):
+        return self.random.choice(
+            [
+                lambda: f"local fixed_{self.word()} <const>, {self.word()} = {self.operand(2)}, {self.numeral()}",
+                lambda: f"{self.name()}, {self.name()} = {self.operand(2)}, {self.operand(1)}",
+                lambda: f"{self.name()} = {self.operand(3)}",
+                lambda: self.call(2),
+                lambda: self.chain(1),
+                lambda: f"-- {' '.join(self.word() for _ in range(8))}",
+                lambda: f"--[=[ {self.word()}\n{' '.join(self.word() for _ in range(12))} ]=]",
+            ]
+        )()
+
+    def statement(self, depth):
+        if depth == 0:
+            return self.simple(0)
+        return self.random.choice([self.simple, self.simple, self.simple, self.function, self.loop, self.repeated, self.branch])(depth - 1)
+
+    def block(self, depth):
+        ends = ["\n"] * 9 + [";\n"]
+        return "".join(self.statement(depth) + self.random.choice(ends) for _ in range(self.random.randrange(1, 5)))
 
 
-def make(folder, checkout):
-    """Writes the repository that is timed."""
-    crates = needed_crates((checkout / "crates.txt").read_text())
-    main = folder / "crates/timed/src/main.rt"
-    main.parent.mkdir(parents=True, exist_ok=True)
-    main.write_text(TIMED)
-    for name in crates:
-        for part in ("src", "specs", "proofs", "out"):
-            source, target = checkout / "crates" / name / part, folder / "crates" / name / part
-            shutil.rmtree(target, ignore_errors=True)
-            if source.is_dir():
-                shutil.copytree(source, target, symlinks=True)
-    lines = [f"{name}: {' '.join(uses)}" for name, uses in crates.items()]
-    (folder / "crates.txt").write_text("\n".join(lines + ["timed: compiler lua_lex lua_parse lua_scope", ""]))
+def source_of(size):
+    """So many bytes: blocks of statements, and a comment that fills the rest."""
+    source = Source(size)
+    parts = []
+    left = size
+    while True:
+        part = f"do\n{source.block(3)}end\n"
+        if len(part) + 3 > left:
+            break
+        parts.append(part)
+        left -= len(part)
+    return "".join(parts) + "--" + "-" * (left - 3) + "\n"
+
+
+def word_of(number, first):
+    """A word of three letters, the first of which is one of these."""
+    return first[number % len(first)] + LETTERS[number // len(first) % 62] + LETTERS[number // len(first) // 62]
+
+
+def constants(count):
+    return "return {" + "".join(f'"{word_of(number, LETTERS)}",' for number in range(count)) + "}"
+
+
+def labels(count):
+    # No keyword begins so.
+    return "".join(f"::{word_of(number, '_ABCDEFGHIJKLMNOPQRSTUVWXYZ')}::" for number in range(count))
+
+
+def conditions(count):
+    return "local a\nif a == 0 then a = 1\n" + "".join(f"elseif a == {number} then a = 2\n" for number in range(count)) + "end\n"
+
+
+KINDS = [
+    *((f"whole Lua, {size // 1024} KiB", source_of, size) for size in (64 * 1024, 256 * 1024, 1024 * 1024)),
+    *((f"{count} constants", constants, count) for count in (20000, 75000, 150000)),
+    *((f"{count} labels", labels, count) for count in (20000, 50000, 100000)),
+    *((f"{count} elseif", conditions, count) for count in (5000, 10000, 20000)),
+]
+
+
+def processor_time():
+    """The time that the programs called so far had on the processor, in seconds."""
+    used = resource.getrusage(resource.RUSAGE_CHILDREN)
+    return used.ru_utime + used.ru_stime
+
+
+def timed(words, runs):
+    """The least time of so many runs on the processor, in seconds, and what the command tells where it refuses the source."""
+    times = []
+    for _ in range(runs):
+        used = processor_time()
+        done = subprocess.run(words, stdin=subprocess.DEVNULL, capture_output=True, check=False)
+        if done.returncode != 0:
+            return None, done.stderr.decode(errors="replace").strip()
+        times.append(processor_time() - used)
+    return min(times), ""
 
 
 def main():
-    options = argparse.ArgumentParser(description=__doc__.split("\n")[0])
-    options.add_argument("--checkout", type=pathlib.Path, default=ROOT, help="the checkout whose compiler is timed")
-    options.add_argument("--folder", type=pathlib.Path, default=pathlib.Path("/tmp/compiling_timed"))
-    given = options.parse_args()
-    make(given.folder, given.checkout.resolve())
-    ran = subprocess.run(["rt", "run"], cwd=given.folder / "crates/timed", capture_output=True, text=True)
-    rows = [line.split("\t") for line in ran.stdout.splitlines() if line.count("\t") >= 2]
-    if ran.returncode != 0 or not rows:
-        sys.exit(ran.stdout + ran.stderr)
-    last = {}
-    print(f"{'source':10} {'number':>7} {'read':>8} {'resolved':>9} {'compiled':>9} {'to the one before':>18}")
-    for kind, count, *times in rows:
-        if len(times) != 4 or times[3] != "true":
-            sys.exit("\t".join([kind, count] + times))
-        read, resolved, whole = (int(time) / 1000 for time in times[:3])
-        grown = f"{whole / last[kind]:.2f}" if last.get(kind) else ""
-        last[kind] = max(whole, 0.001)
-        print(f"{kind:10} {count:>7} {read:8.1f} {resolved:9.1f} {whole:9.1f} {grown:>18}")
+    top = pathlib.Path(__file__).resolve().parent.parent
+    words = argparse.ArgumentParser(description=__doc__, formatter_class=argparse.RawDescriptionHelpFormatter)
+    words.add_argument("program", nargs="?", default=str(top / "crates/luaris/out/luaris"))
+    words.add_argument("--luac", default="luac5.4")
+    words.add_argument("--runs", type=int, default=5)
+    words.add_argument("--keep", type=pathlib.Path, help="a folder in which the sources are left")
+    given = words.parse_args()
+    with tempfile.TemporaryDirectory() as folder:
+        folder = given.keep or pathlib.Path(folder)
+        folder.mkdir(parents=True, exist_ok=True)
+        print(f"{'source':<22} {'bytes':>9} {'ms':>9} {'ns a byte':>10} {'luac ms':>9} {'times':>6}")
+        for number, (kind, make, count) in enumerate(KINDS):
+            file = folder / f"source_{number}.lua"
+            file.write_text(make(count))
+            size = file.stat().st_size
+            own, told = timed([given.program, "compile", str(file), str(folder / "own")], given.runs)
+            if own is None:
+                sys.exit(f"{kind}: {told}")
+            other, told = timed([given.luac, "-o", str(folder / "other"), str(file)], given.runs)
+            beside = f"{told}" if other is None else f"{other * 1e3:>9.1f} {own / other:>6.1f}"
+            print(f"{kind:<22} {size:>9} {own * 1e3:>9.1f} {own * 1e9 / size:>10.1f} {beside}", flush=True)
 
 
 if __name__ == "__main__":
