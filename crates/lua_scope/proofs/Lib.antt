@@ -1,6 +1,8 @@
 pub mod Meeting
 pub mod Rows
 pub mod Looping
+pub mod Indexing
+pub mod Lookups
 pub mod Sought
 pub mod Endings
 pub mod Folding

@@ -1,12 +1,12 @@
 -- Blocks and statements that are looked through one by one.
-use Rattle.std.proofs.Common.{arith, ℕ, ◌+◌, ◌-◌, ◌≡◌, ◌≤◌, ◌<◌, true, false, List, [], ◌∷◌, ap, ◌∙◌, length, map, take, drop, reverse}
+use Rattle.std.proofs.Common.{ℕ, ◌+◌, ◌-◌, ◌≡◌, ◌≤◌, ◌<◌, true, false, List, [], ◌∷◌, ap, ◌∙◌, length, map, take, drop}
 use Rattle.std.specs.Prelude.{slice_index_or, ◌||◌}
 use Rattle.std.specs.List.{list_any}
 use Rattle.std.proofs.lemmas.List.{get_or-map, length-map, drop_more, drop_all}
 use Rattle.tree_core.specs.declared.tree.Stat.{Stat}
 use Rattle.tree_core.specs.Plain.{plain_stat}
 use Rattle.scope_core.specs.Rules as rules
-use Rattle.scope_core.specs.Rules.{is_label, find_label, find_in, find_behind, only_labels, is_empty_or_label, declares_variable, stands_before, or_further}
+use Rattle.scope_core.specs.Rules.{is_label, find_label, find_in, stands_before, or_further}
 use Rattle.scope_core.proofs.Variables.{split_last}
 use Rattle.lua_scope.specs.declared.labels.BlockPlace.{BlockPlace}
 use Rattle.lua_scope.specs.Blocks.{around_of, arounds}
@@ -38,23 +38,6 @@ pub before_further : (text : List ℕ) (r : ℕ) (bs : List BlockPlace) (d : Blo
 before_further text r bs d p h e =
     ap (stands_before text) (last_around r bs d p h)
     ∙ ap (λ b. b || stands_before text (arounds (take (r - 1) bs))) e
-
--- statements in front of a place, from the nearest on
-
-last_stat : (r : ℕ) (ss : List Stat) (d : Stat) → 0 < r → r ≤ length ss → reverse (take r (map plain_stat ss)) ≡ plain_stat (slice_index_or ss (r - 1) d) ∷ reverse (take (r - 1) (map plain_stat ss))
-last_stat r ss d p h =
-    split_last r (map plain_stat ss) (plain_stat d) p (rw (length-map ss plain_stat) h)
-    ∙ ap (λ s. s ∷ reverse (take (r - 1) (map plain_stat ss))) (get_or-map plain_stat ss (r - 1) d (plain_stat d) (omega (arith, p, h)))
-
-pub label_here : (text : List ℕ) (r : ℕ) (ss : List Stat) (d : Stat) → 0 < r → r ≤ length ss → is_label text (plain_stat (slice_index_or ss (r - 1) d)) ≡ true → list_any (is_label text) (reverse (take r (map plain_stat ss))) ≡ true
-label_here text r ss d p h e =
-    ap (list_any (is_label text)) (last_stat r ss d p h)
-    ∙ ap (λ b. b || list_any (is_label text) (reverse (take (r - 1) (map plain_stat ss)))) e
-
-pub label_further : (text : List ℕ) (r : ℕ) (ss : List Stat) (d : Stat) → 0 < r → r ≤ length ss → is_label text (plain_stat (slice_index_or ss (r - 1) d)) ≡ false → list_any (is_label text) (reverse (take r (map plain_stat ss))) ≡ list_any (is_label text) (reverse (take (r - 1) (map plain_stat ss)))
-label_further text r ss d p h e =
-    ap (list_any (is_label text)) (last_stat r ss d p h)
-    ∙ ap (λ b. b || list_any (is_label text) (reverse (take (r - 1) (map plain_stat ss)))) e
 
 -- statements from a place on
 

@@ -1,5 +1,5 @@
 -- What the blocks around a place are to the rules.
-use Rattle.std.specs.Prelude.{Bool, not, ◌&&◌, if◌then◌else◌, List, map, reverse, take, drop}
+use Rattle.std.specs.Prelude.{ℕ, Bool, not, ◌&&◌, if◌then◌else◌, List, map, reverse, take, drop}
 use Rattle.tree_core.specs.Tree.{Stats, stats}
 use Rattle.tree_core.specs.Plain.{plain_stat}
 use Rattle.scope_core.specs.Scopes.{Scope, Frame, Around}
@@ -16,6 +16,10 @@ around_of block =
       behind = stats (drop block.behind (map plain_stat block.stats.now.items));
       ends_scope = block.ends_scope;
     }
+
+-- the block around another place
+abbrev pub moved : BlockPlace → (before behind : ℕ) → BlockPlace
+moved block before behind = record block { before = before; behind = behind }
 
 -- blocks that are kept from the outside in
 abbrev pub arounds : List BlockPlace → List Around

@@ -7,7 +7,7 @@ ghost use Rattle.scope_core.specs.Rules.{breach, locals, target_violations, attr
 ghost use Rattle.lua_scope.specs.Met.{meet_all, met_declared};
 ghost use Rattle.lua_scope.specs.Blocks.{scope_at, found_of};
 
-use crate::labels::{BlockPlace, Found, find_label, stands_before};
+use crate::labels::{Found, IndexedBlock, find_label, stands_before};
 use scope_core::{Least, Nesting, Violation, held_by_stat};
 use tree_core::{Attrib, Declared, Exp, ExpNode, Stat, StatNode};
 
@@ -50,7 +50,7 @@ pub fn check_held(nesting: &Nesting, least: &mut Least, line: u32, held: u32)
 pub fn check_stat(
     nesting: &Nesting,
     flags: Flags,
-    blocks: &Vec<BlockPlace>,
+    blocks: &Vec<IndexedBlock>,
     least: &mut Least,
     stat: &Stat,
 )
@@ -65,7 +65,7 @@ pub fn check_stat(
 fn check_form(
     nesting: &Nesting,
     flags: Flags,
-    blocks: &Vec<BlockPlace>,
+    blocks: &Vec<IndexedBlock>,
     least: &mut Least,
     stat: &Stat,
 )

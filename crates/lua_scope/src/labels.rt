@@ -1,13 +1,19 @@
 // The labels in the blocks around a place.
-ghost use Rattle.std.specs.Prelude.{◌≡◌, false, reverse, take, drop, map};
+ghost use Rattle.std.specs.Prelude.{◌≡◌, List, [], ◌∷◌, ◌++◌, Some, drop, map, IfOk};
 ghost use Rattle.std.specs.List.{list_any};
 ghost use Rattle.tree_core.specs.Tree.{stats};
 ghost use Rattle.tree_core.specs.Plain.{plain_stat};
-ghost use Rattle.scope_core.specs.Rules.{is_label, declares_variable, is_empty_or_label, only_labels, find_behind, find_in, find_label, stands_before};
-ghost use Rattle.lua_scope.specs.Blocks.{around_of, arounds, found_of, find_at};
+ghost use Rattle.scope_core.specs.Rules.{is_label, only_labels, find_behind, find_in, find_label, stands_before};
+ghost use Rattle.lua_scope.specs.declared.labels.BlockPlace.{BlockPlace};
+ghost use Rattle.lua_scope.specs.Blocks.{around_of, arounds, found_of, find_at, moved};
+ghost use Rattle.lua_scope.specs.Indexed.{first_label, IsEndFrom};
 
+use crate::index::{LabelPlace, declares_variable, end_from, index_labels, is_label};
 use int_core::Bytes;
-use tree_core::{Stat, StatNode};
+use std::alloc::{AllocError, Global};
+use std::collections::HashMap;
+use std::marker::Model;
+use tree_core::Stat;
 
 /// What a `goto` finds.
 #[derive(Debug, Clone, Copy, PartialEq, Eq)]
@@ -33,114 +39,167 @@ pub struct BlockPlace<'a> {
     pub ends_scope: bool,
 }
 
-/// Whether a statement is the label of a name.
-fn is_label(stat: &Stat, text: &Bytes) -> bool
-    ensures { result ≡ is_label text.now (plain_stat stat.now) }
-{
-    match &stat.node {
-        StatNode::Label(name) => name.text == *text,
-        _ => false,
+/// A block around a place, with an index of its labels. Contracts see the place in the block.
+#[derive(Drop)]
+pub struct IndexedBlock<'a> {
+    place: BlockPlace<'a>,
+    /// The first label of each name in the block.
+    labels: HashMap<Vec<u8>, LabelPlace>,
+    /// The number of the statement from which on all do nothing.
+    end: usize,
+}
+
+impl<'a> Model for IndexedBlock<'a> {
+    ghost use Rattle.std.specs.Prelude.{map};
+    ghost use Rattle.std.specs.Coded.{codes};
+    ghost use Rattle.tree_core.specs.Plain.{plain_stat};
+    ghost use Rattle.tree_core.specs.contracts.tree.Stat as statement;
+    ghost use Rattle.lua_scope.specs.declared.labels.BlockPlace.{BlockPlace};
+    ghost use Rattle.lua_scope.specs.Indexed.{IsIndexOf, IsEndFrom};
+
+    ghost Value = { BlockPlace };
+
+    ghost coded = { Prim.hlevel (codes, statement.the_row.coded) };
+
+    ghost view = { λ block. block.place };
+
+    ghost invariant = { λ block. IsIndexOf block.labels (map plain_stat block.place.stats.now.items) × IsEndFrom block.end (map plain_stat block.place.stats.now.items) };
+}
+
+impl<'a> IndexedBlock<'a> {
+    /// A block in which no place is taken yet.
+    pub fn new(
+        alloc: Global,
+        list: &'a Vec<Stat>,
+        ends_scope: bool,
+    ) -> Result<IndexedBlock<'a>, AllocError>
+        ensures stats { IfOk result (λ block. block.stats.now.items ≡ list.now.items) }
+        ensures ends { IfOk result (λ block. block.ends_scope ≡ ends_scope) }
+    {
+        let labels = index_labels(alloc, list)?;
+        let end = end_from(list);
+        let place = BlockPlace {
+            stats: list,
+            before: 0,
+            behind: 0,
+            ends_scope,
+        };
+        Ok(IndexedBlock { place, labels, end })
     }
-}
 
-/// Whether variables are in scope behind a statement that are not before it.
-fn declares_variable(stat: &Stat) -> bool
-    ensures { result ≡ declares_variable (plain_stat stat.now) }
-{
-    matches!(
-        &stat.node,
-        StatNode::Local(_, _) | StatNode::LocalFunction(_, _)
-    )
-}
+    /// Goes to another place of the block.
+    fn move_to(&mut self, before: usize, behind: usize)
+        ensures { self.new ≡ moved self.old before behind }
+    {
+        self.place.before = before;
+        self.place.behind = behind;
+    }
 
-/// Whether a statement does nothing.
-fn is_empty_or_label(stat: &Stat) -> bool
-    ensures { result ≡ is_empty_or_label (plain_stat stat.now) }
-{
-    matches!(&stat.node, StatNode::Empty | StatNode::Label(_))
-}
+    /// The first label of a name.
+    fn first(&self, text: &Bytes) -> Option<LabelPlace>
+        ensures { result ≡ first_label text.now 0 0 (map plain_stat self.now.stats.now.items) }
+    {
+        self.labels.get(text.as_slice()).copied()
+    }
 
-/// Whether the statements from a place on do nothing.
-#[tactic(auto, using(crate::proofs::Sought::next_stat, crate::proofs::Sought::no_stat))]
-fn only_labels(list: &Vec<Stat>, start: usize) -> bool
-    ensures { result ≡ only_labels (stats (drop start (map plain_stat list.now.items))) }
-{
-    let mut at = start;
-    while at < list.len() {
-        if !is_empty_or_label(&list[at]) {
-            return false;
+    /// Whether a label of a name stands before the place.
+    fn has_passed(&self, text: &Bytes) -> bool
+        ensures { result ≡ list_any (is_label text.now) (around_of self.now).before }
+    {
+        match self.first(text) {
+            Some(label) => label.at < self.place.before,
+            None => false,
         }
-        at += 1;
     }
-    true
-}
 
-/// Whether one of the first so many statements is the label of a name.
-#[tactic(auto, using(crate::proofs::Sought::label_here, crate::proofs::Sought::label_further))]
-fn stands_in(list: &Vec<Stat>, count: usize, text: &Bytes) -> bool
-    ensures { result ≡ list_any (is_label text.now) (reverse (take count (map plain_stat list.now.items))) }
-{
-    let mut at = count.min(list.len());
-    while at > 0 {
-        at -= 1;
-        if is_label(&list[at], text) {
-            return true;
+    /// What a `goto` finds.
+    fn find(&self, text: &Bytes) -> Found
+        ensures { found_of result ≡ find_in text.now (around_of self.now) }
+    {
+        match self.first(text) {
+            Some(label) => self.find_from(label, text),
+            None => Found::Missing,
         }
     }
-    false
+
+    /// What a `goto` finds, which looks from the first label of its name on.
+    fn find_from(&self, label: LabelPlace, text: &Bytes) -> Found
+        requires { first_label text.now 0 0 (map plain_stat self.now.stats.now.items) ≡ Some label }
+        ensures { found_of result ≡ find_in text.now (around_of self.now) }
+    {
+        let passed = label.at < self.place.before;
+        if passed {
+            return Found::Fine;
+        }
+        let behind = self.place.behind;
+        let start = behind.max(label.at);
+        find_behind(self.place, self.end, start, behind < label.declared, text)
+    }
 }
 
-/// What a `goto` finds behind its place in a block.
+/// What a `goto` finds from a statement of a block on, where a variable was declared behind the
+/// `goto` and before the statement, or not.
 #[tactic(auto, using(crate::proofs::Sought::next_stat, crate::proofs::Sought::no_stat))]
-fn find_behind(block: BlockPlace, text: &Bytes) -> Found
-    ensures { found_of result ≡ find_behind text.now false block.entry.ends_scope (around_of block.entry).behind }
+fn find_behind(block: BlockPlace, end: usize, start: usize, declared: bool, text: &Bytes) -> Found
+    requires { IsEndFrom end (map plain_stat block.stats.now.items) }
+    ensures { found_of result ≡ find_behind text.now declared block.entry.ends_scope (stats (drop start (map plain_stat block.entry.stats.now.items))) }
 {
     let list = block.stats;
-    let mut entered = false;
-    let mut at = block.behind;
+    let mut entered = declared;
+    let mut at = start;
     while at < list.len() {
         let stat = &list[at];
         at += 1;
         if is_label(stat, text) {
-            return found_at(block, at, entered);
+            return found_at(block, end, at, entered);
         }
         entered = entered || declares_variable(stat);
     }
     Found::Missing
 }
 
-/// What a `goto` finds where its label stands before a place in a block.
-fn found_at(block: BlockPlace, start: usize, entered: bool) -> Found
+/// What a `goto` finds where its label stands just before a statement of a block.
+fn found_at(block: BlockPlace, end: usize, start: usize, entered: bool) -> Found
+    requires { IsEndFrom end (map plain_stat block.stats.now.items) }
     ensures { found_of result ≡ find_at entered block.entry.ends_scope (stats (drop start (map plain_stat block.entry.stats.now.items))) }
 {
     if !entered {
         return Found::Fine;
     }
-    if block.ends_scope && only_labels(block.stats, start) {
+    if block.ends_scope && is_end(block, end, start) {
         return Found::Fine;
     }
     Found::Entering
 }
 
-/// What a `goto` finds in a block.
-fn find_in(block: BlockPlace, text: &Bytes) -> Found
-    ensures { found_of result ≡ find_in text.now (around_of block.entry) }
+/// Whether the statements of a block from one on do nothing.
+fn is_end(block: BlockPlace, end: usize, start: usize) -> bool
+    requires { IsEndFrom end (map plain_stat block.stats.now.items) }
+    ensures { result ≡ only_labels (stats (drop start (map plain_stat block.entry.stats.now.items))) }
 {
-    if stands_in(block.stats, block.before, text) {
-        return Found::Fine;
+    end <= start
+}
+
+/// Goes to another place of the innermost block.
+pub fn move_to(blocks: &mut Vec<IndexedBlock>, before: usize, behind: usize)
+    ensures { (front : List BlockPlace) (block : BlockPlace) → blocks.old.items ≡ front ++ block ∷ [] → blocks.new.items ≡ front ++ moved block before behind ∷ [] }
+{
+    let count = blocks.len();
+    if count == 0 {
+        return;
     }
-    find_behind(block, text)
+    blocks[count - 1].move_to(before, behind);
 }
 
 /// What a `goto` finds in the blocks around it.
 #[tactic(auto, using(crate::proofs::Sought::missed, crate::proofs::Sought::found_fine, crate::proofs::Sought::found_entering))]
-pub fn find_label(blocks: &Vec<BlockPlace>, text: &Bytes) -> Found
+pub fn find_label(blocks: &Vec<IndexedBlock>, text: &Bytes) -> Found
     ensures { found_of result ≡ find_label text.now (arounds blocks.now.items) }
 {
     let mut count = blocks.len();
     while count > 0 {
         count -= 1;
-        let found = find_in(blocks[count], text);
+        let found = blocks[count].find(text);
         if found != Found::Missing {
             return found;
         }
@@ -150,14 +209,13 @@ pub fn find_label(blocks: &Vec<BlockPlace>, text: &Bytes) -> Found
 
 /// Whether a label of a name stands before a place, in a block around.
 #[tactic(auto, using(crate::proofs::Sought::before_here, crate::proofs::Sought::before_further))]
-pub fn stands_before(blocks: &Vec<BlockPlace>, text: &Bytes) -> bool
+pub fn stands_before(blocks: &Vec<IndexedBlock>, text: &Bytes) -> bool
     ensures { result ≡ stands_before text.now (arounds blocks.now.items) }
 {
     let mut count = blocks.len();
     while count > 0 {
         count -= 1;
-        let block = blocks[count];
-        if stands_in(block.stats, block.before, text) {
+        if blocks[count].has_passed(text) {
             return true;
         }
     }

@@ -3,6 +3,7 @@
 #![tactic(auto)]
 
 mod checks;
+mod index;
 mod labels;
 mod resolving;
 mod walk;

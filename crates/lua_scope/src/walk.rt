@@ -1,5 +1,5 @@
 // The walk that meets the violations in a tree.
-ghost use Rattle.std.specs.Prelude.{◌≡◌, [], ◌∷◌, ◌++◌, OnOk, map, true};
+ghost use Rattle.std.specs.Prelude.{◌≡◌, [], ◌∷◌, OnOk, map, true};
 ghost use Rattle.tree_core.specs.Tree.{exps, fields, stats, arms};
 ghost use Rattle.tree_core.specs.Plain.{plain_exp, plain_exps, plain_field, plain_stat, plain_arm, plain_block, plain_body};
 ghost use Rattle.scope_core.specs.Scopes.{declare, declare_all, declared_by, plain_variable, declared_variable, behind, behind_stats, generic_hidden, numeric_hidden};
@@ -9,7 +9,7 @@ ghost use Rattle.lua_scope.specs.Met.{meet_all, met_declared, met_names, met_dec
 ghost use Rattle.lua_scope.specs.Blocks.{scope_at};
 
 use crate::checks::{Flags, check_declared, check_held, check_stat, meet_where};
-use crate::labels::BlockPlace;
+use crate::labels::{IndexedBlock, move_to};
 use int_core::Bytes;
 use scope_core::{Least, Nesting, Variable, held_by, held_by_list};
 use std::alloc::{AllocError, Global};
@@ -179,7 +179,7 @@ fn meet_block<'a>(
     nesting: &mut Nesting,
     alloc: Global,
     flags: Flags,
-    blocks: &mut Vec<BlockPlace<'a>>,
+    blocks: &mut Vec<IndexedBlock<'a>>,
     least: &mut Least,
     block: &'a Block,
     ends_scope: bool,
@@ -217,7 +217,7 @@ fn meet_inner<'a>(
     nesting: &mut Nesting,
     alloc: Global,
     flags: Flags,
-    blocks: &mut Vec<BlockPlace<'a>>,
+    blocks: &mut Vec<IndexedBlock<'a>>,
     least: &mut Least,
     block: &'a Block,
 ) -> Result<(), AllocError>
@@ -237,7 +237,7 @@ fn meet_stats<'a>(
     nesting: &mut Nesting,
     alloc: Global,
     flags: Flags,
-    blocks: &mut Vec<BlockPlace<'a>>,
+    blocks: &mut Vec<IndexedBlock<'a>>,
     least: &mut Least,
     list: &'a Vec<Stat>,
     ends_scope: bool,
@@ -246,40 +246,35 @@ fn meet_stats<'a>(
     ensures blocks { OnOk result (blocks.new.items ≡ blocks.old.items) }
     ensures met { OnOk result (least.new.violation ≡ met_stats (scope_at nesting.old blocks.old.items flags) [] ends_scope least.old.violation (stats (map plain_stat list.now.items))) }
 {
+    let block = IndexedBlock::new(alloc, list, ends_scope)?;
+    blocks.push(block)?;
     let mut before = 0;
     for stat in list.iter() {
         let behind = before + 1;
-        let block = BlockPlace {
-            stats: list,
-            before,
-            behind,
-            ends_scope,
-        };
-        meet_placed(nesting, alloc, flags, blocks, least, block, stat)?;
+        move_to(blocks, before, behind);
+        meet_placed(nesting, alloc, flags, blocks, least, stat)?;
         before = behind;
     }
+    blocks.pop();
     Ok(())
 }
 
-/// Meets the violations in a statement at its place in a block, and those of its form.
+/// Meets the violations in a statement at its place in the innermost block, and those of its form.
 #[cycle(rules)]
 fn meet_placed<'a>(
     nesting: &mut Nesting,
     alloc: Global,
     flags: Flags,
-    blocks: &mut Vec<BlockPlace<'a>>,
+    blocks: &mut Vec<IndexedBlock<'a>>,
     least: &mut Least,
-    block: BlockPlace<'a>,
     stat: &'a Stat,
 ) -> Result<(), AllocError>
     ensures nesting { OnOk result (nesting.new ≡ declare_all nesting.old (declared_by (plain_stat stat.now))) }
     ensures blocks { OnOk result (blocks.new.items ≡ blocks.old.items) }
-    ensures met { OnOk result (least.new.violation ≡ met_stat (scope_at nesting.old (blocks.old.items ++ block.entry ∷ []) flags) (meet_all least.old.violation (part_violations (scope_at nesting.old (blocks.old.items ++ block.entry ∷ []) flags) (Statement (plain_stat stat.now)))) (plain_stat stat.now)) }
+    ensures met { OnOk result (least.new.violation ≡ met_stat (scope_at nesting.old blocks.old.items flags) (meet_all least.old.violation (part_violations (scope_at nesting.old blocks.old.items flags) (Statement (plain_stat stat.now)))) (plain_stat stat.now)) }
 {
-    blocks.push(block)?;
     check_stat(nesting, flags, blocks, least, stat);
     meet_stat(nesting, alloc, flags, blocks, least, stat)?;
-    blocks.pop();
     Ok(())
 }
 
@@ -289,7 +284,7 @@ fn meet_arms<'a>(
     nesting: &mut Nesting,
     alloc: Global,
     flags: Flags,
-    blocks: &mut Vec<BlockPlace<'a>>,
+    blocks: &mut Vec<IndexedBlock<'a>>,
     least: &mut Least,
     list: &'a Vec<Arm>,
 ) -> Result<(), AllocError>
@@ -309,7 +304,7 @@ fn meet_arm<'a>(
     nesting: &mut Nesting,
     alloc: Global,
     flags: Flags,
-    blocks: &mut Vec<BlockPlace<'a>>,
+    blocks: &mut Vec<IndexedBlock<'a>>,
     least: &mut Least,
     arm: &'a Arm,
 ) -> Result<(), AllocError>
@@ -329,7 +324,7 @@ fn meet_stat<'a>(
     nesting: &mut Nesting,
     alloc: Global,
     flags: Flags,
-    blocks: &mut Vec<BlockPlace<'a>>,
+    blocks: &mut Vec<IndexedBlock<'a>>,
     least: &mut Least,
     stat: &'a Stat,
 ) -> Result<(), AllocError>
@@ -426,7 +421,7 @@ fn meet_counted<'a>(
     nesting: &mut Nesting,
     alloc: Global,
     flags: Flags,
-    blocks: &mut Vec<BlockPlace<'a>>,
+    blocks: &mut Vec<IndexedBlock<'a>>,
     least: &mut Least,
     name: &Name,
     block: &'a Block,
@@ -451,7 +446,7 @@ fn meet_iterated<'a>(
     nesting: &mut Nesting,
     alloc: Global,
     flags: Flags,
-    blocks: &mut Vec<BlockPlace<'a>>,
+    blocks: &mut Vec<IndexedBlock<'a>>,
     least: &mut Least,
     names: &Vec<Name>,
     block: &'a Block,

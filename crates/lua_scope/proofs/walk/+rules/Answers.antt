@@ -1,4 +1,4 @@
-use Rattle.std.proofs.Common.{arith, rules, ◌≡◌, ◌+◌, ◌<◌, ◌≤◌, subst, List, [], ◌∷◌, ◌++◌, false, ap, ap₂, sym, ◌∙◌, refl, map, min, length, take, reverse}
+use Rattle.std.proofs.Common.{arith, rules, ◌≡◌, ◌+◌, ◌-◌, ◌<◌, ◌≤◌, subst, List, [], ◌∷◌, ◌++◌, false, ap, ap₂, sym, ◌∙◌, refl, map, min, length, take, reverse}
 use Rattle.std.specs.Prelude.{Option, nat_lt, slice_index_or}
 use Rattle.tree_core.specs.declared.tree.Exp.{Exp}
 use Rattle.tree_core.specs.declared.tree.Field.{Field}
@@ -10,14 +10,14 @@ use Rattle.tree_core.specs.Plain.{plain_arm, plain_block, plain_exp, plain_exp_n
 use Rattle.tree_core.proofs.Rows.{plain-call, plain-method, plain-local, plain-assign, plain-gen_for, plain-body}
 use Rattle.scope_core.specs.declared.violation.Violation.{Violation}
 use Rattle.scope_core.specs.Scopes.{Frame, behind, behind_stats, declare_all, declared_by, plain_variable, numeric_hidden, generic_hidden}
-use Rattle.scope_core.specs.Parts.{Statement}
-use Rattle.scope_core.specs.Rules.{breach, part_violations}
+use Rattle.scope_core.specs.Rules.{breach}
 use Rattle.scope_core.specs.Held.{held, held_behind}
 use Rattle.scope_core.specs.Walked.{kept}
 use Rattle.lua_scope.specs.Met.{met_arm, met_arms, met_block, met_body, met_declarations, met_exp, met_exps, met_field, met_fields, met_for, met_stat, met_stats, meet_all}
-use Rattle.lua_scope.specs.Blocks.{scope_at, around_of}
+use Rattle.lua_scope.specs.declared.labels.BlockPlace.{BlockPlace}
+use Rattle.lua_scope.specs.Blocks.{scope_at, moved}
 use Rattle.lua_scope.proofs.Looping.{on, at_end, mapped, within, gone}
-use Rattle.lua_scope.proofs.Placing.{next_behind, next_met}
+use Rattle.lua_scope.proofs.Placing.{around_here, gone_out, next_behind, next_met}
 use Rattle.lua_scope.proofs.Rows.{with_result, without_result}
 use Rattle.lua_scope.proofs.Endings.{ended_behind}
 use Rattle.lua_scope.proofs.Walking.{returned_met, body_left, body_met, repeated_met, for_ended, for_met}
@@ -65,24 +65,39 @@ meet_arms-returns-clause-met t c =
     at_end (λ (o : Option Violation) (xs : List Arm). met_arms (scope_at c.loop-arm.nesting c.args.blocks.now.items c.args.flags) o (tree.arms (map plain_arm xs))) c.loop-arm.least.violation c.deref-arm-items.result.now c.loop-arm.arm-index _
     (omega (arith, c.loop-arm-test.false, c.loop-arm.auto.arm-index-end)) c.loop-arm.invariant.2
 
+pub meet_stats-loop-stat-init : goal.meet_stats-loop-stat-init
+meet_stats-loop-stat-init t c =
+    let standing : c.push.new.self.items ≡ c.args.blocks.now.items ++ c.in_ok-block.block ∷ [] = search rules in
+    let same : c.deref-stat-items.result.now ≡ c.args.list.now.items = search rules in
+    (record { block = c.in_ok-block.block; is_last = standing; same_stats = c.in_ok-block.ensures.stats; same_end = c.in_ok-block.ensures.ends }, refl, same, refl, refl)
+
 pub meet_stats-loop-stat-preserved : goal.meet_stats-loop-stat-preserved
 meet_stats-loop-stat-preserved t c =
     let items = c.args.list.now.items in
     let i = c.loop-stat.stat-index in
+    let before = c.loop-stat.before in
+    let inside = c.loop-stat.invariant.0 in
+    let here : BlockPlace = moved inside.block before (before + 1) in
+    let standing : c.move_to.new.blocks.items ≡ c.args.blocks.now.items ++ here ∷ [] = c.move_to.ensures c.args.blocks.now.items inside.block inside.is_last in
     let all : c.deref-stat-items.result.now ≡ items = c.loop-stat.invariant.2 in
     let h : i < length items = subst (λ xs. i < length xs) all (omega (arith, c.loop-stat-test.true)) in
     let is = mapped plain_stat items i c.stat-item.result h (subst (λ xs. c.stat-item.result ≡ slice_index_or xs i c.stat-item.result) all c.stat-item.is) in
     let h' = within plain_stat items i h in (
-      c.in_ok-meet_placed.ensures.blocks ∙ c.loop-stat.invariant.0,
+      record { block = here; is_last = c.in_ok-meet_placed.ensures.blocks ∙ standing; same_stats = inside.same_stats; same_end = inside.same_end },
       ap (λ n. n + 1) c.loop-stat.invariant.1,
       all,
       next_behind c.loop-stat.nesting c.meet_placed.new.nesting _ (map plain_stat items) i (plain_stat c.stat-item.result) h' is c.in_ok-meet_placed.ensures.nesting c.loop-stat.invariant.3,
-      next_met c.loop-stat.nesting c.meet_placed.new.nesting c.loop-stat.blocks.items c.args.blocks.now.items c.args.flags
-          (record { stats = c.args.list; before = c.loop-stat.before; behind = c.loop-stat.before + 1; ends_scope = c.args.ends_scope }) c.args.ends_scope
-          (map plain_stat items) i (plain_stat c.stat-item.result) c.loop-stat.least.violation c.meet_placed.new.least.violation _ h' is c.loop-stat.invariant.0
-          (ap (λ n. around_of (record { stats = c.args.list; before = n; behind = n + 1; ends_scope = c.args.ends_scope })) c.loop-stat.invariant.1)
+      next_met c.loop-stat.nesting c.meet_placed.new.nesting c.move_to.new.blocks.items c.args.blocks.now.items c.args.flags here c.args.ends_scope
+          (map plain_stat items) i (plain_stat c.stat-item.result) c.loop-stat.least.violation c.meet_placed.new.least.violation _ h' is standing
+          (around_here inside.block items c.args.ends_scope before i inside.same_stats inside.same_end c.loop-stat.invariant.1)
           c.in_ok-meet_placed.ensures.nesting c.in_ok-meet_placed.ensures.met c.loop-stat.invariant.4,
     )
+
+pub meet_stats-returns-clause-blocks : goal.meet_stats-returns-clause-blocks
+meet_stats-returns-clause-blocks t c =
+    let inside = c.loop-stat.invariant.0 in
+    let out : c.pop.new.self.items ≡ take (length c.loop-stat.blocks.items - 1) c.loop-stat.blocks.items = search rules in
+    out ∙ gone_out c.loop-stat.blocks.items c.args.blocks.now.items inside.block inside.is_last
 
 pub meet_stats-returns-clause-nesting : goal.meet_stats-returns-clause-nesting
 meet_stats-returns-clause-nesting t c =
@@ -139,10 +154,8 @@ meet_body-returns-clause-met t c =
 
 pub meet_placed-returns-clause-met : goal.meet_placed-returns-clause-met
 meet_placed-returns-clause-met t c =
-    let here : c.push.new.self.items ≡ c.args.blocks.now.items ++ c.args.block ∷ [] = search rules in
     c.in_ok-meet_stat.ensures.met
-    ∙ ap (λ o. met_stat (scope_at c.args.nesting.now c.push.new.self.items c.args.flags) o (plain_stat c.args.stat.now)) c.check_stat.ensures
-    ∙ ap (λ bs. met_stat (scope_at c.args.nesting.now bs c.args.flags) (meet_all c.args.least.now.violation (part_violations (scope_at c.args.nesting.now bs c.args.flags) (Statement (plain_stat c.args.stat.now)))) (plain_stat c.args.stat.now)) here
+    ∙ ap (λ o. met_stat (scope_at c.args.nesting.now c.args.blocks.now.items c.args.flags) o (plain_stat c.args.stat.now)) c.check_stat.ensures
 
 pub meet_counted-returns-clause-nesting : goal.meet_counted-returns-clause-nesting
 meet_counted-returns-clause-nesting t c =

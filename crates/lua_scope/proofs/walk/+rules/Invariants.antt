@@ -5,6 +5,7 @@ use Rattle.tree_core.specs.Plain.{plain_arm, plain_exps, plain_field, plain_stat
 use Rattle.scope_core.specs.Scopes.{behind_stats}
 use Rattle.lua_scope.specs.Met.{met_arms, met_exps, met_fields, met_stats}
 use Rattle.lua_scope.specs.Blocks.{scope_at}
+use Rattle.lua_scope.proofs.Placing.{Inside}
 use Rattle.lua_scope.proofs.walk.+rules.Given as goal
 
 abbrev pub invariant-meet_exps-loop-exp : goal.invariant-meet_exps-loop-exp
@@ -25,7 +26,7 @@ invariant-meet_arms-loop-arm l =
 
 abbrev pub invariant-meet_stats-loop-stat : goal.invariant-meet_stats-loop-stat
 invariant-meet_stats-loop-stat l =
-    (l.blocks.items ≡ l.fn.blocks.items)
+    Inside l.fn.blocks.items l.blocks.items l.list.items l.fn.ends_scope
     × (l.before ≡ l.stat-index)
     × (l.stat-items ≡ l.list.items)
     × (behind_stats l.nesting (tree.stats (drop l.stat-index (map plain_stat l.list.items))) ≡ behind_stats l.fn.nesting (tree.stats (map plain_stat l.list.items)))
