@@ -1,5 +1,5 @@
 -- The code of an assignment takes the registers that are counted for it.
-use Rattle.std.proofs.Common.{◌≡◌, ℕ, ◌+◌, ◌*◌, ◌≤◌, max, false, List, [], ◌∷◌, ◌++◌, Some, refl, ap, lit≤, arith}
+use Rattle.std.proofs.Common.{◌≡◌, ℕ, ◌+◌, ◌*◌, ◌<◌, ◌≤◌, max, Bool, true, false, List, [], ◌∷◌, ◌++◌, Option, Some, None, refl, sym, ap, subst, lit≤, arith}
 use Rattle.tree_core.specs.declared.name.Place.{Place}
 use Rattle.tree_core.specs.declared.name.Place.TheVariants.{Unset, Upvalue, GlobalIn, GlobalOf, Local as LocalPlace}
 use Rattle.tree_core.specs.Tree.{Exp, Var, Index, Exps, EndExps, MoreExps}
@@ -9,16 +9,22 @@ use Rattle.code_core.specs.declared.proto.Const.TheVariants.{Str as StrConst}
 use Rattle.code_of.specs.Coded.{Coded, with_abc}
 use Rattle.code_of.specs.Constants.{loads}
 use Rattle.code_of.specs.Expressions.{made_by, made_in, count, exp_code, exps_code}
-use Rattle.code_of.specs.Parts.{name_target, target_code, targets_code, name_store, store_code, stores_code, assign_code}
+use Rattle.code_of.specs.Operands.{is_direct, assigned}
+use Rattle.code_of.proofs.Operands.{assigned_is}
+use Rattle.code_of.specs.Parts.{name_target, target_code, targets_code, name_store, store_code, stores_code, direct_code, first_direct, first_field, stored_code, store_by, assign_by, assign_code}
+use Rattle.code_of.specs.Stores.{stores_field}
+use Rattle.code_of.proofs.Stores.{stores_field_is}
 use Rattle.scope_core.specs.Held.{held, held_behind, held_targets}
-use Rattle.code_of.specs.Rooms.{room_of_name, room_of_list}
+use Rattle.code_of.specs.Rooms.{room_of_name, room_of_direct, room_of_assigned, room_of_first, room_of_list}
 use Rattle.scope_laws.specs.Finding.{PlaceIsThere, ExpFinds, ExpsFind}
-use Rattle.code_bounds.specs.Registers.{TargetHasRoom, TargetsHaveRoom}
+use Rattle.code_bounds.specs.Registers.{TargetHasRoom, TargetsHaveRoom, StoreHasRoom, AssignHasRoom}
 use Rattle.code_bounds.proofs.Tops.{top, one, top_more, top_append, one_a, one_ab, one_store}
 use Rattle.code_bounds.proofs.Pieces.{loads_top}
-use Rattle.code_bounds.proofs.Holding.{name_two, held_shifted}
+use Rattle.code_bounds.proofs.Holding.{name_two, held_shifted, exp_held}
+use Rattle.code_bounds.proofs.Expressions.{direct_takes, direct_less}
 use Rattle.code_bounds.proofs.Room.{HasRoom, room_as, room_append, room_of_top}
 use Rattle.code_bounds.proofs.Simple.{exp_room, exps_room, filled}
+use Rattle.code_bounds.proofs.FieldStores.{field_room}
 
 -- stores name the registers of their target and their value, or a local in scope
 
@@ -87,10 +93,10 @@ module _ (cs : List Const) (hidden : List ℕ) (ups : ℕ) where
         let k = targets_room targets size t (before + 2) (r + 2) (j + made_by e) (omega arith) known.1 (omega arith) (omega arith) (omega arith) in
         room_as (room_append first rest h k) (λ both room. (both.0 (omega (arith, room)), both.1 (omega (arith, room))))
 
-    pub assign_room : (targets es : Exps) (t j line : ℕ) → ExpsFind targets hidden t ups → ExpsFind es hidden t ups → t + held_targets 0 targets ≤ 250 → t + held_behind (2 * count targets) es ≤ 250 → t + 3 * count targets ≤ 250 →
-        HasRoom stack (assign_code cs targets es t j line)
+    stored_room : (targets es : Exps) (t j line : ℕ) → ExpsFind targets hidden t ups → ExpsFind es hidden t ups → t + held_targets 0 targets ≤ 250 → t + held_behind (2 * count targets) es ≤ 250 → t + 3 * count targets ≤ 250 →
+        HasRoom stack (stored_code cs targets es t j line)
         (t ≤ stack → TargetsHaveRoom cs stack targets t × ((t + 2 * count targets + room_of_list cs 0 es (Some (count targets)) ≤ stack) × (t + 2 * count targets + count targets ≤ stack)))
-    assign_room targets es t j line known_targets known few values many =
+    stored_room targets es t j line known_targets known few values many =
         let n = count targets in
         let v = t + 2 * n in
         let first = targets_code cs targets t j in
@@ -108,3 +114,41 @@ module _ (cs : List Const) (hidden : List ℕ) (ups : ℕ) where
         by : (r n v : ℕ) → 0 + n ≤ max 0 r → (t + 2 * n ≤ stack → TargetsHaveRoom cs stack targets t) → v + r ≤ max v stack → v ≡ t + 2 * n → t ≤ stack →
             TargetsHaveRoom cs stack targets t × ((v + r ≤ stack) × (v + n ≤ stack))
         by r n v full go room is within = (go (omega arith), (omega arith, omega arith))
+
+    -- a value that goes straight to a local's register
+    direct_room : (e : Exp) → is_direct e ≡ true → (r t j : ℕ) → ExpFinds e hidden t ups → r < t → t + held e ≤ 250 → t + 1 ≤ 250 → HasRoom stack (direct_code cs e r t j) (t ≤ stack → t + room_of_direct cs e ≤ stack)
+    direct_room e is r t j known low few fits =
+        let h = exp_held cs e 2 in
+        let less = direct_less cs e in
+        let all = direct_takes cs hidden ups e is r t t j known (omega arith) low (omega (arith, h, less)) in
+        record { below = omega (arith, h, less, fits, all.0); gives = λ small within. omega (arith, all.1, small, within) }
+
+    pub assign_room : (targets es : Exps) (t j line : ℕ) → ExpsFind targets hidden t ups → ExpsFind es hidden t ups → t + held_targets 0 targets ≤ 250 → t + held_behind (2 * count targets) es ≤ 250 → t + 3 * count targets ≤ 250 →
+        HasRoom stack (assign_code cs targets es t j line) (t ≤ stack → AssignHasRoom cs stack (assigned targets es) targets es t)
+    assign_room targets es t j line known_targets known few values many = by (assigned targets es) refl
+      where
+        by : (o : Option ℕ) → assigned targets es ≡ o → HasRoom stack (assign_by cs o targets es t j line) (t ≤ stack → AssignHasRoom cs stack o targets es t)
+        by None is = by_field (stores_field targets es) refl
+          where
+            by_field : (b : Bool) → stores_field targets es ≡ b → HasRoom stack (store_by cs b targets es t j line) (t ≤ stack → StoreHasRoom cs stack b targets es t)
+            by_field false is = stored_room targets es t j line known_targets known few values many
+            by_field true is =
+                let form = stores_field_is targets es is in
+                let after = j + made_in targets in
+                let target = MoreExps (Index form.line form.object form.key) EndExps in
+                let found = subst (λ z. ExpsFind z hidden t ups) form.target known_targets in
+                let value_known = subst (λ z. ExpsFind z hidden t ups) form.values known in
+                let held_target = ap (held_targets 0) form.target in
+                let held_value = ap (held_behind (2 * count targets)) form.values in
+                let counted = ap count form.target in
+                subst (λ z. HasRoom stack (first_field cs z es t j after) (t ≤ stack → t + room_of_first cs z es ≤ stack)) (sym form.target)
+                (subst (λ z. HasRoom stack (first_field cs target z t j after) (t ≤ stack → t + room_of_first cs target z ≤ stack)) (sym form.values)
+                (field_room cs hidden ups stack form.line form.object form.key form.value t j after found.0.0 found.0.1 value_known.0 (omega (arith, few, held_target)) (omega (arith, few, held_target)) (omega (arith, values, held_value, counted)) (omega (arith, many, counted))))
+        by (Some r) is =
+            let form = assigned_is targets es r is in
+            let found = subst (λ z. ExpsFind z hidden t ups) form.target known_targets in
+            let there = subst (λ p. PlaceIsThere hidden t ups p) form.place found.0 in
+            let value_known = subst (λ z. ExpsFind z hidden t ups) form.values known in
+            let held_so = ap (held_behind (2 * count targets)) form.values in
+            subst (λ z. HasRoom stack (first_direct cs z r t (j + made_in targets)) (t ≤ stack → t + room_of_assigned cs z ≤ stack)) (sym form.values)
+            (direct_room form.value form.direct r t (j + made_in targets) value_known.0 there.0 (omega (arith, values, held_so)) (let counted = ap count form.target in omega (arith, many, counted)))

@@ -1,26 +1,30 @@
 -- The code of an expression takes the registers that are counted for it.
-use Rattle.std.proofs.Common.{◌≡◌, ℕ, zero, suc, ◌+◌, ◌-◌, ◌<◌, ◌≤◌, ◌^◌, ◌⊎◌, inl, inr, max, Bool, true, false, cond, List, [], ◌∷◌, ◌++◌, Option, Some, None, refl, ap, lit<, arith}
+use Rattle.std.proofs.Common.{◌≡◌, ℕ, zero, suc, ◌+◌, ◌-◌, ◌<◌, ◌≤◌, ◌^◌, ◌⊎◌, inl, inr, max, Bool, true, false, cond, List, [], ◌∷◌, ◌++◌, Option, Some, None, refl, sym, ap, ◌∙◌, lit<, arith}
 use Rattle.tree_core.specs.declared.name.Place.{Place}
 use Rattle.tree_core.specs.declared.name.Place.TheVariants.{Unset, Upvalue, GlobalIn, GlobalOf, Local as LocalPlace}
 use Rattle.tree_core.specs.declared.operator.BinOp.{BinOp}
 use Rattle.tree_core.specs.Tree.{Exp, Nil, True, False, Int, Str, Vararg, Function, Var, Index, Call, Method, Unary, Binary, And, Or, Paren, Table, Exps, EndExps, MoreExps, Fields, EndFields, MoreFields, Item, Keyed}
 use Rattle.tree_terms.specs.Bodies.{line_of_body}
-use Rattle.code_core.specs.declared.opcode.Opcode.TheVariants.{LoadFalse, LoadTrue, GetTable, NewTable, SetTable, Closure, ExtraArg, Call as CallCode}
+use Rattle.code_core.specs.declared.opcode.Opcode.TheVariants.{LoadFalse, LoadTrue, GetTable, GetI, GetField, NewTable, SetTable, Closure, ExtraArg, Call as CallCode}
 use Rattle.code_core.specs.declared.proto.Const.{Const}
 use Rattle.code_core.specs.declared.proto.Const.TheVariants.{Int as IntConst, Str as StrConst}
 use Rattle.code_core.specs.Instruction.{op_ax}
 use Rattle.code_of.specs.Coded.{Coded, with_abc}
 use Rattle.code_of.specs.Constants.{is_small, small_field}
-use Rattle.code_of.specs.Operands.{local_at, local_of, Second, a_number, a_local, made, second_of, first_of, operands_code, operands_room}
+use Rattle.code_of.specs.Operands.{local_at, local_of, is_direct, Second, a_number, a_local, made, second_of, key_operand, first_of, seat, unless, operands_code, operands_room}
+use Rattle.code_of.specs.Stores.{name_in}
+use Rattle.code_of.specs.FieldReads.{read_code, object_room, read_room}
+use Rattle.code_of.proofs.FieldReads.{some_read, read_less}
 use Rattle.code_of.specs.Operators.{prefix_code, operator_code, number_code}
-use Rattle.code_of.proofs.Operands.{some_is, second_number, second_local, first_local, local_no_join, some_operands}
+use Rattle.code_of.proofs.Operands.{some_is, Stands, second_number, joins_made, operator_stands, key_stands, local_not_made, first_local, some_operands, operands_less, computes_no_join}
 use Rattle.code_of.specs.Expressions.{made_by, count, is_open, is_last_open, ends_open, list_field, Wanted, results_field, one_less, field_of, wanted_after, is_last_item, set_list, exp_code, exps_code, fields_code}
-use Rattle.code_of.specs.Rooms.{room_of_values, room_of_nils, room_of, room_of_list, room_of_fields, room_of_self}
+use Rattle.code_of.specs.Parts.{direct_code}
+use Rattle.code_of.specs.Rooms.{room_of_values, room_of_nils, room_of_direct, room_of, room_of_list, room_of_fields, room_of_self}
 use Rattle.code_of.proofs.Rooms.{name_room, self_room}
 use Rattle.code_of.specs.Operators.{self_code}
 use Rattle.scope_laws.specs.Finding.{PlaceIsThere, ExpFinds, ExpsFind, FieldsFind}
-use Rattle.code_bounds.proofs.Tops.{top, top_more, top_append, ax_is, one_a, one_abc, one_ax, one_nil, one_store, one_call, rest_below, rest_above}
-use Rattle.code_bounds.proofs.Pieces.{self_top, Takes, ListTakes, takes_one, loads_top, integer_top, name_takes, prefix_top, operator_above, operator_here, number_here, two_take, one_takes, either_takes, nils_take, more_take, call_takes, method_takes, set_top}
+use Rattle.code_bounds.proofs.Tops.{top, top_more, top_append, ax_is, one_a, one_ab, one_abc, one_ax, one_nil, one_store, one_call, rest_below, rest_above}
+use Rattle.code_bounds.proofs.Pieces.{self_top, Takes, ListTakes, takes_one, loads_top, integer_top, name_takes, prefix_top, operator_top, operator_above, operator_here, number_top, number_here, two_take, one_takes, either_takes, nils_take, more_take, call_takes, method_takes, set_top}
 
 -- fields of calls and `...`
 
@@ -99,7 +103,7 @@ module _ (cs : List Const) where
   some_room (Vararg line) field some = some
   some_room (Function line body) field some = omega arith
   some_room (Var line name) field some = name_room cs name.place name.text
-  some_room (Index line object key) field some = omega arith
+  some_room (Index line object key) field some = some_read (name_in cs key) object key (room_of cs object 2) (room_of cs key 2) (some_room object 2 (omega arith))
   some_room (Call line f es) field some = omega arith
   some_room (Method line object name es) field some = omega arith
   some_room (Unary line op e) field some = some_room e 2 (omega arith)
@@ -158,47 +162,79 @@ module _ (cs : List Const) where
     abbrev FieldsTake : Fields → Type 0
     FieldsTake fs = (items t size j line : ℕ) → FieldsFind fs hidden size ups → size ≤ t → t + (1 + room_of_fields cs fs) ≤ 255 → ListTakes t (t + 1) (1 + room_of_fields cs fs) (fields_code cs fs items t j line)
 
+    -- two operands and what is done with them, which takes `own` registers where both operands stand below t
+    module _ (own : ℕ) (s : Second) (most : ℕ) (e d : Exp) (stands : Stands s d most) (by_registers by_number : (x y : ℕ) → List Coded) (law_e : ExpTakes e) (law_d : ExpTakes d) (size t j : ℕ) (known_e : ExpFinds e hidden size ups) (known_d : ExpFinds d hidden size ups)
+        (in_scope : size ≤ t) (above : t + 1 < 2 ^ 8 → top (by_registers t (t + 1)) ≤ t + 2) (here : (x y : ℕ) → (s ≡ made → ⊥) → x ≤ t → y ≤ t → t < 2 ^ 8 → top (by_registers x y) ≤ t + 1)
+        (numbered : (x n : ℕ) → s ≡ a_number n → x ≤ t → t < 2 ^ 8 → top (by_number x n) ≤ t + 1) (below : (x y : ℕ) → (s ≡ made → ⊥) → x < t → y < t → t < 2 ^ 8 → Takes t own (by_registers x y))
+        (numbered_below : (x n : ℕ) → s ≡ a_number n → x < t → t < 2 ^ 8 → Takes t own (by_number x n)) where
+      abbrev first_code : List Coded
+      first_code = exp_code cs e t j 2
+
+      abbrev code : List Coded
+      code = exp_code cs d (t + 1) (j + made_by e) 2
+
+      take_by : (z : Second) (at : Option ℕ) → s ≡ z → first_of z e ≡ at → t + operands_room own z at (room_of cs e 2) (room_of cs d 2) ≤ 255
+          → Takes t (operands_room own z at (room_of cs e 2) (room_of cs d 2)) (operands_code z at first_code code t by_registers by_number)
+      take_by made (Some x) is at_is small = absurd (cc)
+      take_by made None is at_is small =
+          let some = own_room d in
+          two_take t (room_of cs e 2) (room_of cs d 2) first_code code (by_registers t (t + 1)) some (law_e size t j 2 known_e in_scope (lit< tt) (omega (arith, small)))
+          (law_d size (t + 1) (j + made_by e) 2 known_d (omega (arith, in_scope)) (lit< tt) (omega (arith, small))) (above (omega (arith, small, some)))
+      take_by (a_local r) None is at_is small =
+          let some = own_room e in
+          let found = local_found hidden ups d r size (stands.local r is) known_d in
+          one_takes t (room_of cs e 2) first_code (by_registers t r) some (law_e size t j 2 known_e in_scope (lit< tt) small)
+          (here t r (λ h. local_not_made r (sym is ∙ h)) (omega arith) (omega (arith, found, in_scope)) (omega (arith, small, some)))
+      take_by (a_local r) (Some x) is at_is small =
+          let found = local_found hidden ups d r size (stands.local r is) known_d in
+          let x_found = local_found hidden ups e x size (first_local (a_local r) e x at_is) known_e in
+          below x r (λ h. local_not_made r (sym is ∙ h)) (omega (arith, x_found, in_scope)) (omega (arith, found, in_scope)) (omega (arith, small))
+      take_by (a_number n) None is at_is small =
+          let some = own_room e in
+          one_takes t (room_of cs e 2) first_code (by_number t n) some (law_e size t j 2 known_e in_scope (lit< tt) small) (numbered t n is (omega arith) (omega (arith, small, some)))
+      take_by (a_number n) (Some x) is at_is small =
+          let x_found = local_found hidden ups e x size (first_local (a_number n) e x at_is) known_e in
+          numbered_below x n is (omega (arith, x_found, in_scope)) (omega (arith, small))
+
+      operands_take : t + operands_room own s (first_of s e) (room_of cs e 2) (room_of cs d 2) ≤ 255
+          → Takes t (operands_room own s (first_of s e) (room_of cs e 2) (room_of cs d 2)) (operands_code s (first_of s e) first_code code t by_registers by_number)
+      operands_take small = take_by s (first_of s e) refl refl small
+
+    -- an object whose key is in the instruction
+    module _ (own : ℕ) (e : Exp) (by_register : ℕ → List Coded) (law_e : ExpTakes e) (size t j : ℕ) (known_e : ExpFinds e hidden size ups) (in_scope : size ≤ t)
+        (here : t < 2 ^ 8 → top (by_register t) ≤ t + 1) (below : (x : ℕ) → x < t → t < 2 ^ 8 → Takes t own (by_register x)) where
+      named_by : (at : Option ℕ) → local_of e ≡ at → t + object_room own at (room_of cs e 2) ≤ 255 → Takes t (object_room own at (room_of cs e 2)) (unless at (exp_code cs e t j 2) ++ by_register (seat at t))
+      named_by None is small = let some = own_room e in one_takes t (room_of cs e 2) (exp_code cs e t j 2) (by_register t) some (law_e size t j 2 known_e in_scope (lit< tt) small) (here (omega (arith, small, some)))
+      named_by (Some x) is small = let x_found = local_found hidden ups e x size is known_e in below x (omega (arith, x_found, in_scope)) (omega (arith, small))
+
+      named_take : t + object_room own (local_of e) (room_of cs e 2) ≤ 255 → Takes t (object_room own (local_of e) (room_of cs e 2)) (unless (local_of e) (exp_code cs e t j 2) ++ by_register (seat (local_of e) t))
+      named_take small = named_by (local_of e) refl small
+
     binary_takes : (line : ℕ) (op : BinOp) (e d : Exp) → ExpTakes e → ExpTakes d → (size t j : ℕ) → ExpFinds (Binary line op e d) hidden size ups → size ≤ t → t + room_of cs (Binary line op e d) 2 ≤ 255
         → Takes t (room_of cs (Binary line op e d) 2) (exp_code cs (Binary line op e d) t j 2)
-    binary_takes line op e d law_e law_d size t j known above small = by (second_of op d) (first_of (second_of op d) e) refl refl small
+    binary_takes line op e d law_e law_d size t j known in_scope small =
+        operands_take 1 (second_of op d) 128 e d (operator_stands op d) (λ x y. operator_code op x y t line) (λ x n. number_code op x n t line) law_e law_d size t j known.0 known.1 in_scope (λ fits. operator_above op t line fits)
+        (λ x y other x_below y_below fits. let o = operator_here op x y t line (λ joined. other (joins_made op d joined)) x_below y_below fits in omega (arith, o))
+        (λ x n is x_below fits. let o = number_here op d x n t line (second_number op d n is) x_below fits in omega (arith, o))
+        (λ x y other x_below y_below fits. let o = operator_here op x y t line (λ joined. other (joins_made op d joined)) (omega (arith, x_below)) (omega (arith, y_below)) fits in (omega (arith, o), omega (arith, o)))
+        (λ x n is x_below fits. let o = number_here op d x n t line (second_number op d n is) (omega (arith, x_below)) fits in (omega (arith, o), omega (arith, o))) small
+
+    index_takes : (line : ℕ) (object key : Exp) → ExpTakes object → ExpTakes key → (size t j : ℕ) → ExpFinds (Index line object key) hidden size ups → size ≤ t → t + room_of cs (Index line object key) 2 ≤ 255
+        → Takes t (room_of cs (Index line object key) 2) (exp_code cs (Index line object key) t j 2)
+    index_takes line object key law_object law_key size t j known in_scope small = by (name_in cs key) small
       where
-        first_code : List Coded
-        first_code = exp_code cs e t j 2
-
-        code : List Coded
-        code = exp_code cs d (t + 1) (j + made_by e) 2
-
-        by_registers : (x y : ℕ) → List Coded
-        by_registers x y = operator_code op x y t line
-
-        by_number : (x n : ℕ) → List Coded
-        by_number x n = number_code op x n t line
-
-        by : (s : Second) (at : Option ℕ) → second_of op d ≡ s → first_of s e ≡ at → t + operands_room 1 s at (room_of cs e 2) (room_of cs d 2) ≤ 255
-            → Takes t (operands_room 1 s at (room_of cs e 2) (room_of cs d 2)) (operands_code s at first_code code t by_registers by_number)
-        by made (Some x) is at_is small = absurd (cc)
-        by made None is at_is small =
-            let some = own_room d in
-            two_take t (room_of cs e 2) (room_of cs d 2) first_code code (operator_code op t (t + 1) t line) some (law_e size t j 2 known.0 above (lit< tt) (omega (arith, small)))
-            (law_d size (t + 1) (j + made_by e) 2 known.1 (omega (arith, above)) (lit< tt) (omega (arith, small))) (operator_above op t line (omega (arith, small, some)))
-        by (a_local r) None is at_is small =
-            let some = own_room e in
-            let below = local_found hidden ups d r size (second_local op d r is) known.1 in
-            let o = operator_here op t r t line (local_no_join op d r is) (omega arith) (omega (arith, below, above)) (omega (arith, small, some)) in
-            one_takes t (room_of cs e 2) first_code (operator_code op t r t line) some (law_e size t j 2 known.0 above (lit< tt) small) (omega (arith, o))
-        by (a_local r) (Some x) is at_is small =
-            let below = local_found hidden ups d r size (second_local op d r is) known.1 in
-            let x_below = local_found hidden ups e x size (first_local (a_local r) e x at_is) known.0 in
-            let o = operator_here op x r t line (local_no_join op d r is) (omega (arith, x_below, above)) (omega (arith, below, above)) (omega (arith, small)) in
-            (omega (arith, o), omega (arith, o))
-        by (a_number n) None is at_is small =
-            let some = own_room e in
-            let o = number_here op d t n t line (second_number op d n is) (omega arith) (omega (arith, small, some)) in
-            one_takes t (room_of cs e 2) first_code (number_code op t n t line) some (law_e size t j 2 known.0 above (lit< tt) small) (omega (arith, o))
-        by (a_number n) (Some x) is at_is small =
-            let x_below = local_found hidden ups e x size (first_local (a_number n) e x at_is) known.0 in
-            let o = number_here op d x n t line (second_number op d n is) (omega (arith, x_below, above)) (omega (arith, small)) in
-            (omega (arith, o), omega (arith, o))
+        by : (name : Option ℕ) → t + read_room 1 name object key (room_of cs object 2) (room_of cs key 2) ≤ 255
+            → Takes t (read_room 1 name object key (room_of cs object 2) (room_of cs key 2)) (read_code name object key (exp_code cs object t j 2) (exp_code cs key (t + 1) (j + made_by object) 2) t t line)
+        by (Some number) small = named_take 1 object (λ x. with_abc GetField t x number line ∷ []) law_object size t j known.0 in_scope
+            (λ fits. let e = one_ab GetField t t number false refl fits fits in omega (arith, e))
+            (λ x x_below fits. let e = one_ab GetField t x number false refl fits (omega arith) in (omega (arith, e, x_below), omega (arith, e, x_below))) small
+        by None small =
+            operands_take 1 (key_operand key) 255 object key (key_stands key) (λ x y. with_abc GetTable t x y line ∷ []) (λ x n. with_abc GetI t x n line ∷ []) law_object law_key size t j known.0 known.1 in_scope
+            (λ fits. let e = one_abc GetTable t t (t + 1) false refl (omega arith) (omega arith) fits in omega (arith, e))
+            (λ x y other x_below y_below fits. let e = one_abc GetTable t x y false refl fits (omega arith) (omega arith) in omega (arith, e))
+            (λ x n is x_below fits. let e = one_ab GetI t x n false refl fits (omega arith) in omega (arith, e))
+            (λ x y other x_below y_below fits. let e = one_abc GetTable t x y false refl fits (omega arith) (omega arith) in (omega (arith, e, x_below, y_below), omega (arith, e, x_below, y_below)))
+            (λ x n is x_below fits. let e = one_ab GetI t x n false refl fits (omega arith) in (omega (arith, e, x_below), omega (arith, e, x_below))) small
 
     mutual
       pub exp_takes : (e : Exp) → ExpTakes e
@@ -214,12 +250,7 @@ module _ (cs : List Const) where
       exp_takes (Vararg line) size t j field known above fits small = (rest_below t field (omega arith) fits, rest_above t field (omega arith) fits)
       exp_takes (Function line body) size t j field known above fits small = takes_one t _ (line_of_body body) (one_ax Closure t j refl (omega arith))
       exp_takes (Var line name) size t j field known above fits small = name_takes cs name.text name.place hidden ups size t line known above small
-      exp_takes (Index line object key) size t j field known above fits small =
-          let some = own_room key in
-          two_take t (room_of cs object 2) (room_of cs key 2) (exp_code cs object t j 2) (exp_code cs key (t + 1) (j + made_by object) 2) (with_abc GetTable t t (t + 1) line ∷ []) some
-          (exp_takes object size t j 2 known.0 above (lit< tt) (omega arith))
-          (exp_takes key size (t + 1) (j + made_by object) 2 known.1 (omega arith) (lit< tt) (omega arith))
-          (let e = one_abc GetTable t t (t + 1) false refl (omega arith) (omega arith) (omega arith) in omega (arith, e))
+      exp_takes (Index line object key) size t j field known above fits small = index_takes line object key (exp_takes object) (exp_takes key) size t j known above small
       exp_takes (Call line f es) size t j field known above fits small =
           let some = own_room f in
           let l = room_of_list cs 1 es None in
@@ -308,3 +339,35 @@ module _ (cs : List Const) where
           let c = top_more store rest in
           let d = one_store t (t + 1) (t + 2) (omega arith) (omega arith) (omega (arith, some)) in
           keyed_join t (room_of cs e 2) (room_of cs g 2) (room_of_fields cs fs) (top first) (top second) (top rest) (top (first ++ (second ++ (store ∷ rest)))) (omega (arith, a, b, c, d)) some h.0 h.1 i.0 i.1 k.0 k.1
+
+    -- a value that goes straight to the register r of a local
+    pub direct_takes : (e : Exp) → is_direct e ≡ true → (r size t j : ℕ) → ExpFinds e hidden size ups → size ≤ t → r < t → t + room_of_direct cs e ≤ 255 → Takes t (room_of_direct cs e) (direct_code cs e r t j)
+    direct_takes (Binary line op e d) is r size t j known in_scope low small =
+        let none = computes_no_join op is in
+        operands_take 0 (second_of op d) 128 e d (operator_stands op d) (λ x y. operator_code op x y r line) (λ x n. number_code op x n r line) (exp_takes e) (exp_takes d) size t j known.0 known.1 in_scope
+        (λ fits. let o = operator_top op t (t + 1) r line none (omega arith) fits (omega arith) in omega (arith, o, low))
+        (λ x y other x_below y_below fits. let o = operator_top op x y r line none (omega arith) (omega arith) (omega arith) in omega (arith, o, low, x_below, y_below))
+        (λ x n numeral x_below fits. let o = number_top op d x n r line is (second_number op d n numeral) (omega arith) (omega arith) in omega (arith, o, low, x_below))
+        (λ x y other x_below y_below fits. let o = operator_top op x y r line none (omega arith) (omega arith) (omega arith) in (omega (arith, o, low, x_below, y_below), omega arith))
+        (λ x n numeral x_below fits. let o = number_top op d x n r line is (second_number op d n numeral) (omega arith) (omega arith) in (omega (arith, o, low, x_below), omega arith)) small
+    direct_takes (Index line object key) is r size t j known in_scope low small = by (name_in cs key) small
+      where
+        by : (name : Option ℕ) → t + read_room 0 name object key (room_of cs object 2) (room_of cs key 2) ≤ 255
+            → Takes t (read_room 0 name object key (room_of cs object 2) (room_of cs key 2)) (read_code name object key (exp_code cs object t j 2) (exp_code cs key (t + 1) (j + made_by object) 2) r t line)
+        by (Some number) small = named_take 0 object (λ x. with_abc GetField r x number line ∷ []) (exp_takes object) size t j known.0 in_scope
+            (λ fits. let o = one_ab GetField r t number false refl (omega arith) fits in omega (arith, o, low))
+            (λ x x_below fits. let o = one_ab GetField r x number false refl (omega arith) (omega arith) in (omega (arith, o, low, x_below), omega arith)) small
+        by None small =
+            operands_take 0 (key_operand key) 255 object key (key_stands key) (λ x y. with_abc GetTable r x y line ∷ []) (λ x n. with_abc GetI r x n line ∷ []) (exp_takes object) (exp_takes key) size t j known.0 known.1 in_scope
+            (λ fits. let o = one_abc GetTable r t (t + 1) false refl (omega arith) (omega arith) fits in omega (arith, o, low))
+            (λ x y other x_below y_below fits. let o = one_abc GetTable r x y false refl (omega arith) (omega arith) (omega arith) in omega (arith, o, low, x_below, y_below))
+            (λ x n numeral x_below fits. let o = one_ab GetI r x n false refl (omega arith) (omega arith) in omega (arith, o, low, x_below))
+            (λ x y other x_below y_below fits. let o = one_abc GetTable r x y false refl (omega arith) (omega arith) (omega arith) in (omega (arith, o, low, x_below, y_below), omega arith))
+            (λ x n numeral x_below fits. let o = one_ab GetI r x n false refl (omega arith) (omega arith) in (omega (arith, o, low, x_below), omega arith)) small
+    direct_takes _ is r size t j known in_scope low small = absurd (cc)
+
+  -- it takes no more registers than in one of its own
+  pub direct_less : (e : Exp) → room_of_direct cs e ≤ room_of cs e 2
+  direct_less (Binary line op e d) = operands_less (second_of op d) (first_of (second_of op d) e) (room_of cs e 2) (room_of cs d 2)
+  direct_less (Index line object key) = read_less (name_in cs key) object key (room_of cs object 2) (room_of cs key 2)
+  direct_less _ = omega arith

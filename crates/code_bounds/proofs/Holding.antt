@@ -11,6 +11,8 @@ use Rattle.scope_core.specs.Held.{positional, held_name, held, held_behind, held
 use Rattle.scope_core.specs.Held as held_specs
 use Rattle.code_of.specs.Operands.{second_of, first_of}
 use Rattle.code_of.proofs.Operands.{few_operands}
+use Rattle.code_of.specs.Stores.{name_in}
+use Rattle.code_of.proofs.FieldReads.{few_read}
 use Rattle.code_of.proofs.Rooms.{self_room}
 use Rattle.code_of.specs.Rooms.{room_of_values, room_of_nils, room_of_name, room_of, room_of_list, room_of_fields}
 
@@ -131,7 +133,11 @@ module _ (cs : List Const) where
     exp_held (Vararg line) field = omega arith
     exp_held (Function line body) field = omega arith
     exp_held (Var line name) field = let h = name_held name.place name.text in omega (arith, h)
-    exp_held (Index line object key) field = let a = item_by object false (exp_held object) in let b = item_by key false (exp_held key) in omega (arith, a, b)
+    exp_held (Index line object key) field =
+        let a = item_by object false (exp_held object) in
+        let b = item_by key false (exp_held key) in
+        let h = few_read 1 (name_in cs key) object key (room_of cs object 2) (room_of cs key 2) (omega arith) in
+        omega (arith, a, b, h)
     exp_held (Call line f es) field = let a = item_by f false (exp_held f) in let b = exps_held es None 1 in omega (arith, a, b)
     exp_held (Method line object name es) field = let a = item_by object false (exp_held object) in let b = exps_held es None 2 in let c = (self_room cs name.text).1 in omega (arith, a, b, c)
     exp_held (Unary line op e) field = let a = item_by e false (exp_held e) in omega (arith, a)

@@ -11,6 +11,7 @@ mod Expressions
 pub mod Holding
 mod Room
 mod Simple
+mod FieldStores
 mod Assigning
 mod Jumping
 mod Statements

@@ -16,7 +16,7 @@ use Rattle.code_core.specs.Instruction.{abc, op_ax, a_of, b_of, c_of}
 use Rattle.code_core.specs.Fields.{registers}
 use Rattle.code_of.specs.Coded.{Coded, with_abc, with_abx, jump_over}
 use Rattle.code_of.specs.Constants.{number_in, loads}
-use Rattle.code_of.specs.Operands.{greatest, numeral_of, joins}
+use Rattle.code_of.specs.Operands.{greatest, numeral_of, joins, computes}
 use Rattle.code_of.proofs.Operands.{numeral_none}
 use Rattle.code_of.specs.Operators.{name_code, prefix_code, arithmetic_code, truth_code, operator_code, sum_code, number_code, self_code}
 use Rattle.code_of.specs.Expressions.{Wanted, nils_code, either_code, set_list}
@@ -133,7 +133,7 @@ pair_named op x y k shape x_fits y_fits = one_ab op x y 0 k shape x_fits y_fits
 turned : (x y : ℕ) (op : Opcode) (k : Bool) → one (abc op y x 0 k) ≡ max (y + 1) (x + 1) → one (abc op y x 0 k) ≡ max (x + 1) (y + 1)
 turned x y op k e = omega (arith, e)
 
-operator_top : (op : BinOp) (x y t line : ℕ) → joins op ≡ false → x < 2 ^ 8 → y < 2 ^ 8 → t < 2 ^ 8 → top (operator_code op x y t line) ≡ max (t + 1) (max (x + 1) (y + 1))
+pub operator_top : (op : BinOp) (x y t line : ℕ) → joins op ≡ false → x < 2 ^ 8 → y < 2 ^ 8 → t < 2 ^ 8 → top (operator_code op x y t line) ≡ max (t + 1) (max (x + 1) (y + 1))
 operator_top Plus x y t line j xf yf tf = arithmetic_top Add 6 x y t line refl xf yf tf
 operator_top Minus x y t line j xf yf tf = arithmetic_top Sub 7 x y t line refl xf yf tf
 operator_top Times x y t line j xf yf tf = arithmetic_top Mul 8 x y t line refl xf yf tf
@@ -184,13 +184,37 @@ operator_here op x y t line other x_below y_below fits = by (joins op) refl
     by true j = absurd (other j)
     by false j = let e = operator_top op x y t line j (omega arith) (omega arith) fits in omega (arith, e)
 
-sum_top : (op : Opcode) (field event x n t line : ℕ) → registers op (abc op t x field false) ≡ a_of (abc op t x field false) ∷ b_of (abc op t x field false) ∷ [] → x ≤ t → t < 2 ^ 8 → top (sum_code op field event x n t line) ≡ t + 1
-sum_top op field event x n t line shape below fits =
+summed_top : (op : Opcode) (field event x n t line : ℕ) → registers op (abc op t x field false) ≡ a_of (abc op t x field false) ∷ b_of (abc op t x field false) ∷ [] → x < 2 ^ 8 → t < 2 ^ 8 →
+    top (sum_code op field event x n t line) ≡ max (t + 1) (x + 1)
+summed_top op field event x n t line shape x_fits fits =
     let second = with_abc MmBinI x (n + 127) event line in
     let a = top_more (with_abc op t x field line) (second ∷ []) in
-    let b = one_ab op t x field false shape fits (omega arith) in
-    let c = one_a MmBinI x (n + 127) event false refl (omega arith) in
+    let b = one_ab op t x field false shape fits x_fits in
+    let c = one_a MmBinI x (n + 127) event false refl x_fits in
     omega (arith, a, b, c)
+
+sum_top : (op : Opcode) (field event x n t line : ℕ) → registers op (abc op t x field false) ≡ a_of (abc op t x field false) ∷ b_of (abc op t x field false) ∷ [] → x ≤ t → t < 2 ^ 8 → top (sum_code op field event x n t line) ≡ t + 1
+sum_top op field event x n t line shape below fits = let e = summed_top op field event x n t line shape (omega arith) fits in omega (arith, e)
+
+-- where the result goes to any register
+pub number_top : (op : BinOp) (d : Exp) (x n t line : ℕ) → computes op ≡ true → numeral_of d (greatest op) ≡ Some n → x < 2 ^ 8 → t < 2 ^ 8 → top (number_code op x n t line) ≡ max (t + 1) (x + 1)
+number_top Plus d x n t line is e xf tf = summed_top AddI (n + 127) 6 x n t line refl xf tf
+number_top Minus d x n t line is e xf tf = summed_top AddI (127 - n) 7 x n t line refl xf tf
+number_top ShiftRight d x n t line is e xf tf = summed_top ShrI (n + 127) 17 x n t line refl xf tf
+number_top Times d x n t line is e xf tf = absurd (numeral_none d n e)
+number_top Modulo d x n t line is e xf tf = absurd (numeral_none d n e)
+number_top Idiv d x n t line is e xf tf = absurd (numeral_none d n e)
+number_top Band d x n t line is e xf tf = absurd (numeral_none d n e)
+number_top Bor d x n t line is e xf tf = absurd (numeral_none d n e)
+number_top Bxor d x n t line is e xf tf = absurd (numeral_none d n e)
+number_top ShiftLeft d x n t line is e xf tf = absurd (numeral_none d n e)
+number_top Join d x n t line is e xf tf = absurd (cc)
+number_top Equal d x n t line is e xf tf = absurd (cc)
+number_top Ne d x n t line is e xf tf = absurd (cc)
+number_top Less d x n t line is e xf tf = absurd (cc)
+number_top AtMost d x n t line is e xf tf = absurd (cc)
+number_top Gt d x n t line is e xf tf = absurd (cc)
+number_top Ge d x n t line is e xf tf = absurd (cc)
 
 number_truth : (op : Opcode) (x n : ℕ) (k : Bool) (t line : ℕ) → registers op (abc op x (n + 127) 0 k) ≡ a_of (abc op x (n + 127) 0 k) ∷ [] → x ≤ t → t < 2 ^ 8 → top (truth_code op x (n + 127) k t line) ≡ t + 1
 number_truth op x n k t line shape below fits = let e = truth_top op x (n + 127) (x + 1) k t line (one_a op x (n + 127) 0 k shape (omega arith)) fits in omega (arith, e)

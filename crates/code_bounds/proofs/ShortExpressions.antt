@@ -14,8 +14,11 @@ use Rattle.code_of.specs.Coded.{Coded, with_abc, with_abx, jump_over}
 use Rattle.code_of.specs.Constants.{is_small, small_field, number_in, loads, loads_numbered, loads_integer}
 use Rattle.code_of.specs.Operands.{second_of, first_of}
 use Rattle.code_of.proofs.Operands.{operands_short}
+use Rattle.code_of.specs.Stores.{name_in}
+use Rattle.code_of.proofs.FieldReads.{read_short}
 use Rattle.code_of.specs.Operators.{name_code, global_code, prefix_code, operator_code, number_code, self_code}
 use Rattle.code_of.specs.Expressions.{made_by, list_field, is_last_open, is_last_item, Wanted, one_less, field_of, wanted_after, nils_code, either_code, set_list, exp_code, exps_code, fields_code}
+use Rattle.code_of.specs.Parts.{direct_code}
 use Rattle.tree_terms.specs.Weight.{weight, weight_of_arguments, weight_of_exps, weight_of_fields}
 
 -- pieces of code that have a few instructions at most
@@ -143,9 +146,12 @@ module _ (cs : List Const) where
     exp_short (Function line (BodyOf params vararg inner ups own)) t j c = omega arith
     exp_short (Var line name) t j c = omega (arith, name_short cs name.place name.text t line)
     exp_short (Index line object key) t j c =
-        let second = exp_code cs key (t + 1) (j + made_by object) 2 in
-        let get = with_abc GetTable t t (t + 1) line ∷ [] in
-        omega (arith, exp_short object t j 2, exp_short key (t + 1) (j + made_by object) 2, length-append (exp_code cs object t j 2) (second ++ get), length-append second get)
+        omega (
+          arith,
+          exp_short object t j 2,
+          exp_short key (t + 1) (j + made_by object) 2,
+          read_short (name_in cs key) object key (exp_code cs object t j 2) (exp_code cs key (t + 1) (j + made_by object) 2) t t line,
+        )
     exp_short (Call line f es) t j c =
         let arguments = exps_code cs es None (t + 1) (j + made_by f) line in
         let call = with_abc CallCode t (list_field 0 es) c line ∷ [] in
@@ -222,3 +228,22 @@ module _ (cs : List Const) where
           length-append key (value ++ rest),
           length-append value rest,
         )
+
+  -- a value that goes straight to a local's register
+  pub direct_short : (e : Exp) (r t j : ℕ) → length (direct_code cs e r t j) ≤ 6 * weight e
+  direct_short (Binary line op e d) r t j =
+      omega (
+        arith,
+        exp_short e t j 2,
+        exp_short d (t + 1) (j + made_by e) 2,
+        operands_short (second_of op d) (first_of (second_of op d) e) (exp_code cs e t j 2) (exp_code cs d (t + 1) (j + made_by e) 2) t (λ x y. operator_code op x y r line) (λ x n. number_code op x n r line) 4
+            (λ x y. operator_short op x y r line) (λ x n. number_short op x n r line),
+      )
+  direct_short (Index line object key) r t j =
+      omega (
+        arith,
+        exp_short object t j 2,
+        exp_short key (t + 1) (j + made_by object) 2,
+        read_short (name_in cs key) object key (exp_code cs object t j 2) (exp_code cs key (t + 1) (j + made_by object) 2) r t line,
+      )
+  direct_short _ r t j = omega arith

@@ -1,5 +1,5 @@
 -- The code of statements and of blocks is short.
-use Rattle.std.proofs.Common.{ℕ, zero, suc, ◌+◌, ◌*◌, ◌≤◌, Bool, true, false, cond, List, [], ◌∷◌, ◌++◌, length, Some, None, arith, length-append}
+use Rattle.std.proofs.Common.{ℕ, zero, suc, ◌+◌, ◌*◌, ◌≤◌, Bool, true, false, cond, List, [], ◌∷◌, ◌++◌, length, Option, Some, None, arith, length-append}
 use Rattle.tree_core.specs.declared.name.Declared.{Declared}
 use Rattle.tree_core.specs.declared.name.Place.{Place}
 use Rattle.tree_core.specs.declared.name.Place.TheVariants.{Unset, Upvalue, GlobalIn, GlobalOf, Local as LocalPlace}
@@ -9,15 +9,18 @@ use Rattle.code_core.specs.declared.opcode.Opcode.TheVariants.{Tbc, TailCall, Re
 use Rattle.code_core.specs.declared.proto.Const.{Const}
 use Rattle.code_core.specs.declared.proto.Const.TheVariants.{Str as StrConst}
 use Rattle.code_of.specs.Coded.{with_abc, leaving_by}
+use Rattle.code_of.specs.Operands.{local_of, assigned}
+use Rattle.code_of.specs.Stores.{field_key, object_of, stores_field}
+use Rattle.code_of.proofs.Stores.{fields_store_short}
 use Rattle.code_of.specs.Operators.{self_code}
 use Rattle.code_of.specs.Expressions.{made_by, made_in, count, list_field, exp_code, exps_code}
-use Rattle.code_of.specs.Levels.{made_by_stat, made_in_arms, made_in_stats, made_in_block, closing_after, closings_after}
+use Rattle.code_of.specs.Levels.{made_by_stat, made_in_arms, made_in_stats, made_in_block, closing_after, closings_after, closed_below}
 use Rattle.tree_terms.specs.Levels.{level_after, levels_after, levels_in}
-use Rattle.code_of.specs.Parts.{marks_code, past_size, default_step, name_target, target_code, targets_code, name_store, store_code, stores_code, assign_code, call_last, method_last, values_last, return_code, pair_code, bounds_code, steps_code}
+use Rattle.code_of.specs.Parts.{marks_code, past_size, default_step, name_target, target_code, targets_code, name_store, store_code, stores_code, stored_code, first_direct, field_code, first_field, store_by, assign_by, assign_code, call_last, method_last, values_last, return_code, pair_code, bounds_code, steps_code}
 use Rattle.code_of.specs.Sizes.{stat_size, arms_size, stats_size, block_size, open_size}
 use Rattle.tree_terms.specs.Weight.{weight, weight_of_arguments, weight_of_exps, weight_of_stat, weight_of_arms, weight_of_stats, weight_of_block}
 use Rattle.code_bounds.proofs.Conditions.{test_short}
-use Rattle.code_bounds.proofs.ShortExpressions.{loads_short, self_short, exp_short, arguments_short, exps_short}
+use Rattle.code_bounds.proofs.ShortExpressions.{loads_short, self_short, exp_short, direct_short, arguments_short, exps_short}
 use Rattle.code_of.proofs.Sizes.{close_short}
 
 marks_short : (names : List Declared) (t : ℕ) → length (marks_code names t) ≤ length names
@@ -67,8 +70,8 @@ module _ (cs : List Const) where
         length-append (stores_code cs es (s + 2) (v + 1)) (store_code cs e s v),
       )
 
-  assign_short : (targets es : Exps) (t j line : ℕ) → length (assign_code cs targets es t j line) ≤ 6 * weight_of_exps targets + 6 * weight_of_exps es + 1
-  assign_short targets es t j line =
+  stored_short : (targets es : Exps) (t j line : ℕ) → length (stored_code cs targets es t j line) ≤ 6 * weight_of_exps targets + 6 * weight_of_exps es + 1
+  stored_short targets es t j line =
       let v = t + 2 * count targets in
       let values = exps_code cs es (Some (count targets)) v (j + made_in targets) line in
       let stores = stores_code cs targets t v in
@@ -79,6 +82,41 @@ module _ (cs : List Const) where
         length-append (targets_code cs targets t j) (values ++ stores),
         length-append values stores,
       )
+
+  first_short : (es : Exps) (r t j : ℕ) → length (first_direct cs es r t j) ≤ 6 * weight_of_exps es
+  first_short EndExps r t j = omega arith
+  first_short (MoreExps e es) r t j = let h = direct_short cs e r t j in omega (arith, h)
+
+  field_short : (x e : Exp) (t j after : ℕ) → length (field_code cs x e t j after) ≤ 6 * weight x + 6 * weight e
+  field_short (Index line object key) e t j after =
+      let s = field_key cs (local_of e) key in
+      let first_code = exp_code cs object t j 2 in
+      let second = exp_code cs key (t + 1) (j + made_by object) 2 in
+      let third = exp_code cs e (t + 2) after 2 in
+      omega (
+        arith,
+        fields_store_short s (object_of s (local_of e) object) (local_of e) first_code second third t line,
+        exp_short cs object t j 2,
+        exp_short cs key (t + 1) (j + made_by object) 2,
+        exp_short cs e (t + 2) after 2,
+      )
+  field_short _ e t j after = omega arith
+
+  first_field_short : (targets es : Exps) (t j after : ℕ) → length (first_field cs targets es t j after) ≤ 6 * weight_of_exps targets + 6 * weight_of_exps es + 1
+  first_field_short EndExps es t j after = omega arith
+  first_field_short (MoreExps x targets) EndExps t j after = omega arith
+  first_field_short (MoreExps x targets) (MoreExps e es) t j after = let h = field_short x e t j after in omega (arith, h)
+
+  assign_short : (targets es : Exps) (t j line : ℕ) → length (assign_code cs targets es t j line) ≤ 6 * weight_of_exps targets + 6 * weight_of_exps es + 1
+  assign_short targets es t j line = by (assigned targets es)
+    where
+      by : (o : Option ℕ) → length (assign_by cs o targets es t j line) ≤ 6 * weight_of_exps targets + 6 * weight_of_exps es + 1
+      by None = by_field (stores_field targets es)
+        where
+          by_field : (b : Bool) → length (store_by cs b targets es t j line) ≤ 6 * weight_of_exps targets + 6 * weight_of_exps es + 1
+          by_field true = first_field_short targets es t j (j + made_in targets)
+          by_field false = stored_short targets es t j line
+      by (Some r) = let h = first_short es r t (j + made_in targets) in omega (arith, h)
 
   -- returns, where a call in its caller's place has one instruction more
 
@@ -167,7 +205,7 @@ module _ (cs : List Const) (back : ℕ) where
         omega (arith, stat_short s closing t j, stats_short ss (closing_after s closing) (level_after s t) (j + made_by_stat s))
 
     pub block_short : (block : Block) (closing : Bool) (outer t j : ℕ) → block_size cs back block closing outer t j ≤ 6 * weight_of_block block + 1
-    block_short (Falls ss tokens line) closing outer t j = omega (arith, stats_short ss closing t j, close_short outer (levels_after ss t) line)
+    block_short (Falls ss tokens line) closing outer t j = omega (arith, stats_short ss closing t j, close_short outer (closed_below ss outer t) line)
     block_short (Returns ss es tokens line) closing outer t j =
         omega (arith, stats_short ss closing t j, return_short cs (closings_after ss closing) es (levels_after ss t) (j + made_in_stats ss) line back)
 

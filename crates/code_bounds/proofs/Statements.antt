@@ -11,7 +11,7 @@ use Rattle.code_of.specs.Expressions.{made_by, made_in, exp_code, exps_code}
 use Rattle.code_of.specs.Conditions.{test_code}
 use Rattle.code_bounds.proofs.Conditions.{test_room}
 use Rattle.code_of.specs.Jumps.{Reach, Visible, label_in, leads}
-use Rattle.code_of.specs.Levels.{made_by_stat, made_in_arms, made_in_stats, made_in_block, closing_after, closings_after}
+use Rattle.code_of.specs.Levels.{made_by_stat, made_in_arms, made_in_stats, made_in_block, closing_after, closings_after, closed_below}
 use Rattle.tree_terms.specs.Levels.{level_after, levels_after, levels_in}
 use Rattle.code_of.specs.Parts.{marks_code, close_code, function_code, while_code, repeat_code, past_size, past, arm_code, default_step, counting_code, iterating_code, assign_code, return_code, pair_code, bounds_code, steps_code}
 use Rattle.code_of.specs.Sizes.{stat_size, arms_size, block_size}
@@ -301,9 +301,9 @@ module _ (cs : List Const) (stack : ℕ) where
       block_room : (b : Block) → BlockRoom b
       block_room (Falls ss tokens line) hidden named loops closing outer t j pc reach known out few keeps low =
           room_as
-          (room_append (stats_code cs back ss true closing outer t j pc [] reach) (close_code outer (levels_after ss t) line)
+          (room_append (stats_code cs back ss true closing outer t j pc [] reach) (close_code outer (closed_below ss outer t) line)
           (stats_room ss hidden [] named loops true closing outer t j pc [] reach known out few keeps tt low)
-          (room_of_top (close_code outer (levels_after ss t) line) (close_top outer (levels_after ss t) line out)))
+          (room_of_top (close_code outer (closed_below ss outer t) line) (close_top outer (closed_below ss outer t) line out)))
           (λ all within. all.0 within)
       block_room (Returns ss es tokens line) hidden named loops closing outer t j pc reach known out few keeps low =
           returned hidden (stats_code cs back ss false closing outer t j pc [] reach) ss (closings_after ss closing) es t (j + made_in_stats ss) line known.1 keeps.1.0

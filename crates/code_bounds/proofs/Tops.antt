@@ -2,7 +2,7 @@
 use Rattle.std.proofs.Common.{◌≡◌, ℕ, zero, suc, ◌+◌, ◌-◌, ◌<◌, ◌≤◌, ◌^◌, max, Bool, true, false, if◌then◌else◌, ◌==◌, List, [], ◌∷◌, ◌++◌, Option, Some, None, refl, ap, ◌∙◌, sym, subst, lit<, arith}
 use Rattle.std.specs.Prelude.{nat_lt}
 use Rattle.code_core.specs.declared.opcode.Opcode.{Opcode}
-use Rattle.code_core.specs.declared.opcode.Opcode.TheVariants.{LoadNil, SetTable, OpSelf, Concat, Call, TailCall, Return, TForCall, VarArg}
+use Rattle.code_core.specs.declared.opcode.Opcode.TheVariants.{LoadNil, SetTable, SetI, SetField, OpSelf, Concat, Call, TailCall, Return, TForCall, VarArg}
 use Rattle.code_core.specs.declared.instruction.Instruction.{Instruction}
 use Rattle.code_core.specs.Instruction.{abc, abx, op_ax, opcode_of, a_of, b_of, c_of, bits_from}
 use Rattle.code_core.specs.Fields.{registers, last_of, register_or_constant}
@@ -135,6 +135,21 @@ unset n e = subst (λ m. (m == 1) ≡ false) (sym e) refl
 third_is : (op : Opcode) (a b c : ℕ) → a < 2 ^ 8 → register_or_constant (abc op a b c false) ≡ c_of (abc op a b c false) ∷ []
 third_is op a b c a_fits =
     ap (λ flag. if flag then [] else c_of (abc op a b c false) ∷ []) (unset (bits_from 15 1 (abc op a b c false)) (flag_is op a b c a_fits))
+
+-- one that names A and C, and no constant in C
+one_ac : (op : Opcode) (a b c : ℕ) → registers op (abc op a b c false) ≡ a_of (abc op a b c false) ∷ register_or_constant (abc op a b c false) → a < 2 ^ 8 → b < 2 ^ 8 → c < 2 ^ 8 → one (abc op a b c false) ≡ max (a + 1) (c + 1)
+one_ac op a b c shape a_fits b_fits c_fits =
+    let w = abc op a b c false in
+    by (a_of w) (c_of w) (abc_is op a b c false (a_of w ∷ c_of w ∷ []) (shape ∙ ap (λ l. a_of w ∷ l) (third_is op a b c a_fits))) (a_of-abc op a b c false a_fits) (c_of-abc op a b c false a_fits b_fits c_fits)
+  where
+    by : (x z : ℕ) → one (abc op a b c false) ≡ room_for (x ∷ z ∷ []) 0 → x ≡ a → z ≡ c → one (abc op a b c false) ≡ max (a + 1) (c + 1)
+    by x z e f g = omega arith
+
+pub one_store_index : (a b c : ℕ) → a < 2 ^ 8 → b < 2 ^ 8 → c < 2 ^ 8 → one (abc SetI a b c false) ≡ max (a + 1) (c + 1)
+one_store_index a b c a_fits b_fits c_fits = one_ac SetI a b c refl a_fits b_fits c_fits
+
+pub one_store_name : (a b c : ℕ) → a < 2 ^ 8 → b < 2 ^ 8 → c < 2 ^ 8 → one (abc SetField a b c false) ≡ max (a + 1) (c + 1)
+one_store_name a b c a_fits b_fits c_fits = one_ac SetField a b c refl a_fits b_fits c_fits
 
 pub one_store : (a b c : ℕ) → a < 2 ^ 8 → b < 2 ^ 8 → c < 2 ^ 8 → one (abc SetTable a b c false) ≡ max (max (a + 1) (b + 1)) (c + 1)
 one_store a b c a_fits b_fits c_fits =

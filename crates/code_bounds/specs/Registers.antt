@@ -1,5 +1,5 @@
 -- That a function has the registers that its code names: `stack` of them, where t locals are in scope before a statement.
-use Rattle.std.specs.Prelude.{◌≡◌, ℕ, ◌+◌, ◌*◌, ◌≤◌, List, length, Option, Some, None, true, nat_lt}
+use Rattle.std.specs.Prelude.{◌≡◌, ℕ, ◌+◌, ◌*◌, ◌≤◌, List, length, Option, Some, None, Bool, true, false, nat_lt}
 use Rattle.std.specs.List.{list_all}
 use Rattle.tree_core.specs.Tree.{Block, Falls, Returns, Body, BodyOf, Stats, EndStats, MoreStats, Stat, Empty, Local, LocalFunction, Assign, CallStat, Do, While, Repeat, If, IfElse, NumFor, NumForStep, GenFor, Label, Goto, Break, Arms, EndArms, MoreArms, Exp, Var, Index, Exps, EndExps, MoreExps}
 use Rattle.code_core.specs.declared.instruction.Instruction.{Instruction}
@@ -9,29 +9,39 @@ use Rattle.code_core.specs.Prototype.{Prototype}
 use Rattle.code_of.specs.Expressions.{count}
 use Rattle.tree_terms.specs.Levels.{level_after, levels_after, levels_in}
 use Rattle.code_of.specs.CodeOf.{named_by, code_of}
-use Rattle.code_of.specs.Rooms.{room_of, room_of_test, room_of_list}
+use Rattle.code_of.specs.Operands.{assigned}
+use Rattle.code_of.specs.Stores.{stores_field}
+use Rattle.code_of.specs.Rooms.{room_of, room_of_target, room_of_assigned, room_of_first, room_of_test, room_of_list}
 use Rattle.scope_laws.specs.Finding.{BodyFinds}
 use Rattle.scope_laws.specs.Keeping.{BodyKeeps}
 
 module _ (constants : List Const) (stack : ℕ) where
   -- targets whose tables and keys go to the registers from r on
   abbrev pub TargetHasRoom : Exp → (r : ℕ) → Type 0
-  TargetHasRoom (Var line name) r = r + room_of constants (Var line name) 2 ≤ stack
-  TargetHasRoom (Index line object key) r = r + room_of constants (Index line object key) 2 ≤ stack
+  TargetHasRoom (Var line name) r = r + room_of_target constants (Var line name) ≤ stack
+  TargetHasRoom (Index line object key) r = r + room_of_target constants (Index line object key) ≤ stack
   TargetHasRoom _ r = Unit {0}
 
   abbrev pub TargetsHaveRoom : Exps → (r : ℕ) → Type 0
   TargetsHaveRoom EndExps r = Unit {0}
   TargetsHaveRoom (MoreExps e targets) r = TargetHasRoom e r × TargetsHaveRoom targets (r + 2)
 
+  abbrev pub StoreHasRoom : (field : Bool) → (targets es : Exps) → (t : ℕ) → Type 0
+  StoreHasRoom true targets es t = t + room_of_first constants targets es ≤ stack
+  StoreHasRoom false targets es t =
+      TargetsHaveRoom targets t
+      × ((t + 2 * count targets + room_of_list constants 0 es (Some (count targets)) ≤ stack) × (t + 2 * count targets + count targets ≤ stack))
+
+  abbrev pub AssignHasRoom : Option ℕ → (targets es : Exps) → (t : ℕ) → Type 0
+  AssignHasRoom None targets es t = StoreHasRoom (stores_field targets es) targets es t
+  AssignHasRoom (Some r) targets es t = t + room_of_assigned constants es ≤ stack
+
   abbrev mutual
     pub StatHasRoom : Stat → (t : ℕ) → Type 0
     StatHasRoom (Empty line) t = Unit {0}
     StatHasRoom (Local line names es) t = (t + room_of_list constants 0 es (Some (length names)) ≤ stack) × (t + length names ≤ stack)
     StatHasRoom (LocalFunction line name body) t = t + 1 ≤ stack
-    StatHasRoom (Assign line targets es) t =
-        TargetsHaveRoom targets t
-        × ((t + 2 * count targets + room_of_list constants 0 es (Some (count targets)) ≤ stack) × (t + 2 * count targets + count targets ≤ stack))
+    StatHasRoom (Assign line targets es) t = AssignHasRoom (assigned targets es) targets es t
     StatHasRoom (CallStat line e) t = t + room_of constants e 1 ≤ stack
     StatHasRoom (Do line block) t = BlockHasRoom block t
     StatHasRoom (While line e block) t = (t + room_of_test constants e ≤ stack) × BlockHasRoom block t

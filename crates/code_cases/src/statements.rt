@@ -9,7 +9,19 @@ use std::alloc::{AllocError, Global};
 use std::test::Fail;
 
 // Sources without constants, and the words of their code.
-static WORDS: [(&[u8], &[u32]); 13] = [
+static WORDS: [(&[u8], &[u32]); 15] = [
+    (
+        b"local t, i = {}, 1 t[1] = i t[i] = i",
+        &[
+            0x51,
+            0x13,
+            0x52,
+            0x8000_0081,
+            0x0101_0011,
+            0x0101_0010,
+            0x0101_8146,
+        ],
+    ),
     (
         b"while true do break end",
         &[0x51, 0x36, 0x8000_0038, 0x7fff_fe38, 0x0101_0046],
@@ -21,9 +33,24 @@ static WORDS: [(&[u8], &[u32]); 13] = [
             0x8000_0001,
             0x8000_8081,
             0x8000_0101,
-            0x804a,
+            0x004a,
+            0x8049,
+            0x0101_0046,
+        ],
+    ),
+    // where a function is made each round closes its variables
+    (
+        b"for i = 1, 2 do local function f() return i end end",
+        &[
+            0x51,
+            0x8000_0001,
+            0x8000_8081,
+            0x8000_0101,
+            0x0001_804a,
+            0x0208,
+            0x024f,
             0x01b6,
-            0x0001_0049,
+            0x0002_0049,
             0x0101_0046,
         ],
     ),
@@ -131,10 +158,9 @@ static WORDS: [(&[u8], &[u32]); 13] = [
             0x08,
             0x80,
             0x0002_0108,
-            0x80cb,
-            0x02b6,
+            0x00cb,
             0x0100_00cc,
-            0x0001_80cd,
+            0x0001_00cd,
             0xb6,
             0x0101_80c6,
         ],
@@ -143,29 +169,34 @@ static WORDS: [(&[u8], &[u32]); 13] = [
 
 // Sources without constants, and their local variables: the byte of each one's name, and the places of the
 // code where its scope begins and ends. The hidden ones of a loop have a blank.
-static VARIABLES: [(&[u8], &[u32]); 6] = [
-    // the inner block ends behind its CLOSE
+static VARIABLES: [(&[u8], &[u32]); 7] = [
+    // the inner block ends with its last instruction
     (
         b"local a do local b end local c",
-        &[0x61, 2, 6, 0x62, 3, 4, 0x63, 5, 6],
+        &[0x61, 2, 5, 0x62, 3, 3, 0x63, 4, 5],
+    ),
+    // and where a function is made behind its CLOSE
+    (
+        b"local a do local b local function g() end end",
+        &[0x61, 2, 7, 0x62, 3, 6, 0x67, 4, 6],
     ),
     // from FORPREP to the end of the loop, and in the block
     (
         b"for i = 1, 2 do local x end",
-        &[0x20, 4, 8, 0x20, 4, 8, 0x20, 4, 8, 0x69, 5, 7, 0x78, 6, 7],
+        &[0x20, 4, 7, 0x20, 4, 7, 0x20, 4, 7, 0x69, 5, 6, 0x78, 6, 6],
     ),
     (
         b"for k in nil do end",
-        &[0x20, 3, 8, 0x20, 3, 8, 0x20, 3, 8, 0x20, 3, 8, 0x6b, 4, 5],
+        &[0x20, 3, 7, 0x20, 3, 7, 0x20, 3, 7, 0x20, 3, 7, 0x6b, 4, 4],
     ),
     // the test and both CLOSEs are in the scope
     (b"repeat local a until a", &[0x61, 2, 8]),
     // a function is in its own scope, from CLOSURE on
     (b"local function f() end", &[0x66, 2, 4]),
-    // the first arm has a jump behind its CLOSE
+    // the first arm has a jump behind it
     (
         b"if true then local a else local b end",
-        &[0x61, 2, 3, 0x62, 5, 6],
+        &[0x61, 2, 2, 0x62, 4, 4],
     ),
 ];
 

@@ -14,18 +14,20 @@ use Rattle.tree_activation.specs.Statements.{is_closed}
 use Rattle.code_core.specs.declared.proto.Const.{Const}
 use Rattle.code_core.specs.declared.proto.Const.TheVariants.{Int as IntConst, Str as StrConst}
 use Rattle.code_core.specs.Writable.{number_fits}
-use Rattle.code_of.specs.Coded.{Coded, lines, jump_over, jump_back}
+use Rattle.code_of.specs.Coded.{Coded, lines, with_abc, jump_over, jump_back}
 use Rattle.code_of.specs.Constants.{is_small, number_in, loads, loads_integer, of_block}
-use Rattle.code_of.specs.Operands.{seat, unless, Second, a_number, a_local, made, second_of, first_of, second_code, operands_code}
+use Rattle.code_of.specs.FieldReads.{read_code}
+use Rattle.code_of.specs.Stores.{FieldKey, a_name, an_index, a_register, evaluated, name_in, field_key, object_of, key_code, field_store, stores_field}
+use Rattle.code_of.specs.Operands.{local_of, seat, unless, Second, a_number, a_local, made, second_of, key_operand, first_of, assigned, second_code, operands_code}
 use Rattle.code_of.specs.Operators.{name_code, self_code, operator_code, number_opcode, number_code}
 use Rattle.code_of.specs.Expressions.{made_by, made_in, count, Wanted, is_last_item, field_of, wanted_after, nils_code, set_list, exp_code, exps_code, fields_code}
 use Rattle.code_of.specs.Conditions.{jump_if, pick, line_of, is_not, compared, value_test, test_code}
 use Rattle.code_core.specs.declared.opcode.Opcode.{Opcode}
-use Rattle.code_core.specs.declared.opcode.Opcode.TheVariants.{Eq, Lt, Le}
+use Rattle.code_core.specs.declared.opcode.Opcode.TheVariants.{GetTable, GetI, Eq, Lt, Le}
 use Rattle.code_of.specs.Jumps.{Landing, Visible, Reach, label_in, leads}
-use Rattle.code_of.specs.Levels.{made_by_stat, made_in_arms, made_in_stats, made_in_block, closing_after, closings_after}
+use Rattle.code_of.specs.Levels.{made_by_stat, made_in_arms, made_in_stats, made_in_block, closing_after, closings_after, closed_below}
 use Rattle.tree_terms.specs.Levels.{level_after, levels_after, levels_in}
-use Rattle.code_of.specs.Parts.{marks_code, close_code, past, past_size, name_target, target_code, targets_code, name_store, store_code, stores_code, assign_code, values_last, return_code, bounds_code, steps_code}
+use Rattle.code_of.specs.Parts.{marks_code, close_code, past, past_size, name_target, target_code, targets_code, name_store, store_code, stores_code, direct_code, first_direct, field_code, first_field, stored_code, store_by, assign_by, assign_code, values_last, return_code, bounds_code, steps_code}
 use Rattle.code_of.specs.Sizes.{stat_size, arms_size, block_size}
 use Rattle.code_of.specs.Statements.{in_loop, passed_after, labels_ahead, stat_code, arms_code, stats_code, block_code, open_code, whole_code}
 use Rattle.code_of.specs.CodeOf.{back_field, first_line, body_code}
@@ -60,7 +62,7 @@ integer_lines : (cs : List Const) (z : ℤ) (t line : ℕ) → LineFits line →
 integer_lines cs z t line h = either (is_small z) _ _ (h, tt) (loads_lines cs (IntConst z) t line h)
 
 name_lines : (cs : List Const) (place : Place) (text : List ℕ) (t line : ℕ) → LineFits line → LinesFit (name_code cs place text t line)
-name_lines cs Unset text t line h = tt
+name_lines cs Unset text t line h = (h, tt)
 name_lines cs (LocalPlace n) text t line h = (h, tt)
 name_lines cs (Upvalue u) text t line h = (h, tt)
 name_lines cs (GlobalIn n) text t line h = lines_both (loads cs (StrConst text) t line) _ (loads_lines cs (StrConst text) t line h) (h, tt)
@@ -118,6 +120,11 @@ operands_lines s at first code t by num h k g f = unless_lines at first _ h (sec
     second (a_local r) = g (seat at t) r
     second (a_number n) = f (seat at t) n
 
+read_lines : (named : Option ℕ) (object key : Exp) (first second : List Coded) (r t line : ℕ) → LinesFit first → LinesFit second → LineFits line → LinesFit (read_code named object key first second r t line)
+read_lines (Some number) object key first second r t line h k fits = unless_lines (local_of object) first _ h (fits, tt)
+read_lines None object key first second r t line h k fits =
+    operands_lines (key_operand key) (first_of (key_operand key) object) first second t (λ x y. with_abc GetTable r x y line ∷ []) (λ x n. with_abc GetI r x n line ∷ []) h k (λ x y. (fits, tt)) (λ x n. (fits, tt))
+
 nils_lines : (wanted : Wanted) (t line : ℕ) → LineFits line → LinesFit (nils_code wanted t line)
 nils_lines None t line h = tt
 nils_lines (Some zero) t line h = tt
@@ -156,7 +163,8 @@ module _ (cs : List Const) where
     exp_lines (Vararg line) t j c w = (w, tt)
     exp_lines (Function line body) t j c w = (body_line body w.1, tt)
     exp_lines (Var line name) t j c w = name_lines cs name.place name.text t line w.0
-    exp_lines (Index line o k) t j c w = lines_both (exp_code cs o t j 2) _ (exp_lines o t j 2 w.1.0) (lines_both (exp_code cs k (t + 1) (j + made_by o) 2) _ (exp_lines k (t + 1) (j + made_by o) 2 w.1.1) (w.0, tt))
+    exp_lines (Index line o k) t j c w =
+        read_lines (name_in cs k) o k (exp_code cs o t j 2) (exp_code cs k (t + 1) (j + made_by o) 2) t t line (exp_lines o t j 2 w.1.0) (exp_lines k (t + 1) (j + made_by o) 2 w.1.1) w.0
     exp_lines (Call line f es) t j c w = lines_both (exp_code cs f t j 2) _ (exp_lines f t j 2 w.1.0) (lines_both (exps_code cs es None (t + 1) (j + made_by f) line) _ (exps_lines es None (t + 1) (j + made_by f) line w.0 w.1.1) (w.0, tt))
     exp_lines (Method line o name es) t j c w =
         lines_both (exp_code cs o t j 2) _ (exp_lines o t j 2 w.1.0) (lines_both (self_code cs name.text t line) _ (method_lines cs name.text t line w.0)
@@ -294,10 +302,60 @@ module _ (cs : List Const) where
   stores_lines EndExps r v w = tt
   stores_lines (MoreExps e es) r v w = lines_both (stores_code cs es (r + 2) (v + 1)) _ (stores_lines es (r + 2) (v + 1) w.1) (store_lines e r v w.0)
 
-  assign_lines : (ts es : Exps) (t j line : ℕ) → LineFits line → ExpsAreWritten ts → ExpsAreWritten es → LinesFit (assign_code cs ts es t j line)
-  assign_lines ts es t j line h wt we =
+  direct_lines : (e : Exp) (r t j : ℕ) → ExpIsWritten e → LinesFit (direct_code cs e r t j)
+  direct_lines (Index line o k) r t j w =
+      read_lines (name_in cs k) o k (exp_code cs o t j 2) (exp_code cs k (t + 1) (j + made_by o) 2) r t line (exp_lines o t j 2 w.1.0) (exp_lines k (t + 1) (j + made_by o) 2 w.1.1) w.0
+  direct_lines (Binary line op e d) r t j w =
+      operands_lines (second_of op d) (first_of (second_of op d) e) (exp_code cs e t j 2) (exp_code cs d (t + 1) (j + made_by e) 2) t (λ x y. operator_code op x y r line) (λ x n. number_code op x n r line)
+      (exp_lines e t j 2 w.1.0) (exp_lines d (t + 1) (j + made_by e) 2 w.1.1) (λ x y. operator_lines op x y r line w.0) (λ x n. number_lines op x n r line w.0)
+  direct_lines _ r t j w = tt
+
+  first_lines : (es : Exps) (r t j : ℕ) → ExpsAreWritten es → LinesFit (first_direct cs es r t j)
+  first_lines EndExps r t j w = tt
+  first_lines (MoreExps e es) r t j w = direct_lines e r t j w.0
+
+  stored_lines : (ts es : Exps) (t j line : ℕ) → LineFits line → ExpsAreWritten ts → ExpsAreWritten es → LinesFit (stored_code cs ts es t j line)
+  stored_lines ts es t j line h wt we =
       let v = t + 2 * count ts in
       lines_both (targets_code cs ts t j) _ (targets_lines ts t j wt) (lines_both (exps_code cs es (Some (count ts)) v (j + made_in ts) line) _ (exps_lines es (Some (count ts)) v (j + made_in ts) line h we) (stores_lines ts t v wt))
+
+  field_lines : (x e : Exp) (t j after : ℕ) → ExpIsWritten x → ExpIsWritten e → LinesFit (field_code cs x e t j after)
+  field_lines (Index line o k) e t j after w we =
+      unless_lines (object_of s (local_of e) o) (exp_code cs o t j 2) _ (exp_lines o t j 2 w.1.0)
+      (key_lines s (exp_code cs k (t + 1) (j + made_by o) 2) _ (exp_lines k (t + 1) (j + made_by o) 2 w.1.1)
+      (unless_lines (local_of e) (exp_code cs e (t + 2) after 2) _ (exp_lines e (t + 2) after 2 we) (last_lines s (seat (object_of s (local_of e) o) t) (seat (local_of e) (t + 2)))))
+    where
+      s : FieldKey
+      s = field_key cs (local_of e) k
+
+      key_lines : (s : FieldKey) (code rest : List Coded) → LinesFit code → LinesFit rest → LinesFit (key_code s code ++ rest)
+      key_lines evaluated code rest h k = lines_both code rest h k
+      key_lines (a_name number) code rest h k = k
+      key_lines (an_index n) code rest h k = k
+      key_lines (a_register r) code rest h k = k
+
+      last_lines : (s : FieldKey) (y v : ℕ) → LinesFit (field_store s y t v line ∷ [])
+      last_lines evaluated y v = (w.0, tt)
+      last_lines (a_name number) y v = (w.0, tt)
+      last_lines (an_index n) y v = (w.0, tt)
+      last_lines (a_register r) y v = (w.0, tt)
+  field_lines _ e t j after w we = tt
+
+  first_field_lines : (ts es : Exps) (t j after : ℕ) → ExpsAreWritten ts → ExpsAreWritten es → LinesFit (first_field cs ts es t j after)
+  first_field_lines EndExps es t j after wt we = tt
+  first_field_lines (MoreExps x ts) EndExps t j after wt we = tt
+  first_field_lines (MoreExps x ts) (MoreExps e es) t j after wt we = field_lines x e t j after wt.0 we.0
+
+  assign_lines : (ts es : Exps) (t j line : ℕ) → LineFits line → ExpsAreWritten ts → ExpsAreWritten es → LinesFit (assign_code cs ts es t j line)
+  assign_lines ts es t j line h wt we = by (assigned ts es)
+    where
+      by : (o : Option ℕ) → LinesFit (assign_by cs o ts es t j line)
+      by None = by_field (stores_field ts es)
+        where
+          by_field : (b : Bool) → LinesFit (store_by cs b ts es t j line)
+          by_field true = first_field_lines ts es t j (j + made_in ts) wt we
+          by_field false = stored_lines ts es t j line h wt we
+      by (Some r) = first_lines es r t (j + made_in ts) we
 
   values_lines : (es : Exps) (t j line back : ℕ) → LineFits line → ExpsAreWritten es → LinesFit (values_last cs es t j line back)
   values_lines es t j line back h w = lines_both (exps_code cs es None t j line) _ (exps_lines es None t j line h w) (h, tt)
@@ -383,7 +441,7 @@ module _ (cs : List Const) where
           lines_both (stat_code cs back s closing t j pc here) _ (stat_lines s closing t j pc here w.0) (stats_lines ss falls (closing_after s closing) outer (level_after s t) k place (passed_after s t pc passed) reach w.1)
 
       pub block_lines : (block : Block) (closing : Bool) (outer t j pc : ℕ) (reach : Reach) → BlockIsWritten block → LinesFit (block_code cs back block closing outer t j pc reach)
-      block_lines (Falls ss tokens line) closing outer t j pc reach w = lines_both (stats_code cs back ss true closing outer t j pc [] reach) _ (stats_lines ss true closing outer t j pc [] reach w.1) (close_lines outer (levels_after ss t) line w.0)
+      block_lines (Falls ss tokens line) closing outer t j pc reach w = lines_both (stats_code cs back ss true closing outer t j pc [] reach) _ (stats_lines ss true closing outer t j pc [] reach w.1) (close_lines outer (closed_below ss outer t) line w.0)
       block_lines (Returns ss es tokens line) closing outer t j pc reach w =
           lines_both (stats_code cs back ss false closing outer t j pc [] reach) _ (stats_lines ss false closing outer t j pc [] reach w.1.0) (return_lines (closings_after ss closing) es (levels_after ss t) (j + made_in_stats ss) line back w.0 w.1.1)
 

@@ -8,23 +8,27 @@ use Rattle.tree_core.specs.declared.name.Place.TheVariants.{Unset, Upvalue, Glob
 use Rattle.tree_core.specs.Tree.{Body, BodyOf, Exp, Nil, True, False, Int, Str, Vararg, Function, Var, Index, Call, Method, Unary, Binary, And, Or, Paren, Table, Exps, EndExps, MoreExps, Fields, EndFields, MoreFields, Field, Item, Keyed}
 use Rattle.tree_core.specs.declared.operator.UnOp.{UnOp}
 use Rattle.tree_core.specs.declared.operator.BinOp.{BinOp}
-use Rattle.code_core.specs.declared.opcode.Opcode.TheVariants.{GetTable, SetList, SetTable, ExtraArg}
+use Rattle.code_core.specs.declared.opcode.Opcode.TheVariants.{GetTable, GetI, GetField, SetList, SetTable, ExtraArg}
 use Rattle.code_core.specs.declared.proto.Const.{Const}
 use Rattle.code_core.specs.declared.proto.Const.TheVariants.{Str as StrConst}
 use Rattle.code_core.specs.Prototype.{Prototype, Prototypes}
 use Rattle.code_of.specs.Coded.{Coded, with_abc}
 use Rattle.code_of.specs.Constants.{with_constant, of_exp, of_exps, of_fields}
 use Rattle.code_of.specs.Expressions.{made_by, count, is_open, ends_open, list_field, one_less, nils_code, set_list, exp_code, exps_code, fields_code, is_last_item}
+use Rattle.code_of.specs.Parts.{direct_code}
 use Rattle.code_of.specs.CodeOf.{parts_of, from_exp, from_exps, from_fields, from_body}
-use Rattle.code_of.specs.Operands.{local_at, local_of, Second, a_number, a_local, made, second_of, first_of, operands_code}
+use Rattle.code_of.specs.Operands.{local_at, local_of, Second, a_number, a_local, made, second_of, key_operand, first_of, seat, unless, operands_code}
+use Rattle.code_of.specs.Stores.{name_in}
+use Rattle.code_of.specs.FieldReads.{read_code}
+use Rattle.code_of.proofs.Stores.{IsName, name_is}
 use Rattle.code_of.specs.Operators.{operator_code, number_code}
-use Rattle.code_of.proofs.Operands.{some_is, second_number, second_local, first_local}
+use Rattle.code_of.proofs.Operands.{some_is, Stands, second_number, operator_stands, key_stands, first_local}
 use Rattle.code_checked.specs.Near.{IsRegister, NameIsNear, ExpIsNear, ExpsAreNear, FieldsAreNear}
 use Rattle.code_checked.proofs.Pieces.{closed, listed, Piece, both, nothing}
-use Rattle.code_checked.proofs.Words.{simple, simple_get_table}
+use Rattle.code_checked.proofs.Words.{simple, simple_get_table, simple_get_i}
 use Rattle.code_checked.proofs.Found.{Grows, grows_then, grows_with, is_in}
 use Rattle.code_of.proofs.Constants.{same_text}
-use Rattle.code_checked.proofs.Loads.{Whole, Functions, closure_piece, set_table_piece, method_piece}
+use Rattle.code_checked.proofs.Loads.{Whole, Functions, closure_piece, set_table_piece, method_piece, get_name_piece}
 use Rattle.code_checked.proofs.Seams.{alike}
 use Rattle.code_checked.proofs.Calls.{call_piece, list_piece}
 use Rattle.code_checked.proofs.Operators.{prefix_piece, operator_piece, number_piece}
@@ -199,13 +203,6 @@ module _ (p : Prototype) (W : Whole p) (source : Option (List ℕ)) (H : Type 0)
       let r = near.0 in
       closure_piece p W t j end size ups (parts_of source (BodyOf params vararg inner ups end)) (from_body source (BodyOf params vararg inner ups end)) rest (omega (arith, r)) refl near.1.0 (omega (arith, le)) fs
 
-  pub index_form : (line : ℕ) (o k : Exp) → OneLaw o → OneLaw k → ExpLaw (Index line o k)
-  index_form line o k one_o one_k t j c pc size cs rest near le cf g fs =
-      let r = near.0 in
-      both p (one_o t j pc size cs (from_exp source k rest) near.1.0 le (grows_then (of_exp o cs) (of_exp k (of_exp o cs)) p.own.constants (grows_exp k (of_exp o cs)) g) fs)
-      (both p (one_k (t + 1) (j + made_by o) _ size (of_exp o cs) rest near.1.1 (omega (arith, le)) g (after_exp source p o j (from_exp source k rest) fs))
-      (simple p GetTable (simple_get_table p) t t (t + 1) line (omega (arith, r)) (omega (arith, r)) (omega (arith, r))))
-
   pub call_form : (line : ℕ) (f : Exp) (es : Exps) → OneLaw f → ListLaw es → ExpLaw (Call line f es)
   call_form line f es one_f list t j c pc size cs rest near le cf g fs =
       let r = near.0 in
@@ -231,36 +228,79 @@ module _ (p : Prototype) (W : Whole p) (source : Option (List ℕ)) (H : Type 0)
       let r = near.0 in
       both p (one_e t j pc size cs rest near.1 le g fs) (prefix_piece p op t line (omega (arith, r)))
 
-  pub binary_form : (line : ℕ) (op : BinOp) (e d : Exp) → OneLaw e → OneLaw d → ExpLaw (Binary line op e d)
-  binary_form line op e d one_e one_d t j c pc size cs rest near le cf g fs = by (second_of op d) (first_of (second_of op d) e) refl refl
+  -- two operands and what is done with them
+  module _ (s : Second) (most : ℕ) (e d : Exp) (stands : Stands s d most) (by_registers by_number : (x y : ℕ) → List Coded) (one_e : OneLaw e) (one_d : OneLaw d) (t j pc size : ℕ) (cs : List Const) (rest : Prototypes)
+      (r : IsRegister t) (near_e : ExpIsNear source p e size t) (near_d : ExpIsNear source p d size (t + 1)) (le : size ≤ t) (g : Grows (of_exp d (of_exp e cs)) p.own.constants) (fs : Functions p j (from_exp source e (from_exp source d rest)))
+      (registers_piece : (x y at : ℕ) → x < 2 ^ 8 → y < 2 ^ 8 → Piece p H closed closed at (by_registers x y)) (number_piece : (x n at : ℕ) → s ≡ a_number n → x < 2 ^ 8 → Piece p H closed closed at (by_number x n)) where
+    abbrev first_code : List Coded
+    first_code = exp_code C e t j 2
+
+    abbrev code : List Coded
+    code = exp_code C d (t + 1) (j + made_by e) 2
+
+    first_piece : Piece p H closed closed pc first_code
+    first_piece = one_e t j pc size cs (from_exp source d rest) near_e le (grows_then (of_exp e cs) (of_exp d (of_exp e cs)) p.own.constants (grows_exp d (of_exp e cs)) g) fs
+
+    piece_by : (z : Second) (at : Option ℕ) → s ≡ z → first_of z e ≡ at → Piece p H closed closed pc (operands_code z at first_code code t by_registers by_number)
+    piece_by made (Some x) is at_is = absurd (cc)
+    piece_by made None is at_is =
+        both p first_piece
+        (both p (one_d (t + 1) (j + made_by e) (pc + length first_code) size (of_exp e cs) rest near_d (omega (arith, le)) g (after_exp source p e j (from_exp source d rest) fs))
+        (registers_piece t (t + 1) _ (omega (arith, r)) (omega (arith, r))))
+    piece_by (a_local q) None is at_is = both p first_piece (registers_piece t q _ (omega (arith, r)) (local_near source p d size (t + 1) q (stands.local q is) near_d))
+    piece_by (a_local q) (Some x) is at_is = registers_piece x q _ (local_near source p e size t x (first_local (a_local q) e x at_is) near_e) (local_near source p d size (t + 1) q (stands.local q is) near_d)
+    piece_by (a_number n) None is at_is = both p first_piece (number_piece t n _ is (omega (arith, r)))
+    piece_by (a_number n) (Some x) is at_is = number_piece x n _ is (local_near source p e size t x (first_local (a_number n) e x at_is) near_e)
+
+    operands_piece : Piece p H closed closed pc (operands_code s (first_of s e) first_code code t by_registers by_number)
+    operands_piece = piece_by s (first_of s e) refl refl
+
+  -- a value that goes to register r
+  abbrev pub DirectLaw : Exp → Type 0
+  DirectLaw e =
+      (r t j pc size : ℕ) (cs : List Const) (rest : Prototypes) → r < 2 ^ 8 → ExpIsNear source p e size t → size ≤ t → Grows (of_exp e cs) p.own.constants → Functions p j (from_exp source e rest)
+      → Piece p H closed closed pc (direct_code C e r t j)
+
+  pub index_direct : (line : ℕ) (o k : Exp) → OneLaw o → OneLaw k → DirectLaw (Index line o k)
+  index_direct line o k one_o one_k r t j pc size cs rest rf near le g fs = by (name_in C k) refl
     where
-      first_code : List Coded
-      first_code = exp_code C e t j 2
+      first_known : Grows (of_exp o cs) C
+      first_known = grows_then (of_exp o cs) (of_exp k (of_exp o cs)) C (grows_exp k (of_exp o cs)) g
 
-      code : List Coded
-      code = exp_code C d (t + 1) (j + made_by e) 2
+      by : (named : Option ℕ) → name_in C k ≡ named → Piece p H closed closed pc (read_code named o k (exp_code C o t j 2) (exp_code C k (t + 1) (j + made_by o) 2) r t line)
+      by (Some number) is = named_piece (local_of o) refl
+        where
+          form : IsName C k number
+          form = name_is C k number is
 
-      tf : t < 2 ^ 8
-      tf = let r = near.0 in omega (arith, r)
+          known : Grows (of_exp (Str form.line form.bytes) (of_exp o cs)) C
+          known = subst (λ q. Grows (of_exp q (of_exp o cs)) C) form.is g
 
-      uf : t + 1 < 2 ^ 8
-      uf = let r = near.0 in omega (arith, r)
+          read_piece : {pc : ℕ} (x : ℕ) → x < 2 ^ 8 → Piece p H closed closed pc (with_abc GetField r x number line ∷ [])
+          read_piece x xf = let short = form.short in get_name_piece p r x number line form.bytes rf xf (omega (arith, short)) form.same (is_in (StrConst form.bytes) (same_text form.bytes) (of_exp o cs) C known)
 
-      first_piece : Piece p H closed closed pc first_code
-      first_piece = one_e t j pc size cs (from_exp source d rest) near.1.0 le (grows_then (of_exp e cs) (of_exp d (of_exp e cs)) p.own.constants (grows_exp d (of_exp e cs)) g) fs
+          named_piece : (at : Option ℕ) → local_of o ≡ at → Piece p H closed closed pc (unless at (exp_code C o t j 2) ++ with_abc GetField r (seat at t) number line ∷ [])
+          named_piece None at_is = let register = near.0 in both p (one_o t j pc size cs (from_exp source k rest) near.1.0 le first_known fs) (read_piece t (omega (arith, register)))
+          named_piece (Some x) at_is = read_piece x (local_near source p o size t x at_is near.1.0)
+      by None is =
+          operands_piece (key_operand k) 255 o k (key_stands k) (λ x y. with_abc GetTable r x y line ∷ []) (λ x n. with_abc GetI r x n line ∷ []) one_o one_k t j pc size cs rest near.0 near.1.0 near.1.1 le g fs
+          (λ x y at xf yf. simple p GetTable (simple_get_table p) r x y line rf xf yf)
+          (λ x n at is xf. let small = ((key_stands k).number n is).small in simple p GetI (simple_get_i p) r x n line rf xf (omega (arith, small)))
 
-      by : (s : Second) (at : Option ℕ) → second_of op d ≡ s → first_of s e ≡ at
-          → Piece p H closed closed pc (operands_code s at first_code code t (λ x y. operator_code op x y t line) (λ x n. number_code op x n t line))
-      by made (Some x) is at_is = absurd (cc)
-      by made None is at_is =
-          both p first_piece
-          (both p (one_d (t + 1) (j + made_by e) (pc + length first_code) size (of_exp e cs) rest near.1.1 (omega (arith, le)) g (after_exp source p e j (from_exp source d rest) fs))
-          (operator_piece p op t (t + 1) t line tf uf tf))
-      by (a_local r) None is at_is = both p first_piece (operator_piece p op t r t line tf (local_near source p d size (t + 1) r (second_local op d r is) near.1.1) tf)
-      by (a_local r) (Some x) is at_is =
-          operator_piece p op x r t line (local_near source p e size t x (first_local (a_local r) e x at_is) near.1.0) (local_near source p d size (t + 1) r (second_local op d r is) near.1.1) tf
-      by (a_number n) None is at_is = both p first_piece (number_piece p op d t n t line (second_number op d n is) tf tf)
-      by (a_number n) (Some x) is at_is = number_piece p op d x n t line (second_number op d n is) (local_near source p e size t x (first_local (a_number n) e x at_is) near.1.0) tf
+  pub binary_direct : (line : ℕ) (op : BinOp) (e d : Exp) → OneLaw e → OneLaw d → DirectLaw (Binary line op e d)
+  binary_direct line op e d one_e one_d r t j pc size cs rest rf near le g fs =
+      operands_piece (second_of op d) 128 e d (operator_stands op d) (λ x y. operator_code op x y r line) (λ x n. number_code op x n r line) one_e one_d t j pc size cs rest near.0 near.1.0 near.1.1 le g fs
+      (λ x y at xf yf. operator_piece p op x y r line xf yf rf) (λ x n at is xf. number_piece p op d x n r line (second_number op d n is) xf rf)
+
+  pub index_form : (line : ℕ) (o k : Exp) → OneLaw o → OneLaw k → ExpLaw (Index line o k)
+  index_form line o k one_o one_k t j c pc size cs rest near le cf g fs =
+      let r = near.0 in
+      index_direct line o k one_o one_k t t j pc size cs rest (omega (arith, r)) near le g fs
+
+  pub binary_form : (line : ℕ) (op : BinOp) (e d : Exp) → OneLaw e → OneLaw d → ExpLaw (Binary line op e d)
+  binary_form line op e d one_e one_d t j c pc size cs rest near le cf g fs =
+      let r = near.0 in
+      binary_direct line op e d one_e one_d t t j pc size cs rest (omega (arith, r)) near le g fs
 
   pub paren_form : (line : ℕ) (e : Exp) → OneLaw e → ExpLaw (Paren line e)
   paren_form line e one_e t j c pc size cs rest near le cf g fs =

@@ -11,9 +11,11 @@ mod Lists
 mod ExpForms
 mod Jumping
 mod Exps
+mod Lowering
 mod Conditions
 mod Forms
 mod Reaching
+mod FieldStores
 mod StatForms
 mod Stats
 mod Sequences

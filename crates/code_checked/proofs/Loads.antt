@@ -3,7 +3,7 @@ use Rattle.std.proofs.Common.{◌≡◌, ℕ, zero, suc, ◌+◌, ◌<◌, ◌�
 use Rattle.std.specs.Prelude.{nat_lt, ℤ}
 use Rattle.std.specs.List.{list_all}
 use Rattle.code_core.specs.declared.opcode.Opcode.{Opcode}
-use Rattle.code_core.specs.declared.opcode.Opcode.TheVariants.{LoadI, LoadK, LoadKx, GetUpval, SetUpval, GetTabUp, GetTable, SetTable, OpSelf, Closure, ExtraArg, Move}
+use Rattle.code_core.specs.declared.opcode.Opcode.TheVariants.{LoadI, LoadK, LoadKx, GetUpval, SetUpval, GetTabUp, GetTable, GetField, SetTable, SetI, SetField, OpSelf, Closure, ExtraArg, Move, LoadNil}
 use Rattle.code_core.specs.declared.instruction.Instruction.{Instruction}
 use Rattle.code_core.specs.declared.proto.Const.{Const}
 use Rattle.code_core.specs.declared.proto.Const.TheVariants.{Int as IntConst, Str as StrConst}
@@ -20,9 +20,9 @@ use Rattle.code_of.specs.Constants.{is_small, small_field, number_in, loads, loa
 use Rattle.code_of.specs.Operators.{global_code, name_code, self_code}
 use Rattle.code_of.specs.CodeOf.{back_field, upvalue}
 use Rattle.code_checked.specs.Near.{IsRegister, NameIsNear, AreCaptured}
-use Rattle.code_checked.proofs.Pieces.{closed, Piece, both, nothing}
+use Rattle.code_checked.proofs.Pieces.{closed, Piece, both}
 use Rattle.code_checked.proofs.Units.{Plain, StillCouple, one, two, extra_of}
-use Rattle.code_checked.proofs.Words.{abc_fits, abx_fits, ax_fits, simple, simple_wide, simple_move, simple_load_i, simple_get_table}
+use Rattle.code_checked.proofs.Words.{abc_fits, abx_fits, ax_fits, simple, simple_wide, simple_move, simple_load_i, simple_load_nil, simple_get_table}
 use Rattle.code_of.proofs.Fields.{k_of-abc, field_fits}
 use Rattle.code_checked.proofs.Found.{Grows, IsIn, is_in, is_name}
 use Rattle.code_of.proofs.Constants.{same_text}
@@ -137,6 +137,26 @@ module _ (p : Prototype) where
     still = λ pc. refl;
   }
 
+  get_name : (t x n : ℕ) (text : List ℕ) → t < 2 ^ 8 → x < 2 ^ 8 → n < 2 ^ 8 → n ≡ number_in p.own.constants (StrConst text) → IsIn p.own.constants (StrConst text) → Plain p closed closed (abc GetField t x n false)
+  get_name t x n text tf xf nf e i = record {
+    single = record {
+      opcode = GetField;
+      is = opcode_of-abc GetField t x n false;
+      whole = refl;
+      fits = abc_fits GetField t x n false tf xf nf;
+      alone = refl;
+      constant = λ extra. ap (λ c. list_all (is_used p) ((name, c) ∷ [])) (c_of-abc GetField t x n false tf xf nf)
+          ∙ constant_test name n i.entry (ap (slice_get p.own.constants) e ∙ i.there) (is_name text i.entry i.alike);
+      upvalue = refl;
+      inner = λ pc here. refl;
+      half = refl;
+      gives = refl;
+      takes = refl;
+      varargs = λ pc h. h;
+    };
+    still = λ pc. refl;
+  }
+
   load_constant : (t n : ℕ) (entry : Const) → t < 2 ^ 8 → n < 2 ^ 17 → slice_get p.own.constants n ≡ Some entry → Plain p closed closed (abx LoadK t n)
   load_constant t n entry tf nf is = record {
     single = record {
@@ -190,6 +210,45 @@ module _ (p : Prototype) where
       second_gives = refl;
       second_takes = refl;
       second_varargs = λ pc h. h;
+    };
+    still = λ pc. refl;
+  }
+
+  set_index : (r n v : ℕ) → r < 2 ^ 8 → n < 2 ^ 8 → v < 2 ^ 8 → Plain p closed closed (abc SetI r n v false)
+  set_index r n v rf nf vf = record {
+    single = record {
+      opcode = SetI;
+      is = opcode_of-abc SetI r n v false;
+      whole = refl;
+      fits = abc_fits SetI r n v false rf nf vf;
+      alone = refl;
+      constant = λ extra. ap (λ b. list_all (is_used p) (if b then (anything, c_of (abc SetI r n v false)) ∷ [] else [])) (k_of-abc SetI r n v false rf);
+      upvalue = refl;
+      inner = λ pc here. refl;
+      half = refl;
+      gives = refl;
+      takes = refl;
+      varargs = λ pc h. h;
+    };
+    still = λ pc. refl;
+  }
+
+  set_name : (r n v : ℕ) (text : List ℕ) → r < 2 ^ 8 → n < 2 ^ 8 → v < 2 ^ 8 → n ≡ number_in p.own.constants (StrConst text) → IsIn p.own.constants (StrConst text) → Plain p closed closed (abc SetField r n v false)
+  set_name r n v text rf nf vf e i = record {
+    single = record {
+      opcode = SetField;
+      is = opcode_of-abc SetField r n v false;
+      whole = refl;
+      fits = abc_fits SetField r n v false rf nf vf;
+      alone = refl;
+      constant = λ extra. ap₂ (λ b k. list_all (is_used p) ((name, b) ∷ (if k then (anything, c_of (abc SetField r n v false)) ∷ [] else []))) (b_of-abc SetField r n v false rf nf) (k_of-abc SetField r n v false rf)
+          ∙ constant_test name n i.entry (ap (slice_get p.own.constants) e ∙ i.there) (is_name text i.entry i.alike);
+      upvalue = refl;
+      inner = λ pc here. refl;
+      half = refl;
+      gives = refl;
+      takes = refl;
+      varargs = λ pc h. h;
     };
     still = λ pc. refl;
   }
@@ -258,6 +317,17 @@ module _ (p : Prototype) where
   pub set_table_piece : {H : Type 0} {pc : ℕ} (r k v line : ℕ) → r < 2 ^ 8 → k < 2 ^ 8 → v < 2 ^ 8 → Piece p H closed closed pc (with_abc SetTable r k v line ∷ [])
   set_table_piece {H} {pc} r k v line rf kf vf = one p closed closed (abc SetTable r k v false) line (set_table r k v rf kf vf)
 
+  pub set_index_piece : {H : Type 0} {pc : ℕ} (r n v line : ℕ) → r < 2 ^ 8 → n < 2 ^ 8 → v < 2 ^ 8 → Piece p H closed closed pc (with_abc SetI r n v line ∷ [])
+  set_index_piece {H} {pc} r n v line rf nf vf = one p closed closed (abc SetI r n v false) line (set_index r n v rf nf vf)
+
+  pub set_name_piece : {H : Type 0} {pc : ℕ} (r n v line : ℕ) (text : List ℕ) → r < 2 ^ 8 → n < 2 ^ 8 → v < 2 ^ 8 → n ≡ number_in p.own.constants (StrConst text) → IsIn p.own.constants (StrConst text)
+      → Piece p H closed closed pc (with_abc SetField r n v line ∷ [])
+  set_name_piece {H} {pc} r n v line text rf nf vf e i = one p closed closed (abc SetField r n v false) line (set_name r n v text rf nf vf e i)
+
+  pub get_name_piece : {H : Type 0} {pc : ℕ} (t x n line : ℕ) (text : List ℕ) → t < 2 ^ 8 → x < 2 ^ 8 → n < 2 ^ 8 → n ≡ number_in p.own.constants (StrConst text) → IsIn p.own.constants (StrConst text)
+      → Piece p H closed closed pc (with_abc GetField t x n line ∷ [])
+  get_name_piece {H} {pc} t x n line text tf xf nf e i = one p closed closed (abc GetField t x n false) line (get_name t x n text tf xf nf e i)
+
   self_piece : {H : Type 0} {pc : ℕ} (r o k line : ℕ) → r < 2 ^ 8 → o < 2 ^ 8 → k < 2 ^ 8 → Piece p H closed closed pc (with_abc OpSelf r o k line ∷ [])
   self_piece {H} {pc} r o k line rf of kf = one p closed closed (abc OpSelf r o k false) line (self r o k rf of kf)
 
@@ -314,7 +384,7 @@ module _ (p : Prototype) where
 
     pub name_piece : {H : Type 0} {pc : ℕ} (place : Place) (text : List ℕ) (t line : ℕ) (cs : List Const) → IsRegister t → NameIsNear (length p.own.upvalues) place → Grows (of_name place text cs) p.own.constants
         → Piece p H closed closed pc (name_code p.own.constants place text t line)
-    name_piece Unset text t line cs r h g = nothing p
+    name_piece Unset text t line cs r h g = simple p LoadNil (simple_load_nil p) t 0 0 line (omega (arith, r)) (lit< tt) (lit< tt)
     name_piece (LocalPlace n) text t line cs r h g = simple p Move (simple_move p) t n 0 line (omega (arith, r)) h (lit< tt)
     name_piece (Upvalue u) text t line cs r h g = upvalue_piece t u line (omega (arith, r)) h
     name_piece (GlobalIn n) text t line cs r h g =

@@ -13,11 +13,11 @@ use Rattle.code_of.specs.Conditions.{test_code}
 use Rattle.code_of.specs.Levels.{made_by_stat, made_in_arms, made_in_block, closing_after}
 use Rattle.tree_terms.specs.Levels.{level_after}
 use Rattle.code_of.specs.Parts.{past_size, bounds_code, steps_code}
-use Rattle.code_of.specs.Sizes.{stat_size, arms_size, stats_size, block_size, open_size}
-use Rattle.code_of.specs.Variables.{variables, names_of, hidden, declared_by, looped, within_stat, within_arms, within_stats, within_block, within_open}
+use Rattle.code_of.specs.Sizes.{stat_size, arms_size, stats_size, block_size, open_size, whole_size}
+use Rattle.code_of.specs.Variables.{variables, names_of, hidden, declared_by, looped, within_stat, within_arms, within_stats, within_block, within_open, within_whole}
 use Rattle.code_of.specs.CodeOf.{back_field, body_code, variables_of}
 use Rattle.code_checked.specs.Written.{NamesFit, DeclaredFit, StatIsWritten, ArmsAreWritten, StatsAreWritten, BlockIsWritten, BodyIsWritten}
-use Rattle.code_of.proofs.Sizes.{whole_size}
+use Rattle.code_of.proofs.Sizes.{whole_sized}
 
 -- variables that are in scope at no place behind n
 abbrev pub LocalsFit : ℕ → List LocVar → Type 0
@@ -119,18 +119,22 @@ module _ (cs : List Const) (back n : ℕ) where
     open_fit (Falls ss tokens line) closing t j pc end w le few = stats_fit ss closing t j pc end w.1 le few
     open_fit (Returns ss es tokens line) closing t j pc end w le few = stats_fit ss closing t j pc end w.1.0 (omega (arith, le)) few
 
+whole_fit : (cs : List Const) (back n : ℕ) (block : Block) (params j pc : ℕ) → BlockIsWritten block → pc + whole_size cs back block params j ≤ n → LocalsFit n (within_whole cs back block params j pc)
+whole_fit cs back n (Falls ss tokens line) params j pc w le = stats_fit cs back n ss false params j pc (pc + whole_size cs back (Falls ss tokens line) params j) w.1 (omega (arith, le)) le
+whole_fit cs back n (Returns ss es tokens line) params j pc w le = stats_fit cs back n ss false params j pc (pc + whole_size cs back (Returns ss es tokens line) params j) w.1.0 (omega (arith, le)) le
+
 pub body_locals : (body : Body) → BodyIsWritten body → length (body_code body) < 2 ^ 31 → list_all local_fits (variables_of body) ≡ true
 body_locals (BodyOf params false inner ups line) w few =
     let n = length (body_code (BodyOf params false inner ups line)) in
     let cs = of_block inner [] in
     let back = back_field false (length params) in
-    let size = whole_size cs back inner (length params) 0 in
+    let size = whole_sized cs back inner (length params) 0 in
     all_locals n (variables_of (BodyOf params false inner ups line)) few
-    (locals_both n (variables params 0 n) _ (variables_fit n params 0 n w.1.0 (omega arith) (omega arith)) (block_fit cs back n inner false 0 (length params) 0 0 w.1.1.1 (omega (arith, size))))
+    (locals_both n (variables params 0 n) _ (variables_fit n params 0 n w.1.0 (omega arith) (omega arith)) (whole_fit cs back n inner (length params) 0 0 w.1.1.1 (omega (arith, size))))
 body_locals (BodyOf params true inner ups line) w few =
     let n = length (body_code (BodyOf params true inner ups line)) in
     let cs = of_block inner [] in
     let back = back_field true (length params) in
-    let size = whole_size cs back inner (length params) 1 in
+    let size = whole_sized cs back inner (length params) 1 in
     all_locals n (variables_of (BodyOf params true inner ups line)) few
-    (locals_both n (variables params 0 n) _ (variables_fit n params 0 n w.1.0 (omega arith) (omega arith)) (block_fit cs back n inner false 0 (length params) 0 1 w.1.1.1 (omega (arith, size))))
+    (locals_both n (variables params 0 n) _ (variables_fit n params 0 n w.1.0 (omega arith) (omega arith)) (whole_fit cs back n inner (length params) 0 1 w.1.1.1 (omega (arith, size))))

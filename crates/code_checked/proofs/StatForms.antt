@@ -1,11 +1,11 @@
 -- The code of statements without blocks is a piece.
-use Rattle.std.proofs.Common.{ℕ, zero, suc, ◌+◌, ◌*◌, ◌<◌, ◌≤◌, ◌^◌, lit<, Bool, true, false, cond, List, [], ◌∷◌, length, Option, Some, refl, arith}
+use Rattle.std.proofs.Common.{◌≡◌, ℕ, zero, suc, ◌+◌, ◌*◌, ◌<◌, ◌≤◌, ◌^◌, lit<, Bool, true, false, cond, List, [], ◌∷◌, length, Option, Some, None, refl, sym, ap, subst, arith}
 use Rattle.std.specs.Prelude.{nat_eq}
 use Rattle.tree_core.specs.declared.name.Name.{Name}
 use Rattle.tree_core.specs.declared.name.Declared.{Declared}
 use Rattle.tree_core.specs.declared.name.Place.{Place}
 use Rattle.tree_core.specs.declared.name.Place.TheVariants.{Unset, Upvalue, GlobalIn, GlobalOf, Local as LocalPlace}
-use Rattle.tree_core.specs.Tree.{Body, BodyOf, Exp, Var, Index, Call, Method, Exps, EndExps, MoreExps}
+use Rattle.tree_core.specs.Tree.{Body, BodyOf, Exp, Var, Index, Binary, Call, Method, Exps, EndExps, MoreExps}
 use Rattle.tree_terms.specs.Bodies.{upvalues_of}
 use Rattle.tree_activation.specs.Statements.{is_closed}
 use Rattle.code_core.specs.declared.opcode.Opcode.TheVariants.{Move, LoadNil, Close, Tbc}
@@ -15,7 +15,11 @@ use Rattle.code_core.specs.Prototype.{Prototype, Prototypes, more}
 use Rattle.code_of.specs.Coded.{Coded, with_abc}
 use Rattle.code_of.specs.Constants.{with_constant, of_name, of_exp, of_exps}
 use Rattle.code_of.specs.Expressions.{made_by, made_in, count, ends_open, list_field, exps_code}
-use Rattle.code_of.specs.Parts.{marks_code, close_code, function_code, name_target, target_code, targets_code, name_store, store_code, stores_code, assign_code, values_last, call_last, method_last, return_code}
+use Rattle.code_of.specs.Operands.{assigned}
+use Rattle.code_of.proofs.Operands.{assigned_is}
+use Rattle.code_of.specs.Stores.{stores_field}
+use Rattle.code_of.proofs.Stores.{stores_field_is}
+use Rattle.code_of.specs.Parts.{marks_code, close_code, function_code, name_target, target_code, targets_code, name_store, store_code, stores_code, first_direct, first_field, stored_code, store_by, assign_by, assign_code, values_last, call_last, method_last, return_code}
 use Rattle.code_of.specs.CodeOf.{parts_of, from_exp, from_exps, from_body}
 use Rattle.code_checked.specs.Near.{IsRegister, NameIsNear, AreCaptured, ExpsAreNear, TargetIsNear, TargetsAreNear, ResultIsNear}
 use Rattle.code_checked.proofs.Pieces.{closed, listed, returned, Ends, Piece, both, nothing}
@@ -27,6 +31,9 @@ use Rattle.code_checked.proofs.Calls.{return_piece, tail_piece}
 use Rattle.code_checked.proofs.Lists.{open_mark, takes_list_field, field_below, HaveRoom}
 use Rattle.code_checked.proofs.Growing.{grows_exp, grows_exps, after_exp, after_exps}
 use Rattle.code_checked.proofs.Exps.{one_law, list_law, values_law}
+use Rattle.code_checked.proofs.FieldStores.{field_piece}
+use Rattle.code_checked.proofs.ExpForms.{DirectLaw, index_direct, binary_direct}
+use Rattle.code_checked.proofs.Lowering.{exps_lower}
 
 module _ (p : Prototype) where
   pub marks_piece : {H : Type 0} (names : List Declared) (t pc : ℕ) → t + length names < 2 ^ 8 → Piece p H closed closed pc (marks_code names t)
@@ -115,13 +122,56 @@ module _ (p : Prototype) where
         → Piece p H closed closed pc (exps_code p.own.constants es (Some n) t j line)
     values_piece es n t j line pc size cs rest h le room g fs = values_law p W source es H n t j line pc size cs rest h le (have_room n t room) g fs
 
-    pub assign_piece : (ts es : Exps) (t j line pc : ℕ) (cs : List Const) (rest : Prototypes) → IsRegister (t + 2 * count ts + count ts) → TargetsAreNear source p ts t t → ExpsAreNear source p es t (t + 2 * count ts) → Grows (of_exps es (of_exps ts cs)) p.own.constants
-        → Functions p j (from_exps source ts (from_exps source es rest)) → Piece p H closed closed pc (assign_code p.own.constants ts es t j line)
-    assign_piece ts es t j line pc cs rest r near_ts near_es g fs =
+    stored_piece : (ts es : Exps) (t j line pc : ℕ) (cs : List Const) (rest : Prototypes) → IsRegister (t + 2 * count ts + count ts) → TargetsAreNear source p ts t t → ExpsAreNear source p es t (t + 2 * count ts) → Grows (of_exps es (of_exps ts cs)) p.own.constants
+        → Functions p j (from_exps source ts (from_exps source es rest)) → Piece p H closed closed pc (stored_code p.own.constants ts es t j line)
+    stored_piece ts es t j line pc cs rest r near_ts near_es g fs =
         let first = of_exps ts cs in
         both p (targets_piece ts t j pc t cs (from_exps source es rest) near_ts (omega arith) (omega (arith, r)) (grows_then first (of_exps es first) p.own.constants (grows_exps es first) g) fs)
         (both p (values_piece es (count ts) (t + 2 * count ts) (j + made_in ts) line _ t first rest near_es (omega arith) (omega (arith, r)) g (after_exps source p ts j (from_exps source es rest) fs))
         (stores_piece source ts t t (t + 2 * count ts) _ W near_ts (omega (arith, r)) (omega (arith, r))))
+
+    -- a value that goes straight to a local's register
+
+    direct_piece : (e : Exp) → DirectLaw p W source H e
+    direct_piece (Index line o k) = index_direct p W source H line o k (one_law p W source o H) (one_law p W source k H)
+    direct_piece (Binary line op e d) = binary_direct p W source H line op e d (one_law p W source e H) (one_law p W source d H)
+    direct_piece _ = λ r t j pc size cs rest rf near le g fs. nothing p
+
+    first_piece : (es : Exps) (r t j pc size : ℕ) (cs : List Const) (rest : Prototypes) → r < 2 ^ 8 → ExpsAreNear source p es size t → size ≤ t → Grows (of_exps es cs) p.own.constants → Functions p j (from_exps source es rest)
+        → Piece p H closed closed pc (first_direct p.own.constants es r t j)
+    first_piece EndExps r t j pc size cs rest rf near le g fs = nothing p
+    first_piece (MoreExps e es) r t j pc size cs rest rf near le g fs =
+        let first = of_exp e cs in
+        direct_piece e r t j pc size cs (from_exps source es rest) rf near.0 le (grows_then first (of_exps es first) p.own.constants (grows_exps es first) g) fs
+
+    pub assign_piece : (ts es : Exps) (t j line pc : ℕ) (cs : List Const) (rest : Prototypes) → IsRegister (t + 2 * count ts + count ts) → TargetsAreNear source p ts t t → ExpsAreNear source p es t (t + 2 * count ts) → Grows (of_exps es (of_exps ts cs)) p.own.constants
+        → Functions p j (from_exps source ts (from_exps source es rest)) → Piece p H closed closed pc (assign_code p.own.constants ts es t j line)
+    assign_piece ts es t j line pc cs rest r near_ts near_es g fs = by (assigned ts es) refl
+      where
+        by : (o : Option ℕ) → assigned ts es ≡ o → Piece p H closed closed pc (assign_by p.own.constants o ts es t j line)
+        by None is = by_field (stores_field ts es) refl
+          where
+            by_field : (b : Bool) → stores_field ts es ≡ b → Piece p H closed closed pc (store_by p.own.constants b ts es t j line)
+            by_field false is = stored_piece ts es t j line pc cs rest r near_ts near_es g fs
+            by_field true is =
+                let form = stores_field_is ts es is in
+                let after = j + made_in ts in
+                let target = MoreExps (Index form.line form.object form.key) EndExps in
+                let alone = MoreExps form.value EndExps in
+                let value_at : t + 2 * count ts ≡ t + 2 = let n = ap count form.target in omega (arith, n) in
+                let near_target = subst (λ z. TargetsAreNear source p z t t) form.target near_ts in
+                let near_value = subst (λ z. ExpsAreNear source p z t (t + 2)) form.values (subst (λ m. ExpsAreNear source p es t m) value_at near_es) in
+                let grows = subst (λ z. Grows (of_exps alone (of_exps z cs)) p.own.constants) form.target (subst (λ z. Grows (of_exps z (of_exps ts cs)) p.own.constants) form.values g) in
+                let functions = subst (λ z. Functions p j (from_exps source z (from_exps source alone rest))) form.target (subst (λ z. Functions p j (from_exps source ts (from_exps source z rest))) form.values fs) in
+                let behind = subst (λ z. Functions p after (from_exps source z rest)) form.values (after_exps source p ts j (from_exps source es rest) fs) in
+                subst (λ z. Piece p H closed closed pc (first_field p.own.constants z es t j after)) (sym form.target)
+                (subst (λ z. Piece p H closed closed pc (first_field p.own.constants target z t j after)) (sym form.values)
+                (field_piece p W source H form.line form.object form.key form.value t j after pc t cs rest near_target.0.0 near_target.0.1 near_value.0 (omega arith) grows functions behind))
+        by (Some q) is =
+            let form = assigned_is ts es q is in
+            let target = subst (λ z. TargetsAreNear source p z t t) form.target near_ts in
+            let fits = subst (λ z. NameIsNear (length p.own.upvalues) z) form.place target.0 in
+            first_piece es q t (j + made_in ts) pc t (of_exps ts cs) rest fits (exps_lower source p es t t (t + 2 * count ts) (omega arith) near_es) (omega arith) g (after_exps source p ts j (from_exps source es rest) fs)
 
     -- returns
 

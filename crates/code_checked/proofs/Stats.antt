@@ -13,7 +13,7 @@ use Rattle.code_of.specs.Constants.{small_field, of_exp, of_exps, of_stat, of_ar
 use Rattle.code_of.specs.Expressions.{made_by, made_in, exp_code, exps_code}
 use Rattle.code_of.specs.Conditions.{test_code}
 use Rattle.code_of.specs.Jumps.{Visible, Reach, label_in}
-use Rattle.code_of.specs.Levels.{made_in_arms, made_in_stats, made_in_block, closings_after}
+use Rattle.code_of.specs.Levels.{made_in_arms, made_in_stats, made_in_block, closings_after, closed_below}
 use Rattle.tree_terms.specs.Levels.{levels_after, levels_in}
 use Rattle.code_of.specs.Parts.{close_code, past_size, past, return_code, bounds_code, steps_code, pair_code}
 use Rattle.code_of.specs.Sizes.{stat_size, arms_size, block_size}
@@ -247,7 +247,7 @@ module _ (p : Prototype) (W : Whole p) (source : Option (List ℕ)) where
 
   pub falls_law : (ss : Stats) (tokens line : ℕ) → StatsLaw ss → BlockLaw (Falls ss tokens line)
   falls_law ss tokens line law G closing outer t j pc reach cs rest to near r le g fs =
-      both p (law G true closing outer t j pc [] reach cs rest to (λ x. tt) near r le g fs).piece (close_piece p outer (levels_after ss t) line _ (omega (arith, r, le)))
+      both p (law G true closing outer t j pc [] reach cs rest to (λ x. tt) near r le g fs).piece (close_piece p outer (closed_below ss outer t) line _ (omega (arith, r, le)))
 
   pub result_piece : (G : Type 0) (ss : Stats) (es : Exps) (closing : Bool) (t j pc line : ℕ) (cs : List Const) (rest : Prototypes) → ResultIsNear source p es (levels_after ss t) → Grows (of_exps es (of_stats ss cs)) p.own.constants → Functions p j (from_stats source ss (from_exps source es rest))
       → Piece p G closed returned pc (return_code p.own.constants (closings_after ss closing) es (levels_after ss t) (j + made_in_stats ss) line back)

@@ -5,3 +5,4 @@ mod LoopVectors
 mod LuacListings
 mod Allowed
 mod ClosedCells
+mod ScopeListings

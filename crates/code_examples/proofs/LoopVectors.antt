@@ -86,10 +86,10 @@ jumps_about = fun ("a" ∷ []) [] (block (
     ∷ when (bin Equal (loc "i" 4) (int 2)) (Goto 1 (no_variable "found") ∷ []) ∷ [])) ∷ []))
 
 abbrev pub jumps_about_code : Prototype
-jumps_about_code = hand 1 false 6 [] [] (variable "a" 0 15 ∷ hidden 3 14 ∷ hidden 3 14 ∷ hidden 3 14 ∷ variable "i" 4 13 ∷ []) []
-    (load_int 1 3 ∷ load_int 2 1 ∷ abc Move 3 0 0 false ∷ abx ForPrep 1 9
-    ∷ abc Close 5 0 0 false ∷ jump 2 ∷ abc Close 1 0 0 false ∷ jump 6
-    ∷ abc EqI 4 129 0 false ∷ jump 2 ∷ abc Close 5 0 0 false ∷ jump_back 6 ∷ abc Close 4 0 0 false ∷ abx ForLoop 1 10 ∷ abc Return 1 1 0 true ∷ [])
+jumps_about_code = hand 1 false 6 [] [] (variable "a" 0 14 ∷ hidden 3 13 ∷ hidden 3 13 ∷ hidden 3 13 ∷ variable "i" 4 12 ∷ []) []
+    (load_int 1 3 ∷ load_int 2 1 ∷ abc Move 3 0 0 false ∷ abx ForPrep 1 8
+    ∷ abc Close 5 0 0 false ∷ jump 2 ∷ abc Close 1 0 0 false ∷ jump 5
+    ∷ abc EqI 4 129 0 false ∷ jump 2 ∷ abc Close 5 0 0 false ∷ jump_back 6 ∷ abx ForLoop 1 9 ∷ abc Return 1 1 0 true ∷ [])
 
 jump_code : Compiles jumps_about jumps_about_code
 unfolding opcodes number_of

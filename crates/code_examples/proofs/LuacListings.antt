@@ -2,24 +2,24 @@
 use Rattle.std.proofs.Common.{◌≡◌, ℕ, true, false, List, [], ◌∷◌, length, take, Some, refl}
 use Prim.Native.String.{String}
 use Rattle.code_core.specs.Opcode.{opcodes, number_of}
-use Rattle.code_core.specs.declared.opcode.Opcode.TheVariants.{Move, LoadFalse, LFalseSkip, LoadTrue, GetTabUp, Add, Mod, AddI, ShrI, MmBin, MmBinI, Eq, Lt, Le, EqI, LeI, GtI, GeI, Test, Call, Return, VarArg, VarArgPrep}
+use Rattle.code_core.specs.declared.opcode.Opcode.TheVariants.{Move, LoadFalse, LFalseSkip, LoadTrue, GetTabUp, GetTable, GetI, GetField, SetTable, SetI, SetField, Add, Mod, AddI, ShrI, MmBin, MmBinI, Eq, Lt, Le, EqI, LeI, GtI, GeI, Test, Call, Return, VarArg, VarArgPrep}
 use Rattle.code_core.specs.declared.instruction.Instruction.{Instruction}
 use Rattle.code_core.specs.Instruction.{abc}
 use Rattle.tree_core.specs.declared.operator.BinOp.TheVariants.{Add as Plus, Sub as Minus, Mod as Modulo, Shr as ShiftRight, Eq as Equal, Ne, Lt as Less, Le as AtMost, Gt, Ge}
 use Rattle.tree_core.specs.declared.operator.UnOp.TheVariants.{Not as Negation}
-use Rattle.tree_core.specs.Tree.{Body, Stat, Exp, True, False, Vararg, Unary, And, Or, Paren, While, If, IfElse, arms}
-use Rattle.tree_terms.proofs.Forms.{declared, of_local, loc, global, int, call, bin, block, returning, locals, loc_is, does, when, vararg_fun}
+use Rattle.tree_core.specs.Tree.{Body, Stat, Exp, True, False, Vararg, Index, Unary, And, Or, Paren, While, If, IfElse, arms}
+use Rattle.tree_terms.proofs.Forms.{declared, of_local, loc, global, int, field, call, bin, block, returning, locals, loc_is, assign, does, when, vararg_fun}
 use Rattle.code_means.proofs.Forms.{load_int, jump, jump_back}
 use Rattle.code_of.specs.CodeOf.{code_of}
 use Rattle.code_examples.proofs.Hand.{source, Lists}
 
-abbrev calls : String → Exp
+abbrev pub calls : String → Exp
 calls text = call (global text) []
 
-abbrev chunk : List Stat → Body
+abbrev pub chunk : List Stat → Body
 chunk ss = vararg_fun [] (of_local "_ENV" 0 ∷ []) (block ss)
 
-abbrev main : Stat → Body
+abbrev pub main : Stat → Body
 main s = chunk (s ∷ [])
 
 -- all but the last RETURN, whose field k Lua's own compiler sets where variables have to be closed, and we where locals are in scope
@@ -148,3 +148,41 @@ truths : Begins (chunk (two 1 2
     ∷ abc LoadTrue 4 0 0 false ∷ [])
 unfolding opcodes number_of
 truths = refl
+
+-- local t,i = f() local a,b,c = t[i],t[1],(t)[255]
+fields : Begins (chunk (locals (declared "t" 0 ∷ declared "i" 1 ∷ []) (calls "f" ∷ [])
+    ∷ locals (declared "a" 2 ∷ declared "b" 3 ∷ declared "c" 4 ∷ []) (Index 1 (loc "t" 0) (loc "i" 1) ∷ Index 1 (loc "t" 0) (int 1) ∷ Index 1 (Paren 1 (loc "t" 0)) (int 255) ∷ []) ∷ []))
+    (abc VarArgPrep 0 0 0 false ∷ abc GetTabUp 0 0 0 false ∷ abc Call 0 1 3 false ∷ abc GetTable 2 0 1 false ∷ abc GetI 3 0 1 false ∷ abc GetI 4 0 255 false ∷ [])
+unfolding opcodes number_of
+fields = refl
+
+-- local a = 1 a = a + 1 print(a)
+grows : Begins (chunk (loc_is "a" 0 (int 1) ∷ assign (loc "a" 0) (bin Plus (loc "a" 0) (int 1)) ∷ does (call (global "print") (loc "a" 0 ∷ [])) ∷ []))
+    (abc VarArgPrep 0 0 0 false ∷ load_int 0 1 ∷ abc AddI 0 0 128 false ∷ abc MmBinI 0 128 6 false ∷ abc GetTabUp 1 0 0 false ∷ abc Move 2 0 0 false ∷ abc Call 1 2 1 false ∷ [])
+unfolding opcodes number_of
+grows = refl
+
+-- local a,t = 1,f() a = t[a] a = g() + a
+straight : Begins (chunk (locals (declared "a" 0 ∷ declared "t" 1 ∷ []) (int 1 ∷ calls "f" ∷ [])
+    ∷ assign (loc "a" 0) (Index 1 (loc "t" 1) (loc "a" 0)) ∷ assign (loc "a" 0) (bin Plus (calls "g") (loc "a" 0)) ∷ []))
+    (abc VarArgPrep 0 0 0 false ∷ load_int 0 1 ∷ abc GetTabUp 1 0 0 false ∷ abc Call 1 1 2 false ∷ abc GetTable 0 1 0 false ∷ abc GetTabUp 2 0 1 false ∷ abc Call 2 1 2 false
+    ∷ abc Add 0 2 0 false ∷ abc MmBin 2 0 6 false ∷ [])
+unfolding opcodes number_of
+straight = refl
+
+-- local t,i = f() t.x = i t[1] = t t[i] = i g.x = i
+stores : Begins (chunk (locals (declared "t" 0 ∷ declared "i" 1 ∷ []) (calls "f" ∷ [])
+    ∷ assign (field (loc "t" 0) "x") (loc "i" 1) ∷ assign (Index 1 (loc "t" 0) (int 1)) (loc "t" 0) ∷ assign (Index 1 (loc "t" 0) (loc "i" 1)) (loc "i" 1) ∷ assign (field (global "g") "x") (loc "i" 1) ∷ []))
+    (abc VarArgPrep 0 0 0 false ∷ abc GetTabUp 0 0 0 false ∷ abc Call 0 1 3 false ∷ abc SetField 0 1 1 false ∷ abc SetI 0 1 0 false ∷ abc SetTable 0 1 1 false
+    ∷ abc GetTabUp 2 0 2 false ∷ abc SetField 2 1 1 false ∷ [])
+unfolding opcodes number_of
+stores = refl
+
+-- local t = f() local a,b = t.x,t.y.z a = t.x g(g.x,t["y"])
+names : Begins (chunk (loc_is "t" 0 (calls "f")
+    ∷ locals (declared "a" 1 ∷ declared "b" 2 ∷ []) (field (loc "t" 0) "x" ∷ field (field (loc "t" 0) "y") "z" ∷ []) ∷ assign (loc "a" 1) (field (loc "t" 0) "x")
+    ∷ does (call (global "g") (field (global "g") "x" ∷ field (loc "t" 0) "y" ∷ [])) ∷ []))
+    (abc VarArgPrep 0 0 0 false ∷ abc GetTabUp 0 0 0 false ∷ abc Call 0 1 2 false ∷ abc GetField 1 0 1 false ∷ abc GetField 2 0 2 false ∷ abc GetField 2 2 3 false ∷ abc GetField 1 0 1 false
+    ∷ abc GetTabUp 3 0 4 false ∷ abc GetTabUp 4 0 4 false ∷ abc GetField 4 4 1 false ∷ abc GetField 5 0 2 false ∷ abc Call 3 3 1 false ∷ [])
+unfolding opcodes number_of
+names = refl

@@ -3,7 +3,7 @@ use Rattle.std.proofs.Common.{true, false, [], ◌∷◌, refl}
 use Rattle.std.specs.Prelude.{pos, negsuc}
 use Rattle.std.specs.Int.{int_wrap}
 use Rattle.code_core.specs.Opcode.{opcodes, number_of}
-use Rattle.code_core.specs.declared.opcode.Opcode.TheVariants.{EqI, GtI, Move, LoadI, LoadK, LFalseSkip, LoadTrue, GetUpval, GetTabUp, GetTable, SetTable, NewTable, OpSelf, Sub, MmBin, Unm, Not, Len, Concat, Lt, Le, Test, Call, TailCall, Return, SetList, VarArg, VarArgPrep, ExtraArg}
+use Rattle.code_core.specs.declared.opcode.Opcode.TheVariants.{EqI, GtI, Move, LoadI, LoadK, LFalseSkip, LoadTrue, GetUpval, GetTabUp, GetField, SetTable, NewTable, OpSelf, Sub, MmBin, Unm, Not, Len, Concat, Lt, Le, Test, Call, TailCall, Return, SetList, VarArg, VarArgPrep, ExtraArg}
 use Rattle.code_core.specs.declared.proto.Const.TheVariants.{Int as IntConst}
 use Rattle.code_core.specs.Instruction.{abc, abx, op_ax}
 use Rattle.code_core.specs.Prototype.{Prototype}
@@ -129,11 +129,11 @@ unfolding opcodes number_of int_wrap
 open_lists = (refl, refl)
 
 abbrev pub makes_tables_code : Prototype
-makes_tables_code = hand 1 false 9 (text "a" ∷ text "b" ∷ text "m" ∷ text "x" ∷ text "c" ∷ []) [] (variable "o" 0 23 ∷ []) []
+makes_tables_code = hand 1 false 9 (text "a" ∷ text "b" ∷ text "m" ∷ text "x" ∷ text "c" ∷ []) [] (variable "o" 0 21 ∷ []) []
     (abc Move 1 0 0 false ∷ abx LoadK 2 0 ∷ abc Move 3 0 0 false ∷ abx LoadK 4 1 ∷ load_int 5 1
     ∷ abc Move 6 0 0 false ∷ abc OpSelf 6 6 2 true ∷ load_int 8 2 ∷ abc Call 6 3 2 false ∷ abc SetTable 3 4 6 false ∷ abc SetTable 1 2 5 false
     ∷ abc NewTable 1 0 0 false ∷ op_ax ExtraArg 0 ∷ load_int 2 3 ∷ abc SetList 1 1 0 false ∷ abx LoadK 2 3 ∷ load_int 3 4 ∷ abc SetTable 1 2 3 false
-    ∷ abc Move 2 0 0 false ∷ abx LoadK 3 4 ∷ abc GetTable 2 2 3 false ∷ abc SetList 1 1 1 false ∷ abc Return 1 2 0 true ∷ [])
+    ∷ abc GetField 2 0 4 false ∷ abc SetList 1 1 1 false ∷ abc Return 1 2 0 true ∷ [])
 
 tables_code : Compiles makes_tables makes_tables_code
 unfolding opcodes number_of

@@ -1,6 +1,7 @@
 pub mod Numbers
 pub mod Joining
 pub mod Seats
+pub mod FieldSeats
 pub mod Rows
 pub mod Ends
 pub mod Going

@@ -7,21 +7,14 @@ use Rattle.tree_core.specs.declared.operator.BinOp.TheVariants.{Add as Plus, Sub
 use Rattle.tree_core.specs.Tree.{Exp}
 use Rattle.code_of.specs.Coded.{Coded}
 use Rattle.code_of.specs.Expressions.{made_by}
-use Rattle.code_of.specs.Operands.{local_of, greatest, up_to, numeral_of, joins, Second, a_number, a_local, made, second_by, second_of, first_of, seat, unless, operands_code}
+use Rattle.code_of.specs.Operands.{local_of, greatest, up_to, numeral_of, joins, Second, a_number, a_local, made, second_by, second_of, key_operand, first_of, seat, unless, operands_code}
 use Rattle.code_of.proofs.Operands.{numeral_none}
 use Rattle.code_of.proofs.Operands as operands
-use Rattle.code_expr.specs.Listing.{Listing, followed}
+use Rattle.code_expr.specs.Listing.{Listing, listed, followed}
 use Rattle.code_expr.specs.declared.operands.Operands.{Operands}
-use Rattle.code_expr.specs.declared.operands.Second.{Second as Standing}
 use Rattle.code_expr.specs.declared.operands.Second.TheVariants.{Number, Register}
-use Rattle.code_expr.specs.Operands.{number_of_second, local_of_second, staying, standing, seated_code, done_code}
-use Rattle.code_expr.proofs.Joining.{listing}
-
-abbrev operands_at : ℕ → Standing → Operands
-operands_at first second = record { first = first; second = second }
-
-standing_is : (x y : Standing) → Some y ≡ Some x → x ≡ y
-standing_is x y h = sym (ap (λ o. elim o as (λ _. Standing) [ None ↦ y | Some z ↦ z ]) h)
+use Rattle.code_expr.specs.Operands.{number_of_second, local_of_second, staying, standing, stays_code, stays_made, stays_at, seated_code, done_code}
+use Rattle.code_expr.proofs.Joining.{listing, then_listed}
 
 -- where the second operand stands
 
@@ -135,53 +128,52 @@ none_stays (a_local q) h k = absurd (cc)
 
 -- it makes no function, and no code
 
-nothing_more : (s : Listing) → s ≡ followed s [] 0
+pub nothing_more : (s : Listing) → s ≡ followed s [] 0
 nothing_more s = ap₂ (listing s.constants) (sym (append-nil s.steps)) (omega arith)
 
 pub local_written : (s : Listing) (e : Exp) (r : ℕ) (code : List Coded) → local_of e ≡ Some r → s ≡ followed s (unless (local_of e) code) (made_by e)
 local_written s e r code h = nothing_more s ∙ ap₂ (λ o n. followed s (unless o code) n) (sym h) (sym (operands.local_makes e r h))
 
-second_makes : (op : BinOp) (d : Exp) (x : Standing) → staying (second_of op d) ≡ Some x → made_by d ≡ 0
-second_makes op d x h = by (second_of op d) refl h
+-- where two operands stand, and their code, by the form of the second one
+
+seated_code_is : (z : Second) (e : Exp) (first second : List Coded) → stays_code (staying z) (local_of e) first second ≡ seated_code z (first_of z e) first second
+seated_code_is made e first second = refl
+seated_code_is (a_local r) e first second = refl
+seated_code_is (a_number n) e first second = refl
+
+seated_makes : (z : Second) (d : Exp) (most m : ℕ) → operands.Stands z d most → stays_made (staying z) m (made_by d) ≡ m + made_by d
+seated_makes z d most m stands = by z refl
   where
-    by : (s : Second) → second_of op d ≡ s → staying s ≡ Some x → made_by d ≡ 0
-    by (a_number n) is h = ap made_by (operands.numeral_form op d n (operands.second_number op d n is)).is
-    by (a_local r) is h = operands.local_makes d r (operands.second_local op d r is)
-    by made is h = absurd (cc)
+    by : (x : Second) → z ≡ x → stays_made (staying x) m (made_by d) ≡ m + made_by d
+    by made is = refl
+    by (a_local r) is = let none = operands.local_makes d r (stands.local r is) in omega (arith, none)
+    by (a_number n) is = let none : made_by d ≡ 0 = ap made_by (stands.number n is).is in omega (arith, none)
 
-seated_beside : (s : Second) (x : Standing) (e : Exp) (first second : List Coded) → staying s ≡ Some x → unless (local_of e) first ≡ seated_code s (first_of s e) first second
-seated_beside (a_number n) x e first second h = refl
-seated_beside (a_local r) x e first second h = refl
-seated_beside made x e first second h = absurd (cc)
+pub seated_written : (s q : Listing) (z : Second) (e d : Exp) (most : ℕ) (first second : List Coded) → operands.Stands z d most
+    → q ≡ followed s (stays_code (staying z) (local_of e) first second) (stays_made (staying z) (made_by e) (made_by d)) → q ≡ followed s (seated_code z (first_of z e) first second) (made_by e + made_by d)
+seated_written s q z e d most first second stands p = p ∙ ap₂ (followed s) (seated_code_is z e first second) (seated_makes z d most (made_by e) stands)
 
-pub beside_written : (s q : Listing) (op : BinOp) (d e : Exp) (x : Standing) (first second : List Coded) → staying (second_of op d) ≡ Some x
-    → q ≡ followed s (unless (local_of e) first) (made_by e) → q ≡ followed s (seated_code (second_of op d) (first_of (second_of op d) e) first second) (made_by e + made_by d)
-beside_written s q op d e x first second h p =
-    let none = second_makes op d x h in
-    p ∙ ap₂ (followed s) (seated_beside (second_of op d) x e first second h) (omega (arith, none))
+pub seated_stand : (z : Second) (e : Exp) (t : ℕ) (o : Operands) → o ≡ stays_at (staying z) (local_of e) t → (o.first ≡ seat (first_of z e) t) × (o.second ≡ standing z t)
+seated_stand made e t o p = (ap (λ x. x.first) p, ap (λ x. x.second) p)
+seated_stand (a_local r) e t o p = (ap (λ x. x.first) p, ap (λ x. x.second) p)
+seated_stand (a_number n) e t o p = (ap (λ x. x.first) p, ap (λ x. x.second) p)
 
-beside_at : (s : Second) (x : Standing) (e : Exp) (t : ℕ) → staying s ≡ Some x → operands_at (seat (local_of e) t) x ≡ operands_at (seat (first_of s e) t) (standing s t)
-beside_at (a_number n) x e t h = ap (operands_at (seat (local_of e) t)) (standing_is x (Number n) h)
-beside_at (a_local r) x e t h = ap (operands_at (seat (local_of e) t)) (standing_is x (Register r) h)
-beside_at made x e t h = absurd (cc)
+-- code that two operands and what is done with them make together
+pub done_written : (s r q : Listing) (z : Second) (e : Exp) (first second : List Coded) (t n : ℕ) (o : Operands) (by num : (x y : ℕ) → List Coded)
+    → r ≡ followed s (seated_code z (first_of z e) first second) n → (o.first ≡ seat (first_of z e) t) × (o.second ≡ standing z t) → q ≡ listed r (done_code o.second o.first by num)
+    → q ≡ followed s (operands_code z (first_of z e) first second t by num) n
+done_written s r q z e first second t n o by num seated_is places p =
+    then_listed s r q (seated_code z (first_of z e) first second) n (λ k. done_code (standing z t) (seat (first_of z e) t) by num) seated_is
+    (p ∙ ap₂ (λ y x. listed r (done_code y x by num)) places.1 places.0)
+    ∙ ap (λ code. followed s code n) (sym (seated z e first second t by num))
 
-pub beside_stands : (s : Second) (x : Standing) (e : Exp) (t : ℕ) (o : Operands) → staying s ≡ Some x → o ≡ operands_at (seat (local_of e) t) x → o ≡ operands_at (seat (first_of s e) t) (standing s t)
-beside_stands s x e t o h p = p ∙ beside_at s x e t h
+-- keys
 
--- both are made
+pub key_number : (key : Exp) (n : ℕ) → numeral_of key (Some 255) ≡ Some n → staying (key_operand key) ≡ Some (Number n)
+key_number key n e = ap (λ o. staying (second_by o (local_of key))) e
 
-seated_both : (s : Second) (e : Exp) (first second : List Coded) → staying s ≡ None → first ++ second ≡ seated_code s (first_of s e) first second
-seated_both made e first second h = refl
-seated_both (a_number n) e first second h = absurd (cc)
-seated_both (a_local r) e first second h = absurd (cc)
+pub key_local : (key : Exp) (r : ℕ) → numeral_of key (Some 255) ≡ None → local_of key ≡ Some r → staying (key_operand key) ≡ Some (Register r)
+key_local key r e h = ap₂ (λ o q. staying (second_by o q)) e h
 
-pub both_written : (s q : Listing) (z : Second) (e : Exp) (first second : List Coded) (n : ℕ) → staying z ≡ None → q ≡ followed s (first ++ second) n → q ≡ followed s (seated_code z (first_of z e) first second) n
-both_written s q z e first second n h p = p ∙ ap (λ code. followed s code n) (seated_both z e first second h)
-
-both_at : (s : Second) (e : Exp) (t : ℕ) → staying s ≡ None → operands_at t (Register (t + 1)) ≡ operands_at (seat (first_of s e) t) (standing s t)
-both_at made e t h = refl
-both_at (a_number n) e t h = absurd (cc)
-both_at (a_local r) e t h = absurd (cc)
-
-pub both_stand : (s : Second) (e : Exp) (t : ℕ) (o : Operands) → staying s ≡ None → o ≡ operands_at t (Register (t + 1)) → o ≡ operands_at (seat (first_of s e) t) (standing s t)
-both_stand s e t o h p = p ∙ both_at s e t h
+pub key_none : (key : Exp) → numeral_of key (Some 255) ≡ None → local_of key ≡ None → staying (key_operand key) ≡ None
+key_none key e h = ap₂ (λ o q. staying (second_by o q)) e h

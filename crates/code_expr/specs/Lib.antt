@@ -4,4 +4,5 @@ pub mod Listing
 pub mod Operands
 pub mod Parts
 pub mod Patches
+pub mod Stores
 pub mod Testing

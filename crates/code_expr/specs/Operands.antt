@@ -1,7 +1,10 @@
 -- Where operands stand once they are written.
 use Rattle.std.specs.Prelude.{ℕ, ◌+◌, List, ◌++◌, Option, Some, None}
+use Rattle.tree_core.specs.Tree.{Exp, Index, Binary}
 use Rattle.code_of.specs.Coded.{Coded}
-use Rattle.code_of.specs.Operands.{Second, a_number, a_local, made, unless}
+use Rattle.code_of.specs.Expressions.{made_by}
+use Rattle.code_of.specs.Operands.{Second, a_number, a_local, made, seat, unless}
+use Rattle.code_expr.specs.declared.operands.Operands.{Operands}
 use Rattle.code_expr.specs.declared.operands.Second.{Second as Standing}
 use Rattle.code_expr.specs.declared.operands.Second.TheVariants.{Number, Register}
 
@@ -24,6 +27,27 @@ abbrev pub standing : Second → (t : ℕ) → Standing
 standing (a_number n) t = Number n
 standing (a_local r) t = Register r
 standing made t = Register (t + 1)
+
+-- Both operands, where it is known whether and where the second one stays, and the local that the first one names: their code, how many functions
+-- they make, and where they stand
+
+abbrev pub stays_code : Option Standing → (local : Option ℕ) → (first second : List Coded) → List Coded
+stays_code None local first second = first ++ second
+stays_code (Some x) local first second = unless local first
+
+abbrev pub stays_made : Option Standing → (first second : ℕ) → ℕ
+stays_made None first second = first + second
+stays_made (Some x) first second = first
+
+abbrev pub stays_at : Option Standing → (local : Option ℕ) → (t : ℕ) → Operands
+stays_at None local t = record { first = t; second = Register (t + 1) }
+stays_at (Some x) local t = record { first = seat local t; second = x }
+
+-- how many functions an expression makes whose value goes straight to a register
+abbrev pub made_directly : Exp → ℕ
+made_directly (Index line object key) = made_by object + made_by key
+made_directly (Binary line op e d) = made_by e + made_by d
+made_directly _ = 0
 
 -- the code of both operands
 abbrev pub seated_code : Second → Option ℕ → (first second : List Coded) → List Coded

@@ -11,7 +11,7 @@ ghost use Rattle.code_expr.specs.Operands.{done_code};
 ghost use Rattle.code_expr.specs.Testing.{compared_by, compared_code, registers_test, number_test, either_test, Tests};
 
 use crate::emitter::Emitter;
-use crate::operands::{Operands, Second};
+use crate::operands::{Operands, Second, staying};
 use crate::operators::{field_of, number_opcode};
 use code_core::Opcode;
 use std::alloc::AllocError;
@@ -153,7 +153,7 @@ impl Emitter {
     ) -> Result<Vec<usize>, AllocError>
         ensures { IfOk result (λ places. Opened self.old self.new (λ ahead. compared_code self.old.constants comparison.now (plain_exp left.now) (plain_exp right.now) wanted ahead free self.old.made line) (made_by (plain_exp left.now) + made_by (plain_exp right.now)) places.items) }
     {
-        let operands = self.operands(comparison.op, left, right, free)?;
+        let operands = self.operands(staying(comparison.op, right), left, right, free)?;
         let k = flag(comparison, wanted);
         let away = self.test_operands(comparison, operands, k, line)?;
         Ok(away)

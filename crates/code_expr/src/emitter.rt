@@ -88,6 +88,13 @@ impl Emitter {
         &self.steps
     }
 
+    /// How many functions it makes.
+    pub fn made(&self) -> usize
+        ensures { result ≡ self.now.made }
+    {
+        self.made
+    }
+
     /// The code with the constants that it names.
     pub fn finish(self) -> Emitted
         ensures steps { result.steps.items ≡ self.steps }

@@ -3,15 +3,16 @@ ghost use Rattle.std.specs.Prelude.{◌≡◌, ◌+◌, ◌++◌, OnOk, IfOk, ma
 ghost use Rattle.tree_core.specs.Tree.{exps, fields, Call, Method, Index, Binary, Unary, Table};
 ghost use Rattle.tree_core.specs.Plain.{plain_exp, plain_exps, plain_field};
 ghost use Rattle.code_of.specs.Expressions.{exp_code, exps_code, either_code, made_by, made_in, made_in_fields, made_by_field};
-ghost use Rattle.code_of.specs.Operands.{local_of, second_of, first_of, seat, unless};
+ghost use Rattle.code_of.specs.Operands.{local_of, seat, unless};
+ghost use Rattle.code_of.specs.Parts.{direct_code};
 ghost use Rattle.code_expr.specs.Listing.{followed};
 ghost use Rattle.code_expr.specs.declared.operands.Second.TheVariants.{Register};
-ghost use Rattle.code_expr.specs.Operands.{standing, seated_code};
+ghost use Rattle.code_expr.specs.Operands.{stays_code, stays_made, stays_at};
 ghost use Rattle.code_expr.specs.Parts.{item_code, keyed_code, field_code, items_after};
 
 use crate::emitter::{Emitter, next};
 use crate::lists::{field_where, fills, item_field, list_field, stored_field, wanted_where};
-use crate::operands::{Operands, Second, local_of, staying};
+use crate::operands::{Operands, Second, key_staying, local_of, staying};
 use code_core::Opcode;
 use std::alloc::AllocError;
 use tree_core::{BinOp, Exp, ExpNode, Field, Name, UnOp};
@@ -37,7 +38,7 @@ impl Emitter {
             ExpNode::Paren(inner) => self.expression(inner, target, 2),
             ExpNode::Unary(op, operand) => self.unary(*op, operand, target, line),
             ExpNode::Binary(op, left, right) => self.binary(*op, left, right, target, line),
-            ExpNode::Index(object, key) => self.index(object, key, target, line),
+            ExpNode::Index(object, key) => self.index(object, key, target, target, line),
             ExpNode::And(left, right) => self.either(false, left, right, target, line),
             ExpNode::Or(left, right) => self.either(true, left, right, target, line),
             ExpNode::Call(called, arguments) => self.call(called, arguments, target, results, line),
@@ -70,24 +71,24 @@ impl Emitter {
     ) -> Result<(), AllocError>
         ensures { OnOk result (self.new ≡ followed self.old (exp_code self.old.constants (Binary line op (plain_exp left.now) (plain_exp right.now)) target self.old.made 2) (made_by (Binary line op (plain_exp left.now) (plain_exp right.now)))) }
     {
-        let operands = self.operands(op, left, right, target)?;
+        let operands = self.operands(staying(op, right), left, right, target)?;
         self.apply(op, operands, target, line)?;
         Ok(())
     }
 
-    /// Writes the operands of an operator whose result goes to a register, and answers where they stand.
+    /// Writes two operands, of which the second one stays somewhere or is made, and answers where they stand.
     #[cycle(expressions)]
     pub(crate) fn operands(
         &mut self,
-        op: BinOp,
+        stays: Option<Second>,
         left: &Exp,
         right: &Exp,
         target: usize,
     ) -> Result<Operands, AllocError>
-        ensures code { OnOk result (self.new ≡ followed self.old (seated_code (second_of op (plain_exp right.now)) (first_of (second_of op (plain_exp right.now)) (plain_exp left.now)) (exp_code self.old.constants (plain_exp left.now) target self.old.made 2) (exp_code self.old.constants (plain_exp right.now) (target + 1) (self.old.made + made_by (plain_exp left.now)) 2)) (made_by (plain_exp left.now) + made_by (plain_exp right.now))) }
-        ensures places { IfOk result (λ operands. operands ≡ record { first = seat (first_of (second_of op (plain_exp right.now)) (plain_exp left.now)) target; second = standing (second_of op (plain_exp right.now)) target }) }
+        ensures code { OnOk result (self.new ≡ followed self.old (stays_code stays (local_of (plain_exp left.now)) (exp_code self.old.constants (plain_exp left.now) target self.old.made 2) (exp_code self.old.constants (plain_exp right.now) (target + 1) (self.old.made + made_by (plain_exp left.now)) 2)) (stays_made stays (made_by (plain_exp left.now)) (made_by (plain_exp right.now)))) }
+        ensures places { IfOk result (λ operands. operands ≡ stays_at stays (local_of (plain_exp left.now)) target) }
     {
-        match staying(op, right) {
+        match stays {
             Some(second) => self.beside(left, second, target),
             None => self.both(left, right, target),
         }
@@ -131,16 +132,28 @@ impl Emitter {
         Ok(target)
     }
 
-    /// Writes a value that is indexed and its key.
+    /// Writes a field that goes to one register, where the registers from another one on are free.
     #[cycle(expressions)]
-    fn index(&mut self, object: &Exp, key: &Exp, target: usize, line: u32) -> Result<(), AllocError>
-        ensures { OnOk result (self.new ≡ followed self.old (exp_code self.old.constants (Index line (plain_exp object.now) (plain_exp key.now)) target self.old.made 2) (made_by (Index line (plain_exp object.now) (plain_exp key.now)))) }
+    pub(crate) fn index(
+        &mut self,
+        object: &Exp,
+        key: &Exp,
+        target: usize,
+        free: usize,
+        line: u32,
+    ) -> Result<(), AllocError>
+        ensures { OnOk result (self.new ≡ followed self.old (direct_code self.old.constants (Index line (plain_exp object.now) (plain_exp key.now)) target free self.old.made) (made_by (Index line (plain_exp object.now) (plain_exp key.now)))) }
     {
-        let above = next(target)?;
-        self.expression(object, target, 2)?;
-        self.expression(key, above, 2)?;
-        self.put_abc(Opcode::GetTable, target, target, above, line)?;
-        Ok(())
+        match self.name_in(key) {
+            Some(number) => {
+                let register = self.operand(object, free)?;
+                self.put_abc(Opcode::GetField, target, register, number, line)
+            }
+            None => {
+                let operands = self.operands(key_staying(key), object, key, free)?;
+                self.read_field(operands, target, line)
+            }
+        }
     }
 
     /// Writes `and` or `or`, where the first operand decides if its truth is `decides`.

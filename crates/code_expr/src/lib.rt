@@ -4,14 +4,18 @@
 mod collecting;
 mod conditions;
 mod constants;
+mod direct;
 mod emitter;
 mod expressions;
 mod lists;
 mod names;
 mod operands;
 mod operators;
+mod stores;
 mod word;
 
 pub use constants::Constants;
+pub use direct::direct_local;
 pub use emitter::{Emitted, Emitter, Step, next};
 pub use lists::{is_open, list_field};
+pub use stores::is_field;

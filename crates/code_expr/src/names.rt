@@ -76,7 +76,7 @@ impl Emitter {
         ensures { OnOk result (self.new ≡ listed self.old (name_code self.old.constants name.now.place name.now.text target line)) }
     {
         match name.place {
-            Place::Unset => Ok(()),
+            Place::Unset => self.put_abc(Opcode::LoadNil, target, 0, 0, line),
             Place::Local(register) => {
                 self.put_abc(Opcode::Move, target, usize::from(register), 0, line)
             }

@@ -1,12 +1,12 @@
-// Where the operands of an operator stand.
+// Where the operands of an operator stand, and an object and its key.
 ghost use Rattle.std.specs.Prelude.{◌≡◌};
 ghost use Rattle.tree_core.specs.Plain.{plain_exp};
-ghost use Rattle.code_of.specs.Operands.{local_at, local_of, greatest, up_to, numeral_of, second_of};
+ghost use Rattle.code_of.specs.Operands.{local_at, local_of, greatest, up_to, numeral_of, second_of, key_operand};
 ghost use Rattle.code_expr.specs.Operands.{number_of_second, local_of_second, staying};
 
 use tree_core::{BinOp, Exp, ExpNode, Name, Place};
 
-/// Where the second operand of an operator stands.
+/// Where a second operand stands.
 #[derive(Clone, Copy, Debug, PartialEq, Eq)]
 pub(crate) enum Second {
     /// It is a numeral in the instruction.
@@ -15,7 +15,7 @@ pub(crate) enum Second {
     Register(usize),
 }
 
-/// Where both operands of an operator stand.
+/// Where two operands stand.
 #[derive(Clone, Copy, Debug, PartialEq, Eq)]
 pub(crate) struct Operands {
     /// The register of the first one.
@@ -25,7 +25,7 @@ pub(crate) struct Operands {
 }
 
 /// The register of a local variable, or none for another name.
-fn local_at(name: &Name) -> Option<usize>
+pub(crate) fn local_at(name: &Name) -> Option<usize>
     ensures { result ≡ local_at name.now.place }
 {
     match name.place {
@@ -100,7 +100,7 @@ fn up_to(most: usize, integer: i64) -> Option<usize>
 }
 
 /// An expression that is a numeral of at most some number, or none.
-fn numeral_of(exp: &Exp, most: Option<usize>) -> Option<usize>
+pub(crate) fn numeral_of(exp: &Exp, most: Option<usize>) -> Option<usize>
     ensures { result ≡ numeral_of (plain_exp exp.now) most }
 {
     match &exp.node {
@@ -152,6 +152,20 @@ pub(crate) fn staying(op: BinOp, exp: &Exp) -> Option<Second>
         return Some(Second::Number(number));
     }
     match local(op, exp) {
+        Some(register) => Some(Second::Register(register)),
+        None => None,
+    }
+}
+
+/// Where the key of a field stays, or none for one that is made.
+#[tactic(auto, using(crate::proofs::Seats::key_number, crate::proofs::Seats::key_local, crate::proofs::Seats::key_none))]
+pub(crate) fn key_staying(exp: &Exp) -> Option<Second>
+    ensures { result ≡ staying (key_operand (plain_exp exp.now)) }
+{
+    if let Some(number) = numeral_of(exp, Some(255)) {
+        return Some(Second::Number(number));
+    }
+    match local_of(exp) {
         Some(register) => Some(Second::Register(register)),
         None => None,
     }

@@ -1,5 +1,7 @@
 // Operators, whose operands stand in registers or are numerals.
-ghost use Rattle.std.specs.Prelude.{◌≡◌, ◌+◌, OnOk, IfOk};
+ghost use Rattle.std.specs.Prelude.{◌≡◌, ◌+◌, [], ◌∷◌, OnOk, IfOk};
+ghost use Rattle.code_core.specs.declared.opcode.Opcode.TheVariants.{GetTable, GetI};
+ghost use Rattle.code_of.specs.Coded.{with_abc};
 ghost use Rattle.code_of.specs.Operators.{arithmetic_code, sum_code, truth_code, operator_code, number_code, number_opcode, prefix_code, prefix_opcode};
 ghost use Rattle.code_expr.specs.Listing.{listed};
 ghost use Rattle.code_expr.specs.Operands.{done_code};
@@ -76,6 +78,25 @@ impl Emitter {
             Second::Number(number) => self.with_number(op, operands.first, number, target, line),
             Second::Register(register) => {
                 self.operator(op, operands.first, register, target, line)
+            }
+        }
+    }
+
+    /// Reads a field, whose object and key stand somewhere.
+    pub(crate) fn read_field(
+        &mut self,
+        operands: Operands,
+        target: usize,
+        line: u32,
+    ) -> Result<(), AllocError>
+        ensures { OnOk result (self.new ≡ listed self.old (done_code operands.second operands.first (λ x y. with_abc GetTable target x y line ∷ []) (λ x n. with_abc GetI target x n line ∷ []))) }
+    {
+        match operands.second {
+            Second::Number(number) => {
+                self.put_abc(Opcode::GetI, target, operands.first, number, line)
+            }
+            Second::Register(register) => {
+                self.put_abc(Opcode::GetTable, target, operands.first, register, line)
             }
         }
     }

@@ -3,10 +3,13 @@ use Rattle.std.proofs.Common.{leb-true, ◌≡◌, ℕ, ◌+◌, ◌≤◌, max,
 use Rattle.std.specs.Prelude.{nat_le}
 use Rattle.tree_core.specs.declared.operator.BinOp.{BinOp}
 use Rattle.tree_core.specs.declared.operator.BinOp.TheVariants.{Add as Plus, Sub as Minus, Mul as Times, Mod as Modulo, Idiv, Band, Bor, Bxor, Shl as ShiftLeft, Shr as ShiftRight, Concat as Join, Eq as Equal, Ne, Lt as Less, Le as AtMost, Gt, Ge}
-use Rattle.tree_core.specs.Tree.{Exp, Nil, True, False, Int, Str, Vararg, Function, Var, Index, Call, Method, Unary, Binary, And, Or, Paren, Table}
+use Rattle.tree_core.specs.declared.name.Name.{Name}
+use Rattle.tree_core.specs.declared.name.Place.{Place}
+use Rattle.tree_core.specs.declared.name.Place.TheVariants.{Local as LocalPlace}
+use Rattle.tree_core.specs.Tree.{Exp, Nil, True, False, Int, Str, Vararg, Function, Var, Index, Call, Method, Unary, Binary, And, Or, Paren, Table, Exps, EndExps, MoreExps}
 use Rattle.code_of.specs.Coded.{Coded}
 use Rattle.code_of.specs.Expressions.{made_by}
-use Rattle.code_of.specs.Operands.{local_of, greatest, numeral_of, joins, Second, a_number, a_local, made, second_by, second_of, first_of, unless, seat, second_code, operands_code, operands_room}
+use Rattle.code_of.specs.Operands.{local_at, local_of, computes, is_direct, target_local, assigned, greatest, numeral_of, joins, Second, a_number, a_local, made, second_by, second_of, key_operand, first_of, unless, seat, second_code, operands_code, operands_room}
 
 -- a numeral, and a local
 
@@ -18,23 +21,29 @@ abbrev local_part : Second → Option ℕ
 local_part (a_local r) = Some r
 local_part _ = None
 
+number_by : (number local : Option ℕ) (n : ℕ) → second_by number local ≡ a_number n → number ≡ Some n
+number_by (Some m) local n e = ap number_part e
+number_by None (Some r) n e = ap number_part e
+number_by None None n e = ap number_part e
+
+local_by : (number local : Option ℕ) (r : ℕ) → second_by number local ≡ a_local r → local ≡ Some r
+local_by (Some m) local r e = let no : None ≡ Some r = ap local_part e in absurd (cc)
+local_by None (Some q) r e = ap local_part e
+local_by None None r e = ap local_part e
+
 pub second_number : (op : BinOp) (d : Exp) (n : ℕ) → second_of op d ≡ a_number n → numeral_of d (greatest op) ≡ Some n
-second_number op d n e = by (joins op) (numeral_of d (greatest op)) (local_of d) e
+second_number op d n e = by (joins op) e
   where
-    by : (b : Bool) (number local : Option ℕ) → cond b made (second_by number local) ≡ a_number n → number ≡ Some n
-    by true number local e = let no : None ≡ Some n = ap number_part e in absurd (cc)
-    by false (Some m) local e = ap number_part e
-    by false None (Some r) e = ap number_part e
-    by false None None e = ap number_part e
+    by : (b : Bool) → cond b made (second_by (numeral_of d (greatest op)) (local_of d)) ≡ a_number n → numeral_of d (greatest op) ≡ Some n
+    by true e = let no : None ≡ Some n = ap number_part e in absurd (cc)
+    by false e = number_by (numeral_of d (greatest op)) (local_of d) n e
 
 pub second_local : (op : BinOp) (d : Exp) (r : ℕ) → second_of op d ≡ a_local r → local_of d ≡ Some r
-second_local op d r e = by (joins op) (numeral_of d (greatest op)) (local_of d) e
+second_local op d r e = by (joins op) e
   where
-    by : (b : Bool) (number local : Option ℕ) → cond b made (second_by number local) ≡ a_local r → local ≡ Some r
-    by true number local e = let no : None ≡ Some r = ap local_part e in absurd (cc)
-    by false (Some m) local e = let no : None ≡ Some r = ap local_part e in absurd (cc)
-    by false None (Some q) e = ap local_part e
-    by false None None e = ap local_part e
+    by : (b : Bool) → cond b made (second_by (numeral_of d (greatest op)) (local_of d)) ≡ a_local r → local_of d ≡ Some r
+    by true e = let no : None ≡ Some r = ap local_part e in absurd (cc)
+    by false e = local_by (numeral_of d (greatest op)) (local_of d) r e
 
 pub record IsNumeral (d : Exp) (n most : ℕ) : Type 0 where
   pub line : ℕ
@@ -110,20 +119,84 @@ numeral_form Join d n e = absurd (numeral_none d n e)
 
 -- the operands of `..` are made
 
-not_local : (r : ℕ) → made ≡ a_local r → ⊥
-not_local r e = let no : None ≡ Some r = ap local_part e in absurd (cc)
+pub local_not_made : (r : ℕ) → a_local r ≡ made → ⊥
+local_not_made r e = let no : Some r ≡ None = ap local_part e in absurd (cc)
 
-not_number : (n : ℕ) → made ≡ a_number n → ⊥
-not_number n e = let no : None ≡ Some n = ap number_part e in absurd (cc)
+pub number_not_made : (n : ℕ) → a_number n ≡ made → ⊥
+number_not_made n e = let no : Some n ≡ None = ap number_part e in absurd (cc)
 
-joins_made : (op : BinOp) (d : Exp) → joins op ≡ true → second_of op d ≡ made
+pub joins_made : (op : BinOp) (d : Exp) → joins op ≡ true → second_of op d ≡ made
 joins_made op d joined = ap (λ b. cond b made (second_by (numeral_of d (greatest op)) (local_of d))) joined
 
 pub local_no_join : (op : BinOp) (d : Exp) (r : ℕ) → second_of op d ≡ a_local r → joins op ≡ true → ⊥
-local_no_join op d r e joined = not_local r (sym (joins_made op d joined) ∙ e)
+local_no_join op d r e joined = local_not_made r (sym e ∙ joins_made op d joined)
 
 pub number_no_join : (op : BinOp) (d : Exp) (n : ℕ) → second_of op d ≡ a_number n → joins op ≡ true → ⊥
-number_no_join op d n e joined = not_number n (sym (joins_made op d joined) ∙ e)
+number_no_join op d n e joined = number_not_made n (sym e ∙ joins_made op d joined)
+
+-- an operator that computes a value joins nothing
+pub computes_no_join : (op : BinOp) → computes op ≡ true → joins op ≡ false
+computes_no_join Plus e = refl
+computes_no_join Minus e = refl
+computes_no_join Times e = refl
+computes_no_join Modulo e = refl
+computes_no_join Idiv e = refl
+computes_no_join Band e = refl
+computes_no_join Bor e = refl
+computes_no_join Bxor e = refl
+computes_no_join ShiftLeft e = refl
+computes_no_join ShiftRight e = refl
+computes_no_join Join e = absurd (cc)
+computes_no_join Equal e = absurd (cc)
+computes_no_join Ne e = absurd (cc)
+computes_no_join Less e = absurd (cc)
+computes_no_join AtMost e = absurd (cc)
+computes_no_join Gt e = absurd (cc)
+computes_no_join Ge e = absurd (cc)
+
+-- where a local is assigned a value straight into its register
+
+pub record IsAssigned (targets es : Exps) (r : ℕ) : Type 0 where
+  pub line : ℕ
+  pub name : Name
+  pub value : Exp
+  pub target : targets ≡ MoreExps (Var line name) EndExps
+  pub values : es ≡ MoreExps value EndExps
+  pub place : name.place ≡ LocalPlace r
+  pub direct : is_direct value ≡ true
+
+place_is : (p : Place) (r : ℕ) → local_at p ≡ Some r → p ≡ LocalPlace r
+place_is (LocalPlace q) r e = ap LocalPlace (some_is q r e)
+place_is _ r e = absurd (cc)
+
+target_is : (x e : Exp) (r : ℕ) → is_direct e ≡ true → target_local x ≡ Some r → IsAssigned (MoreExps x EndExps) (MoreExps e EndExps) r
+target_is (Var line name) e r is h = record { line = line; name = name; value = e; target = refl; values = refl; place = place_is name.place r h; direct = is }
+target_is _ e r is h = absurd (cc)
+
+pub assigned_is : (targets es : Exps) (r : ℕ) → assigned targets es ≡ Some r → IsAssigned targets es r
+assigned_is EndExps es r h = absurd (cc)
+assigned_is (MoreExps x (MoreExps y targets)) es r h = absurd (cc)
+assigned_is (MoreExps x EndExps) EndExps r h = absurd (cc)
+assigned_is (MoreExps x EndExps) (MoreExps e (MoreExps d es)) r h = absurd (cc)
+assigned_is (MoreExps x EndExps) (MoreExps e EndExps) r h = by (is_direct e) refl h
+  where
+    by : (b : Bool) → is_direct e ≡ b → cond b (target_local x) None ≡ Some r → IsAssigned (MoreExps x EndExps) (MoreExps e EndExps) r
+    by true is h = target_is x e r is h
+    by false is h = absurd (cc)
+
+-- an operand that stands so is that local, or that numeral
+pub record Stands (s : Second) (d : Exp) (most : ℕ) : Type 0 where
+  pub local : (r : ℕ) → s ≡ a_local r → local_of d ≡ Some r
+  pub number : (n : ℕ) → s ≡ a_number n → IsNumeral d n most
+
+pub operator_stands : (op : BinOp) (d : Exp) → Stands (second_of op d) d 128
+operator_stands op d = record { local = second_local op d; number = λ n e. numeral_form op d n (second_number op d n e) }
+
+pub key_stands : (key : Exp) → Stands (key_operand key) key 255
+key_stands key = record {
+  local = λ r e. local_by (numeral_of key (Some 255)) (local_of key) r e;
+  number = λ n e. numeral_is key 255 n (number_by (numeral_of key (Some 255)) (local_of key) n e);
+}
 
 -- a local makes no function
 pub local_makes : (e : Exp) (r : ℕ) → local_of e ≡ Some r → made_by e ≡ 0
@@ -200,3 +273,11 @@ few_operands own (a_local r) None first second h = omega arith
 few_operands own (a_local r) (Some x) first second h = omega (arith, h)
 few_operands own (a_number n) None first second h = omega arith
 few_operands own (a_number n) (Some x) first second h = omega (arith, h)
+
+-- what is done with two operands that stay takes no registers where its result goes to a local
+pub operands_less : (s : Second) (at : Option ℕ) (first second : ℕ) → operands_room 0 s at first second ≤ operands_room 1 s at first second
+operands_less made at first second = omega arith
+operands_less (a_local r) None first second = omega arith
+operands_less (a_local r) (Some x) first second = omega arith
+operands_less (a_number n) None first second = omega arith
+operands_less (a_number n) (Some x) first second = omega arith

@@ -14,10 +14,10 @@ use Rattle.code_of.specs.Operands.{second_of, first_of}
 use Rattle.code_of.specs.Operators.{number_opcode}
 use Rattle.code_of.proofs.Operands.{operands_sized}
 use Rattle.code_of.specs.Jumps.{Landing, Visible, Reach, label_in, leads}
-use Rattle.code_of.specs.Levels.{made_by_stat, made_in_arms, made_in_stats, made_in_block, closing_after, closings_after}
+use Rattle.code_of.specs.Levels.{made_by_stat, made_in_arms, made_in_stats, made_in_block, closing_after, closings_after, closed_below}
 use Rattle.tree_terms.specs.Levels.{level_after, levels_after, levels_in}
 use Rattle.code_of.specs.Parts.{marks_code, close_code, while_code, repeat_code, past_size, past, arm_code, counting_code, iterating_code, return_code, bounds_code, steps_code}
-use Rattle.code_of.specs.Sizes.{stat_size, arms_size, stats_size, block_size, open_size}
+use Rattle.code_of.specs.Sizes.{stat_size, arms_size, stats_size, block_size, open_size, whole_size}
 use Rattle.code_of.specs.Statements.{in_loop, passed_after, labels_ahead, stat_code, arms_code, stats_code, block_code, open_code, whole_code}
 use Rattle.std.specs.Prelude.{cond, not, nat_eq}
 
@@ -236,8 +236,8 @@ module _ (cs : List Const) (back : ℕ) where
 
     pub block_sized : (block : Block) (closing : Bool) (outer t j pc : ℕ) (reach : Reach) → length (block_code cs back block closing outer t j pc reach) ≡ block_size cs back block closing outer t j
     block_sized (Falls ss tokens line) closing outer t j pc reach =
-        length-append (stats_code cs back ss true closing outer t j pc [] reach) (close_code outer (levels_after ss t) line)
-        ∙ ap (λ n. n + length (close_code outer (levels_after ss t) line)) (stats_sized ss true closing outer t j pc [] reach)
+        length-append (stats_code cs back ss true closing outer t j pc [] reach) (close_code outer (closed_below ss outer t) line)
+        ∙ ap (λ n. n + length (close_code outer (closed_below ss outer t) line)) (stats_sized ss true closing outer t j pc [] reach)
     block_sized (Returns ss es tokens line) closing outer t j pc reach =
         let last = return_code cs (closings_after ss closing) es (levels_after ss t) (j + made_in_stats ss) line back in
         length-append (stats_code cs back ss false closing outer t j pc [] reach) last
@@ -257,11 +257,10 @@ close_short before after line = by (nat_eq before after)
     by true = omega arith
     by false = omega arith
 
-pub whole_size : (cs : List Const) (back : ℕ) (block : Block) (params pc : ℕ) → block_size cs back block false 0 params 0 ≤ length (whole_code cs back block params pc)
-whole_size cs back (Falls ss tokens line) params pc =
-    let one = close_short 0 (levels_after ss params) line in
+pub whole_sized : (cs : List Const) (back : ℕ) (block : Block) (params pc : ℕ) → length (whole_code cs back block params pc) ≡ whole_size cs back block params 0
+whole_sized cs back (Falls ss tokens line) params pc =
     let reach : Reach = record { labels = []; exit = None } in
     let a = length-append (stats_code cs back ss true false 0 params 0 pc [] reach) (leaving_by Return (levels_after ss params) 1 back line ∷ []) in
     let b = stats_sized cs back ss true false 0 params 0 pc [] reach in
-    omega (arith, one, a, b)
-whole_size cs back (Returns ss es tokens line) params pc = let a = block_sized cs back (Returns ss es tokens line) false 0 params 0 pc (record { labels = []; exit = None }) in omega (arith, a)
+    omega (arith, a, b)
+whole_sized cs back (Returns ss es tokens line) params pc = block_sized cs back (Returns ss es tokens line) false 0 params 0 pc (record { labels = []; exit = None })

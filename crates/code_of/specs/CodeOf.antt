@@ -14,7 +14,7 @@ use Rattle.code_core.specs.Prototype.{Parts, Prototype, Prototypes, none, more}
 use Rattle.code_of.specs.Coded.{Coded, words, lines, with_abc}
 use Rattle.code_of.specs.Constants.{of_block}
 use Rattle.code_of.specs.Statements.{whole_code}
-use Rattle.code_of.specs.Variables.{variables, within_block}
+use Rattle.code_of.specs.Variables.{variables, within_whole}
 
 -- a function with `...` begins by VARARGPREP, and its returns name one more than the number of its parameters
 
@@ -78,7 +78,7 @@ where_known (Some source) xs = xs
 abbrev pub variables_of : Body → List LocVar
 variables_of (BodyOf params vararg inner ups line) =
     variables params 0 (length (body_code (BodyOf params vararg inner ups line)))
-    ++ within_block (of_block inner []) (back_field vararg (length params)) inner false 0 (length params) 0 (cond vararg 1 0)
+    ++ within_whole (of_block inner []) (back_field vararg (length params)) inner (length params) 0 (cond vararg 1 0)
 
 -- the main function has line 0, and no last line either
 abbrev pub last_line_of : Block → (line : ℕ) → ℕ

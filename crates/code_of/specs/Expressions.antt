@@ -3,13 +3,15 @@
 use Rattle.std.specs.Prelude.{ℕ, zero, suc, ◌+◌, ◌-◌, ◌/◌, ◌%◌, Bool, true, false, cond, List, [], ◌∷◌, ◌++◌, length, nat_lt, Option, Some, None}
 use Rattle.tree_core.specs.Tree.{Exp, Nil, True, False, Int, Str, Vararg, Function, Var, Index, Call, Method, Unary, Binary, And, Or, Paren, Table, Exps, EndExps, MoreExps, Fields, EndFields, MoreFields, Field, Item, Keyed}
 use Rattle.tree_terms.specs.Bodies.{line_of_body}
-use Rattle.code_core.specs.declared.opcode.Opcode.TheVariants.{LoadFalse, LoadTrue, LoadNil, GetTable, SetTable, NewTable, Test, SetList, Closure, VarArg, ExtraArg, Call as CallCode}
+use Rattle.code_core.specs.declared.opcode.Opcode.TheVariants.{LoadFalse, LoadTrue, LoadNil, SetTable, NewTable, Test, SetList, Closure, VarArg, ExtraArg, Call as CallCode}
 use Rattle.code_core.specs.declared.proto.Const.{Const}
 use Rattle.code_core.specs.declared.proto.Const.TheVariants.{Str as StrConst}
 use Rattle.code_core.specs.Instruction.{abc, op_ax}
 use Rattle.code_of.specs.Coded.{Coded, with_abc, with_abx, jump_over}
 use Rattle.code_of.specs.Constants.{loads, loads_integer}
 use Rattle.code_of.specs.Operands.{second_of, first_of, operands_code}
+use Rattle.code_of.specs.Stores.{name_in}
+use Rattle.code_of.specs.FieldReads.{read_code}
 use Rattle.code_of.specs.Operators.{name_code, self_code, prefix_code, operator_code, number_code}
 
 -- how many functions an expression makes itself
@@ -116,8 +118,7 @@ module _ (constants : List Const) where
     exp_code (Vararg line) t j c = with_abc VarArg t 0 c line ∷ []
     exp_code (Function line body) t j c = with_abx Closure t j (line_of_body body) ∷ []
     exp_code (Var line name) t j c = name_code constants name.place name.text t line
-    exp_code (Index line object key) t j c =
-        exp_code object t j 2 ++ (exp_code key (t + 1) (j + made_by object) 2 ++ with_abc GetTable t t (t + 1) line ∷ [])
+    exp_code (Index line object key) t j c = read_code (name_in constants key) object key (exp_code object t j 2) (exp_code key (t + 1) (j + made_by object) 2) t t line
     exp_code (Call line f es) t j c = exp_code f t j 2 ++ (exps_code es None (t + 1) (j + made_by f) line ++ with_abc CallCode t (list_field 0 es) c line ∷ [])
     exp_code (Method line object name es) t j c =
         exp_code object t j 2 ++ (self_code constants name.text t line

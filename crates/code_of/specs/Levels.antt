@@ -1,8 +1,9 @@
 -- What a statement makes and what it declares: functions, locals in scope behind it, and variables to be closed among them.
-use Rattle.std.specs.Prelude.{ℕ, ◌+◌, Bool, false, ◌||◌, List, [], ◌∷◌}
+use Rattle.std.specs.Prelude.{ℕ, ◌+◌, Bool, false, cond, ◌||◌, List, [], ◌∷◌, nat_lt}
 use Rattle.tree_core.specs.declared.name.Declared.{Declared}
 use Rattle.tree_core.specs.Tree.{Block, Falls, Returns, Stats, EndStats, MoreStats, Stat, Empty, Local, LocalFunction, Assign, CallStat, Do, While, Repeat, If, IfElse, NumFor, NumForStep, GenFor, Label, Goto, Break, Arms, EndArms, MoreArms}
 use Rattle.tree_activation.specs.Statements.{is_closed}
+use Rattle.tree_terms.specs.Levels.{levels_after}
 use Rattle.code_of.specs.Expressions.{made_by, made_in}
 
 -- how many functions a piece of tree makes itself
@@ -50,3 +51,11 @@ closing_after _ closing = closing
 abbrev pub closings_after : Stats → Bool → Bool
 closings_after EndStats closing = closing
 closings_after (MoreStats s ss) closing = closings_after ss (closing_after s closing)
+
+-- whether there may be something to close at the end of a scope: a function is made in it, which may capture a local, or a variable is to be closed
+abbrev pub may_hold : Stats → Bool
+may_hold ss = nat_lt 0 (made_in_stats ss) || closings_after ss false
+
+-- a scope around which `outer` locals are in scope: those from there on and below this number are closed at its end
+abbrev pub closed_below : Stats → (outer t : ℕ) → ℕ
+closed_below ss outer t = cond (may_hold ss) (levels_after ss t) outer

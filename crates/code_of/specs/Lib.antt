@@ -1,6 +1,8 @@
 pub mod Coded
 pub mod Constants
 pub mod Operands
+pub mod Stores
+pub mod FieldReads
 pub mod Operators
 pub mod Expressions
 pub mod Conditions

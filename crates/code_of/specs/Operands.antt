@@ -1,11 +1,11 @@
--- Where the operands of an operator stand. The second one may be a numeral in the instruction, and a local stays in its own register where nothing is
+-- Where the operands of an operator, or an object and its key, stand. The second one may be a numeral in the instruction, and a local stays in its own register where nothing is
 -- evaluated between its turn and the instruction; any other operand has a register of its own.
 use Rattle.std.specs.Prelude.{ℕ, ◌+◌, ℤ, pos, negsuc, Bool, true, false, cond, List, [], ◌++◌, max, nat_le, Option, Some, None}
 use Rattle.tree_core.specs.declared.name.Place.{Place}
 use Rattle.tree_core.specs.declared.name.Place.TheVariants.{Local as LocalPlace}
 use Rattle.tree_core.specs.declared.operator.BinOp.{BinOp}
 use Rattle.tree_core.specs.declared.operator.BinOp.TheVariants.{Add as Plus, Sub as Minus, Shr as ShiftRight, Concat as Join, Eq as Equal, Ne, Lt as Less, Le as AtMost, Gt, Ge}
-use Rattle.tree_core.specs.Tree.{Exp, Int, Var, Paren}
+use Rattle.tree_core.specs.Tree.{Exp, Int, Var, Index, Binary, Paren, Exps, EndExps, MoreExps}
 use Rattle.code_of.specs.Coded.{Coded}
 
 -- the local that an expression names, in brackets or not
@@ -58,6 +58,36 @@ second_by None None = made
 
 abbrev pub second_of : BinOp → Exp → Second
 second_of op d = cond (joins op) made (second_by (numeral_of d (greatest op)) (local_of d))
+
+-- the key of a field: GETI holds numbers up to 255
+abbrev pub key_operand : Exp → Second
+key_operand key = second_by (numeral_of key (Some 255)) (local_of key)
+
+-- Some expressions have one instruction at their end that writes their value: an operator that is neither a comparison nor `..`, and a field. Where a local is assigned
+-- such a value alone, it goes straight to the local's register
+
+abbrev pub computes : BinOp → Bool
+computes Join = false
+computes Equal = false
+computes Ne = false
+computes Less = false
+computes AtMost = false
+computes Gt = false
+computes Ge = false
+computes _ = true
+
+abbrev pub is_direct : Exp → Bool
+is_direct (Binary line op e d) = computes op
+is_direct (Index line object key) = true
+is_direct _ = false
+
+abbrev pub target_local : Exp → Option ℕ
+target_local (Var line name) = local_at name.place
+target_local _ = None
+
+abbrev pub assigned : (targets es : Exps) → Option ℕ
+assigned (MoreExps x EndExps) (MoreExps e EndExps) = cond (is_direct e) (target_local x) None
+assigned _ _ = None
 
 -- the register of a local that is the first operand; any other one is made in register t
 abbrev pub first_of : Second → Exp → Option ℕ

@@ -8,14 +8,14 @@ use Rattle.tree_core.specs.declared.operator.UnOp.TheVariants.{Neg, BitNot, Not 
 use Rattle.tree_core.specs.declared.operator.BinOp.{BinOp}
 use Rattle.tree_core.specs.declared.operator.BinOp.TheVariants.{Add as Plus, Sub as Minus, Mul as Times, Mod as Modulo, Idiv, Band, Bor, Bxor, Shl as ShiftLeft, Shr as ShiftRight, Concat as Join, Eq as Equal, Ne, Lt as Less, Le as AtMost, Gt, Ge}
 use Rattle.code_core.specs.declared.opcode.Opcode.{Opcode}
-use Rattle.code_core.specs.declared.opcode.Opcode.TheVariants.{Move, LFalseSkip, LoadTrue, GetUpval, GetTabUp, GetTable, OpSelf, Add, Sub, Mul, Mod, IDiv, BAnd, BOr, BXor, Shl, Shr, AddI, ShrI, MmBin, MmBinI, Unm, BNot, Not, Len, Concat, Eq, Lt, Le, EqI, LtI, LeI, GtI, GeI}
+use Rattle.code_core.specs.declared.opcode.Opcode.TheVariants.{Move, LoadNil, LFalseSkip, LoadTrue, GetUpval, GetTabUp, GetTable, OpSelf, Add, Sub, Mul, Mod, IDiv, BAnd, BOr, BXor, Shl, Shr, AddI, ShrI, MmBin, MmBinI, Unm, BNot, Not, Len, Concat, Eq, Lt, Le, EqI, LtI, LeI, GtI, GeI}
 use Rattle.code_core.specs.declared.proto.Const.{Const}
 use Rattle.code_core.specs.declared.proto.Const.TheVariants.{Str}
 use Rattle.code_core.specs.Instruction.{abc}
 use Rattle.code_of.specs.Coded.{Coded, with_abc, jump_over}
 use Rattle.code_of.specs.Constants.{number_in, loads}
 
--- a name's value goes to register t. A global name is read by its key, which is a constant where its number has 8 bits
+-- a name's value goes to register t, which is nil where its place is unset. A global name is read by its key, which is a constant where its number has 8 bits
 
 abbrev pub global_code : (number u : ℕ) → (key : List Coded) → (t line : ℕ) → List Coded
 global_code number u key t line =
@@ -23,7 +23,7 @@ global_code number u key t line =
     (with_abc GetUpval t u 0 line ∷ (key ++ with_abc GetTable t t (t + 1) line ∷ []))
 
 abbrev pub name_code : List Const → Place → List ℕ → (t line : ℕ) → List Coded
-name_code constants Unset text t line = []
+name_code constants Unset text t line = with_abc LoadNil t 0 0 line ∷ []
 name_code constants (LocalPlace n) text t line = with_abc Move t n 0 line ∷ []
 name_code constants (Upvalue u) text t line = with_abc GetUpval t u 0 line ∷ []
 name_code constants (GlobalIn n) text t line = loads constants (Str text) t line ++ with_abc GetTable t n t line ∷ []

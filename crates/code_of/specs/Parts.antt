@@ -1,10 +1,10 @@
 -- The code of statements that have no block, and the forms of those that have some (Lua 5.4 manual, 3.3), where t locals are in scope:
 -- these stand in the registers below t.
-use Rattle.std.specs.Prelude.{ℕ, zero, suc, ◌+◌, ◌*◌, pos, Bool, false, cond, List, [], ◌∷◌, ◌++◌, length, nat_eq, Some, None}
+use Rattle.std.specs.Prelude.{ℕ, zero, suc, ◌+◌, ◌*◌, pos, Bool, true, false, cond, List, [], ◌∷◌, ◌++◌, length, nat_eq, Option, Some, None}
 use Rattle.tree_core.specs.declared.name.Declared.{Declared}
 use Rattle.tree_core.specs.declared.name.Place.{Place}
 use Rattle.tree_core.specs.declared.name.Place.TheVariants.{Unset, Upvalue, GlobalIn, GlobalOf, Local as LocalPlace}
-use Rattle.tree_core.specs.Tree.{Body, Exp, Var, Index, Call, Method, Exps, EndExps, MoreExps}
+use Rattle.tree_core.specs.Tree.{Body, Exp, Var, Index, Binary, Call, Method, Exps, EndExps, MoreExps}
 use Rattle.tree_terms.specs.Bodies.{line_of_body}
 use Rattle.tree_activation.specs.Statements.{is_closed}
 use Rattle.code_core.specs.declared.opcode.Opcode.TheVariants.{Move, LoadI, LoadNil, GetUpval, SetUpval, SetTable, Close, Tbc, TailCall, Return, ForLoop, ForPrep, TForPrep, TForCall, TForLoop, Closure}
@@ -12,7 +12,10 @@ use Rattle.code_core.specs.declared.proto.Const.{Const}
 use Rattle.code_core.specs.declared.proto.Const.TheVariants.{Str as StrConst}
 use Rattle.code_of.specs.Coded.{Coded, with_abc, with_abx, jump_over, jump_back, leaving_by}
 use Rattle.code_of.specs.Constants.{small_field, loads}
-use Rattle.code_of.specs.Operators.{self_code}
+use Rattle.code_of.specs.Operands.{local_of, second_of, first_of, operands_code, assigned}
+use Rattle.code_of.specs.Stores.{name_in, field_key, object_of, fields_store, stores_field}
+use Rattle.code_of.specs.FieldReads.{read_code}
+use Rattle.code_of.specs.Operators.{self_code, operator_code, number_code}
 use Rattle.code_of.specs.Expressions.{made_by, made_in, count, list_field, exp_code, exps_code}
 
 -- variables to be closed are marked once all names of their declaration are in scope
@@ -20,7 +23,7 @@ abbrev pub marks_code : List Declared → (t : ℕ) → List Coded
 marks_code [] t = []
 marks_code (d ∷ names) t = cond (is_closed d.attrib) (with_abc Tbc t 0 0 d.name.line ∷ marks_code names (t + 1)) (marks_code names (t + 1))
 
--- where a scope ends that has locals, its cells are closed, and so are its variables to be closed
+-- the cells of the locals between two numbers are closed, and so are those of them that are to be closed
 abbrev pub close_code : (before after line : ℕ) → List Coded
 close_code before after line = cond (nat_eq before after) [] (with_abc Close before 0 0 line ∷ [])
 
@@ -104,10 +107,46 @@ module _ (constants : List Const) where
   stores_code EndExps r v = []
   stores_code (MoreExps e es) r v = stores_code es (r + 2) (v + 1) ++ store_code e r v
 
-  abbrev pub assign_code : (targets values : Exps) → (t j line : ℕ) → List Coded
-  assign_code targets es t j line =
+  abbrev pub stored_code : (targets values : Exps) → (t j line : ℕ) → List Coded
+  stored_code targets es t j line =
       let v = t + 2 * count targets in
       targets_code targets t j ++ (exps_code constants es (Some (count targets)) v (j + made_in targets) line ++ stores_code targets t v)
+
+  -- register r gets the value of an expression that has one instruction for it; its operands stand in the registers from t on
+
+  abbrev pub direct_code : Exp → (r t j : ℕ) → List Coded
+  direct_code (Binary line op e d) r t j =
+      operands_code (second_of op d) (first_of (second_of op d) e) (exp_code constants e t j 2) (exp_code constants d (t + 1) (j + made_by e) 2) t
+      (λ x y. operator_code op x y r line) (λ x n. number_code op x n r line)
+  direct_code (Index line object key) r t j = read_code (name_in constants key) object key (exp_code constants object t j 2) (exp_code constants key (t + 1) (j + made_by object) 2) r t line
+  direct_code _ r t j = []
+
+  abbrev pub first_direct : Exps → (r t j : ℕ) → List Coded
+  first_direct EndExps r t j = []
+  first_direct (MoreExps e es) r t j = direct_code e r t j
+
+  -- the value of an expression goes to a field
+
+  abbrev pub field_code : Exp → Exp → (t j after : ℕ) → List Coded
+  field_code (Index line object key) e t j after =
+      fields_store (field_key constants (local_of e) key) (object_of (field_key constants (local_of e) key) (local_of e) object) (local_of e)
+      (exp_code constants object t j 2) (exp_code constants key (t + 1) (j + made_by object) 2) (exp_code constants e (t + 2) after 2) t line
+  field_code _ e t j after = []
+
+  abbrev pub first_field : (targets values : Exps) → (t j after : ℕ) → List Coded
+  first_field (MoreExps x targets) (MoreExps e es) t j after = field_code x e t j after
+  first_field _ _ t j after = []
+
+  abbrev pub store_by : (field : Bool) → (targets values : Exps) → (t j line : ℕ) → List Coded
+  store_by true targets es t j line = first_field targets es t j (j + made_in targets)
+  store_by false targets es t j line = stored_code targets es t j line
+
+  abbrev pub assign_by : Option ℕ → (targets values : Exps) → (t j line : ℕ) → List Coded
+  assign_by None targets es t j line = store_by (stores_field targets es) targets es t j line
+  assign_by (Some r) targets es t j line = first_direct es r t (j + made_in targets)
+
+  abbrev pub assign_code : (targets values : Exps) → (t j line : ℕ) → List Coded
+  assign_code targets es t j line = assign_by (assigned targets es) targets es t j line
 
   -- a call in the place of its caller. The list that it leaves is taken by a RETURN that is never reached
 

@@ -8,7 +8,9 @@ use Rattle.code_core.specs.declared.proto.Const.TheVariants.{Str as StrConst}
 use Rattle.code_of.specs.Constants.{number_in}
 use Rattle.code_of.specs.Expressions.{Wanted, field_of, wanted_after, is_last_item}
 use Rattle.code_of.specs.Conditions.{is_not, is_compared}
-use Rattle.code_of.specs.Operands.{second_of, first_of, operands_room}
+use Rattle.code_of.specs.Operands.{local_of, second_of, first_of, operands_room}
+use Rattle.code_of.specs.Stores.{name_in, field_key, object_of, fields_room}
+use Rattle.code_of.specs.FieldReads.{read_room}
 
 abbrev pub room_of_values : (field : ℕ) → ℕ
 room_of_values zero = 1
@@ -32,7 +34,7 @@ module _ (cs : List Const) where
     pub room_of : Exp → (field : ℕ) → ℕ
     room_of (Vararg line) field = room_of_values field
     room_of (Var line name) field = room_of_name name.place name.text
-    room_of (Index line object key) field = max (room_of object 2) (1 + room_of key 2)
+    room_of (Index line object key) field = read_room 1 (name_in cs key) object key (room_of object 2) (room_of key 2)
     room_of (Call line f es) field = max (room_of f 2) (max (room_of_list 1 es None) (room_of_values field))
     room_of (Method line object name es) field = max (room_of object 2) (max (max (room_of_self name.text) (room_of_list 2 es None)) (room_of_values field))
     room_of (Unary line op e) field = room_of e 2
@@ -53,6 +55,34 @@ module _ (cs : List Const) where
     room_of_fields EndFields = 0
     room_of_fields (MoreFields (Item e) fs) = max (room_of e (cond (is_last_item e fs) 0 2)) (room_of_fields fs)
     room_of_fields (MoreFields (Keyed line e d) fs) = max (max (room_of e 2) (1 + room_of d 2)) (room_of_fields fs)
+
+  -- a target, whose table and key go to two registers
+  abbrev pub room_of_target : Exp → ℕ
+  room_of_target (Var line name) = room_of (Var line name) 2
+  room_of_target (Index line object key) = max (room_of object 2) (1 + room_of key 2)
+  room_of_target _ = 0
+
+  -- a value that goes straight to a local's register
+
+  abbrev pub room_of_direct : Exp → ℕ
+  room_of_direct (Binary line op e d) = operands_room 0 (second_of op d) (first_of (second_of op d) e) (room_of e 2) (room_of d 2)
+  room_of_direct (Index line object key) = read_room 0 (name_in cs key) object key (room_of object 2) (room_of key 2)
+  room_of_direct _ = 0
+
+  abbrev pub room_of_assigned : Exps → ℕ
+  room_of_assigned EndExps = 0
+  room_of_assigned (MoreExps e es) = room_of_direct e
+
+  -- a value that goes to a field
+
+  abbrev pub room_of_field : Exp → Exp → ℕ
+  room_of_field (Index line object key) e =
+      fields_room (field_key cs (local_of e) key) (object_of (field_key cs (local_of e) key) (local_of e) object) (local_of e) (room_of object 2) (room_of key 2) (room_of e 2)
+  room_of_field _ e = 0
+
+  abbrev pub room_of_first : (targets es : Exps) → ℕ
+  room_of_first (MoreExps x targets) (MoreExps e es) = room_of_field x e
+  room_of_first _ _ = 0
 
   -- a condition, of which only the truth is wanted
   abbrev pub room_of_test : Exp → ℕ

@@ -4,7 +4,7 @@ use Rattle.tree_core.specs.Tree.{Block, Falls, Returns, Stats, EndStats, MoreSta
 use Rattle.code_core.specs.declared.proto.Const.{Const}
 use Rattle.code_of.specs.Expressions.{made_by, made_in, exp_code, exps_code}
 use Rattle.code_of.specs.Conditions.{test_code}
-use Rattle.code_of.specs.Levels.{made_by_stat, made_in_arms, made_in_stats, made_in_block, closing_after, closings_after}
+use Rattle.code_of.specs.Levels.{made_by_stat, made_in_arms, made_in_stats, made_in_block, closing_after, closings_after, closed_below}
 use Rattle.tree_terms.specs.Levels.{level_after, levels_after, levels_in}
 use Rattle.code_of.specs.Parts.{marks_code, close_code, past_size, assign_code, return_code, bounds_code, steps_code}
 
@@ -50,7 +50,7 @@ module _ (constants : List Const) (back : ℕ) where
 
     -- a block around which `outer` locals are in scope; the variables of a `for` are the first of its own
     pub block_size : Block → (closing : Bool) → (outer t j : ℕ) → ℕ
-    block_size (Falls ss tokens line) closing outer t j = stats_size ss closing t j + length (close_code outer (levels_after ss t) line)
+    block_size (Falls ss tokens line) closing outer t j = stats_size ss closing t j + length (close_code outer (closed_below ss outer t) line)
     block_size (Returns ss es tokens line) closing outer t j =
         stats_size ss closing t j
         + length (return_code constants (closings_after ss closing) es (levels_after ss t) (j + made_in_stats ss) line back)
@@ -61,3 +61,8 @@ module _ (constants : List Const) (back : ℕ) where
     open_size (Returns ss es tokens line) closing t j =
         stats_size ss closing t j
         + length (return_code constants (closings_after ss closing) es (levels_after ss t) (j + made_in_stats ss) line back)
+
+  -- the block of a function, which ends by a return
+  abbrev pub whole_size : Block → (params j : ℕ) → ℕ
+  whole_size (Falls ss tokens line) params j = stats_size ss false params j + 1
+  whole_size (Returns ss es tokens line) params j = block_size (Returns ss es tokens line) false 0 params j

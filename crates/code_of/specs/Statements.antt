@@ -9,7 +9,7 @@ use Rattle.code_of.specs.Coded.{Coded, leaving_by}
 use Rattle.code_of.specs.Expressions.{made_by, made_in, exp_code, exps_code}
 use Rattle.code_of.specs.Conditions.{test_code}
 use Rattle.code_of.specs.Jumps.{Visible, Reach, label_in, leads}
-use Rattle.code_of.specs.Levels.{made_by_stat, made_in_arms, made_in_stats, made_in_block, closing_after, closings_after}
+use Rattle.code_of.specs.Levels.{made_by_stat, made_in_arms, made_in_stats, made_in_block, closing_after, closings_after, closed_below}
 use Rattle.tree_terms.specs.Levels.{level_after, levels_after, levels_in}
 use Rattle.code_of.specs.Parts.{marks_code, close_code, function_code, while_code, repeat_code, past_size, arm_code, counting_code, iterating_code, assign_code, return_code, bounds_code, steps_code}
 use Rattle.code_of.specs.Sizes.{stat_size, arms_size, block_size}
@@ -104,7 +104,7 @@ module _ (constants : List Const) (back : ℕ) where
 
     pub block_code : Block → (closing : Bool) → (outer t j pc : ℕ) → Reach → List Coded
     block_code (Falls ss tokens line) closing outer t j pc reach =
-        stats_code ss true closing outer t j pc [] reach ++ close_code outer (levels_after ss t) line
+        stats_code ss true closing outer t j pc [] reach ++ close_code outer (closed_below ss outer t) line
     block_code (Returns ss es tokens line) closing outer t j pc reach =
         stats_code ss false closing outer t j pc [] reach
         ++ return_code constants (closings_after ss closing) es (levels_after ss t) (j + made_in_stats ss) line back

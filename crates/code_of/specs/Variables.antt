@@ -1,5 +1,5 @@
 -- The local variables of a function with the places of its code where they are in scope, in the order of their declarations (lobject.h, LocVar).
-use Rattle.std.specs.Prelude.{ℕ, zero, suc, ◌+◌, Bool, true, List, [], ◌∷◌, ◌++◌, length, map, Some, None}
+use Rattle.std.specs.Prelude.{ℕ, zero, suc, ◌+◌, Bool, true, false, List, [], ◌∷◌, ◌++◌, length, map, Some, None}
 use Rattle.tree_core.specs.declared.name.Name.{Name}
 use Rattle.tree_core.specs.declared.name.Declared.{Declared}
 use Rattle.tree_core.specs.Tree.{Block, Falls, Returns, Stats, EndStats, MoreStats, Stat, Empty, Local, LocalFunction, Assign, CallStat, Do, While, Repeat, If, IfElse, NumFor, NumForStep, GenFor, Label, Goto, Break, Arms, EndArms, MoreArms}
@@ -10,7 +10,7 @@ use Rattle.code_of.specs.Conditions.{test_code}
 use Rattle.code_of.specs.Levels.{made_by_stat, made_in_arms, made_in_block, closing_after}
 use Rattle.tree_terms.specs.Levels.{level_after}
 use Rattle.code_of.specs.Parts.{past_size, bounds_code, steps_code}
-use Rattle.code_of.specs.Sizes.{stat_size, arms_size, block_size}
+use Rattle.code_of.specs.Sizes.{stat_size, arms_size, block_size, whole_size}
 
 abbrev pub variable : Name → (from to : ℕ) → LocVar
 variable name from to = record { name = Some name.text; start = from; end = to }
@@ -99,3 +99,8 @@ module _ (constants : List Const) (back : ℕ) where
     pub within_open : Block → (closing : Bool) → (t j pc end : ℕ) → List LocVar
     within_open (Falls ss tokens line) closing t j pc end = within_stats ss closing t j pc end
     within_open (Returns ss es tokens line) closing t j pc end = within_stats ss closing t j pc end
+
+  -- the block of a function, whose variables are in scope up to the end of its last return
+  abbrev pub within_whole : Block → (params j pc : ℕ) → List LocVar
+  within_whole (Falls ss tokens line) params j pc = within_stats ss false params j pc (pc + whole_size constants back (Falls ss tokens line) params j)
+  within_whole (Returns ss es tokens line) params j pc = within_stats ss false params j pc (pc + whole_size constants back (Returns ss es tokens line) params j)

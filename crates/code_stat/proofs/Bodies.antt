@@ -1,5 +1,5 @@
 -- The local variables of a whole function.
-use Rattle.std.proofs.Common.{arith, ℕ, zero, suc, ◌+◌, ◌≡◌, Bool, true, false, List, [], ◌∷◌, ◌++◌, refl, sym, ap, ap₂, ◌∙◌, length, map, Some}
+use Rattle.std.proofs.Common.{arith, ℕ, ◌+◌, ◌≡◌, Bool, true, false, List, [], ◌∷◌, ◌++◌, refl, sym, ap, ap₂, ◌∙◌, length, map, Some}
 use Rattle.std.proofs.lemmas.List.{length-append, length-map}
 use Rattle.tree_core.specs.declared.name.Name.{Name}
 use Rattle.tree_core.specs.declared.tree.Body.{Body, out-Body}
@@ -13,12 +13,10 @@ use Rattle.code_core.specs.declared.proto.Const.{Const}
 use Rattle.code_of.specs.Coded.{Coded, leaving_by}
 use Rattle.code_of.specs.CodeOf.{back_field, opening, body_code, variables_of}
 use Rattle.code_of.specs.Constants.{of_block}
-use Rattle.tree_terms.specs.Levels.{levels_after}
 use Rattle.code_of.specs.Levels.{made_in_block}
-use Rattle.code_of.specs.Parts.{close_code}
-use Rattle.code_of.specs.Sizes.{stats_size, block_size}
+use Rattle.code_of.specs.Sizes.{stats_size}
 use Rattle.code_of.specs.Statements.{stats_code, whole_code}
-use Rattle.code_of.specs.Variables.{variables, within_stats, within_block}
+use Rattle.code_of.specs.Variables.{variables, within_whole}
 use Rattle.code_of.proofs.Sizes.{stats_sized}
 use Rattle.code_expr.specs.Listing.{Listing, listed, step}
 use Rattle.code_expr.proofs.Joining.{none_made}
@@ -26,35 +24,20 @@ use Rattle.code_parts.specs.declared.variables.Variable.{Variable}
 use Rattle.code_parts.specs.Scopes.{begun, over, ended_from, finished}
 use Rattle.code_parts.proofs.Ending.{body_ended, finished_over}
 use Rattle.code_stat.specs.declared.writer.Writer.{Writer}
-use Rattle.code_stat.specs.Declares.{DeclaresStats, DeclaresBlock}
+use Rattle.code_stat.specs.Declares.{DeclaresStats, DeclaresBlock, DeclaresWhole}
 use Rattle.code_stat.specs.Drafts.{Wrote, WroteStats}
 use Rattle.code_stat.specs.Whole.{nowhere, function_of, variables_in, whole_from}
 use Rattle.code_stat.proofs.Declaring.{scopes_end}
 use Rattle.code_stat.proofs.Drafting.{draft_sized, written_sized}
-use Rattle.code_stat.proofs.Filling.{whole_is}
-use Rattle.tree_terms.proofs.Levels.{levels_rise}
-use Rattle.code_stat.proofs.Undeclared.{ends_anywhere, is_closed}
+use Rattle.code_stat.proofs.Filling.{whole_is, ends_by_return}
 
--- a function that falls off its end: its locals live to the end of the return, and where it has none, it does not matter to which place they would
-
-behind_return :
-    (k : List Const) (back : ℕ) (ss : Stats) (tokens line params j pc : ℕ)
-    → within_stats k back ss false params j pc (pc + (stats_size k back ss false params j + 1)) ≡ within_block k back (Falls ss tokens line) false 0 params j pc
-behind_return k back ss tokens line params j pc = by (levels_after ss params) refl
-  where
-    by : (n : ℕ) → levels_after ss params ≡ n → within_stats k back ss false params j pc (pc + (stats_size k back ss false params j + 1)) ≡ within_block k back (Falls ss tokens line) false 0 params j pc
-    by zero e =
-        let grows = levels_rise ss params in
-        ends_anywhere k back ss false params j pc (pc + (stats_size k back ss false params j + 1)) (pc + block_size k back (Falls ss tokens line) false 0 params j) (omega (arith, grows, e))
-    by (suc n) e =
-        let some : length (close_code 0 (levels_after ss params) line) ≡ 1 = is_closed 0 (levels_after ss params) line (λ none. omega (arith, none, e)) in
-        ap (λ m. within_stats k back ss false params j pc (pc + (stats_size k back ss false params j + m))) (sym some)
+-- a function that falls off its end, and one that ends by `return`
 
 pub falls_declared :
     (a q b : Writer) (ss : Stats) (tokens line params back end first place : ℕ)
     → WroteStats a q ss true false 0 params → DeclaresStats a q ss false params
     → b.emitter ≡ listed q.emitter (leaving_by Return end 1 back line ∷ []) → first ≡ length a.variables → place ≡ length b.emitter.steps → b.variables ≡ ended_from first place q.variables
-    → DeclaresBlock a b (Falls ss tokens line) false 0 params
+    → DeclaresWhole a b (Falls ss tokens line) params
 falls_declared a q b ss tokens line params back end first place w d e first_is place_is ends =
     let k = a.emitter.constants in
     let j = a.emitter.made in
@@ -66,7 +49,10 @@ falls_declared a q b ss tokens line params back end first place w d e first_is p
     let b_long = written_sized q.emitter b.emitter last 0 (e ∙ sym (none_made q.emitter last)) in
     let there : place ≡ pc + (stats_size k a.back ss false params j + 1) = omega (arith, place_is, b_long, q_long, draft) in
     scopes_end a q b ss false params first place (pc + (stats_size k a.back ss false params j + 1)) first_is d ends there
-    ∙ ap (λ l. a.variables ++ map over l) (behind_return k a.back ss tokens line params j pc)
+
+pub returns_declared : (a b : Writer) (block : Block) (params : ℕ) → DeclaresBlock a b block false 0 params → ends_by_return block ≡ true → DeclaresWhole a b block params
+returns_declared a b (Falls ss tokens line) params d e = absurd (cc)
+returns_declared a b (Returns ss es tokens line) params d e = d
 
 -- the whole
 
@@ -78,7 +64,7 @@ pub body_declared :
     → a.emitter ≡ listed (empty k) (opening (out-Body body).vararg params (out-Body body).line)
     → a.variables ≡ [] ++ map (λ name. begun (Some name.text) 0) (out-Body body).params.items → a.back ≡ back
     → Wrote a b (made_in_block (plain_block (out-Body body).block)) (λ reach. whole_from a.emitter.constants a.back (plain_block (out-Body body).block) params a.emitter.made (length a.emitter.steps) reach)
-    → DeclaresBlock a b (plain_block (out-Body body).block) false 0 params
+    → DeclaresWhole a b (plain_block (out-Body body).block) params
     → end ≡ length b.emitter.steps → vs ≡ ended_from 0 end b.variables
     → vs ≡ map over (variables_in k (plain_body body))
 body_declared k body a b vs params back end params_is back_is a_is a_vars a_back w d end_is ends =
@@ -98,13 +84,13 @@ body_declared k body a b vs params back end params_is back_is a_is a_vars a_back
     let same = ap length code in
     let parts = length-append (begin params) (whole_code k (back_field vararg params) block params (length (begin params))) in
     let there : end ≡ length (begin params ++ whole_code k (back_field vararg params) block params (length (begin params))) = omega (arith, end_is, long, draft, same, parts, size) in
-    let inner = within_block k (back_field vararg params) block false 0 params 0 (length (begin params)) in
+    let inner = within_whole k (back_field vararg params) block params 0 (length (begin params)) in
     let declared : b.variables ≡ map (λ name. begun (Some name.text) 0) names ++ map over inner =
-    d ∙ ap₂ (λ xs z. xs ++ map over (within_block z.constants a.back block false 0 params z.made (length a.emitter.steps))) a_vars a_is
-    ∙ ap₂ (λ n m. map (λ name. begun (Some name.text) 0) names ++ map over (within_block k n block false 0 params 0 m)) field size in
+    d ∙ ap₂ (λ xs z. xs ++ map over (within_whole z.constants a.back block params z.made (length a.emitter.steps))) a_vars a_is
+    ∙ ap₂ (λ n m. map (λ name. begun (Some name.text) 0) names ++ map over (within_whole k n block params 0 m)) field size in
     ends ∙ ap₂ (ended_from 0) there declared
     ∙ body_ended names (length (begin params ++ whole_code k (back_field vararg params) block params (length (begin params)))) inner
-    ∙ ap (λ n. map over (variables names 0 (length (begin n ++ whole_code k (back_field vararg n) block n (length (begin n)))) ++ within_block k (back_field vararg n) block false 0 n 0 (length (begin n)))) params_is
+    ∙ ap (λ n. map over (variables names 0 (length (begin n ++ whole_code k (back_field vararg n) block n (length (begin n)))) ++ within_whole k (back_field vararg n) block n 0 (length (begin n)))) params_is
     ∙ sym (ap (λ p. map over (variables_in k p)) (plain-body body))
 
 -- with the constants of the body they are those of the definition

@@ -1,11 +1,12 @@
 -- The ends of blocks, behind their statements.
-use Rattle.std.proofs.Common.{arith, ℕ, ◌+◌, ◌≡◌, Bool, true, false, List, [], ◌++◌, refl, sym, ap, ap₂, ◌∙◌, subst, length}
+use Rattle.std.proofs.Common.{arith, ℕ, zero, suc, ◌+◌, ◌≡◌, Bool, true, false, cond, List, [], ◌++◌, refl, sym, ap, ap₂, ◌∙◌, subst, length, lt-ltb, ltb-true}
+use Rattle.std.specs.Prelude.{◌||◌, nat_lt}
 use Rattle.std.proofs.lemmas.List.{append-nil}
 use Rattle.tree_core.specs.Tree.{Falls, Returns, Stat, Stats, Exps}
 use Rattle.code_of.specs.Coded.{Coded}
 use Rattle.code_of.specs.Expressions.{made_in}
 use Rattle.code_of.specs.Jumps.{Reach}
-use Rattle.code_of.specs.Levels.{made_by_stat, made_in_stats, closings_after}
+use Rattle.code_of.specs.Levels.{made_by_stat, made_in_stats, closings_after, closed_below}
 use Rattle.tree_terms.specs.Levels.{levels_after}
 use Rattle.code_of.specs.Parts.{close_code, return_code}
 use Rattle.code_of.specs.Statements.{stat_code, stats_code}
@@ -29,15 +30,34 @@ nothing_wrote a =
 
 pub falls_wrote :
     (a q b : Writer) (ss : Stats) (tokens line : ℕ) (closing : Bool) (outer level end : ℕ)
-    → WroteStats a q ss true closing outer level → end ≡ levels_after ss level
+    → WroteStats a q ss true closing outer level → end ≡ closed_below ss outer level
     → b.emitter ≡ listed q.emitter (close_code outer end line) → b.jumps.items ≡ q.jumps.items → b.back ≡ q.back
     → WroteBlock a b (Falls ss tokens line) closing outer level
 falls_wrote a q b ss tokens line closing outer level end w end_is e jumps back =
     let m = made_in_stats ss in
-    let close = close_code outer (levels_after ss level) line in
+    let close = close_code outer (closed_below ss outer level) line in
     let closed : b.emitter ≡ followed q.emitter close 0 = e ∙ ap (λ n. listed q.emitter (close_code outer n line)) end_is ∙ sym (none_made q.emitter close) in
     remade a b (m + 0) m (λ reach. stats_code a.emitter.constants a.back ss true closing outer level a.emitter.made (length a.emitter.steps) [] reach ++ close) (none_more m)
     (then_wrote a q b m 0 (λ reach. stats_code a.emitter.constants a.back ss true closing outer level a.emitter.made (length a.emitter.steps) [] reach) (λ reach. close) w (plainly q b 0 close closed jumps back))
+
+-- functions were made in between where their number is greater behind than before
+
+more_made : (m k : ℕ) → nat_lt m (m + k) ≡ nat_lt 0 k
+more_made m zero = by (nat_lt m (m + 0)) refl
+  where
+    by : (b : Bool) → nat_lt m (m + 0) ≡ b → nat_lt m (m + 0) ≡ false
+    by true e = let less = ltb-true m (m + 0) e in absurd (omega (arith, less))
+    by false e = e
+more_made m (suc k) = lt-ltb m (m + suc k) (omega arith) ∙ sym (lt-ltb 0 (suc k) (omega arith))
+
+pub top_is :
+    (a q : Writer) (ss : Stats) (closing : Bool) (outer level end top before behind : ℕ)
+    → WroteStats a q ss true closing outer level → end ≡ levels_after ss level → before ≡ a.emitter.made → behind ≡ q.emitter.made
+    → top ≡ cond (nat_lt before behind || closings_after ss false) end outer → top ≡ closed_below ss outer level
+top_is a q ss closing outer level end top before behind w end_is before_is behind_is e =
+    let made : behind ≡ a.emitter.made + made_in_stats ss = behind_is ∙ ap (λ z. z.made) w.emitter_is in
+    e ∙ ap₂ (λ m n. cond (nat_lt m n || closings_after ss false) end outer) before_is made
+    ∙ ap₂ (λ b n. cond (b || closings_after ss false) n outer) (more_made a.emitter.made (made_in_stats ss)) end_is
 
 abbrev return_form : Stats → Exps → (closing : Bool) → (level line : ℕ) → Form
 return_form ss es closing level line k back j pc reach = return_code k (closings_after ss closing) es (levels_after ss level) j line back

@@ -7,7 +7,7 @@ use Rattle.tree_core.specs.Tree as tree
 use Rattle.tree_core.specs.Plain.{plain_exp, plain_exps}
 use Rattle.code_of.specs.Coded.{Coded}
 use Rattle.code_of.specs.Expressions.{count, made_by, made_in, exp_code, exps_code}
-use Rattle.code_of.specs.Parts.{target_code, targets_code, store_code, stores_code, pair_code, steps_code, assign_code}
+use Rattle.code_of.specs.Parts.{target_code, targets_code, store_code, stores_code, pair_code, steps_code, stored_code}
 use Rattle.code_expr.specs.Listing.{Listing, listed, followed}
 use Rattle.code_expr.proofs.Joining.{listing, after, none_made, both_listed, then_made, then_listed}
 
@@ -74,14 +74,14 @@ counted : (es : List Exp) → count (tree.exps (plain_exps es)) ≡ length es
 counted [] = refl
 counted (e ∷ es) = ap suc (counted es)
 
-pub assigned :
+pub stored :
     (s0 s1 s2 s3 : Listing) (xs : List Exp) (es : tree.Exps) (t v n line : ℕ)
     → n ≡ length xs → v ≡ t + n + n
     → s1 ≡ followed s0 (targets_code s0.constants (tree.exps (plain_exps xs)) t s0.made) (made_in (tree.exps (plain_exps xs)))
     → s2 ≡ followed s1 (exps_code s1.constants es (Some n) v s1.made line) (made_in es)
     → s3 ≡ listed s2 (stores_code s2.constants (tree.exps (plain_exps xs)) t v)
-    → s3 ≡ followed s0 (assign_code s0.constants (tree.exps (plain_exps xs)) es t s0.made line) (made_in (tree.exps (plain_exps xs)) + made_in es)
-assigned s0 s1 s2 s3 xs es t v n line n_is v_is e1 e2 e3 =
+    → s3 ≡ followed s0 (stored_code s0.constants (tree.exps (plain_exps xs)) es t s0.made line) (made_in (tree.exps (plain_exps xs)) + made_in es)
+stored s0 s1 s2 s3 xs es t v n line n_is v_is e1 e2 e3 =
     let ts = tree.exps (plain_exps xs) in
     let many : n ≡ count ts = n_is ∙ sym (counted xs) in
     let from : v ≡ t + 2 * count ts = omega (arith, v_is, many) in

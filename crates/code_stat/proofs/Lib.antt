@@ -1,5 +1,6 @@
 pub mod Going
 pub mod Returning
+pub mod Assigning
 pub mod Leading
 pub mod Drafting
 pub mod Blocks

@@ -1,18 +1,15 @@
--- Statements without code have no variables, and where no more locals are in scope behind statements than in front of them, they declare none.
-use Rattle.std.proofs.Common.{arith, ℕ, ◌+◌, ◌≡◌, Bool, true, false, List, [], ◌∷◌, ◌++◌, refl, sym, ap, ap₂, ◌∙◌, length, cond}
-use Rattle.std.specs.Prelude.{nat_eq}
-use Rattle.std.proofs.lemmas.Bool.Decides.{nat_tests}
+-- Statements without code have no variables.
+use Rattle.std.proofs.Common.{arith, ℕ, ◌+◌, ◌≤◌, ◌≡◌, Bool, true, List, [], ◌∷◌, ◌++◌, Some, refl, sym, ap₂, ◌∙◌, length}
 use Rattle.tree_core.specs.Tree.{Block, Falls, Returns, Stats, EndStats, MoreStats, Stat, Empty, Local, LocalFunction, Assign, CallStat, Do, While, Repeat, If, IfElse, NumFor, NumForStep, GenFor, Label, Goto, Break, Arms, EndArms, MoreArms}
-use Rattle.code_core.specs.declared.opcode.Opcode.TheVariants.{Close}
 use Rattle.code_core.specs.declared.proto.Const.{Const}
-use Rattle.code_of.specs.Coded.{with_abc}
-use Rattle.code_of.specs.Expressions.{made_by}
+use Rattle.code_of.specs.Expressions.{made_by, exps_code}
 use Rattle.code_of.specs.Conditions.{test_code}
 use Rattle.code_of.specs.Levels.{made_by_stat, made_in_arms, made_in_stats, made_in_block, closing_after, closings_after}
 use Rattle.tree_terms.specs.Levels.{level_after, levels_after}
-use Rattle.code_of.specs.Parts.{close_code, past_size, return_code}
+use Rattle.code_of.specs.Parts.{marks_code, past_size, return_code}
 use Rattle.code_of.specs.Sizes.{stat_size, arms_size, stats_size, block_size}
 use Rattle.code_of.specs.Variables.{declared_by, within_stat, within_arms, within_stats, within_block}
+use Rattle.code_of.proofs.Lengths.{values_some}
 use Rattle.code_stat.proofs.Returning.{return_some}
 use Rattle.tree_terms.proofs.Levels.{level_rises, levels_rise}
 
@@ -20,26 +17,6 @@ use Rattle.tree_terms.proofs.Levels.{level_rises, levels_rise}
 
 first_same : (s : Stat) (ss : Stats) (t : ℕ) → levels_after (MoreStats s ss) t ≡ t → level_after s t ≡ t
 first_same s ss t h = let a = level_rises s t in let b = levels_rise ss (level_after s t) in omega (arith, a, b, h)
-
-equal : (m n : ℕ) → nat_eq m n ≡ true → m ≡ n
-equal m n h = grind (arith, nat_tests)
-
-pub not_closed : (before after line : ℕ) → length (close_code before after line) ≡ 0 → after ≡ before
-not_closed before after line = by (nat_eq before after) refl
-  where
-    by : (b : Bool) → nat_eq before after ≡ b → length (cond b [] (with_abc Close before 0 0 line ∷ [])) ≡ 0 → after ≡ before
-    by true e h = sym (equal before after e)
-    by false e h = absurd (omega (arith, h))
-
-different : (m n : ℕ) → (n ≡ m → ⊥) → nat_eq m n ≡ false
-different m n h = by (nat_eq m n) refl
-  where
-    by : (b : Bool) → nat_eq m n ≡ b → nat_eq m n ≡ false
-    by true e = absurd (h (sym (equal m n e)))
-    by false e = e
-
-pub is_closed : (before after line : ℕ) → (after ≡ before → ⊥) → length (close_code before after line) ≡ 1
-is_closed before after line h = ap (λ b. length (cond b [] (with_abc Close before 0 0 line ∷ []))) (different before after h)
 
 module _ (k : List Const) (back : ℕ) where
   declared_none : (s : Stat) (t j pc end : ℕ) → level_after s t ≡ t → declared_by k back s t j pc end ≡ []
@@ -61,13 +38,34 @@ module _ (k : List Const) (back : ℕ) where
   declared_none (Goto line name) t j pc end h = refl
   declared_none (Break line) t j pc end h = refl
 
-  -- where nothing is declared, it does not matter where the block ends
-  pub ends_anywhere : (ss : Stats) (closing : Bool) (t j pc end other : ℕ) → levels_after ss t ≡ t → within_stats k back ss closing t j pc end ≡ within_stats k back ss closing t j pc other
-  ends_anywhere EndStats closing t j pc end other h = refl
-  ends_anywhere (MoreStats s ss) closing t j pc end other h =
-      let same = first_same s ss t h in
-      ap₂ (λ xs ys. xs ++ (within_stat k back s closing t j pc ++ ys)) (declared_none s t j pc end same ∙ sym (declared_none s t j pc other same))
-      (ends_anywhere ss (closing_after s closing) (level_after s t) (j + made_by_stat s) (pc + stat_size k back s closing t j) end other (h ∙ sym same))
+  -- a statement without code declares nothing, since values that are wanted have some
+  level_without : (s : Stat) (closing : Bool) (t j : ℕ) → stat_size k back s closing t j ≡ 0 → level_after s t ≡ t
+  level_without (Empty line) closing t j h = refl
+  level_without (Assign line targets es) closing t j h = refl
+  level_without (CallStat line e) closing t j h = refl
+  level_without (Do line block) closing t j h = refl
+  level_without (While line e block) closing t j h = refl
+  level_without (Repeat line block e) closing t j h = refl
+  level_without (If line arms) closing t j h = refl
+  level_without (IfElse line arms block) closing t j h = refl
+  level_without (NumFor line name from limit block) closing t j h = refl
+  level_without (NumForStep line name from limit step block) closing t j h = refl
+  level_without (GenFor line names es block) closing t j h = refl
+  level_without (Label line name) closing t j h = refl
+  level_without (Goto line name) closing t j h = refl
+  level_without (Break line) closing t j h = refl
+  level_without (Local line [] es) closing t j h = omega arith
+  level_without (Local line (d ∷ names) es) closing t j h =
+      let some : 1 ≤ length (exps_code k es (Some (length (d ∷ names))) t j line) = values_some k es (length names) t j line in
+      let none : length (exps_code k es (Some (length (d ∷ names))) t j line) + length (marks_code (d ∷ names) t) ≡ 0 = h in
+      absurd (omega (arith, some, none))
+  level_without (LocalFunction line name body) closing t j h = absurd (omega (arith, h))
+
+  levels_without : (ss : Stats) (closing : Bool) (t j : ℕ) → stats_size k back ss closing t j ≡ 0 → levels_after ss t ≡ t
+  levels_without EndStats closing t j h = refl
+  levels_without (MoreStats s ss) closing t j h =
+      let here = level_without s closing t j (omega (arith, h)) in
+      levels_without ss (closing_after s closing) (level_after s t) (j + made_by_stat s) (omega (arith, h)) ∙ here
 
   mutual
     pub stat_without : (s : Stat) (closing : Bool) (t j pc : ℕ) → stat_size k back s closing t j ≡ 0 → within_stat k back s closing t j pc ≡ []
@@ -117,8 +115,7 @@ module _ (k : List Const) (back : ℕ) where
     block_without : (block : Block) (closing : Bool) (t j pc : ℕ) → block_size k back block closing t t j ≡ 0 → within_block k back block closing t t j pc ≡ []
     block_without (Falls ss tokens line) closing t j pc h =
         let here : stats_size k back ss closing t j ≡ 0 = omega (arith, h) in
-        let none : length (close_code t (levels_after ss t) line) ≡ 0 = omega (arith, h) in
-        stats_without ss closing t j pc (pc + block_size k back (Falls ss tokens line) closing t t j) here (not_closed t (levels_after ss t) line none)
+        stats_without ss closing t j pc (pc + block_size k back (Falls ss tokens line) closing t t j) here (levels_without ss closing t j here)
     block_without (Returns ss es tokens line) closing t j pc h =
         let none : length (return_code k (closings_after ss closing) es (levels_after ss t) (j + made_in_stats ss) line back) ≡ 0 = omega (arith, h) in
         absurd (return_some k (closings_after ss closing) es (levels_after ss t) (j + made_in_stats ss) line back none)

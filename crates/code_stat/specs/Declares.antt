@@ -5,7 +5,7 @@ use Rattle.tree_core.specs.Tree.{Stat, Stats, Block, Falls, Returns}
 use Rattle.code_core.specs.declared.proto.Const.{Const}
 use Rattle.code_core.specs.declared.proto.LocVar.{LocVar}
 use Rattle.code_of.specs.Sizes.{block_size}
-use Rattle.code_of.specs.Variables.{looped, within_stat, within_block}
+use Rattle.code_of.specs.Variables.{looped, within_stat, within_block, within_whole}
 use Rattle.code_parts.specs.declared.variables.Variable.{Variable}
 use Rattle.code_parts.specs.Scopes.{over, begun_by, begun_in}
 use Rattle.code_stat.specs.declared.writer.Writer.{Writer}
@@ -39,6 +39,9 @@ DeclaresStats a b ss closing level = Declares a b (λ k back j pc. begun_in k ba
 
 abbrev pub DeclaresBlock : Writer → Writer → Block → (closing : Bool) → (outer level : ℕ) → Type 0
 DeclaresBlock a b block closing outer level = Declares a b (λ k back j pc. map over (within_block k back block closing outer level j pc))
+
+abbrev pub DeclaresWhole : Writer → Writer → Block → (params : ℕ) → Type 0
+DeclaresWhole a b block params = Declares a b (λ k back j pc. map over (within_whole k back block params j pc))
 
 abbrev pub DeclaresOpen : Writer → Writer → Block → (closing : Bool) → (level : ℕ) → Type 0
 DeclaresOpen a b block closing level = Declares a b (λ k back j pc. begun_open k back block closing level j pc)

@@ -10,7 +10,7 @@ use Rattle.code_of.specs.Jumps.{Reach}
 use Rattle.code_of.specs.Levels.{made_in_block}
 use Rattle.tree_terms.specs.Levels.{levels_after}
 use Rattle.code_of.specs.Statements.{stats_code, block_code, whole_code}
-use Rattle.code_of.specs.Variables.{variables, within_block}
+use Rattle.code_of.specs.Variables.{variables, within_whole}
 use Rattle.code_expr.specs.Listing.{Listing}
 use Rattle.code_stat.specs.declared.jumps.Jump.{Jump}
 use Rattle.code_stat.specs.Drafts.{arrives, or_nowhere, put_jump, fill}
@@ -44,4 +44,4 @@ made_in_body (BodyOf params vararg inner ups line) = made_in_block inner
 abbrev pub variables_in : List Const → Body → List LocVar
 variables_in constants (BodyOf params vararg inner ups line) =
     variables params 0 (length (function_of constants (BodyOf params vararg inner ups line)))
-    ++ within_block constants (back_field vararg (length params)) inner false 0 (length params) 0 (length (opening vararg (length params) line))
+    ++ within_whole constants (back_field vararg (length params)) inner (length params) 0 (length (opening vararg (length params) line))

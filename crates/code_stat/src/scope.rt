@@ -1,9 +1,9 @@
 // What is in scope behind statements.
-ghost use Rattle.std.specs.Prelude.{◌≡◌, ℕ, IfOk, map, drop, nat_le};
+ghost use Rattle.std.specs.Prelude.{◌≡◌, ◌||◌, ℕ, IfOk, cond, false, map, drop, nat_le};
 ghost use Rattle.tree_core.specs.Tree.{stats};
 ghost use Rattle.tree_core.specs.Plain.{plain_stat};
 ghost use Rattle.tree_terms.specs.Labels.{are_void};
-ghost use Rattle.code_of.specs.Levels.{closing_after, has_closed};
+ghost use Rattle.code_of.specs.Levels.{closing_after, closings_after, has_closed};
 ghost use Rattle.tree_terms.specs.Levels.{level_after};
 ghost use Rattle.code_stat.specs.Forms.{is_void};
 
@@ -76,6 +76,29 @@ pub(crate) fn closing_after(stat: &Stat, closing: bool) -> bool
         | StatNode::Goto(_)
         | StatNode::Break => closing,
     }
+}
+
+/// Whether statements declare a variable to be closed.
+fn has_marked(list: &Vec<Stat>) -> bool
+    ensures { result ≡ closings_after (stats (map plain_stat list.now.items)) false }
+{
+    for stat in list.iter() {
+        if closing_after(stat, false) {
+            return true;
+        }
+    }
+    false
+}
+
+/// The number below which locals are closed at the end of a scope, around which `outer` of `level` locals are in scope. Where no function is made in
+/// it and none of its variables is to be closed, there are none from `outer` on.
+pub(crate) fn closed_below(list: &Vec<Stat>, makes: bool, outer: usize, level: usize) -> usize
+    ensures { result ≡ cond (makes || closings_after (stats (map plain_stat list.now.items)) false) level outer }
+{
+    if makes || has_marked(list) {
+        return level;
+    }
+    outer
 }
 
 /// The number of the statement from which on all in a list are void.

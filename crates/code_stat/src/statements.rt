@@ -14,7 +14,7 @@ use crate::jumps::{Destination, settle_all};
 use crate::labels::{Frame, meet_label};
 use crate::marks::write_close;
 use crate::returns::write_return;
-use crate::scope::{Scope, scope_after, void_from};
+use crate::scope::{Scope, closed_below, scope_after, void_from};
 use crate::stores::behind;
 use crate::writer::Writer;
 use code_core::Opcode;
@@ -119,8 +119,11 @@ impl Writer {
         let first = self.variables.count();
         match &block.result {
             None => {
+                let before = self.emitter.made();
                 let end = self.statements(&block.stats, true, closing, outer, level)?;
-                write_close(&mut self.emitter, outer, end.level, block.line)?;
+                let behind = self.emitter.made();
+                let top = closed_below(&block.stats, behind > before, outer, end.level);
+                write_close(&mut self.emitter, outer, top, block.line)?;
                 let closed = self.place();
                 self.variables.end_scopes(first, closed)?;
                 Ok(())

@@ -4,7 +4,7 @@ ghost use Rattle.tree_core.specs.Plain.{plain_block, plain_body};
 ghost use Rattle.code_of.specs.Levels.{made_in_block};
 ghost use Rattle.code_expr.specs.Listing.{steps};
 ghost use Rattle.code_parts.specs.Scopes.{over};
-ghost use Rattle.code_stat.specs.Declares.{DeclaresBlock};
+ghost use Rattle.code_stat.specs.Declares.{DeclaresWhole};
 ghost use Rattle.code_stat.specs.Drafts.{Wrote, arrives, landing, or_nowhere};
 ghost use Rattle.code_stat.specs.Whole.{filled, function_of, led, made_in_body, nowhere, variables_in, whole_from};
 
@@ -64,7 +64,7 @@ impl Writer {
 
     /// Writes the block of a function with so many parameters.
     fn whole(&mut self, block: &Block, params: usize) -> Result<(), AllocError>
-        ensures variables { OnOk result (DeclaresBlock self.old self.new (plain_block block.now) false 0 params) }
+        ensures variables { OnOk result (DeclaresWhole self.old self.new (plain_block block.now) params) }
         ensures code { OnOk result (Wrote self.old self.new (made_in_block (plain_block block.now)) (λ reach. whole_from self.old.emitter.constants self.old.back (plain_block block.now) params self.old.emitter.made (length self.old.emitter.steps) reach)) }
     {
         match &block.result {

@@ -16,7 +16,7 @@ use Rattle.machine_core.specs.InstructionRows.{fails, rest_at, after, told_value
 use Rattle.machine_core.specs.Talk as code
 use Rattle.machine_core.specs.Talk.{talk, talk_step, says_so, heard, amid}
 use Rattle.lua_meaning.specs.World.{without_name}
-use Rattle.exp_laws.proofs.Registers.{Among, Rel, After, told, share_same, after_none, after_share, after_hold}
+use Rattle.exp_laws.proofs.Registers.{MayHold, Rel, After, told, share_same, after_none, after_share, after_hold}
 use Rattle.exp_laws.specs.Setting.{Setting, InnerAlike}
 use Rattle.exp_laws.proofs.Talking.{Here, Agree, down, go_left, both_ask, of_tree, of_code}
 use Rattle.exp_laws.proofs.Leaving.{leaves_alike, faults_alike}
@@ -82,7 +82,7 @@ module _ (S : Setting) (pending : List Pending) where
   pub opens_alike : (n : ℕ) (s : tree.State) (t : code.State) (line place pc opened u : ℕ) (places : List ℕ) (next_of : Control) (env regs had : List Value) (c : Captured) (k : List Work) (rest : Text)
       → step s ≡ captures_one (cell_held place c.held) line place places next_of (of_tree S pending env c) k
       → talk_step S.code t ≡ talk S.code (open_cell place rest) had (of_code S pending pc regs opened) c
-      → place < length env → (Among place S.hidden → ⊥) → length env ≤ u → Rel S.hidden S.code.own.stack pending env c regs → Here S pc line
+      → place < length env → MayHold place S.hidden → length env ≤ u → Rel S.hidden S.code.own.stack pending env c regs → Here S pc line
       → ((env' regs' : List Value) (c' : Captured) (t' : code.State) → After S.hidden S.code.own.stack pending env regs u env' regs' c' → talk_step S.code t' ≡ talk S.code rest had (of_code S pending pc regs' opened) c'
       → Agree S n (tree.at (capture line places next_of) (of_tree S pending env' c') k) t')
       → Agree S n s t

@@ -7,7 +7,7 @@ use Rattle.tree_core.specs.declared.operator.UnOp.TheVariants.{Neg, BitNot, Not 
 use Rattle.tree_core.specs.declared.operator.BinOp.{BinOp}
 use Rattle.tree_core.specs.declared.operator.BinOp.TheVariants.{Add as Plus, Sub as Minus, Mul as Times, Mod as Modulo, Idiv, Band, Bor, Bxor, Shl as ShiftLeft, Shr as ShiftRight, Concat as Join, Eq as Equal, Ne, Lt as Less, Le as AtMost, Gt, Ge}
 use Rattle.tree_core.specs.Tree.{Exp, Nil, True, False, Int, Str, Vararg, Function, Var, Index, Call, Method, Unary, Binary, And, Or, Paren, Table}
-use Rattle.tree_activation.specs.Work.{give, evaluate, Work, Pending, operand_of, right_of, and_right, or_right, first_only}
+use Rattle.tree_activation.specs.Work.{give, evaluate, Work, Pending, operand_of, right_of, left_of, and_right, or_right, first_only}
 use Rattle.tree_activation.specs.Work as tree
 use Rattle.tree_activation.specs.Asking.{first}
 use Rattle.tree_activation.specs.Expressions.{truth_of}
@@ -36,6 +36,7 @@ use Rattle.exp_laws.proofs.Exps.{exp_same, room_some}
 use Rattle.code_of.specs.Conditions.{jump_if, pick, compared, is_compared, line_of, value_test, test_code}
 use Rattle.code_of.specs.Operands.{second_of, first_of, operands_code, operands_room}
 use Rattle.code_of.specs.Operators.{number_opcode}
+use Rattle.code_of.proofs.Operands.{operator_stands}
 
 -- operators that compare, and the others
 
@@ -293,7 +294,8 @@ module _ (S : Setting) (pending : List Pending) where
           let size = ap length is in
           let end = pc + length (code_by f.opcode f.swapped f.wanted) in
           go_left S n _ (tree.at (evaluate e) (of_tree S pending env c) (right_of line op d ∷ w)) _ refl
-          (operands_goes S pending op line e d (by_registers f.opcode f.swapped f.wanted) (by_number f.wanted) n t end env regs w (cond (is_compared op) 0 1) j pc opened c (exp_same S pending e) (exp_same S pending d)
+          (operands_goes S pending (second_of op d) 128 e d (operator_stands op d) (right_of line op d) (left_of line op) (by_registers f.opcode f.swapped f.wanted) (by_number f.wanted) n t end env regs w (cond (is_compared op) 0 1) j pc opened c
+          (λ vs env' c'. refl) (exp_same S pending e) (exp_same S pending d)
           (room_some S.code.own.constants e) (room_some S.code.own.constants d) bound (subst (HasAt S pc) is has) ok.0 ok.1 refl (omega (arith, inside, size)) le room rel
           (λ x y place o1 v ws env1 regs1 c1 af x_room y_room x_is y_is seats here ends.
           compare_goes f.opcode f.operation f.wanted k (pick f.swapped x y) (pick f.swapped y x) t ahead line n place o1 _ (pick f.swapped v (first ws)) (pick f.swapped (first ws) v) env1 regs1 c1 w here (omega (arith, inside, size, ends))
@@ -301,10 +303,10 @@ module _ (S : Setting) (pending : List Pending) where
           (compared_so S pending op f x y place o1 (cond f.wanted (not k) k) v (first ws) env1 regs1 c1 here.0 x_room y_room af.rel x_is y_is) (f.means line v (first ws) (of_tree S pending env1 c1) w)
           (if_at n t _ _ env1 regs1 w k true (omega (arith, size, ends)) (if_after n t _ env regs env1 regs1 c1 w k true af on))
           (if_at n t _ _ env1 regs1 w k false (omega (arith, size, ends)) (if_after n t _ env regs env1 regs1 c1 w k false af away)))
-          (λ x m place o1 v env1 regs1 c1 af x_room x_is form here ends. let z = known (integer (pos m)) in
+          (λ x m place o1 v env1 regs1 c1 af x_room x_is is here ends. let z = known (integer (pos m)) in
           compare_goes (number_opcode op) f.operation f.wanted k x (m + 127) t ahead line n place o1 _ (pick f.swapped v z) (pick f.swapped z v) env1 regs1 c1 w here (omega (arith, inside, size, ends))
           (omega (arith, x_room, S.small)) af.rel
-          (numbered_so S pending op f x m place o1 (cond f.wanted (not k) k) v env1 regs1 c1 here.0 x_room form.numeral.small af.rel x_is) (f.means line v z (of_tree S pending env1 c1) w)
+          (numbered_so S pending op f x m place o1 (cond f.wanted (not k) k) v env1 regs1 c1 here.0 x_room ((operator_stands op d).number m is).small af.rel x_is) (f.means line v z (of_tree S pending env1 c1) w)
           (if_at n t _ _ env1 regs1 w k true (omega (arith, size, ends)) (if_after n t _ env regs env1 regs1 c1 w k true af on))
           (if_at n t _ _ env1 regs1 w k false (omega (arith, size, ends)) (if_after n t _ env regs env1 regs1 c1 w k false af away))))
   test_same (True line) true ahead t j n pc opened env regs c w bound has ok inside le room rel on away =

@@ -3,11 +3,11 @@ use Rattle.std.proofs.Common.{◌≡◌, ℕ, ◌+◌, ◌-◌, ◌<◌, ◌≤�
 use Rattle.int_core.specs.Value.{Value, a_table, object as reference, same_truth, known, nil, boolean, nth, shape, holds}
 use Rattle.int_core.specs.Ask.{Captured, goes_on}
 use Rattle.tree_core.specs.Tree.{Exp, Nil, True, False, Int, Str, Vararg, Function, Var, Index, Call, Method, Unary, Binary, And, Or, Paren, Table, Exps, EndExps, MoreExps, Fields, EndFields, MoreFields, Item, Keyed}
-use Rattle.tree_activation.specs.Work.{Purpose, for_call, evaluate, give, collect, construct, item_of, keyed_value, keyed_store, callee_of, method_of, listed, Work, Pending, key_of, object_of, operand_of, right_of, and_right, or_right, first_only}
+use Rattle.tree_activation.specs.Work.{Purpose, for_call, evaluate, give, collect, construct, item_of, keyed_value, keyed_store, callee_of, method_of, listed, Work, Pending, key_of, object_of, operand_of, right_of, left_of, and_right, or_right, first_only}
 use Rattle.tree_activation.specs.Work as tree
 use Rattle.tree_activation.specs.Activation.{takes_all, step}
 use Rattle.tree_activation.specs.Asking.{first}
-use Rattle.code_core.specs.declared.opcode.Opcode.TheVariants.{LoadNil, LoadTrue, LoadFalse, GetTable, SetTable, Test, Call as CallCode}
+use Rattle.code_core.specs.declared.opcode.Opcode.TheVariants.{LoadNil, LoadTrue, LoadFalse, SetTable, Test, Call as CallCode}
 use Rattle.code_core.specs.declared.proto.Const.{Const}
 use Rattle.code_core.specs.declared.proto.Const.TheVariants.{Str as StrConst}
 use Rattle.code_core.specs.Instruction.{abc}
@@ -16,7 +16,9 @@ use Rattle.machine_core.specs.Talk.{before}
 use Rattle.code_of.specs.Coded.{with_abc, jump_over}
 use Rattle.code_of.specs.Constants.{is_small}
 use Rattle.code_of.specs.Operands.{second_of, first_of}
-use Rattle.code_of.proofs.Operands.{some_operands}
+use Rattle.code_of.proofs.Operands.{second_number, joins_made, operator_stands, some_operands}
+use Rattle.code_of.specs.Stores.{name_in}
+use Rattle.code_of.proofs.FieldReads.{some_read}
 use Rattle.code_of.specs.Operators.{self_code, prefix_code, operator_code, number_code}
 use Rattle.code_of.specs.Expressions.{made_by, count, is_open, ends_open, Wanted, results_field, one_less, field_of, wanted_after, list_field, exp_code, exps_code, fields_code, set_list}
 use Rattle.exp_laws.specs.Setting.{Setting}
@@ -35,10 +37,12 @@ use Rattle.exp_laws.proofs.Loads.{nil_step}
 use Rattle.exp_laws.specs.Placed.{IsPlaced, ArePlaced, FieldsArePlaced}
 use Rattle.code_of.specs.Rooms.{room_of, room_of_fields, room_of_list, room_of_values}
 use Rattle.code_of.proofs.Rooms.{name_room, self_room}
-use Rattle.exp_laws.proofs.Going.{Given, Filled, Goes, GoesFilled, at_place, goes_at, goes_after, one_goes}
-use Rattle.exp_laws.proofs.NameForms.{constant_goes, integer_goes, index_goes, name_goes}
+use Rattle.exp_laws.proofs.Going.{Given, Filled, Goes, GoesFilled, at_place, goes_at, goes_after, into_goes, one_goes}
+use Rattle.exp_laws.proofs.NameForms.{constant_goes, integer_goes, name_goes}
 use Rattle.exp_laws.proofs.OperatorForms.{unary_goes, binary_goes, number_goes, decides_goes}
+use Rattle.exp_laws.proofs.Sums.{number_form}
 use Rattle.exp_laws.proofs.Operands.{ExpSame, operands_goes}
+use Rattle.exp_laws.proofs.FieldForms.{field_into}
 
 and_decides : {A : Type 0} (x y : A) (b : Bool) → same_truth b false ≡ true → cond b x y ≡ y
 and_decides x y false e = refl
@@ -66,7 +70,7 @@ room_some cs (Str line bytes) = omega arith
 room_some cs (Vararg line) = omega arith
 room_some cs (Function line body) = omega arith
 room_some cs (Var line name) = name_room cs name.place name.text
-room_some cs (Index line object key) = let h = room_some cs object in omega (arith, h)
+room_some cs (Index line object key) = some_read (name_in cs key) object key (room_of cs object 2) (room_of cs key 2) (room_some cs object)
 room_some cs (Call line f es) = let h = room_some cs f in omega (arith, h)
 room_some cs (Method line object name es) = let h = room_some cs object in omega (arith, h)
 room_some cs (Unary line op e) = room_some cs e
@@ -331,24 +335,10 @@ module _ (S : Setting) (pending : List Pending) where
     all_same (Var line name) field t j n pc opened env regs c k bound has fits ok inside le room rel goes =
         name_goes S pending name.place name.text n false line t pc opened _ env regs c k refl has ok inside le room rel goes
     all_same (Index line object key) field t j n pc opened env regs c k bound has fits ok inside le room rel goes =
-        let first_code = exp_code S.code.own.constants object t j 2 in
-        let second_code = exp_code S.code.own.constants key (t + 1) (j + made_by object) 2 in
-        let last_code = with_abc GetTable t t (t + 1) line ∷ [] in
-        let behind = has_back S pc first_code (second_code ++ last_code) has in
-        let whole = length-append first_code (second_code ++ last_code) in
-        let rest = length-append second_code last_code in
-        let some = room_some S.code.own.constants key in
-        go_left S n _ (tree.at (evaluate object) (of_tree S pending env c) (key_of line key ∷ k)) _ refl
-        (one_same object (all_same object) t j n pc opened env regs c (key_of line key ∷ k) bound (has_front S pc first_code (second_code ++ last_code) has) ok.0 (omega (arith, inside, whole)) le (omega arith) rel
-        (λ vs env1 regs1 c1 o1 af eq one. go_left S n _ (tree.at (evaluate key) (of_tree S pending env1 c1) (object_of line (first vs) ∷ k)) _ refl
-        (one_same key (all_same key) (t + 1) (j + made_by object) n (pc + length first_code) o1 env1 regs1 c1 (object_of line (first vs) ∷ k) bound (has_front S (pc + length first_code) second_code last_code behind)
-        (placed key _ _ _ af.size ok.1) (omega (arith, inside, whole, rest)) (omega (arith, le, af.size)) (omega arith) af.rel
-        (λ ws env2 regs2 c2 o2 af2 eq2 one2. index_goes S pending t (t + 1) (first vs) (first ws) n false t line (pc + length first_code + length second_code) o2 _ env2 regs2 c2 k refl
-        (has_back S (pc + length first_code) second_code last_code behind) (omega (arith, inside, whole, rest)) (omega (arith, le, af.size, af2.size)) (omega (arith, some)) (omega (arith, some)) (omega (arith, some)) af2.rel
-        (af2.keeps t (omega (arith, le, af.size)) (omega arith) ∙ eq) eq2
-        (goes_at S pending n false t _ (pc + length (first_code ++ (second_code ++ last_code))) env2 regs2 k (omega (arith, whole, rest))
-        (goes_after S pending n false t _ env regs env2 regs2 c2 k
-        (after_then S.hidden S.code.own.stack pending env regs env1 regs1 env2 regs2 c1 c2 t (t + 1) (omega arith) af af2) goes))))))
+        let cs = S.code.own.constants in
+        let some = some_read (name_in cs key) object key (room_of cs object 2) (room_of cs key 2) (room_some cs object) in
+        field_into S pending line object key 1 t t j n pc opened env regs c k (one_same object (all_same object)) (one_same key (all_same key)) (room_some cs object) (room_some cs key) bound has ok.0 ok.1 inside le (omega (arith, room, some)) room rel
+        (into_goes S pending n false t (pc + length (exp_code cs (Index line object key) t j 2)) env regs k le goes)
     all_same (Paren line e) field t j n pc opened env regs c k bound has fits ok inside le room rel goes =
         go_left S n _ (tree.at (evaluate e) (of_tree S pending env c) (first_only ∷ k)) _ refl
         (one_same e (all_same e) t j n pc opened env regs c (first_only ∷ k) bound has ok inside le room rel
@@ -367,11 +357,11 @@ module _ (S : Setting) (pending : List Pending) where
         let end = pc + length (exp_code constants (Binary line op e d) t j 2) in
         let some = some_operands (second_of op d) (first_of (second_of op d) e) (room_of constants e 2) (room_of constants d 2) (room_some constants e) in
         go_left S n _ (tree.at (evaluate e) (of_tree S pending env c) (right_of line op d ∷ k)) _ refl
-        (operands_goes S pending op line e d (λ x y. operator_code op x y t line) (λ x m. number_code op x m t line) n t end env regs k 1 j pc opened c (one_same e (all_same e)) (one_same d (all_same d)) (room_some constants e) (room_some constants d)
-        bound has ok.0 ok.1 refl inside le room rel
-        (λ x y place o1 v ws env1 regs1 c1 af x_room y_room x_is y_is seats here ends. binary_goes S pending op n false line x y t place o1 v ws env1 regs1 c1 k here (omega (arith, inside, ends)) (omega (arith, le, af.size)) (omega (arith, room, some)) x_room y_room seats af.rel x_is y_is
-        (goes_at S pending n false t _ end env1 regs1 k ends (goes_after S pending n false t _ env regs env1 regs1 c1 k af goes)))
-        (λ x m place o1 v env1 regs1 c1 af x_room x_is form here ends. number_goes S pending op d m form n false line x t place o1 v env1 regs1 c1 k here (omega (arith, inside, ends)) (omega (arith, le, af.size)) (omega (arith, room, some)) x_room af.rel x_is
+        (operands_goes S pending (second_of op d) 128 e d (operator_stands op d) (right_of line op d) (left_of line op) (λ x y. operator_code op x y t line) (λ x m. number_code op x m t line) n t end env regs k
+        1 j pc opened c (λ vs env' c'. refl) (one_same e (all_same e)) (one_same d (all_same d)) (room_some constants e) (room_some constants d) bound has ok.0 ok.1 refl inside le room rel
+        (λ x y place o1 v ws env1 regs1 c1 af x_room y_room x_is y_is seats here ends. binary_goes S pending op n false line x y t place o1 v ws env1 regs1 c1 k here (omega (arith, inside, ends)) (omega (arith, le, af.size)) (omega (arith, room, some)) x_room y_room
+        (λ joined. seats (joins_made op d joined)) af.rel x_is y_is (goes_at S pending n false t _ end env1 regs1 k ends (goes_after S pending n false t _ env regs env1 regs1 c1 k af goes)))
+        (λ x m place o1 v env1 regs1 c1 af x_room x_is is here ends. number_goes S pending op d m (number_form op d m (second_number op d m is)) n false line x t place o1 v env1 regs1 c1 k here (omega (arith, inside, ends)) (omega (arith, le, af.size)) (omega (arith, room, some)) x_room af.rel x_is
         (goes_at S pending n false t _ end env1 regs1 k ends (goes_after S pending n false t _ env regs env1 regs1 c1 k af goes))))
     all_same (And line e d) field t j n pc opened env regs c k bound has fits ok inside le room rel goes =
         let first_code = exp_code S.code.own.constants e t j 2 in

@@ -26,7 +26,7 @@ use Rattle.machine_core.specs.Talk.{before, amid, talk, talk_step, says_so, name
 use Rattle.code_of.specs.Coded.{with_abc, with_abx}
 use Rattle.code_of.specs.CodeOf.{upvalue}
 use Rattle.exp_laws.proofs.Registers.{AllUnder, none_among, Rel, After, after_none, after_then, rel_more, rel_write}
-use Rattle.exp_laws.specs.Setting.{Setting, InnerAlike}
+use Rattle.exp_laws.specs.Setting.{UnderAll, Setting, InnerAlike}
 use Rattle.exp_laws.proofs.Talking.{Here, Agree, go_left, go_right, both_stuck, of_tree, of_code}
 use Rattle.exp_laws.proofs.Placing.{HasAt, here_abx}
 use Rattle.exp_laws.proofs.Asking.{one_alike, opens_alike}
@@ -77,12 +77,12 @@ module _ (S : Setting) (pending : List Pending) where
     where
       by : (b : Bool) → s ≡ tree.at (capture line (cond b (x.index ∷ captured_locals us) (captured_locals us)) next_of) (of_tree S pending env c) k
           → talk_step S.code t ≡ talk S.code (cond b (open_cell x.index (opens (map upvalue us) rest)) (opens (map upvalue us) rest)) had (of_code S pending pc regs opened) c
-          → (b ≡ true → (x.index < length env) × IsNoneOf x.index S.hidden)
+          → (b ≡ true → (x.index < length env) × (IsNoneOf x.index S.hidden.integers × UnderAll x.index S.hidden.free_from))
           → ((env1 regs1 : List Value) (c1 : Captured) (t1 : code.State) → After S.hidden S.code.own.stack pending env regs u env1 regs1 c1 → talk_step S.code t1 ≡ talk S.code (opens (map upvalue us) rest) had (of_code S pending pc regs1 opened) c1
           → Agree S n (tree.at (capture line (captured_locals us) next_of) (of_tree S pending env1 c1) k) t1)
           → Agree S n s t
       by true is d below goes = opens_alike S pending n s t line x.index pc opened u (captured_locals us) next_of env regs had c k (opens (map upvalue us) rest)
-          (ap step is ∙ captures_in_scope line x.index (captured_locals us) next_of env c k (below refl).0) d (below refl).0 (none_among x.index S.hidden (below refl).1) le rel here goes
+          (ap step is ∙ captures_in_scope line x.index (captured_locals us) next_of env c k (below refl).0) d (below refl).0 (none_among x.index S.hidden.integers (below refl).1.0, (below refl).1.1) le rel here goes
       by false is d below goes = subst (λ z. Agree S n z t) (sym is) (goes env regs c t (after_none S.hidden S.code.own.stack pending env regs c u rel) d)
 
   -- the function is made
@@ -136,7 +136,7 @@ module _ (S : Setting) (pending : List Pending) where
   -- a local function is in scope in its own body: its variable is nil, and then the function
   pub local_function_goes : (n t j pc opened : ℕ) (body : Body) (s : tree.State) (env regs : List Value) (c : Captured) (k : List Work) → step s ≡ declares_function body (of_tree S pending env c) k
       → HasAt S pc (with_abc LoadNil t 0 0 (line_of_body body) ∷ with_abx Closure t j (line_of_body body) ∷ []) → n ≤ S.bound → Inner S j body → Captures S.hidden (upvalues_of body) (t + 1) → pc + 2 < length S.code.own.code
-      → length env ≡ t → t < S.code.own.stack → AllUnder S.hidden t → Rel S.hidden S.code.own.stack pending env c regs
+      → length env ≡ t → t < S.code.own.stack → AllUnder S.hidden.integers t → Rel S.hidden S.code.own.stack pending env c regs
       → ((env1 regs1 : List Value) (c1 : Captured) → length env1 ≡ t + 1 → Rel S.hidden S.code.own.stack pending env1 c1 regs1 → Agree S n (tree.at complete (of_tree S pending env1 c1) k) (before (of_code S pending (pc + 2) regs1 opened) c1))
       → Agree S n s (before (of_code S pending pc regs opened) c)
   local_function_goes n t j pc opened body s env regs c k e has bound inner ok inside size room under rel next =

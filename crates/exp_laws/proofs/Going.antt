@@ -47,6 +47,13 @@ module _ (S : Setting) (pending : List Pending) where
       (vs env' regs' : List Value) (c' : Captured) (opened' : ℕ) → After S.hidden S.code.own.stack pending env regs t env' regs' c' → nth regs' t ≡ first vs → Given many vs
       → Agree S n (tree.at (give vs) (of_tree S pending env' c') k) (before (of_code S pending pc regs' opened') c')
 
+  -- Code goes on, once register t has got the first value, where the registers from f on are free. Until then the registers were like the locals: so t
+  -- may be the register of a local, which has its old value in the tree
+  abbrev pub GoesInto : (n : ℕ) → (many : Bool) → (t f : ℕ) → (env regs : List Value) → (pc : ℕ) → (k : List Work) → Type 0
+  GoesInto n many t f env regs pc k =
+      (vs env' regs' : List Value) (c' : Captured) (opened' : ℕ) → After S.hidden S.code.own.stack pending env regs f env' regs' c' → Given many vs
+      → Agree S n (tree.at (give vs) (of_tree S pending env' c') k) (before (of_code S pending pc (write t (first vs) regs') opened') c')
+
   -- the like for a call or `...` with this field C
   abbrev pub GoesFilled : (n field t : ℕ) → (env regs : List Value) → (pc : ℕ) → (k : List Work) → Type 0
   GoesFilled n field t env regs pc k =
@@ -71,26 +78,52 @@ module _ (S : Setting) (pending : List Pending) where
   pub goes_after : (n : ℕ) (many : Bool) (t pc : ℕ) (env regs env1 regs1 : List Value) (c1 : Captured) (k : List Work) → After S.hidden S.code.own.stack pending env regs t env1 regs1 c1 → Goes n many t env regs pc k → Goes n many t env1 regs1 pc k
   goes_after n many t pc env regs env1 regs1 c1 k af goes = λ vs env2 regs2 c2 o2 af2 eq one. goes vs env2 regs2 c2 o2 (after_then S.hidden S.code.own.stack pending env regs env1 regs1 env2 regs2 c1 c2 t t (omega arith) af af2) eq one
 
+  -- a register above the locals
+  pub into_goes : (n : ℕ) (many : Bool) (t pc : ℕ) (env regs : List Value) (k : List Work) → length env ≤ t → Goes n many t env regs pc k → GoesInto n many t t env regs pc k
+  into_goes n many t pc env regs k le goes = λ vs env1 regs1 c1 o1 af one.
+      let put = after_put S.hidden S.code.own.stack pending env1 regs1 c1 t (first vs) (omega (arith, le, af.size)) af.rel in
+      goes vs env1 (write t (first vs) regs1) c1 o1 (after_then S.hidden S.code.own.stack pending env regs env1 regs1 env1 (write t (first vs) regs1) c1 c1 t t (omega arith) af put) (nth_write_same t (first vs) regs1) one
+
+  pub into_at : (n : ℕ) (many : Bool) (t f pc pc' : ℕ) (env regs : List Value) (k : List Work) → pc ≡ pc' → GoesInto n many t f env regs pc' k → GoesInto n many t f env regs pc k
+  into_at n many t f pc pc' env regs k e h = λ vs env' regs' c' opened' af one. at_place n pc pc' opened' _ (write t (first vs) regs') c' e (h vs env' regs' c' opened' af one)
+
+  pub into_after : (n : ℕ) (many : Bool) (t f pc : ℕ) (env regs env1 regs1 : List Value) (c1 : Captured) (k : List Work) → After S.hidden S.code.own.stack pending env regs f env1 regs1 c1 → GoesInto n many t f env regs pc k → GoesInto n many t f env1 regs1 pc k
+  into_after n many t f pc env regs env1 regs1 c1 k af goes = λ vs env2 regs2 c2 o2 af2 one. goes vs env2 regs2 c2 o2 (after_then S.hidden S.code.own.stack pending env regs env1 regs1 env2 regs2 c1 c2 f f (omega arith) af af2) one
+
   -- the first value of an answer goes to register t
+  pub answer_into : (n : ℕ) (many : Bool) (t f pc opened : ℕ) (ws env regs env1 regs1 : List Value) (c1 : Captured) (k : List Work) → pc + 1 < length S.code.own.code → t < S.code.own.stack
+      → After S.hidden S.code.own.stack pending env regs f env1 regs1 c1 → GoesInto n many t f env regs (pc + 1) k
+      → Agree S n (tree.at (give_first ws) (of_tree S pending env1 c1) k) (amid (to_register t (read 0)) ws (of_code S pending pc regs1 opened) c1)
+  answer_into n many t f pc opened ws env regs env1 regs1 c1 k inside room af goes =
+      let there = next_there S (pc + 1) inside in
+      go_right S n _ _ (before (of_code S pending (pc + 1) (write t (first ws) regs1) opened) c1)
+      (to_register_step S.code t (read 0) there.0 ws (of_code S pending pc regs1 opened) c1 (omega (arith, room, af.rel.room)) there.1)
+      (goes (first ws ∷ []) env1 regs1 c1 opened af (given_one many (first ws)))
+
   pub answer_goes : (n : ℕ) (many : Bool) (t pc opened : ℕ) (ws env regs env1 regs1 : List Value) (c1 : Captured) (k : List Work) → pc + 1 < length S.code.own.code → length env ≤ t → t < S.code.own.stack
       → After S.hidden S.code.own.stack pending env regs t env1 regs1 c1 → Goes n many t env regs (pc + 1) k
       → Agree S n (tree.at (give_first ws) (of_tree S pending env1 c1) k) (amid (to_register t (read 0)) ws (of_code S pending pc regs1 opened) c1)
   answer_goes n many t pc opened ws env regs env1 regs1 c1 k inside le room af goes =
-      let there = next_there S (pc + 1) inside in
-      go_right S n _ _ (before (of_code S pending (pc + 1) (write t (first ws) regs1) opened) c1)
-      (to_register_step S.code t (read 0) there.0 ws (of_code S pending pc regs1 opened) c1 (omega (arith, room, af.rel.room)) there.1)
-      (put_goes n many t (pc + 1) opened (first ws) env1 regs1 c1 k (omega (arith, le, af.size)) af.rel (goes_after n many t (pc + 1) env regs env1 regs1 c1 k af goes))
+      answer_into n many t t pc opened ws env regs env1 regs1 c1 k inside room af (into_goes n many t (pc + 1) env regs k le goes)
 
   -- an operation whose value goes to register t
+  pub operation_into : (wait : Wait Value) (told_so : (reply : Reply) → told_values wait reply ≡ told_values for_value reply) (operation : Operation) (xs : List Value) (n : ℕ) (many : Bool) (line t f pc opened : ℕ) (s : tree.State) (q : code.State) (env regs : List Value) (c : Captured) (k : List Work)
+      → step s ≡ asks (operates operation xs) line (of_tree S pending env c) k give_first
+      → talk_step S.code q ≡ says_so (operates operation xs) S.code (of_code S pending pc regs opened) c (λ x b d. heard wait S.code x b d)
+      → rest_at {V = Value} wait S.code pc ≡ to_register t (read 0) → Here S pc line → pc + 1 < length S.code.own.code → t < S.code.own.stack → Rel S.hidden S.code.own.stack pending env c regs
+      → GoesInto n many t f env regs (pc + 1) k → Agree S n s q
+  operation_into wait told_so operation xs n many line t f pc opened s q env regs c k e d comes here inside room rel goes =
+      asks_alike S pending n wait told_so s q (operates operation xs) (operates operation xs) line pc opened f env regs c k give_first e d (λ m. (refl, refl)) refl rel here
+      (λ ws env1 regs1 c1 af. subst (λ x. Agree S n (tree.at (give_first ws) (of_tree S pending env1 c1) k) (amid x ws (of_code S pending pc regs1 opened) c1)) (sym comes)
+      (answer_into n many t f pc opened ws env regs env1 regs1 c1 k inside room af goes))
+
   pub operation_goes : (wait : Wait Value) (told_so : (reply : Reply) → told_values wait reply ≡ told_values for_value reply) (operation : Operation) (xs : List Value) (n : ℕ) (many : Bool) (line t pc opened : ℕ) (s : tree.State) (q : code.State) (env regs : List Value) (c : Captured) (k : List Work)
       → step s ≡ asks (operates operation xs) line (of_tree S pending env c) k give_first
       → talk_step S.code q ≡ says_so (operates operation xs) S.code (of_code S pending pc regs opened) c (λ x b d. heard wait S.code x b d)
       → rest_at {V = Value} wait S.code pc ≡ to_register t (read 0) → Here S pc line → pc + 1 < length S.code.own.code → length env ≤ t → t < S.code.own.stack → Rel S.hidden S.code.own.stack pending env c regs
       → Goes n many t env regs (pc + 1) k → Agree S n s q
   operation_goes wait told_so operation xs n many line t pc opened s q env regs c k e d comes here inside le room rel goes =
-      asks_alike S pending n wait told_so s q (operates operation xs) (operates operation xs) line pc opened t env regs c k give_first e d (λ m. (refl, refl)) refl rel here
-      (λ ws env1 regs1 c1 af. subst (λ x. Agree S n (tree.at (give_first ws) (of_tree S pending env1 c1) k) (amid x ws (of_code S pending pc regs1 opened) c1)) (sym comes)
-      (answer_goes n many t pc opened ws env regs env1 regs1 c1 k inside le room af goes))
+      operation_into wait told_so operation xs n many line t t pc opened s q env regs c k e d comes here inside room rel (into_goes n many t (pc + 1) env regs k le goes)
 
   -- an instruction that writes a value to register t
   pub one_goes : (i : Coded) (code : List Coded) (v : Value) (n : ℕ) (many : Bool) (t pc opened : ℕ) (s : tree.State) (env regs : List Value) (c : Captured) (k : List Work)

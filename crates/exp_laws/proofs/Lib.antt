@@ -6,12 +6,14 @@ pub mod Leaving
 pub mod Asking
 pub mod Going
 pub mod NameForms
+pub mod FieldForms
 pub mod OperatorForms
 pub mod CallForms
 pub mod ListForms
 pub mod FunctionForms
 pub mod TableForms
 pub mod Exps
+pub mod Direct
 pub mod LastCalls
 pub mod TableAnswers
 pub mod Returning

@@ -1,6 +1,6 @@
 -- Expressions that are constants or names.
-use Rattle.std.proofs.Common.{◌≡◌, ℕ, ◌+◌, ◌<◌, ◌≤◌, ◌^◌, Bool, true, false, cond, ℤ, List, [], ◌∷◌, ◌++◌, length, refl, sym, ap, ap₂, subst, ◌∙◌, arith, length-append}
-use Rattle.std.specs.Prelude.{nat_lt}
+use Rattle.std.proofs.Common.{◌≡◌, ℕ, ◌+◌, ◌<◌, ◌≤◌, ◌^◌, Bool, true, false, cond, ℤ, pos, List, [], ◌∷◌, ◌++◌, length, refl, sym, ap, ap₂, subst, ◌∙◌, arith, length-append}
+use Rattle.std.specs.Prelude.{nat_lt, Some, slice_get}
 use borrow.Author.Tests.{ltb-true}
 use Rattle.int_core.specs.Value.{Value, known, integer, string, nth, write}
 use Rattle.int_core.specs.Operations.{index}
@@ -12,7 +12,7 @@ use Rattle.tree_activation.specs.Work as tree
 use Rattle.tree_activation.specs.Activation.{step}
 use Rattle.tree_activation.specs.Expressions.{gives, give_first, reads_variable}
 use Rattle.tree_activation.specs.Asking.{first, asks, asks_quickly}
-use Rattle.code_core.specs.declared.opcode.Opcode.TheVariants.{Move, GetUpval, GetTabUp, GetTable, LoadI, LoadK, LoadKx, ExtraArg}
+use Rattle.code_core.specs.declared.opcode.Opcode.TheVariants.{Move, GetUpval, GetTabUp, GetTable, GetI, GetField, LoadI, LoadK, LoadKx, ExtraArg}
 use Rattle.code_core.specs.declared.proto.Const.{Const}
 use Rattle.code_core.specs.declared.proto.Const.TheVariants.{Int as IntConst, Str as StrConst}
 use Rattle.code_core.specs.Instruction.{op_ax}
@@ -29,11 +29,11 @@ use Rattle.exp_laws.specs.Setting.{Setting}
 use Rattle.exp_laws.proofs.Talking.{Agree, go_left, go_right, of_tree, of_code}
 use Rattle.exp_laws.proofs.Placing.{HasAt, has_front, has_back, here_abc}
 use Rattle.exp_laws.proofs.Asking.{one_alike}
-use Rattle.exp_laws.proofs.Steps.{move_step, get_step, upvalue_step, value_rest, key_text, table_step, key_step}
+use Rattle.exp_laws.proofs.Steps.{move_step, get_step, get_number_step, get_name_step, upvalue_step, value_rest, key_text, table_step, key_step}
 use Rattle.exp_laws.proofs.Loads.{integer_step, constant_step, far_step}
 use Rattle.exp_laws.specs.Placed.{NameIsPlaced}
 use Rattle.code_of.specs.Rooms.{room_of_name}
-use Rattle.exp_laws.proofs.Going.{next_there, Goes, put_goes, goes_at, goes_after, one_goes, answer_goes, operation_goes}
+use Rattle.exp_laws.proofs.Going.{next_there, Goes, GoesInto, put_goes, goes_at, goes_after, into_goes, one_goes, answer_goes, operation_into, operation_goes}
 
 module _ (S : Setting) (pending : List Pending) where
   -- a constant goes to register t, and the tree has no step
@@ -81,15 +81,46 @@ module _ (S : Setting) (pending : List Pending) where
       (goes_at S pending n many t _ (pc + length code) env regs k (omega (arith, size)) goes)
 
   -- a field of the value v by the key w: the two stand in registers
+  pub index_into : (x y : ℕ) (v w : Value) (n : ℕ) (many : Bool) (t f line pc opened : ℕ) (s : tree.State) (env regs : List Value) (c : Captured) (k : List Work)
+      → step s ≡ asks (operates index (v ∷ w ∷ [])) line (of_tree S pending env c) k give_first → HasAt S pc (with_abc GetTable t x y line ∷ []) → pc + 1 < length S.code.own.code
+      → t < S.code.own.stack → x < S.code.own.stack → y < S.code.own.stack → Rel S.hidden S.code.own.stack pending env c regs → nth regs x ≡ v → nth regs y ≡ w
+      → GoesInto S pending n many t f env regs (pc + 1) k → Agree S n s (before (of_code S pending pc regs opened) c)
+  index_into x y v w n many t f line pc opened s env regs c k e has inside room x_room y_room rel x_is y_is goes =
+      operation_into S pending for_value (λ reply. refl) index (v ∷ w ∷ []) n many line t f pc opened s _ env regs c k e
+      (get_step S.code t x y (of_code S pending pc regs opened) c has.0 (omega (arith, S.small)) (omega (arith, S.small)) (omega (arith, S.small)) (omega (arith, rel.room)) (omega (arith, rel.room))
+      ∙ ap₂ (λ o q. says_so (operates index (o ∷ q ∷ [])) S.code (of_code S pending pc regs opened) c (λ z b d. heard for_value S.code z b d)) x_is y_is)
+      (value_rest S.code GetTable t x y pc false has.0 (omega (arith, S.small)) refl) (here_abc S GetTable t x y false line pc [] has) inside room rel goes
+
+  -- the key is the number m in the instruction
+  pub number_index_into : (x m : ℕ) (v : Value) (n : ℕ) (many : Bool) (t f line pc opened : ℕ) (s : tree.State) (env regs : List Value) (c : Captured) (k : List Work)
+      → step s ≡ asks (operates index (v ∷ known (integer (pos m)) ∷ [])) line (of_tree S pending env c) k give_first → HasAt S pc (with_abc GetI t x m line ∷ []) → pc + 1 < length S.code.own.code
+      → t < S.code.own.stack → x < S.code.own.stack → m ≤ 255 → Rel S.hidden S.code.own.stack pending env c regs → nth regs x ≡ v
+      → GoesInto S pending n many t f env regs (pc + 1) k → Agree S n s (before (of_code S pending pc regs opened) c)
+  number_index_into x m v n many t f line pc opened s env regs c k e has inside room x_room small rel x_is goes =
+      operation_into S pending for_value (λ reply. refl) index (v ∷ known (integer (pos m)) ∷ []) n many line t f pc opened s _ env regs c k e
+      (get_number_step S.code t x m (of_code S pending pc regs opened) c has.0 (omega (arith, room, S.small)) (omega (arith, x_room, S.small)) (omega (arith, small)) (omega (arith, x_room, rel.room))
+      ∙ ap (λ o. says_so (operates index (o ∷ known (integer (pos m)) ∷ [])) S.code (of_code S pending pc regs opened) c (λ z b d. heard for_value S.code z b d)) x_is)
+      (value_rest S.code GetI t x m pc false has.0 (omega (arith, room, S.small)) refl) (here_abc S GetI t x m false line pc [] has) inside room rel goes
+
+  -- the key is a constant of the instruction
+  pub name_index_into : (x number : ℕ) (text : List ℕ) (v : Value) (n : ℕ) (many : Bool) (t f line pc opened : ℕ) (s : tree.State) (env regs : List Value) (c : Captured) (k : List Work)
+      → step s ≡ asks (operates index (v ∷ known (string text) ∷ [])) line (of_tree S pending env c) k give_first → HasAt S pc (with_abc GetField t x number line ∷ []) → pc + 1 < length S.code.own.code
+      → t < S.code.own.stack → x < S.code.own.stack → number < 256 → slice_get S.code.own.constants number ≡ Some (StrConst text) → Rel S.hidden S.code.own.stack pending env c regs → nth regs x ≡ v
+      → GoesInto S pending n many t f env regs (pc + 1) k → Agree S n s (before (of_code S pending pc regs opened) c)
+  name_index_into x number text v n many t f line pc opened s env regs c k e has inside room x_room short there rel x_is goes =
+      operation_into S pending for_value (λ reply. refl) index (v ∷ known (string text) ∷ []) n many line t f pc opened s _ env regs c k e
+      (get_name_step S.code t x number (StrConst text) (of_code S pending pc regs opened) c has.0 (omega (arith, room, S.small)) (omega (arith, x_room, S.small)) (omega (arith, short)) (omega (arith, x_room, rel.room)) there
+      ∙ ap (λ o. says_so (operates index (o ∷ known (string text) ∷ [])) S.code (of_code S pending pc regs opened) c (λ z b d. heard for_value S.code z b d)) x_is)
+      (value_rest S.code GetField t x number pc false has.0 (omega (arith, room, S.small)) refl) (here_abc S GetField t x number false line pc [] has) inside room rel goes
+
+  -- to a register above the locals
+
   pub index_goes : (x y : ℕ) (v w : Value) (n : ℕ) (many : Bool) (t line pc opened : ℕ) (s : tree.State) (env regs : List Value) (c : Captured) (k : List Work)
       → step s ≡ asks (operates index (v ∷ w ∷ [])) line (of_tree S pending env c) k give_first → HasAt S pc (with_abc GetTable t x y line ∷ []) → pc + 1 < length S.code.own.code
       → length env ≤ t → t < S.code.own.stack → x < S.code.own.stack → y < S.code.own.stack → Rel S.hidden S.code.own.stack pending env c regs → nth regs x ≡ v → nth regs y ≡ w
       → Goes S pending n many t env regs (pc + 1) k → Agree S n s (before (of_code S pending pc regs opened) c)
   index_goes x y v w n many t line pc opened s env regs c k e has inside le room x_room y_room rel x_is y_is goes =
-      operation_goes S pending for_value (λ reply. refl) index (v ∷ w ∷ []) n many line t pc opened s _ env regs c k e
-      (get_step S.code t x y (of_code S pending pc regs opened) c has.0 (omega (arith, S.small)) (omega (arith, S.small)) (omega (arith, S.small)) (omega (arith, rel.room)) (omega (arith, rel.room))
-      ∙ ap₂ (λ o q. says_so (operates index (o ∷ q ∷ [])) S.code (of_code S pending pc regs opened) c (λ z b d. heard for_value S.code z b d)) x_is y_is)
-      (value_rest S.code GetTable t x y pc false has.0 (omega (arith, S.small)) refl) (here_abc S GetTable t x y false line pc [] has) inside le room rel goes
+      index_into x y v w n many t t line pc opened s env regs c k e has inside room x_room y_room rel x_is y_is (into_goes S pending n many t (pc + 1) env regs k le goes)
 
   upvalue_goes : (u n : ℕ) (many : Bool) (t line pc opened : ℕ) (s : tree.State) (env regs : List Value) (c : Captured) (k : List Work)
       → step s ≡ asks_quickly (reads_upvalue u) line (of_tree S pending env c) k give_first → HasAt S pc (with_abc GetUpval t u 0 line ∷ []) → pc + 1 < length S.code.own.code

@@ -1,12 +1,11 @@
--- The operands of an operator: each is evaluated at its turn, or stands where it is.
-use Rattle.std.proofs.Common.{◌≡◌, ℕ, ◌+◌, ◌<◌, ◌≤◌, true, pos, List, [], ◌∷◌, ◌++◌, length, Option, Some, None, refl, sym, ap, subst, ◌∙◌, arith, length-append}
+-- Two operands: each is evaluated at its turn, or stands where it is.
+use Rattle.std.proofs.Common.{◌≡◌, ℕ, ◌+◌, ◌<◌, ◌≤◌, pos, List, [], ◌∷◌, ◌++◌, length, Option, Some, None, refl, sym, ap, subst, ◌∙◌, arith, length-append}
 use Rattle.int_core.specs.Value.{Value, known, integer, nth}
-use Rattle.int_core.specs.Ask.{Captured}
+use Rattle.int_core.specs.Ask.{Captured, goes_on}
 use Rattle.tree_core.specs.declared.name.Place.{Place}
 use Rattle.tree_core.specs.declared.name.Place.TheVariants.{Unset, Upvalue, GlobalIn, GlobalOf, Local as LocalPlace}
-use Rattle.tree_core.specs.declared.operator.BinOp.{BinOp}
 use Rattle.tree_core.specs.Tree.{Exp, Nil, True, False, Int, Str, Vararg, Function, Var, Index, Call, Method, Unary, Binary, And, Or, Paren, Table}
-use Rattle.tree_activation.specs.Work.{evaluate, give, Work, Pending, right_of, left_of, first_only}
+use Rattle.tree_activation.specs.Work.{evaluate, give, Work, Pending, first_only}
 use Rattle.tree_activation.specs.Work as tree
 use Rattle.tree_activation.specs.Activation.{step}
 use Rattle.tree_activation.specs.Asking.{first}
@@ -16,16 +15,15 @@ use Rattle.machine_core.specs.Talk as code
 use Rattle.machine_core.specs.Talk.{before}
 use Rattle.code_of.specs.Coded.{Coded}
 use Rattle.code_of.specs.Expressions.{made_by, is_open, exp_code}
-use Rattle.code_of.specs.Operands.{local_at, local_of, joins, Second, a_number, a_local, made, second_of, first_of, operands_code, operands_room}
+use Rattle.code_of.specs.Operands.{local_at, local_of, Second, a_number, a_local, made, first_of, operands_code, operands_room}
 use Rattle.code_of.specs.Rooms.{room_of}
-use Rattle.code_of.proofs.Operands.{some_is, second_number, second_local, first_local, local_no_join}
+use Rattle.code_of.proofs.Operands.{some_is, IsNumeral, Stands, first_local, local_not_made}
 use Rattle.exp_laws.specs.Setting.{Setting}
 use Rattle.exp_laws.specs.Placed.{NameIsPlaced, IsPlaced}
 use Rattle.exp_laws.proofs.Registers.{Rel, After, after_none, after_then}
 use Rattle.exp_laws.proofs.Talking.{Agree, go_left, of_tree, of_code}
 use Rattle.exp_laws.proofs.Placing.{HasAt, has_front, has_back}
 use Rattle.exp_laws.proofs.Going.{Goes}
-use Rattle.exp_laws.proofs.Sums.{NumberForm, number_form}
 
 -- an operand that stays in its register is in scope
 
@@ -97,27 +95,32 @@ module _ (S : Setting) (pending : List Pending) where
   local_read (Or line left right) r n env c k t e next = absurd (cc)
   local_read (Table line fs) r n env c k t e next = absurd (cc)
 
-  numeral_read : (op : BinOp) (d : Exp) (m n : ℕ) (f : NumberForm op d m) (env : List Value) (c : Captured) (k : List Work) (t : code.State)
+  pub numeral_read : (d : Exp) (m most n : ℕ) (f : IsNumeral d m most) (env : List Value) (c : Captured) (k : List Work) (t : code.State)
       → Agree S n (tree.at (give (known (integer (pos m)) ∷ [])) (of_tree S pending env c) k) t → Agree S n (tree.at (evaluate d) (of_tree S pending env c) k) t
-  numeral_read op d m n f env c k t next =
-      go_left S n _ (tree.at (give (known (integer (pos m)) ∷ [])) (of_tree S pending env c) k) t (ap (λ e. step (tree.at (evaluate e) (of_tree S pending env c) k)) f.numeral.is) next
+  numeral_read d m most n f env c k t next =
+      go_left S n _ (tree.at (give (known (integer (pos m)) ∷ [])) (of_tree S pending env c) k) t (ap (λ e. step (tree.at (evaluate e) (of_tree S pending env c) k)) f.is) next
 
-  module _ (op : BinOp) (line : ℕ) (e d : Exp) (by_registers by_number : (x y : ℕ) → List Coded) (n t end : ℕ) (env regs : List Value) (k : List Work) where
+  -- the operands e and d, of which d stands as s says; `wait` waits for the first one, and `then_wait` for the second one
+  module _ (s : Second) (most : ℕ) (e d : Exp) (stands : Stands s d most) (wait : Work) (then_wait : Value → Work) (by_registers by_number : (x y : ℕ) → List Coded) (n t end : ℕ) (env regs : List Value) (k : List Work) where
+    -- the first operand has a value, and the second one's turn comes
+    abbrev pub Turns : Type 0
+    Turns = (vs env' : List Value) (c' : Captured) → step (tree.at (give vs) (of_tree S pending env' c') (wait ∷ k)) ≡ goes_on (tree.at (evaluate d) (of_tree S pending env' c') (then_wait (first vs) ∷ k))
+
     -- code goes on where both operands stand in registers; the second one has the first of the values ws
     abbrev pub GoesWithRegisters : Type 0
     GoesWithRegisters =
         (x y place opened' : ℕ) (v : Value) (ws env' regs' : List Value) (c' : Captured) → After S.hidden S.code.own.stack pending env regs t env' regs' c'
-        → x < S.code.own.stack → y < S.code.own.stack → nth regs' x ≡ v → nth regs' y ≡ first ws → (joins op ≡ true → (x ≡ t) × (y ≡ t + 1))
+        → x < S.code.own.stack → y < S.code.own.stack → nth regs' x ≡ v → nth regs' y ≡ first ws → (s ≡ made → (x ≡ t) × (y ≡ t + 1))
         → HasAt S place (by_registers x y) → place + length (by_registers x y) ≡ end
-        → Agree S n (tree.at (give ws) (of_tree S pending env' c') (left_of line op v ∷ k)) (before (of_code S pending place regs' opened') c')
+        → Agree S n (tree.at (give ws) (of_tree S pending env' c') (then_wait v ∷ k)) (before (of_code S pending place regs' opened') c')
 
     -- and where the second one is a numeral
     abbrev pub GoesWithNumber : Type 0
     GoesWithNumber =
         (x m place opened' : ℕ) (v : Value) (env' regs' : List Value) (c' : Captured) → After S.hidden S.code.own.stack pending env regs t env' regs' c'
-        → x < S.code.own.stack → nth regs' x ≡ v → NumberForm op d m
+        → x < S.code.own.stack → nth regs' x ≡ v → s ≡ a_number m
         → HasAt S place (by_number x m) → place + length (by_number x m) ≡ end
-        → Agree S n (tree.at (give (known (integer (pos m)) ∷ [])) (of_tree S pending env' c') (left_of line op v ∷ k)) (before (of_code S pending place regs' opened') c')
+        → Agree S n (tree.at (give (known (integer (pos m)) ∷ [])) (of_tree S pending env' c') (then_wait v ∷ k)) (before (of_code S pending place regs' opened') c')
 
     abbrev first_code : (j : ℕ) → List Coded
     first_code j = exp_code S.code.own.constants e t j 2
@@ -132,21 +135,24 @@ module _ (S : Setting) (pending : List Pending) where
     placed_here e a b j same h = subst (λ z. IsPlaced S e z j) (sym same) h
 
     -- the first operand is evaluated, or stays
-    pub operands_goes : (own j pc opened : ℕ) (c : Captured) → ExpSame e → ExpSame d → 1 ≤ room_of S.code.own.constants e 2 → 1 ≤ room_of S.code.own.constants d 2 → n ≤ S.bound
-        → HasAt S pc (whole_code (second_of op d) (first_of (second_of op d) e) j) → IsPlaced S e (length env) j → IsPlaced S d (length env) (j + made_by e)
-        → end ≡ pc + length (whole_code (second_of op d) (first_of (second_of op d) e) j) → end < length S.code.own.code → length env ≤ t
-        → t + operands_room own (second_of op d) (first_of (second_of op d) e) (room_of S.code.own.constants e 2) (room_of S.code.own.constants d 2) ≤ S.code.own.stack
+    pub operands_goes : (own j pc opened : ℕ) (c : Captured) → Turns → ExpSame e → ExpSame d → 1 ≤ room_of S.code.own.constants e 2 → 1 ≤ room_of S.code.own.constants d 2 → n ≤ S.bound
+        → HasAt S pc (whole_code s (first_of s e) j) → IsPlaced S e (length env) j → IsPlaced S d (length env) (j + made_by e)
+        → end ≡ pc + length (whole_code s (first_of s e) j) → end < length S.code.own.code → length env ≤ t
+        → t + operands_room own s (first_of s e) (room_of S.code.own.constants e 2) (room_of S.code.own.constants d 2) ≤ S.code.own.stack
         → Rel S.hidden S.code.own.stack pending env c regs → GoesWithRegisters → GoesWithNumber
-        → Agree S n (tree.at (evaluate e) (of_tree S pending env c) (right_of line op d ∷ k)) (before (of_code S pending pc regs opened) c)
-    operands_goes own j pc opened c law_e law_d some_e some_d bound has ok_e ok_d ends inside le room rel on_registers on_number =
-        by (second_of op d) (first_of (second_of op d) e) refl refl has ends room
+        → Agree S n (tree.at (evaluate e) (of_tree S pending env c) (wait ∷ k)) (before (of_code S pending pc regs opened) c)
+    operands_goes own j pc opened c turns law_e law_d some_e some_d bound has ok_e ok_d ends inside le room rel on_registers on_number =
+        by s (first_of s e) refl refl has ends room
       where
         cs : List Const
         cs = S.code.own.constants
 
-        by : (s : Second) (at : Option ℕ) → second_of op d ≡ s → first_of s e ≡ at → HasAt S pc (whole_code s at j) → end ≡ pc + length (whole_code s at j)
-            → t + operands_room own s at (room_of cs e 2) (room_of cs d 2) ≤ S.code.own.stack
-            → Agree S n (tree.at (evaluate e) (of_tree S pending env c) (right_of line op d ∷ k)) (before (of_code S pending pc regs opened) c)
+        made_only : (z : Second) → s ≡ z → (z ≡ made → ⊥) → s ≡ made → ⊥
+        made_only z is other h = other (sym is ∙ h)
+
+        by : (z : Second) (at : Option ℕ) → s ≡ z → first_of z e ≡ at → HasAt S pc (whole_code z at j) → end ≡ pc + length (whole_code z at j)
+            → t + operands_room own z at (room_of cs e 2) (room_of cs d 2) ≤ S.code.own.stack
+            → Agree S n (tree.at (evaluate e) (of_tree S pending env c) (wait ∷ k)) (before (of_code S pending pc regs opened) c)
         by made (Some x) is at_is has ends room = absurd (cc)
         by made None is at_is has ends room =
             let one = first_code j in
@@ -156,9 +162,9 @@ module _ (S : Setting) (pending : List Pending) where
             let rest = length-append two last in
             let behind = has_back S pc one (two ++ last) has in
             let some = some_e in
-            law_e t j n pc opened env regs c (right_of line op d ∷ k) bound (has_front S pc one (two ++ last) has) ok_e (omega (arith, ends, inside, whole)) le (omega (arith, room)) rel
-            (λ vs env1 regs1 c1 o1 af eq given. go_left S n _ (tree.at (evaluate d) (of_tree S pending env1 c1) (left_of line op (first vs) ∷ k)) _ refl
-            (law_d (t + 1) (j + made_by e) n (pc + length one) o1 env1 regs1 c1 (left_of line op (first vs) ∷ k) bound (has_front S (pc + length one) two last behind)
+            law_e t j n pc opened env regs c (wait ∷ k) bound (has_front S pc one (two ++ last) has) ok_e (omega (arith, ends, inside, whole)) le (omega (arith, room)) rel
+            (λ vs env1 regs1 c1 o1 af eq given. go_left S n _ (tree.at (evaluate d) (of_tree S pending env1 c1) (then_wait (first vs) ∷ k)) _ (turns vs env1 c1)
+            (law_d (t + 1) (j + made_by e) n (pc + length one) o1 env1 regs1 c1 (then_wait (first vs) ∷ k) bound (has_front S (pc + length one) two last behind)
             (placed_here d _ _ _ af.size ok_d) (omega (arith, ends, inside, whole, rest)) (omega (arith, le, af.size)) (omega (arith, room)) af.rel
             (λ ws env2 regs2 c2 o2 af2 eq2 given2. on_registers t (t + 1) (pc + length one + length two) o2 (first vs) ws env2 regs2 c2
             (after_then S.hidden S.code.own.stack pending env regs env1 regs1 env2 regs2 c1 c2 t (t + 1) (omega arith) af af2) (omega (arith, room, some_d)) (omega (arith, room, some_d))
@@ -167,39 +173,37 @@ module _ (S : Setting) (pending : List Pending) where
             let one = first_code j in
             let last = by_registers t r in
             let whole = length-append one last in
-            let local_is = second_local op d r is in
+            let local_is = stands.local r is in
             let below = local_placed S d r (length env) (j + made_by e) local_is ok_d in
             let some = some_e in
-            law_e t j n pc opened env regs c (right_of line op d ∷ k) bound (has_front S pc one last has) ok_e (omega (arith, ends, inside, whole)) le room rel
-            (λ vs env1 regs1 c1 o1 af eq given. go_left S n _ (tree.at (evaluate d) (of_tree S pending env1 c1) (left_of line op (first vs) ∷ k)) _ refl
-            (local_read d r n env1 c1 (left_of line op (first vs) ∷ k) _ local_is
+            law_e t j n pc opened env regs c (wait ∷ k) bound (has_front S pc one last has) ok_e (omega (arith, ends, inside, whole)) le room rel
+            (λ vs env1 regs1 c1 o1 af eq given. go_left S n _ (tree.at (evaluate d) (of_tree S pending env1 c1) (then_wait (first vs) ∷ k)) _ (turns vs env1 c1)
+            (local_read d r n env1 c1 (then_wait (first vs) ∷ k) _ local_is
             (on_registers t r (pc + length one) o1 (first vs) (nth env1 r ∷ []) env1 regs1 c1 af (omega (arith, room, some)) (omega (arith, below, rel.fits)) eq (sym (af.rel.agree r (omega (arith, below, af.size))))
-            (λ joined. absurd (local_no_join op d r is joined)) (has_back S pc one last has) (omega (arith, ends, whole)))))
+            (λ h. absurd (made_only (a_local r) is (local_not_made r) h)) (has_back S pc one last has) (omega (arith, ends, whole)))))
         by (a_local r) (Some x) is at_is has ends room =
             let first_is = first_local (a_local r) e x at_is in
-            let local_is = second_local op d r is in
+            let local_is = stands.local r is in
             let x_below = local_placed S e x (length env) j first_is ok_e in
             let below = local_placed S d r (length env) (j + made_by e) local_is ok_d in
-            local_read e x n env c (right_of line op d ∷ k) _ first_is
-            (go_left S n _ (tree.at (evaluate d) (of_tree S pending env c) (left_of line op (nth env x) ∷ k)) _ refl
-            (local_read d r n env c (left_of line op (nth env x) ∷ k) _ local_is
+            local_read e x n env c (wait ∷ k) _ first_is
+            (go_left S n _ (tree.at (evaluate d) (of_tree S pending env c) (then_wait (nth env x) ∷ k)) _ (turns (nth env x ∷ []) env c)
+            (local_read d r n env c (then_wait (nth env x) ∷ k) _ local_is
             (on_registers x r pc opened (nth env x) (nth env r ∷ []) env regs c (after_none S.hidden S.code.own.stack pending env regs c t rel) (omega (arith, x_below, rel.fits)) (omega (arith, below, rel.fits))
-            (sym (rel.agree x x_below)) (sym (rel.agree r below)) (λ joined. absurd (local_no_join op d r is joined)) has (sym ends))))
+            (sym (rel.agree x x_below)) (sym (rel.agree r below)) (λ h. absurd (made_only (a_local r) is (local_not_made r) h)) has (sym ends))))
         by (a_number m) None is at_is has ends room =
             let one = first_code j in
             let last = by_number t m in
             let whole = length-append one last in
-            let form = number_form op d m (second_number op d m is) in
             let some = some_e in
-            law_e t j n pc opened env regs c (right_of line op d ∷ k) bound (has_front S pc one last has) ok_e (omega (arith, ends, inside, whole)) le room rel
-            (λ vs env1 regs1 c1 o1 af eq given. go_left S n _ (tree.at (evaluate d) (of_tree S pending env1 c1) (left_of line op (first vs) ∷ k)) _ refl
-            (numeral_read op d m n form env1 c1 (left_of line op (first vs) ∷ k) _
-            (on_number t m (pc + length one) o1 (first vs) env1 regs1 c1 af (omega (arith, room, some)) eq form (has_back S pc one last has) (omega (arith, ends, whole)))))
+            law_e t j n pc opened env regs c (wait ∷ k) bound (has_front S pc one last has) ok_e (omega (arith, ends, inside, whole)) le room rel
+            (λ vs env1 regs1 c1 o1 af eq given. go_left S n _ (tree.at (evaluate d) (of_tree S pending env1 c1) (then_wait (first vs) ∷ k)) _ (turns vs env1 c1)
+            (numeral_read d m most n (stands.number m is) env1 c1 (then_wait (first vs) ∷ k) _
+            (on_number t m (pc + length one) o1 (first vs) env1 regs1 c1 af (omega (arith, room, some)) eq is (has_back S pc one last has) (omega (arith, ends, whole)))))
         by (a_number m) (Some x) is at_is has ends room =
             let first_is = first_local (a_number m) e x at_is in
             let x_below = local_placed S e x (length env) j first_is ok_e in
-            let form = number_form op d m (second_number op d m is) in
-            local_read e x n env c (right_of line op d ∷ k) _ first_is
-            (go_left S n _ (tree.at (evaluate d) (of_tree S pending env c) (left_of line op (nth env x) ∷ k)) _ refl
-            (numeral_read op d m n form env c (left_of line op (nth env x) ∷ k) _
-            (on_number x m pc opened (nth env x) env regs c (after_none S.hidden S.code.own.stack pending env regs c t rel) (omega (arith, x_below, rel.fits)) (sym (rel.agree x x_below)) form has (sym ends))))
+            local_read e x n env c (wait ∷ k) _ first_is
+            (go_left S n _ (tree.at (evaluate d) (of_tree S pending env c) (then_wait (nth env x) ∷ k)) _ (turns (nth env x ∷ []) env c)
+            (numeral_read d m most n (stands.number m is) env c (then_wait (nth env x) ∷ k) _
+            (on_number x m pc opened (nth env x) env regs c (after_none S.hidden S.code.own.stack pending env regs c t rel) (omega (arith, x_below, rel.fits)) (sym (rel.agree x x_below)) is has (sym ends))))

@@ -24,9 +24,9 @@ use Rattle.machine_core.specs.InstructionRows.{fast, integer_of_shape, rest_at, 
 use Rattle.machine_core.specs.Talk.{before, amid, talk, talk_step, says_so, heard}
 use Rattle.code_of.specs.Coded.{Coded, with_abc, jump_over}
 use Rattle.code_of.specs.Conditions.{pick}
-use Rattle.code_of.specs.Operands.{joins}
+use Rattle.code_of.specs.Operands.{joins, computes}
 use Rattle.code_of.specs.Operators.{prefix_opcode, prefix_code, operator_code, number_code, number_opcode, arithmetic_code, sum_code, truth_code}
-use Rattle.exp_laws.proofs.Registers.{Rel, After}
+use Rattle.exp_laws.proofs.Registers.{Rel, After, after_none}
 use Rattle.exp_laws.specs.Setting.{Setting}
 use Rattle.exp_laws.proofs.Talking.{Agree, go_left, go_right, of_tree, of_code}
 use Rattle.exp_laws.proofs.Placing.{HasAt, here_abc}
@@ -38,12 +38,32 @@ use Rattle.exp_laws.proofs.Tests.{test_on, test_past, jump_step}
 use Rattle.exp_laws.proofs.Arithmetic.{Arithmetic, IsArithmetic, arithmetic_by, integer_same, event_step, event_rest}
 use Rattle.exp_laws.proofs.Comparisons.{Comparison, IsComparison, comparison_by, told_truth, truth_same, compare_step, number_step, compare_rest, skip_step}
 use Rattle.exp_laws.proofs.Sums.{Sum, NumberForm, sum_step, number_event_step}
-use Rattle.exp_laws.proofs.Going.{next_there, Goes, put_goes, at_place, goes_at, goes_after, operation_goes}
+use Rattle.exp_laws.proofs.Going.{next_there, Goes, GoesInto, given_one, put_goes, at_place, goes_at, goes_after, into_goes, into_at, operation_into, operation_goes}
 
 told_concat : (reply : Reply) → told_values (for_concat 0) reply ≡ told_values for_value reply
 told_concat (values vs) = refl
 told_concat (faulted words) = refl
 told_concat (left e) = refl
+
+-- an operator that computes a value is one of arithmetic
+pub computes_arithmetic : (op : BinOp) → computes op ≡ true → IsArithmetic op
+computes_arithmetic Plus e = tt
+computes_arithmetic Minus e = tt
+computes_arithmetic Times e = tt
+computes_arithmetic Modulo e = tt
+computes_arithmetic Idiv e = tt
+computes_arithmetic Band e = tt
+computes_arithmetic Bor e = tt
+computes_arithmetic Bxor e = tt
+computes_arithmetic ShiftLeft e = tt
+computes_arithmetic ShiftRight e = tt
+computes_arithmetic Join e = absurd (cc)
+computes_arithmetic Equal e = absurd (cc)
+computes_arithmetic Ne e = absurd (cc)
+computes_arithmetic Less e = absurd (cc)
+computes_arithmetic AtMost e = absurd (cc)
+computes_arithmetic Gt e = absurd (cc)
+computes_arithmetic Ge e = absurd (cc)
 
 sort_of : (op : BinOp) → IsArithmetic op ⊎ (IsComparison op ⊎ (op ≡ Join))
 sort_of Plus = inl tt
@@ -94,8 +114,8 @@ module _ (S : Setting) (pending : List Pending) where
   unary_goes Length n many line t pc opened vs env regs c k has inside le room rel eq goes = prefix_goes Length (prefix_by Length tt) n many line t pc opened vs env regs c k has inside le room rel eq goes
 
   -- arithmetic on the values v and w: an instruction that does it on integers, and one behind it that asks
-  module _ (event : Event) (op half : Opcode) (field x y number line t pc opened : ℕ) (v w : Value) (slots env regs : List Value) (c : Captured) (k : List Work) (s : tree.State)
-      (has : HasAt S pc (with_abc op t x field line ∷ with_abc half x y number line ∷ [])) (inside : pc + 2 < length S.code.own.code) (le : length env ≤ t) (room : t < S.code.own.stack)
+  module _ (event : Event) (op half : Opcode) (field x y number line t f pc opened : ℕ) (v w : Value) (slots env regs : List Value) (c : Captured) (k : List Work) (s : tree.State)
+      (has : HasAt S pc (with_abc op t x field line ∷ with_abc half x y number line ∷ [])) (inside : pc + 2 < length S.code.own.code) (room : t < S.code.own.stack)
       (rel : Rel S.hidden S.code.own.stack pending env c regs)
       (begins : step s ≡ by_integers event (integer_in (shape v)) (integer_in (shape w)) line v w (of_tree S pending env c) k)
       (reads : talk_step S.code (before (of_code S pending pc regs opened) c) ≡ talk S.code (fast event t (integer_in (shape v)) (integer_in (shape w))) slots (of_code S pending pc regs opened) c)
@@ -108,18 +128,18 @@ module _ (S : Setting) (pending : List Pending) where
     there = next_there S (pc + 2) inside
 
     -- one operand is no integer
-    asked : (n : ℕ) (many : Bool) → Goes S pending n many t env regs (pc + 2) k
+    asked : (n : ℕ) (many : Bool) → GoesInto S pending n many t f env regs (pc + 2) k
         → step s ≡ asks (operates (arithmetic event) (v ∷ w ∷ [])) line (of_tree S pending env c) k give_first
         → talk_step S.code (before (of_code S pending pc regs opened) c) ≡ goes_on (before (of_code S pending (pc + 1) regs opened) c)
         → Agree S n s (before (of_code S pending pc regs opened) c)
     asked n many goes e d =
         go_right S n s _ (before (of_code S pending (pc + 1) regs opened) c) d
-        (operation_goes S pending for_value (λ reply. refl) (arithmetic event) (v ∷ w ∷ []) n many line t (pc + 1) opened s _ env regs c k e asks_so rests
-        (here_abc S half x y number false line (pc + 1) [] has.1.1) (omega (arith, inside)) le room rel
-        (goes_at S pending n many t (pc + 1 + 1) (pc + 2) env regs k two goes))
+        (operation_into S pending for_value (λ reply. refl) (arithmetic event) (v ∷ w ∷ []) n many line t f (pc + 1) opened s _ env regs c k e asks_so rests
+        (here_abc S half x y number false line (pc + 1) [] has.1.1) (omega (arith, inside)) room rel
+        (into_at S pending n many t f (pc + 1 + 1) (pc + 2) env regs k two goes))
 
-    arithmetic_goes : (n : ℕ) (many : Bool) → Goes S pending n many t env regs (pc + 2) k → Agree S n s (before (of_code S pending pc regs opened) c)
-    arithmetic_goes n many goes = by (integer_in (shape v)) (integer_in (shape w)) begins reads
+    arithmetic_into : (n : ℕ) (many : Bool) → GoesInto S pending n many t f env regs (pc + 2) k → Agree S n s (before (of_code S pending pc regs opened) c)
+    arithmetic_into n many goes = by (integer_in (shape v)) (integer_in (shape w)) begins reads
       where
         slow : (o q : Option ℤ) → step s ≡ asks (operates (arithmetic event) (v ∷ w ∷ [])) line (of_tree S pending env c) k give_first
             → talk_step S.code (before (of_code S pending pc regs opened) c) ≡ talk S.code (Rattle.machine_core.specs.InstructionRows.next) slots (of_code S pending pc regs opened) c
@@ -134,7 +154,7 @@ module _ (S : Setting) (pending : List Pending) where
             go_left S n s _ _ e
             (go_right S n _ _ (before (of_code S pending (pc + 2) (write t (known (integer z)) regs) opened) c)
             (d ∙ put_step S.code t 2 (written (integer z)) there.0 slots (of_code S pending pc regs opened) c (omega (arith, room, rel.room)) there.1)
-            (put_goes S pending n many t (pc + 2) opened (known (integer z)) env regs c k le rel goes))
+            (goes (known (integer z) ∷ []) env regs c opened (after_none S.hidden S.code.own.stack pending env regs c f rel) (given_one S pending many (known (integer z)))))
 
         by : (o q : Option ℤ) → step s ≡ by_integers event o q line v w (of_tree S pending env c) k
             → talk_step S.code (before (of_code S pending pc regs opened) c) ≡ talk S.code (fast event t o q) slots (of_code S pending pc regs opened) c
@@ -144,35 +164,35 @@ module _ (S : Setting) (pending : List Pending) where
         by (Some x) None e d = slow (Some x) None e d
 
   -- on the values in the registers x and y
-  registers_goes : (op : BinOp) (f : Arithmetic op) (n : ℕ) (many : Bool) (line x y t pc opened : ℕ) (v w : Value) (env regs : List Value) (c : Captured) (k : List Work) (s : tree.State)
-      → HasAt S pc (arithmetic_code f.opcode f.number x y t line) → pc + 2 < length S.code.own.code → length env ≤ t → t < S.code.own.stack → x < S.code.own.stack → y < S.code.own.stack
+  registers_into : (op : BinOp) (g : Arithmetic op) (n : ℕ) (many : Bool) (line x y t f pc opened : ℕ) (v w : Value) (env regs : List Value) (c : Captured) (k : List Work) (s : tree.State)
+      → HasAt S pc (arithmetic_code g.opcode g.number x y t line) → pc + 2 < length S.code.own.code → t < S.code.own.stack → x < S.code.own.stack → y < S.code.own.stack
       → Rel S.hidden S.code.own.stack pending env c regs → nth regs x ≡ v → nth regs y ≡ w
-      → step s ≡ by_integers f.event (integer_in (shape v)) (integer_in (shape w)) line v w (of_tree S pending env c) k
-      → Goes S pending n many t env regs (pc + 2) k → Agree S n s (before (of_code S pending pc regs opened) c)
-  registers_goes op f n many line x y t pc opened v w env regs c k s has inside le room x_room y_room rel left_is right_is begins goes =
-      arithmetic_goes f.event f.opcode MmBin y x y f.number line t pc opened v w (v ∷ w ∷ []) env regs c k s has inside le room rel begins
-      (operands_step S.code f.opcode f.event t x y (of_code S pending pc regs opened) c has.0 (f.row S.code pc) (omega (arith, room, S.small)) (omega (arith, x_room, S.small)) (omega (arith, y_room, S.small)) (omega (arith, x_room, rel.room)) (omega (arith, y_room, rel.room))
-      ∙ ap₂ (λ u z. talk S.code (fast f.event t (integer_of_shape (shape u)) (integer_of_shape (shape z))) (u ∷ z ∷ []) (of_code S pending pc regs opened) c) left_is right_is
-      ∙ ap₂ (λ o q. talk S.code (fast f.event t o q) (v ∷ w ∷ []) (of_code S pending pc regs opened) c) (integer_same (shape v)) (integer_same (shape w)))
-      (event_step S.code x y f.number f.event (of_code S pending (pc + 1) regs opened) c has.1.1.0 f.numbered f.small (omega (arith, x_room, S.small)) (omega (arith, y_room, S.small)) (omega (arith, x_room, rel.room)) (omega (arith, y_room, rel.room))
-      ∙ ap₂ (λ u z. says_so (operates (arithmetic f.event) (u ∷ z ∷ [])) S.code (of_code S pending (pc + 1) regs opened) c (λ x b d. heard for_value S.code x b d)) left_is right_is)
-      (event_rest S.code MmBin f.opcode t x y y f.number pc has.0 has.1.1.0 (omega (arith, room, S.small)) refl) n many goes
+      → step s ≡ by_integers g.event (integer_in (shape v)) (integer_in (shape w)) line v w (of_tree S pending env c) k
+      → GoesInto S pending n many t f env regs (pc + 2) k → Agree S n s (before (of_code S pending pc regs opened) c)
+  registers_into op g n many line x y t f pc opened v w env regs c k s has inside room x_room y_room rel left_is right_is begins goes =
+      arithmetic_into g.event g.opcode MmBin y x y g.number line t f pc opened v w (v ∷ w ∷ []) env regs c k s has inside room rel begins
+      (operands_step S.code g.opcode g.event t x y (of_code S pending pc regs opened) c has.0 (g.row S.code pc) (omega (arith, room, S.small)) (omega (arith, x_room, S.small)) (omega (arith, y_room, S.small)) (omega (arith, x_room, rel.room)) (omega (arith, y_room, rel.room))
+      ∙ ap₂ (λ u z. talk S.code (fast g.event t (integer_of_shape (shape u)) (integer_of_shape (shape z))) (u ∷ z ∷ []) (of_code S pending pc regs opened) c) left_is right_is
+      ∙ ap₂ (λ o q. talk S.code (fast g.event t o q) (v ∷ w ∷ []) (of_code S pending pc regs opened) c) (integer_same (shape v)) (integer_same (shape w)))
+      (event_step S.code x y g.number g.event (of_code S pending (pc + 1) regs opened) c has.1.1.0 g.numbered g.small (omega (arith, x_room, S.small)) (omega (arith, y_room, S.small)) (omega (arith, x_room, rel.room)) (omega (arith, y_room, rel.room))
+      ∙ ap₂ (λ u z. says_so (operates (arithmetic g.event) (u ∷ z ∷ [])) S.code (of_code S pending (pc + 1) regs opened) c (λ x b d. heard for_value S.code x b d)) left_is right_is)
+      (event_rest S.code MmBin g.opcode t x y y g.number pc has.0 has.1.1.0 (omega (arith, room, S.small)) refl) n many goes
 
   -- on the value in the register x and the numeral m
-  sum_goes : (op : BinOp) (m : ℕ) (f : Sum op m) (n : ℕ) (many : Bool) (line x t pc opened : ℕ) (v : Value) (env regs : List Value) (c : Captured) (k : List Work) (s : tree.State)
-      → HasAt S pc (sum_code f.opcode f.field f.number x m t line) → pc + 2 < length S.code.own.code → length env ≤ t → t < S.code.own.stack → x < S.code.own.stack → m ≤ 128
+  sum_into : (op : BinOp) (m : ℕ) (g : Sum op m) (n : ℕ) (many : Bool) (line x t f pc opened : ℕ) (v : Value) (env regs : List Value) (c : Captured) (k : List Work) (s : tree.State)
+      → HasAt S pc (sum_code g.opcode g.field g.number x m t line) → pc + 2 < length S.code.own.code → t < S.code.own.stack → x < S.code.own.stack → m ≤ 128
       → Rel S.hidden S.code.own.stack pending env c regs → nth regs x ≡ v
-      → step s ≡ by_integers f.event (integer_in (shape v)) (Some (pos m)) line v (known (integer (pos m))) (of_tree S pending env c) k
-      → Goes S pending n many t env regs (pc + 2) k → Agree S n s (before (of_code S pending pc regs opened) c)
-  sum_goes op m f n many line x t pc opened v env regs c k s has inside le room x_room small rel left_is begins goes =
-      arithmetic_goes f.event f.opcode MmBinI f.field x (m + 127) f.number line t pc opened v (known (integer (pos m))) (v ∷ []) env regs c k s has inside le room rel begins
-      (sum_step S.code f.opcode f.done t x f.field (of_code S pending pc regs opened) c has.0 (f.row S.code pc) (omega (arith, room, S.small)) (omega (arith, x_room, S.small)) f.fits (omega (arith, x_room, rel.room))
-      ∙ ap (λ u. talk S.code (fast f.done t (integer_of_shape (shape u)) (Some (pos f.field -ℤ pos 127))) (u ∷ []) (of_code S pending pc regs opened) c) left_is
-      ∙ ap (λ o. talk S.code (fast f.done t o (Some (pos f.field -ℤ pos 127))) (v ∷ []) (of_code S pending pc regs opened) c) (integer_same (shape v))
-      ∙ ap (λ q. talk S.code q (v ∷ []) (of_code S pending pc regs opened) c) (f.same t (integer_in (shape v))))
-      (number_event_step S.code x m f.number f.event (of_code S pending (pc + 1) regs opened) c has.1.1.0 f.numbered f.small (omega (arith, x_room, S.small)) (omega (arith, small)) (omega (arith, x_room, rel.room))
-      ∙ ap (λ u. says_so (operates (arithmetic f.event) (u ∷ known (integer (pos m)) ∷ [])) S.code (of_code S pending (pc + 1) regs opened) c (λ x b d. heard for_value S.code x b d)) left_is)
-      (event_rest S.code MmBinI f.opcode t x f.field (m + 127) f.number pc has.0 has.1.1.0 (omega (arith, room, S.small)) refl) n many goes
+      → step s ≡ by_integers g.event (integer_in (shape v)) (Some (pos m)) line v (known (integer (pos m))) (of_tree S pending env c) k
+      → GoesInto S pending n many t f env regs (pc + 2) k → Agree S n s (before (of_code S pending pc regs opened) c)
+  sum_into op m g n many line x t f pc opened v env regs c k s has inside room x_room small rel left_is begins goes =
+      arithmetic_into g.event g.opcode MmBinI g.field x (m + 127) g.number line t f pc opened v (known (integer (pos m))) (v ∷ []) env regs c k s has inside room rel begins
+      (sum_step S.code g.opcode g.done t x g.field (of_code S pending pc regs opened) c has.0 (g.row S.code pc) (omega (arith, room, S.small)) (omega (arith, x_room, S.small)) g.fits (omega (arith, x_room, rel.room))
+      ∙ ap (λ u. talk S.code (fast g.done t (integer_of_shape (shape u)) (Some (pos g.field -ℤ pos 127))) (u ∷ []) (of_code S pending pc regs opened) c) left_is
+      ∙ ap (λ o. talk S.code (fast g.done t o (Some (pos g.field -ℤ pos 127))) (v ∷ []) (of_code S pending pc regs opened) c) (integer_same (shape v))
+      ∙ ap (λ q. talk S.code q (v ∷ []) (of_code S pending pc regs opened) c) (g.same t (integer_in (shape v))))
+      (number_event_step S.code x m g.number g.event (of_code S pending (pc + 1) regs opened) c has.1.1.0 g.numbered g.small (omega (arith, x_room, S.small)) (omega (arith, small)) (omega (arith, x_room, rel.room))
+      ∙ ap (λ u. says_so (operates (arithmetic g.event) (u ∷ known (integer (pos m)) ∷ [])) S.code (of_code S pending (pc + 1) regs opened) c (λ x b d. heard for_value S.code x b d)) left_is)
+      (event_rest S.code MmBinI g.opcode t x g.field (m + 127) g.number pc has.0 has.1.1.0 (omega (arith, room, S.small)) refl) n many goes
 
   -- a comparison, whose truth goes to register t
   module _ (operation : Operation) (wanted : Bool) (opcode : Opcode) (x y line t pc opened : ℕ) (v w : Value) (env regs : List Value) (c : Captured) (k : List Work) (s : tree.State)
@@ -251,6 +271,39 @@ module _ (S : Setting) (pending : List Pending) where
       number_step S.code (number_opcode op) f.operation f.swapped x m k (of_code S pending pc regs opened) c here (f.row_of_number S.code pc) (omega (arith, x_room, S.small)) (omega (arith, small)) (omega (arith, x_room, rel.room))
       ∙ ap (λ u. says_so (operates f.operation (pick f.swapped u (known (integer (pos m))) ∷ pick f.swapped (known (integer (pos m))) u ∷ [])) S.code (of_code S pending pc regs opened) c (λ q b d. heard for_truth S.code q b d)) x_is
 
+  -- an operator of arithmetic between the values in the registers x and y, whose result goes to any register
+  pub binary_into : (op : BinOp) → IsArithmetic op → (n : ℕ) (many : Bool) (line x y t f pc opened : ℕ) (v : Value) (ws env regs : List Value) (c : Captured) (k : List Work)
+      → HasAt S pc (operator_code op x y t line) → pc + length (operator_code op x y t line) < length S.code.own.code → t < S.code.own.stack → x < S.code.own.stack → y < S.code.own.stack
+      → Rel S.hidden S.code.own.stack pending env c regs → nth regs x ≡ v → nth regs y ≡ first ws → GoesInto S pending n many t f env regs (pc + length (operator_code op x y t line)) k
+      → Agree S n (tree.at (give ws) (of_tree S pending env c) (left_of line op v ∷ k)) (before (of_code S pending pc regs opened) c)
+  binary_into op is n many line x y t f pc opened v ws env regs c k has inside room x_room y_room rel e1 e2 goes =
+      let g = arithmetic_by op is in
+      let size = ap length (g.emits x y t line) in
+      registers_into op g n many line x y t f pc opened v (first ws) env regs c k _ (subst (HasAt S pc) (g.emits x y t line) has) (omega (arith, inside, size)) room x_room y_room rel e1 e2
+      (g.means line v (first ws) (of_tree S pending env c) k)
+      (into_at S pending n many t f (pc + 2) (pc + length (operator_code op x y t line)) env regs k (omega (arith, size)) goes)
+
+  -- and between the value in the register x and the numeral m
+  pub number_into : (op : BinOp) → IsArithmetic op → (d : Exp) (m : ℕ) (f : NumberForm op d m) (n : ℕ) (many : Bool) (line x t free pc opened : ℕ) (v : Value) (env regs : List Value) (c : Captured) (k : List Work)
+      → HasAt S pc (number_code op x m t line) → pc + length (number_code op x m t line) < length S.code.own.code → t < S.code.own.stack → x < S.code.own.stack
+      → Rel S.hidden S.code.own.stack pending env c regs → nth regs x ≡ v → GoesInto S pending n many t free env regs (pc + length (number_code op x m t line)) k
+      → Agree S n (tree.at (give (known (integer (pos m)) ∷ [])) (of_tree S pending env c) (left_of line op v ∷ k)) (before (of_code S pending pc regs opened) c)
+  number_into op is d m f n many line x t free pc opened v env regs c k has inside room x_room rel x_is goes = by f.form
+    where
+      w : Value
+      w = known (integer (pos m))
+
+      by : Sum op m ⊎ Comparison op → Agree S n (tree.at (give (w ∷ [])) (of_tree S pending env c) (left_of line op v ∷ k)) (before (of_code S pending pc regs opened) c)
+      by (inl g) =
+          let size = ap length (g.emits x t line) in
+          sum_into op m g n many line x t free pc opened v env regs c k _ (subst (HasAt S pc) (g.emits x t line) has) (omega (arith, inside, size)) room x_room f.numeral.small rel x_is
+          (g.means line v w (of_tree S pending env c) k)
+          (into_at S pending n many t free (pc + 2) (pc + length (number_code op x m t line)) env regs k (omega (arith, size)) goes)
+      by (inr g) =
+          let two = ap length ((arithmetic_by op is).emits 0 0 0 0) in
+          let four = ap length (g.emits 0 0 0 0) in
+          absurd (omega (arith, two, four))
+
   -- an operator between the values in the registers x and y
   pub binary_goes : (op : BinOp) (n : ℕ) (many : Bool) (line x y t pc opened : ℕ) (v : Value) (ws env regs : List Value) (c : Captured) (k : List Work)
       → HasAt S pc (operator_code op x y t line) → pc + length (operator_code op x y t line) < length S.code.own.code → length env ≤ t → t < S.code.own.stack → x < S.code.own.stack → y < S.code.own.stack
@@ -275,11 +328,8 @@ module _ (S : Setting) (pending : List Pending) where
 
       by : IsArithmetic op ⊎ (IsComparison op ⊎ (op ≡ Join)) → Agree S n (tree.at (give ws) (of_tree S pending env c) (left_of line op v ∷ k)) (before (of_code S pending pc regs opened) c)
       by (inl is) =
-          let f = arithmetic_by op is in
-          let size = ap length (f.emits x y t line) in
-          registers_goes op f n many line x y t pc opened v (first ws) env regs c k _ (subst (HasAt S pc) (f.emits x y t line) has) (omega (arith, inside, size)) le room x_room y_room rel e1 e2
-          (f.means line v (first ws) (of_tree S pending env c) k)
-          (goes_at S pending n many t (pc + 2) (pc + length (operator_code op x y t line)) env regs k (omega (arith, size)) goes)
+          binary_into op is n many line x y t t pc opened v ws env regs c k has inside room x_room y_room rel e1 e2
+          (into_goes S pending n many t (pc + length (operator_code op x y t line)) env regs k le goes)
       by (inr (inl is)) =
           let f = comparison_by op is in
           let size = ap length (f.emits x y t line) in
@@ -303,9 +353,9 @@ module _ (S : Setting) (pending : List Pending) where
       by : Sum op m ⊎ Comparison op → Agree S n (tree.at (give (w ∷ [])) (of_tree S pending env c) (left_of line op v ∷ k)) (before (of_code S pending pc regs opened) c)
       by (inl g) =
           let size = ap length (g.emits x t line) in
-          sum_goes op m g n many line x t pc opened v env regs c k _ (subst (HasAt S pc) (g.emits x t line) has) (omega (arith, inside, size)) le room x_room f.numeral.small rel x_is
+          sum_into op m g n many line x t t pc opened v env regs c k _ (subst (HasAt S pc) (g.emits x t line) has) (omega (arith, inside, size)) room x_room f.numeral.small rel x_is
           (g.means line v w (of_tree S pending env c) k)
-          (goes_at S pending n many t (pc + 2) (pc + length (number_code op x m t line)) env regs k (omega (arith, size)) goes)
+          (into_goes S pending n many t (pc + 2) env regs k le (goes_at S pending n many t (pc + 2) (pc + length (number_code op x m t line)) env regs k (omega (arith, size)) goes))
       by (inr g) =
           let size = ap length (g.emits_number x m t line) in
           let there = subst (HasAt S pc) (g.emits_number x m t line) has in

@@ -5,6 +5,7 @@ use Rattle.int_core.specs.Ask.{Captured, shared_by, brought}
 use Rattle.tree_activation.specs.Work.{Pending}
 use Rattle.list_laws.proofs.Values.{nth_old, nth_write_same, nth_write_other, length_write, write_more, last_nth}
 use Rattle.tree_terms.specs.Hidden.{IsNoneOf}
+use Rattle.exp_laws.specs.Setting.{Hidden, UnderAll}
 use Rattle.list_laws.proofs.Tests.{split}
 
 write_alike : (s : ℕ) (v : Value) (xs ys : List Value) (r : ℕ) → nth xs r ≡ nth ys r → nth (write s v xs) r ≡ nth (write s v ys) r
@@ -62,10 +63,20 @@ IsFree r (h ∷ held) = (r ≡ h.0 → ⊥) × IsFree r held
 abbrev pub IsInteger : Value → Type 0
 IsInteger v = (z : ℤ) × (v ≡ known (integer z))
 
--- no hidden local is captured, and each that is there has an integer
-pub record Hides (hidden : List ℕ) (env : List Value) (held : List (ℕ × ℕ)) : Type 0 where
-  pub free : (r : ℕ) → Among r hidden → IsFree r held
-  pub whole : (r : ℕ) → Among r hidden → r < length env → IsInteger (nth env r)
+-- cells stand below each of the levels
+abbrev pub HeldUnder : List (ℕ × ℕ) → List ℕ → Type 0
+HeldUnder held [] = Unit {0}
+HeldUnder held (m ∷ ms) = HeldBelow held m × HeldUnder held ms
+
+-- a local that may get a cell
+abbrev pub MayHold : ℕ → Hidden → Type 0
+MayHold place hidden = (Among place hidden.integers → ⊥) × UnderAll place hidden.free_from
+
+-- no hidden local is captured, and each that is there has an integer; no cell stands in a scope without captured locals
+pub record Hides (hidden : Hidden) (env : List Value) (held : List (ℕ × ℕ)) : Type 0 where
+  pub free : (r : ℕ) → Among r hidden.integers → IsFree r held
+  pub whole : (r : ℕ) → Among r hidden.integers → r < length env → IsInteger (nth env r)
+  pub low : HeldUnder held hidden.free_from
 
 pub held_higher : (held : List (ℕ × ℕ)) (m n : ℕ) → m ≤ n → HeldBelow held m → HeldBelow held n
 held_higher [] m n le h = tt
@@ -76,7 +87,7 @@ ascends_higher from to high [] le h = tt
 ascends_higher from to high (p ∷ ps) le h = let f = h.1.0 in (h.0, (omega (arith, f), ascends_higher (suc p.number) to high ps le h.1.1))
 
 -- the locals are the registers of their numbers, captured ones and those to be closed are locals, and there are at least so many registers
-pub record Rel (hidden : List ℕ) (stack : ℕ) (pending : List Pending) (env : List Value) (c : Captured) (regs : List Value) : Type 0 where
+pub record Rel (hidden : Hidden) (stack : ℕ) (pending : List Pending) (env : List Value) (c : Captured) (regs : List Value) : Type 0 where
   pub agree : (r : ℕ) → r < length env → nth env r ≡ nth regs r
   pub held : HeldBelow c.held (length env)
   pub hides : Hides hidden env c.held
@@ -85,13 +96,13 @@ pub record Rel (hidden : List ℕ) (stack : ℕ) (pending : List Pending) (env :
   pub room : stack ≤ length regs
 
 -- what stands after an expression whose value goes to register t
-pub record After (hidden : List ℕ) (stack : ℕ) (pending : List Pending) (env regs : List Value) (t : ℕ) (env' regs' : List Value) (c' : Captured) : Type 0 where
+pub record After (hidden : Hidden) (stack : ℕ) (pending : List Pending) (env regs : List Value) (t : ℕ) (env' regs' : List Value) (c' : Captured) : Type 0 where
   pub size : length env' ≡ length env
   pub rel : Rel hidden stack pending env' c' regs'
   pub keeps : (r : ℕ) → length env ≤ r → r < t → nth regs' r ≡ nth regs r
-  pub same : (r : ℕ) → Among r hidden → nth env' r ≡ nth env r
+  pub same : (r : ℕ) → Among r hidden.integers → nth env' r ≡ nth env r
 
-module _ (hidden : List ℕ) (stack : ℕ) (pending : List Pending) where
+module _ (hidden : Hidden) (stack : ℕ) (pending : List Pending) where
   pub after_none : (env regs : List Value) (c : Captured) (t : ℕ) → Rel hidden stack pending env c regs → After hidden stack pending env regs t env regs c
   after_none env regs c t h = record { size = refl; rel = h; keeps = λ r lo hi. refl; same = λ r m. refl }
 
@@ -164,38 +175,46 @@ brought_free (s ∷ held) (v ∷ vs) xs r h = brought_free held vs (write s.0 v 
 
 -- hidden locals in what becomes of the locals
 
-hides_shared : (hidden : List ℕ) (env vs : List Value) (held : List (ℕ × ℕ)) → HeldBelow held (length env) → Hides hidden env held → Hides hidden (brought held vs env) held
+hides_shared : (hidden : Hidden) (env vs : List Value) (held : List (ℕ × ℕ)) → HeldBelow held (length env) → Hides hidden env held → Hides hidden (brought held vs env) held
 hides_shared hidden env vs held below h =
     let e = brought_length held vs env below in
     record {
       free = h.free;
       whole = λ r m lt. subst IsInteger (sym (brought_free held vs env r (h.free r m))) (h.whole r m (omega (arith, e, lt)));
+      low = h.low;
     }
 
-hides_one_more : (hidden : List ℕ) (env : List Value) (held : List (ℕ × ℕ)) (place cell : ℕ) → (Among place hidden → ⊥) → Hides hidden env held → Hides hidden env ((place, cell) ∷ held)
+under_more : (levels : List ℕ) (held : List (ℕ × ℕ)) (place cell : ℕ) → UnderAll place levels → HeldUnder held levels → HeldUnder ((place, cell) ∷ held) levels
+under_more [] held place cell u h = tt
+under_more (m ∷ ms) held place cell u h = ((u.0, h.0), under_more ms held place cell u.1 h.1)
+
+hides_one_more : (hidden : Hidden) (env : List Value) (held : List (ℕ × ℕ)) (place cell : ℕ) → MayHold place hidden → Hides hidden env held → Hides hidden env ((place, cell) ∷ held)
 hides_one_more hidden env held place cell other h = record {
-  free = λ r m. (λ e. other (subst (λ q. Among q hidden) e m), h.free r m);
+  free = λ r m. (λ e. other.0 (subst (λ q. Among q hidden.integers) e m), h.free r m);
   whole = h.whole;
+  low = under_more hidden.free_from held place cell other.1 h.low;
 }
 
-pub hides_more : (hidden : List ℕ) (env vs : List Value) (held : List (ℕ × ℕ)) → AllUnder hidden (length env) → Hides hidden env held → Hides hidden (env ++ vs) held
+pub hides_more : (hidden : Hidden) (env vs : List Value) (held : List (ℕ × ℕ)) → AllUnder hidden.integers (length env) → Hides hidden env held → Hides hidden (env ++ vs) held
 hides_more hidden env vs held under h = record {
   free = h.free;
   whole = λ r m lt. subst IsInteger (sym (nth_old env vs r (under r m))) (h.whole r m (under r m));
+  low = h.low;
 }
 
-pub hides_write : (hidden : List ℕ) (env : List Value) (held : List (ℕ × ℕ)) (v : Value) (n : ℕ) → n < length env → (Among n hidden → ⊥) → Hides hidden env held → Hides hidden (write n v env) held
+pub hides_write : (hidden : Hidden) (env : List Value) (held : List (ℕ × ℕ)) (v : Value) (n : ℕ) → n < length env → (Among n hidden.integers → ⊥) → Hides hidden env held → Hides hidden (write n v env) held
 hides_write hidden env held v n lt other h =
     let same = length_write n v env lt in
     record {
       free = h.free;
-      whole = λ r m less. subst IsInteger (sym (nth_write_other n v env r (λ e. other (subst (λ q. Among q hidden) e m)))) (h.whole r m (omega (arith, same, less)));
+      whole = λ r m less. subst IsInteger (sym (nth_write_other n v env r (λ e. other (subst (λ q. Among q hidden.integers) e m)))) (h.whole r m (omega (arith, same, less)));
+      low = h.low;
     }
 
 abbrev pub told : Captured → Captured
 told c = record { held = c.held; gone = [] }
 
-module _ (hidden : List ℕ) (stack : ℕ) (pending : List Pending) where
+module _ (hidden : Hidden) (stack : ℕ) (pending : List Pending) where
   pub held_same : (env : List Value) (c : Captured) (regs : List Value) → Rel hidden stack pending env c regs → shared_by c.held env ≡ shared_by c.held regs
   held_same env c regs rel = shared_same c.held (length env) env regs rel.held rel.agree
 
@@ -221,7 +240,7 @@ module _ (hidden : List ℕ) (stack : ℕ) (pending : List Pending) where
       }
 
   -- and a local gets a cell besides
-  pub after_hold : (env regs vs : List Value) (c : Captured) (t place cell : ℕ) → place < length env → (Among place hidden → ⊥) → Rel hidden stack pending env c regs
+  pub after_hold : (env regs vs : List Value) (c : Captured) (t place cell : ℕ) → place < length env → MayHold place hidden → Rel hidden stack pending env c regs
       → After hidden stack pending env regs t (brought c.held vs env) (brought c.held vs regs) (record { held = (place, cell) ∷ c.held; gone = [] })
   after_hold env regs vs c t place cell below other h =
       let e = brought_length c.held vs env h.held in
@@ -234,7 +253,7 @@ module _ (hidden : List ℕ) (stack : ℕ) (pending : List Pending) where
       }
 
   -- a local is declared, whose value goes to the register behind those of the others
-  pub rel_more : (env regs : List Value) (c : Captured) (v : Value) (t : ℕ) → length env ≡ t → t < stack → AllUnder hidden t → Rel hidden stack pending env c regs → Rel hidden stack pending (env ++ v ∷ []) c (write t v regs)
+  pub rel_more : (env regs : List Value) (c : Captured) (v : Value) (t : ℕ) → length env ≡ t → t < stack → AllUnder hidden.integers t → Rel hidden stack pending env c regs → Rel hidden stack pending (env ++ v ∷ []) c (write t v regs)
   rel_more env regs c v t size room under h =
       let sum = length-append env (v ∷ []) in
       let more = write_more t v regs in
@@ -244,14 +263,14 @@ module _ (hidden : List ℕ) (stack : ℕ) (pending : List Pending) where
             (λ last. let is : r ≡ t = omega (arith, sum, size, lr, last) in ap (nth (env ++ v ∷ [])) (is ∙ sym size) ∙ last_nth env v ∙ sym (nth_write_same t v regs) ∙ ap (nth (write t v regs)) (sym is))
             (split r (length env));
         held = held_higher c.held (length env) (length (env ++ v ∷ [])) (omega (arith, sum)) h.held;
-        hides = hides_more hidden env (v ∷ []) c.held (subst (AllUnder hidden) (sym size) under) h.hides;
+        hides = hides_more hidden env (v ∷ []) c.held (subst (AllUnder hidden.integers) (sym size) under) h.hides;
         ascends = ascends_higher 0 (length env) (length (env ++ v ∷ [])) pending (omega (arith, sum)) h.ascends;
         fits = omega (arith, sum, size, room);
         room = omega (arith, more, h.room);
       }
 
   -- a local and its register get a value
-  pub rel_write : (env regs : List Value) (c : Captured) (v : Value) (r : ℕ) → r < length env → (Among r hidden → ⊥) → Rel hidden stack pending env c regs → Rel hidden stack pending (write r v env) c (write r v regs)
+  pub rel_write : (env regs : List Value) (c : Captured) (v : Value) (r : ℕ) → r < length env → (Among r hidden.integers → ⊥) → Rel hidden stack pending env c regs → Rel hidden stack pending (write r v env) c (write r v regs)
   rel_write env regs c v r lt other h =
       let same = length_write r v env lt in
       let more = write_more r v regs in

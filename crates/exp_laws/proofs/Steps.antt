@@ -1,11 +1,11 @@
 -- What the machine does alone at some instructions, as one equation each.
 use Rattle.std.proofs.Common.{◌≡◌, ℕ, zero, suc, lit<, ◌+◌, ◌<◌, ◌^◌, Bool, true, false, cond, not, pos, List, [], ◌∷◌, ◌++◌, length, slice_get, Some, None, ⊎_elim, refl, sym, ap, ap₂, ◌∙◌, arith}
 use borrow.Author.Tests.{lt-ltb}
-use Rattle.int_core.specs.Value.{Value, Shape, known, boolean, nth, write, shape, holds, bind}
+use Rattle.int_core.specs.Value.{Value, Shape, known, boolean, integer, nth, write, shape, holds, bind}
 use Rattle.int_core.specs.Operations.{Event, index, concat}
 use Rattle.int_core.specs.Ask.{reads_upvalue, operates, values_in, Captured, Next, goes_on, stuck}
 use Rattle.code_core.specs.declared.opcode.Opcode.{Opcode}
-use Rattle.code_core.specs.declared.opcode.Opcode.TheVariants.{Move, LoadFalse, LoadTrue, Not, GetTable, GetUpval, GetTabUp, Concat}
+use Rattle.code_core.specs.declared.opcode.Opcode.TheVariants.{Move, LoadFalse, LoadTrue, Not, GetTable, GetI, GetField, GetUpval, GetTabUp, Concat}
 use Rattle.code_core.specs.declared.instruction.Instruction.{Instruction}
 use Rattle.code_core.specs.declared.proto.Const.{Const}
 use Rattle.std.proofs.lemmas.Option.{slice_get_cases}
@@ -15,7 +15,7 @@ use Rattle.code_core.specs.Check.{at}
 use Rattle.code_core.proofs.FieldLemmas.{opcode_of-abc, a_of-abc, b_of-abc, c_of-abc}
 use Rattle.machine_core.specs.World.{Activation, for_value, for_concat}
 use Rattle.machine_core.specs.Text.{Arg, read, written, Own, read_register, read_constant, constant, write_register, arg, reads, tells, effect, fits, Text, go_by, own, quick, operate, read_upvalue, trap}
-use Rattle.machine_core.specs.InstructionRows.{next, joins, then, to_register, gets, rest, rest_by, rest_at, row_of, text_by, text_at, fast, integer_of_shape, with_register}
+use Rattle.machine_core.specs.InstructionRows.{next, joins, then, to_register, gets, spelled, rest, rest_by, rest_at, row_of, text_by, text_at, fast, integer_of_shape, with_register}
 use Rattle.machine_core.specs.Moves.{place_from}
 use Rattle.machine_core.specs.Talk.{State, before, amid, talk, talk_step, says_so, heard, captured_after}
 
@@ -116,6 +116,28 @@ module _ (p : Prototype) where
       ∙ ap (λ d. own (read_register x) (λ o _. own (read_register y) (λ key _. gets (read o) (read key) [] d))) (a_of-abc GetTable t x y false t_fits))
       ∙ own_step (read_register x) (λ o _. own (read_register y) (λ key _. gets (read o) (read key) [] t)) [] a c (lt-ltb x (length a.registers) x_room)
       ∙ own_step (read_register y) (λ key _. gets (read 0) (read key) [] t) (nth a.registers x ∷ []) a c (lt-ltb y (length a.registers) y_room)
+
+  -- the key is a number in the instruction
+  pub get_number_step : (t x n : ℕ) (a : Activation) (c : Captured) → at p a.pc ≡ Some (abc GetI t x n false) → t < 2 ^ 8 → x < 2 ^ 8 → n < 2 ^ 8 → x < length a.registers
+      → talk_step p (before a c) ≡ says_so (operates index (nth a.registers x ∷ known (integer (pos n)) ∷ [])) p a c (λ z b d. heard for_value p z b d)
+  get_number_step t x n a c here t_fits x_fits n_fits room =
+      let w = abc GetI t x n false in
+      row_step w GetI (own (read_register x) (λ o _. gets (read o) (spelled n) [] t)) a c here (opcode_of-abc GetI t x n false)
+      (ap₂ (λ b d. own (read_register b) (λ o _. gets (read o) (spelled d) [] (a_of w))) (b_of-abc GetI t x n false t_fits x_fits) (c_of-abc GetI t x n false t_fits x_fits n_fits)
+      ∙ ap (λ d. own (read_register x) (λ o _. gets (read o) (spelled n) [] d)) (a_of-abc GetI t x n false t_fits))
+      ∙ own_step (read_register x) (λ o _. gets (read o) (spelled n) [] t) [] a c (lt-ltb x (length a.registers) room)
+
+  -- the key is a constant
+  pub get_name_step : (t x number : ℕ) (key : Const) (a : Activation) (c : Captured) → at p a.pc ≡ Some (abc GetField t x number false) → t < 2 ^ 8 → x < 2 ^ 8 → number < 2 ^ 8 → x < length a.registers → slice_get p.own.constants number ≡ Some key
+      → talk_step p (before a c) ≡ says_so (operates index (nth a.registers x ∷ known (constant key) ∷ [])) p a c (λ z b d. heard for_value p z b d)
+  get_name_step t x number key a c here t_fits x_fits fits room there =
+      let w = abc GetField t x number false in
+      row_step w GetField (own (read_register x) (λ o _. own (read_constant number) (λ i _. gets (read o) (read i) [] t))) a c here (opcode_of-abc GetField t x number false)
+      (ap₂ (λ b d. own (read_register b) (λ o _. own (read_constant d) (λ i _. gets (read o) (read i) [] (a_of w)))) (b_of-abc GetField t x number false t_fits x_fits) (c_of-abc GetField t x number false t_fits x_fits fits)
+      ∙ ap (λ d. own (read_register x) (λ o _. own (read_constant number) (λ i _. gets (read o) (read i) [] d))) (a_of-abc GetField t x number false t_fits))
+      ∙ own_step (read_register x) (λ o _. own (read_constant number) (λ i _. gets (read o) (read i) [] t)) [] a c (lt-ltb x (length a.registers) room)
+      ∙ own_step (read_constant number) (λ i _. gets (read 0) (read i) [] t) (nth a.registers x ∷ []) a c (lt-ltb number (length p.own.constants) (found_below p.own.constants number key there))
+      ∙ ap (λ o. talk p (gets (read 0) (read 1) [] t) (nth a.registers x ∷ elim o as (λ _. List Value) [ None ↦ [] | Some k ↦ known (constant k) ∷ [] ]) a c) there
 
   pub upvalue_step : (t u : ℕ) (a : Activation) (c : Captured) → at p a.pc ≡ Some (abc GetUpval t u 0 false) → t < 2 ^ 8 → u < 2 ^ 8
       → talk_step p (before a c) ≡ says_so (reads_upvalue u) p a c (λ x b d. amid (to_register t (read 0)) ([] ++ values_in x.reply) b d)

@@ -1,8 +1,8 @@
 -- Tables: made, filled with items and written by keys.
 use Rattle.std.proofs.Common.{◌≡◌, ℕ, ◌+◌, ◌*◌, ◌/◌, ◌%◌, ◌<◌, ◌≤◌, ◌^◌, Bool, true, false, cond, pos, List, [], ◌∷◌, ◌++◌, length, take, refl, sym, ap, ap₂, ◌∙◌, arith}
-use Rattle.std.specs.Prelude.{nat_lt}
+use Rattle.std.specs.Prelude.{nat_lt, Some, slice_get}
 use borrow.Author.Tests.{ltb-true}
-use Rattle.int_core.specs.Value.{Value, known, a_table, a_function, a_coroutine, object, nth, write}
+use Rattle.int_core.specs.Value.{Value, known, integer, a_table, a_function, a_coroutine, object, nth, write}
 use Rattle.int_core.specs.Operations.{store}
 use Rattle.int_core.specs.Ask.{makes_table, fills_table, operates, Reply, values, faulted, left, values_in, Captured, IsReplyTo}
 use Rattle.tree_core.specs.Tree.{Body}
@@ -10,12 +10,14 @@ use Rattle.tree_activation.specs.Work.{Control, Work, Pending}
 use Rattle.tree_activation.specs.Work as tree
 use Rattle.tree_activation.specs.Activation.{step}
 use Rattle.tree_activation.specs.Asking.{asks, asks_quickly}
-use Rattle.code_core.specs.declared.opcode.Opcode.TheVariants.{NewTable, SetTable, SetList, ExtraArg}
+use Rattle.code_core.specs.declared.opcode.Opcode.{Opcode}
+use Rattle.code_core.specs.declared.opcode.Opcode.TheVariants.{NewTable, SetTable, SetI, SetField, SetList, ExtraArg}
+use Rattle.code_core.specs.declared.proto.Const.{Const}
 use Rattle.code_core.specs.Instruction.{abc, op_ax}
 use Rattle.machine_core.specs.World.{for_value, dropped}
-use Rattle.machine_core.specs.Text.{read, write_register}
-use Rattle.machine_core.specs.InstructionRows.{skip, then, told_values}
-use Rattle.machine_core.specs.Talk.{before, amid, talk, says_so, heard}
+use Rattle.machine_core.specs.Text.{read, constant, write_register}
+use Rattle.machine_core.specs.InstructionRows.{next, skip, then, rest_at, told_values}
+use Rattle.machine_core.specs.Talk.{before, amid, talk, talk_step, says_so, heard}
 use Rattle.list_laws.proofs.Values.{nth_write_same, nth_take, length_take}
 use Rattle.code_of.specs.Coded.{Coded, with_abc}
 use Rattle.code_of.specs.Expressions.{set_list}
@@ -27,7 +29,7 @@ use Rattle.exp_laws.proofs.Asking.{asks_alike, quick_alike}
 use Rattle.exp_laws.proofs.Going.{next_there}
 use Rattle.exp_laws.proofs.Steps.{go_step, put_step}
 use Rattle.exp_laws.proofs.Calls.{Passed}
-use Rattle.exp_laws.proofs.Tables.{items_count, items_field, filled_text, new_step, fill_near, fill_far, filled_step, set_step, set_rest}
+use Rattle.exp_laws.proofs.Tables.{items_count, items_field, filled_text, new_step, fill_near, fill_far, filled_step, set_step, set_index_step, set_name_step, set_rest, set_index_rest, set_name_rest}
 
 told_dropped : (reply : Reply) → told_values dropped reply ≡ told_values for_value reply
 told_dropped (values vs) = refl
@@ -117,19 +119,52 @@ module _ (S : Setting) (pending : List Pending) where
           (here_abc S SetList t (items_count many) (items % 256) true line pc ((op_ax ExtraArg (items / 256), line) ∷ []) has)
           (λ reply ok env1 regs1 c1 af. dropped_goes 2 env1 regs1 (object a_table m ∷ args ++ values_in reply) c1 inside af next)
 
-  -- a value goes to a field of a table; registers below u are kept
+  -- a value goes to a field of a table; registers below u are kept. The store is an instruction that asks for it and has nothing left to do
+  stored_by : (op : Opcode) (x y z u n line pc opened : ℕ) (o key v : Value) (s : tree.State) (env regs : List Value) (c : Captured) (k : List Work) (goes : List Value → Control)
+      → step s ≡ asks (operates store (o ∷ key ∷ v ∷ [])) line (of_tree S pending env c) k goes → HasAt S pc (with_abc op x y z line ∷ []) → pc + 1 < length S.code.own.code → Rel S.hidden S.code.own.stack pending env c regs
+      → talk_step S.code (before (of_code S pending pc regs opened) c) ≡ says_so (operates store (o ∷ key ∷ v ∷ [])) S.code (of_code S pending pc regs opened) c (λ q b d. heard dropped S.code q b d)
+      → rest_at {V = Value} dropped S.code pc ≡ next
+      → ((ws env1 regs1 : List Value) (c1 : Captured) → After S.hidden S.code.own.stack pending env regs u env1 regs1 c1 → Agree S n (tree.at (goes ws) (of_tree S pending env1 c1) k) (before (of_code S pending (pc + 1) regs1 opened) c1))
+      → Agree S n s (before (of_code S pending pc regs opened) c)
+  stored_by op x y z u n line pc opened o key v s env regs c k goes e has inside rel asked rest goes_on_so =
+      let there = next_there S (pc + 1) inside in
+      asks_alike S pending n dropped told_dropped s _ (operates store (o ∷ key ∷ v ∷ [])) (operates store (o ∷ key ∷ v ∷ [])) line pc opened u env regs c k goes e asked (λ m. (refl, refl)) refl rel (here_abc S op x y z false line pc [] has)
+      (λ ws env1 regs1 c1 af. go_right S n _ _ (before (of_code S pending (pc + 1) regs1 opened) c1)
+      (ap (λ q. talk S.code q ws (of_code S pending pc regs1 opened) c1) rest ∙ go_step S.code 1 there.0 ws (of_code S pending pc regs1 opened) c1 there.1)
+      (goes_on_so ws env1 regs1 c1 af))
+
   pub store_goes : (x y z u n line pc opened : ℕ) (o key v : Value) (s : tree.State) (env regs : List Value) (c : Captured) (k : List Work) (goes : List Value → Control)
       → step s ≡ asks (operates store (o ∷ key ∷ v ∷ [])) line (of_tree S pending env c) k goes → HasAt S pc (with_abc SetTable x y z line ∷ []) → pc + 1 < length S.code.own.code
       → x < S.code.own.stack → y < S.code.own.stack → z < S.code.own.stack → Rel S.hidden S.code.own.stack pending env c regs → nth regs x ≡ o → nth regs y ≡ key → nth regs z ≡ v
       → ((ws env1 regs1 : List Value) (c1 : Captured) → After S.hidden S.code.own.stack pending env regs u env1 regs1 c1 → Agree S n (tree.at (goes ws) (of_tree S pending env1 c1) k) (before (of_code S pending (pc + 1) regs1 opened) c1))
       → Agree S n s (before (of_code S pending pc regs opened) c)
   store_goes x y z u n line pc opened o key v s env regs c k goes e has inside x_room y_room z_room rel o_is key_is v_is next =
-      let there = next_there S (pc + 1) inside in
-      asks_alike S pending n dropped told_dropped s _ (operates store (o ∷ key ∷ v ∷ [])) (operates store (o ∷ key ∷ v ∷ [])) line pc opened u env regs c k goes e
+      stored_by SetTable x y z u n line pc opened o key v s env regs c k goes e has inside rel
       (set_step S.code x y z (of_code S pending pc regs opened) c has.0 (omega (arith, x_room, S.small)) (omega (arith, y_room, S.small)) (omega (arith, z_room, S.small)) (omega (arith, x_room, rel.room)) (omega (arith, y_room, rel.room)) (omega (arith, z_room, rel.room))
       ∙ ap₂ (λ a b. says_so (operates store (a ∷ b ∷ nth regs z ∷ [])) S.code (of_code S pending pc regs opened) c (λ q b d. heard dropped S.code q b d)) o_is key_is
       ∙ ap (λ a. says_so (operates store (o ∷ key ∷ a ∷ [])) S.code (of_code S pending pc regs opened) c (λ q b d. heard dropped S.code q b d)) v_is)
-      (λ m. (refl, refl)) refl rel (here_abc S SetTable x y z false line pc [] has)
-      (λ ws env1 regs1 c1 af. go_right S n _ _ (before (of_code S pending (pc + 1) regs1 opened) c1)
-      (ap (λ q. talk S.code q ws (of_code S pending pc regs1 opened) c1) (set_rest S.code x y z pc has.0) ∙ go_step S.code 1 there.0 ws (of_code S pending pc regs1 opened) c1 there.1)
-      (next ws env1 regs1 c1 af))
+      (set_rest S.code x y z pc has.0) next
+
+  -- the key is the number m in the instruction
+  pub store_index_goes : (x m z u n line pc opened : ℕ) (o v : Value) (s : tree.State) (env regs : List Value) (c : Captured) (k : List Work) (goes : List Value → Control)
+      → step s ≡ asks (operates store (o ∷ known (integer (pos m)) ∷ v ∷ [])) line (of_tree S pending env c) k goes → HasAt S pc (with_abc SetI x m z line ∷ []) → pc + 1 < length S.code.own.code
+      → x < S.code.own.stack → m ≤ 255 → z < S.code.own.stack → Rel S.hidden S.code.own.stack pending env c regs → nth regs x ≡ o → nth regs z ≡ v
+      → ((ws env1 regs1 : List Value) (c1 : Captured) → After S.hidden S.code.own.stack pending env regs u env1 regs1 c1 → Agree S n (tree.at (goes ws) (of_tree S pending env1 c1) k) (before (of_code S pending (pc + 1) regs1 opened) c1))
+      → Agree S n s (before (of_code S pending pc regs opened) c)
+  store_index_goes x m z u n line pc opened o v s env regs c k goes e has inside x_room small z_room rel o_is v_is next =
+      stored_by SetI x m z u n line pc opened o (known (integer (pos m))) v s env regs c k goes e has inside rel
+      (set_index_step S.code x m z (of_code S pending pc regs opened) c has.0 (omega (arith, x_room, S.small)) (omega (arith, small)) (omega (arith, z_room, S.small)) (omega (arith, x_room, rel.room)) (omega (arith, z_room, rel.room))
+      ∙ ap₂ (λ a b. says_so (operates store (a ∷ known (integer (pos m)) ∷ b ∷ [])) S.code (of_code S pending pc regs opened) c (λ q b d. heard dropped S.code q b d)) o_is v_is)
+      (set_index_rest S.code x m z pc has.0) next
+
+  -- the key is a constant of the instruction
+  pub store_name_goes : (x number z u n line pc opened : ℕ) (key : Const) (o v : Value) (s : tree.State) (env regs : List Value) (c : Captured) (k : List Work) (goes : List Value → Control)
+      → step s ≡ asks (operates store (o ∷ known (constant key) ∷ v ∷ [])) line (of_tree S pending env c) k goes → HasAt S pc (with_abc SetField x number z line ∷ []) → pc + 1 < length S.code.own.code
+      → x < S.code.own.stack → number < 256 → z < S.code.own.stack → slice_get S.code.own.constants number ≡ Some key → Rel S.hidden S.code.own.stack pending env c regs → nth regs x ≡ o → nth regs z ≡ v
+      → ((ws env1 regs1 : List Value) (c1 : Captured) → After S.hidden S.code.own.stack pending env regs u env1 regs1 c1 → Agree S n (tree.at (goes ws) (of_tree S pending env1 c1) k) (before (of_code S pending (pc + 1) regs1 opened) c1))
+      → Agree S n s (before (of_code S pending pc regs opened) c)
+  store_name_goes x number z u n line pc opened key o v s env regs c k goes e has inside x_room short z_room there rel o_is v_is next =
+      stored_by SetField x number z u n line pc opened o (known (constant key)) v s env regs c k goes e has inside rel
+      (set_name_step S.code x number z key (of_code S pending pc regs opened) c has.0 (omega (arith, x_room, S.small)) (omega (arith, short)) (omega (arith, z_room, S.small)) (omega (arith, x_room, rel.room)) (omega (arith, z_room, rel.room)) there
+      ∙ ap₂ (λ a b. says_so (operates store (a ∷ known (constant key) ∷ b ∷ [])) S.code (of_code S pending pc regs opened) c (λ q b d. heard dropped S.code q b d)) o_is v_is)
+      (set_name_rest S.code x number z pc has.0) next

@@ -1,21 +1,22 @@
 -- What the machine does as a table is made, filled and written, as one equation each.
 use Rattle.std.proofs.Common.{◌≡◌, ℕ, ◌+◌, ◌*◌, ◌<◌, ◌^◌, lit<, Bool, true, false, cond, pos, ℤ, List, [], ◌∷◌, ◌++◌, length, take, Some, None, refl, ap, ap₂, ◌∙◌}
-use Rattle.std.specs.Prelude.{◌==◌}
+use Rattle.std.specs.Prelude.{◌==◌, slice_get}
 use borrow.Author.Tests.{lt-ltb}
-use Rattle.int_core.specs.Value.{Value, a_table, object, Shape, nth, shape}
+use Rattle.int_core.specs.Value.{Value, known, integer, a_table, object, Shape, nth, shape}
 use Rattle.int_core.specs.Operations.{store}
 use Rattle.int_core.specs.Ask.{makes_table, fills_table, operates, values_in, Captured, goes_on}
-use Rattle.code_core.specs.declared.opcode.Opcode.TheVariants.{NewTable, SetTable, SetList, ExtraArg}
+use Rattle.code_core.specs.declared.opcode.Opcode.TheVariants.{NewTable, SetTable, SetI, SetField, SetList, ExtraArg}
 use Rattle.code_core.specs.declared.instruction.Instruction.{Instruction}
+use Rattle.code_core.specs.declared.proto.Const.{Const}
 use Rattle.code_core.specs.Instruction.{abc, op_ax, opcode_of, a_of, c_of}
 use Rattle.code_core.specs.Prototype.{Prototype}
 use Rattle.code_core.specs.Check.{at}
 use Rattle.code_core.proofs.FieldLemmas.{opcode_of-abc, a_of-abc, b_of-abc, c_of-abc}
 use Rattle.machine_core.specs.World.{Activation, dropped}
-use Rattle.machine_core.specs.Text.{read, read_register, read_constant, write_register, end_list, Text, own, quick, make_table, fill_table, go_by, trap}
-use Rattle.machine_core.specs.InstructionRows.{next, skip, then, sets, fills, fills_by, read_values, register_or_constant, rest_at, rest_by, with_extra}
+use Rattle.machine_core.specs.Text.{read, constant, read_register, read_constant, write_register, end_list, Text, own, quick, make_table, fill_table, go_by, trap}
+use Rattle.machine_core.specs.InstructionRows.{next, skip, then, sets, spelled, fills, fills_by, read_values, register_or_constant, rest_at, rest_by, with_extra}
 use Rattle.machine_core.specs.Talk.{before, amid, talk, talk_step, says_so, heard}
-use Rattle.exp_laws.proofs.Steps.{row_step, own_step, go_step}
+use Rattle.exp_laws.proofs.Steps.{found_below, row_step, own_step, go_step}
 use Rattle.exp_laws.proofs.Loads.{extra_is}
 use Rattle.code_of.proofs.Fields.{k_of-abc}
 use Rattle.exp_laws.proofs.Calls.{Passed, read_values_step}
@@ -106,6 +107,43 @@ module _ (p : Prototype) where
       ∙ own_step p (read_register x) (λ o _. own (read_register y) (λ key _. own (read_register z) (λ v _. sets (read o) (read key) (read v)))) [] a c (lt-ltb x (length a.registers) x_room)
       ∙ own_step p (read_register y) (λ key _. own (read_register z) (λ v _. sets (read 0) (read key) (read v))) (nth a.registers x ∷ []) a c (lt-ltb y (length a.registers) y_room)
       ∙ own_step p (read_register z) (λ v _. sets (read 0) (read 1) (read v)) (nth a.registers x ∷ nth a.registers y ∷ []) a c (lt-ltb z (length a.registers) z_room)
+
+  -- the key is a number in the instruction
+  pub set_index_step : (x n z : ℕ) (a : Activation) (c : Captured) → at p a.pc ≡ Some (abc SetI x n z false) → x < 2 ^ 8 → n < 2 ^ 8 → z < 2 ^ 8 → x < length a.registers → z < length a.registers
+      → talk_step p (before a c) ≡ says_so (operates store (nth a.registers x ∷ known (integer (pos n)) ∷ nth a.registers z ∷ [])) p a c (λ q b d. heard dropped p q b d)
+  set_index_step x n z a c here x_fits n_fits z_fits x_room z_room =
+      let w = abc SetI x n z false in
+      row_step p w SetI (own (read_register x) (λ o _. own (read_register z) (λ v _. sets (read o) (spelled n) (read v)))) a c here (opcode_of-abc SetI x n z false)
+      (ap₂ (λ d e. own (read_register d) (λ o _. register_or_constant w (λ v _. sets (read o) (spelled e) (read v)))) (a_of-abc SetI x n z false x_fits) (b_of-abc SetI x n z false x_fits n_fits)
+      ∙ ap (λ k. own (read_register x) (λ o _. cond k (own (read_constant (c_of w)) (λ v _. sets (read o) (spelled n) (read v))) (own (read_register (c_of w)) (λ v _. sets (read o) (spelled n) (read v))))) (k_of-abc SetI x n z false x_fits)
+      ∙ ap (λ e. own (read_register x) (λ o _. own (read_register e) (λ v _. sets (read o) (spelled n) (read v)))) (c_of-abc SetI x n z false x_fits n_fits z_fits))
+      ∙ own_step p (read_register x) (λ o _. own (read_register z) (λ v _. sets (read o) (spelled n) (read v))) [] a c (lt-ltb x (length a.registers) x_room)
+      ∙ own_step p (read_register z) (λ v _. sets (read 0) (spelled n) (read v)) (nth a.registers x ∷ []) a c (lt-ltb z (length a.registers) z_room)
+
+  -- the key is a constant
+  pub set_name_step : (x number z : ℕ) (key : Const) (a : Activation) (c : Captured) → at p a.pc ≡ Some (abc SetField x number z false) → x < 2 ^ 8 → number < 2 ^ 8 → z < 2 ^ 8 → x < length a.registers → z < length a.registers
+      → slice_get p.own.constants number ≡ Some key
+      → talk_step p (before a c) ≡ says_so (operates store (nth a.registers x ∷ known (constant key) ∷ nth a.registers z ∷ [])) p a c (λ q b d. heard dropped p q b d)
+  set_name_step x number z key a c here x_fits fits z_fits x_room z_room there =
+      let w = abc SetField x number z false in
+      row_step p w SetField (own (read_register x) (λ o _. own (read_constant number) (λ i _. own (read_register z) (λ v _. sets (read o) (read i) (read v))))) a c here (opcode_of-abc SetField x number z false)
+      (ap₂ (λ d e. own (read_register d) (λ o _. own (read_constant e) (λ i _. register_or_constant w (λ v _. sets (read o) (read i) (read v))))) (a_of-abc SetField x number z false x_fits) (b_of-abc SetField x number z false x_fits fits)
+      ∙ ap (λ k. own (read_register x) (λ o _. own (read_constant number) (λ i _. cond k (own (read_constant (c_of w)) (λ v _. sets (read o) (read i) (read v))) (own (read_register (c_of w)) (λ v _. sets (read o) (read i) (read v)))))) (k_of-abc SetField x number z false x_fits)
+      ∙ ap (λ e. own (read_register x) (λ o _. own (read_constant number) (λ i _. own (read_register e) (λ v _. sets (read o) (read i) (read v))))) (c_of-abc SetField x number z false x_fits fits z_fits))
+      ∙ own_step p (read_register x) (λ o _. own (read_constant number) (λ i _. own (read_register z) (λ v _. sets (read o) (read i) (read v)))) [] a c (lt-ltb x (length a.registers) x_room)
+      ∙ own_step p (read_constant number) (λ i _. own (read_register z) (λ v _. sets (read 0) (read i) (read v))) (nth a.registers x ∷ []) a c (lt-ltb number (length p.own.constants) (found_below p.own.constants number key there))
+      ∙ ap (λ o. talk p (own (read_register z) (λ v _. sets (read 0) (read 1) (read v))) (nth a.registers x ∷ elim o as (λ _. List Value) [ None ↦ [] | Some k ↦ known (constant k) ∷ [] ]) a c) there
+      ∙ own_step p (read_register z) (λ v _. sets (read 0) (read 1) (read v)) (nth a.registers x ∷ known (constant key) ∷ []) a c (lt-ltb z (length a.registers) z_room)
+
+  pub set_index_rest : (x n z pc : ℕ) → at p pc ≡ Some (abc SetI x n z false) → rest_at {V = Value} dropped p pc ≡ next
+  set_index_rest x n z pc here =
+      ap (λ o. elim o as (λ _. Text) [ None ↦ trap | Some i ↦ rest_by {V = Value} dropped p pc i (opcode_of i) ]) here
+      ∙ ap (rest_by {V = Value} dropped p pc (abc SetI x n z false)) (opcode_of-abc SetI x n z false)
+
+  pub set_name_rest : (x number z pc : ℕ) → at p pc ≡ Some (abc SetField x number z false) → rest_at {V = Value} dropped p pc ≡ next
+  set_name_rest x number z pc here =
+      ap (λ o. elim o as (λ _. Text) [ None ↦ trap | Some i ↦ rest_by {V = Value} dropped p pc i (opcode_of i) ]) here
+      ∙ ap (rest_by {V = Value} dropped p pc (abc SetField x number z false)) (opcode_of-abc SetField x number z false)
 
   pub set_rest : (x y z pc : ℕ) → at p pc ≡ Some (abc SetTable x y z false) → rest_at {V = Value} dropped p pc ≡ next
   set_rest x y z pc here =

@@ -80,6 +80,7 @@ alone source params vararg inner ups line k f o c w b =
       none_asked = refl;
       constants_few = omega (arith, constants, w);
       sees = λ n h. h;
+      all_hold = refl;
     } in
     record {
       small = small;

@@ -12,8 +12,8 @@ use Rattle.code_of.specs.Conditions.{test_code}
 use Rattle.tree_terms.specs.Levels.{level_after, levels_after}
 use Rattle.code_of.specs.Levels.{made_by_stat, made_in_arms, made_in_block, closing_after}
 use Rattle.code_of.specs.Parts.{past_size, bounds_code, steps_code}
-use Rattle.code_of.specs.Sizes.{stat_size, arms_size, block_size}
-use Rattle.code_of.specs.Variables.{variables, names_of, hidden, declared_by, looped, within_stat, within_arms, within_stats, within_block, within_open}
+use Rattle.code_of.specs.Sizes.{stat_size, arms_size, block_size, whole_size}
+use Rattle.code_of.specs.Variables.{variables, names_of, hidden, declared_by, looped, within_stat, within_arms, within_stats, within_block, within_open, within_whole}
 use Rattle.scope_core.specs.Held.{held, held_behind, count as held_count}
 use Rattle.tree_terms.specs.Labels.{Named, names_ahead, names_passed}
 use Rattle.scope_laws.specs.Keeping.{StatsKeep}
@@ -167,6 +167,10 @@ module _ (cs : List Const) (back : ℕ) where
     open_few (Falls ss tokens line) closing t j pc end = stats_few ss closing t j pc end
     open_few (Returns ss es tokens line) closing t j pc end = let a = stats_few ss closing t j pc end in omega (arith, a)
 
+whole_few : (cs : List Const) (back : ℕ) (block : Block) (params j pc : ℕ) → length (within_whole cs back block params j pc) ≤ weight_of_block block
+whole_few cs back (Falls ss tokens line) params j pc = stats_few cs back ss false params j pc (pc + whole_size cs back (Falls ss tokens line) params j)
+whole_few cs back (Returns ss es tokens line) params j pc = let a = stats_few cs back ss false params j pc (pc + whole_size cs back (Returns ss es tokens line) params j) in omega (arith, a)
+
 pub locals_few : (source : Option (List ℕ)) (params : List Name) (vararg : Bool) (inner : Block) (ups : List UpName) (line : ℕ) → length params ≤ 200 → weight_of_body (BodyOf params vararg inner ups line) ≤ 2 ^ 21
     → length (code_of source (BodyOf params vararg inner ups line)).own.locals < 2 ^ 31
 locals_few source params vararg inner ups line few w =
@@ -175,6 +179,6 @@ locals_few source params vararg inner ups line few w =
     let back = back_field vararg (length params) in
     let first = Rattle.std.specs.Prelude.cond vararg 1 0 in
     let a = length_variables params 0 n in
-    let b = block_few cs back inner false 0 (length params) 0 first in
-    let c = length-append (variables params 0 n) (within_block cs back inner false 0 (length params) 0 first) in
+    let b = whole_few cs back inner (length params) 0 first in
+    let c = length-append (variables params 0 n) (within_whole cs back inner (length params) 0 first) in
     known_below source (variables_of (BodyOf params vararg inner ups line)) (2 ^ 31) (omega (arith, a, b, c, few, w))

@@ -1,5 +1,5 @@
 -- An expression is placed where its names are found, its constants and functions have their numbers, and it is not too great.
-use Rattle.std.proofs.Common.{◌≡◌, ℕ, ◌+◌, ◌<◌, ◌≤◌, Bool, true, false, List, [], ◌∷◌, subst, rules, arith}
+use Rattle.std.proofs.Common.{◌≡◌, ℕ, ◌+◌, ◌<◌, ◌≤◌, Bool, true, false, List, [], ◌∷◌, sym, subst, rules, arith}
 use Rattle.tree_core.specs.declared.name.Place.{Place}
 use Rattle.tree_core.specs.declared.name.Place.TheVariants.{Unset, Upvalue, GlobalIn, GlobalOf, Local as LocalPlace}
 use Rattle.tree_core.specs.declared.name.UpName.{UpName}
@@ -10,6 +10,7 @@ use Rattle.code_core.specs.declared.proto.Const.TheVariants.{Int as IntConst, St
 use Rattle.code_of.specs.Expressions.{made_by, made_in, made_in_fields}
 use Rattle.code_of.specs.CodeOf.{code_of}
 use Rattle.code_of.specs.Constants.{Found}
+use Rattle.exp_laws.specs.Setting.{UnderAll}
 use Rattle.exp_laws.specs.Placed.{Inner, Captures, NameIsPlaced, IsPlaced, ArePlaced, FieldsArePlaced}
 use Rattle.tree_terms.specs.Hidden.{IsNoneOf}
 use Rattle.scope_laws.specs.Finding.{PlaceIsThere, CaptureIsThere, CapturesAreThere, ExpFinds, ExpsFind, FieldsFind}
@@ -55,8 +56,8 @@ module _ (x : Around) where
         alike = λ n lt. let none_asked = x.none_asked in absurd (omega (arith, lt, none_asked));
       }
 
-  capture_placed : (in_stack : Bool) (n t : ℕ) → CaptureIsThere x.hidden t x.ups in_stack n → in_stack ≡ true → (n < t) × IsNoneOf n x.setting.hidden
-  capture_placed true n t h e = (h.0, x.sees n h.1)
+  capture_placed : (in_stack : Bool) (n t : ℕ) → CaptureIsThere x.hidden t x.ups in_stack n → in_stack ≡ true → (n < t) × (IsNoneOf n x.setting.hidden.integers × UnderAll n x.setting.hidden.free_from)
+  capture_placed true n t h e = (h.0, (x.sees n h.1, subst (UnderAll n) (sym x.all_hold) tt))
   capture_placed false n t h e = absurd (search rules)
 
   pub captures_placed : (us : List UpName) (t : ℕ) → CapturesAreThere x.hidden t x.ups us → Captures x.setting.hidden us t

@@ -1,5 +1,5 @@
 -- A statement is placed where its names are found, its constants and functions have their numbers, its registers are there and the limits are kept.
-use Rattle.std.proofs.Common.{◌≡◌, ℕ, ◌+◌, ◌≤◌, Bool, true, false, List, [], ◌++◌, length, None, refl, arith}
+use Rattle.std.proofs.Common.{◌≡◌, ℕ, ◌+◌, ◌≤◌, Bool, true, false, List, [], ◌++◌, length, Option, Some, None, refl, subst, arith}
 use Rattle.tree_core.specs.declared.name.Place.{Place}
 use Rattle.tree_core.specs.declared.name.Place.TheVariants.{Unset, Upvalue, GlobalIn, GlobalOf, Local as LocalPlace}
 use Rattle.tree_core.specs.Tree.{Block, Falls, Returns, Stats, EndStats, MoreStats, Stat, Empty, Local, LocalFunction, Assign, CallStat, Do, While, Repeat, If, IfElse, NumFor, NumForStep, GenFor, Label, Goto, Break, Arms, EndArms, MoreArms, Exp, Nil, True, False, Int, Str, Vararg, Function, Var, Index, Call, Method, Unary, Binary, And, Or, Paren, Table, Exps, EndExps, MoreExps}
@@ -10,14 +10,17 @@ use Rattle.code_of.specs.Levels.{made_by_stat, made_in_arms, made_in_stats, made
 use Rattle.tree_terms.specs.Levels.{level_after, levels_after, levels_in}
 use Rattle.scope_core.specs.Held.{held_behind, held_stat}
 use Rattle.scope_core.specs.Rules.{tokens_of}
+use Rattle.code_of.specs.Operands.{assigned}
+use Rattle.code_of.specs.Stores.{stores_field}
+use Rattle.code_of.proofs.Operands.{assigned_is}
 use Rattle.code_of.specs.Rooms.{room_of_list}
 use Rattle.tree_terms.specs.Labels.{Named, names_ahead, names_passed}
-use Rattle.stat_laws.specs.Scoped.{MayAssign, IsNear, TargetsArePlaced, ListIsPlaced, LastIsPlaced, ReturnIsPlaced, StatIsPlaced, ArmsArePlaced, StatsArePlaced, BlockIsPlaced, OpenIsPlaced}
+use Rattle.stat_laws.specs.Scoped.{MayAssign, IsNear, TargetsArePlaced, StoreIsPlaced, AssignIsPlaced, ListIsPlaced, LastIsPlaced, ReturnIsPlaced, StatIsPlaced, ArmsArePlaced, StatsArePlaced, BlockIsPlaced, OpenIsPlaced}
 use Rattle.scope_laws.specs.Keeping.{BlockKeeps, StatsKeep, StatKeeps, ArmsKeep}
 use Rattle.scope_laws.specs.Finding.{PlaceIsThere, ExpsFind, BlockFinds, StatsFind, StatFinds, ArmsFind}
 use Rattle.code_bounds.specs.Constants.{ExpsHave, StatHas, ArmsHave, StatsHave, BlockHas}
 use Rattle.code_bounds.specs.Functions.{ExpsMake, StatMakes, ArmsMake, StatsMake, BlockMakes}
-use Rattle.code_bounds.specs.Registers.{TargetsHaveRoom, StatHasRoom, ArmsHaveRoom, StatsHaveRoom, BlockHasRoom}
+use Rattle.code_bounds.specs.Registers.{TargetsHaveRoom, StoreHasRoom, AssignHasRoom, StatHasRoom, ArmsHaveRoom, StatsHaveRoom, BlockHasRoom}
 use Rattle.code_bounds.proofs.Widths.{list_width, targets_width}
 use Rattle.tree_terms.specs.Weight.{weight_of_exps, weight_of_stat, weight_of_arms, weight_of_stats, weight_of_block}
 use Rattle.code_bounds.proofs.Counts.{arguments_weigh}
@@ -132,10 +135,25 @@ mutual
       (exps_placed x es t j f h m b (omega (arith, w)), (s.0, (s.1, omega (arith, declared))))
   stat_placed x (LocalFunction line name body) closing t j named loops k g f h m s o c b w =
       (inner_placed x body j m b, (captures_placed x (upvalues_of body) (t + 1) f.1, omega (arith, s)))
-  stat_placed x (Assign line targets es) closing t j named loops k g f h m s o c b w = (
-    targets_placed x targets t t j o.0 f.0 h.0 m.0 s.0 (omega (arith, b)) (omega (arith, w)),
-    (exps_placed x es t (j + made_in targets) f.1 h.1 m.1 (omega (arith, b)) (omega (arith, w)), (s.1.0, (s.1.1, targets_width line targets es t g))),
-  )
+  stat_placed x (Assign line targets es) closing t j named loops k g f h m s o c b w = by (assigned targets es) refl s
+    where
+      by : (local : Option ℕ) → assigned targets es ≡ local → AssignHasRoom (constants_of x) (stack_of x) local targets es t → AssignIsPlaced x.setting local targets es t j
+      by None is s = by_field (stores_field targets es) s
+        where
+          by_field : (field : Bool) → StoreHasRoom (constants_of x) (stack_of x) field targets es t → StoreIsPlaced x.setting field targets es t j
+          by_field true s = (
+            exps_placed x targets t j f.0 h.0 m.0 (omega (arith, b)) (omega (arith, w)),
+            (exps_placed x es t (j + made_in targets) f.1 h.1 m.1 (omega (arith, b)) (omega (arith, w)), s),
+          )
+          by_field false s = (
+            targets_placed x targets t t j o.0 f.0 h.0 m.0 s.0 (omega (arith, b)) (omega (arith, w)),
+            (exps_placed x es t (j + made_in targets) f.1 h.1 m.1 (omega (arith, b)) (omega (arith, w)), (s.1.0, (s.1.1, targets_width line targets es t g))),
+          )
+      by (Some r) is s =
+          let form = assigned_is targets es r is in
+          let target = subst (λ z. ExpsFind z x.hidden t x.ups) form.target f.0 in
+          let found = subst (λ p. PlaceIsThere x.hidden t x.ups p) form.place target.0 in
+          (found.0, (x.sees r found.1, (exps_placed x es t (j + made_in targets) f.1 h.1 m.1 (omega (arith, b)) (omega (arith, w)), s)))
   stat_placed x (CallStat line e) closing t j named loops k g f h m s o c b w = (call_open e o.0, (exp_placed x e t j f h m b w, s))
   stat_placed x (Do line block) closing t j named loops k g f h m s o c b w = block_placed x block closing t j named loops k f h m s o c b (omega (arith, w))
   stat_placed x (While line e block) closing t j named loops k g f h m s o c b w = (

@@ -1,14 +1,17 @@
 -- Assignments: the tables and keys of the targets, the values, and the stores from right to left.
-use Rattle.std.proofs.Common.{◌≡◌, ◌≢◌, ℕ, zero, suc, ◌+◌, ◌*◌, ◌<◌, ◌≤◌, ◌^◌, false, List, [], ◌∷◌, ◌++◌, length, reverse, Some, refl, sym, ap, ap₂, subst, ◌∙◌, ◌⊎◌, inl, inr, ⊎_elim, arith, append_assoc, length-append}
+use Rattle.std.proofs.Common.{◌≡◌, ◌≢◌, ℕ, zero, suc, ◌+◌, ◌*◌, ◌<◌, ◌≤◌, ◌^◌, Bool, true, false, List, [], ◌∷◌, ◌++◌, length, reverse, Option, Some, None, refl, sym, ap, ap₂, subst, ◌∙◌, ◌⊎◌, inl, inr, ⊎_elim, arith, append_assoc, length-append}
 use Rattle.std.proofs.lemmas.List.{reverse-append}
 use borrow.Author.Tests.{lt-ltb}
 use Rattle.int_core.specs.Value.{Value, nth, write}
 use Rattle.int_core.specs.Ask.{writes_upvalue, Captured, values_in, goes_on}
-use Rattle.tree_core.specs.Tree.{Assign, Exps, EndExps, MoreExps}
-use Rattle.tree_activation.specs.Work.{complete, collect, aim, store, Target, to_local, to_upvalue, to_field, for_assignment, Work, Pending, State}
+use Rattle.tree_core.specs.declared.name.Name.{Name}
+use Rattle.tree_core.specs.declared.name.Place.TheVariants.{Local as LocalPlace}
+use Rattle.tree_core.specs.Tree.{Assign, Exp, Var, Index, Exps, EndExps, MoreExps}
+use Rattle.tree_activation.specs.Work.{complete, collect, evaluate, give, aim, store, listed, Target, to_local, to_upvalue, to_field, for_assignment, Work, Pending, State}
 use Rattle.tree_activation.specs.Work as tree
+use Rattle.tree_activation.specs.Activation.{step}
 use Rattle.tree_activation.specs.Asking.{first}
-use Rattle.tree_activation.specs.Statements.{paired}
+use Rattle.tree_activation.specs.Statements.{paired, aims_at_name}
 use Rattle.code_core.specs.declared.opcode.Opcode.TheVariants.{SetUpval}
 use Rattle.code_core.specs.Instruction.{abc}
 use Rattle.code_core.specs.Check.{at}
@@ -21,23 +24,31 @@ use Rattle.list_laws.proofs.Items.{append_nil}
 use Rattle.list_laws.proofs.Values.{nth_write_same, nth_write_other, length_write, write_more}
 use Rattle.code_of.specs.Coded.{Coded}
 use Rattle.code_of.specs.Expressions.{made_in, count, exps_code}
-use Rattle.code_of.specs.Parts.{targets_code, store_code, stores_code}
-use Rattle.exp_laws.proofs.Registers.{Among, hides_write, Rel, HeldBelow, Ascends}
-use Rattle.exp_laws.specs.Setting.{Setting}
+use Rattle.code_of.specs.Operands.{is_direct, assigned}
+use Rattle.code_of.proofs.Operands.{assigned_is}
+use Rattle.code_of.specs.Parts.{targets_code, store_code, stores_code, direct_code, first_direct, first_field, stored_code, store_by, assign_by}
+use Rattle.code_of.specs.Stores.{stores_field}
+use Rattle.code_of.proofs.Stores.{stores_field_is}
+use Rattle.code_of.specs.Rooms.{room_of_direct, room_of_assigned, room_of_first}
+use Rattle.exp_laws.proofs.Registers.{Among, none_among, hides_write, Rel, HeldBelow, Ascends}
+use Rattle.exp_laws.specs.Setting.{Hidden, Setting}
 use Rattle.exp_laws.proofs.Talking.{Agree, go_left, go_right, of_tree, of_code}
 use Rattle.exp_laws.proofs.Placing.{HasAt, has_front, has_back, here_abc}
-use Rattle.exp_laws.specs.Placed.{ArePlaced}
+use Rattle.exp_laws.specs.Placed.{IsPlaced, ArePlaced}
 use Rattle.exp_laws.proofs.Lists.{Holds}
 use Rattle.exp_laws.proofs.Going.{next_there}
 use Rattle.exp_laws.proofs.Asking.{quick_alike}
 use Rattle.exp_laws.proofs.TableForms.{store_goes}
 use Rattle.exp_laws.proofs.Exps.{exps_same}
+use Rattle.exp_laws.proofs.Direct.{direct_same}
 use Rattle.exp_laws.proofs.Steps.{row_step, own_step, go_step, move_step}
-use Rattle.stat_laws.proofs.Standing.{Standing}
+use Rattle.stat_laws.proofs.Standing.{Standing, GoesOn}
 use Rattle.stat_laws.proofs.Blocks.{StatLaw}
+use Rattle.stat_laws.specs.Scoped.{StoreIsPlaced, AssignIsPlaced}
+use Rattle.stat_laws.proofs.FieldStores.{field_goes}
 use Rattle.stat_laws.proofs.Targets.{store_to, Stands, stands_still, AllAimed, all_still, aim_goes}
 
-pub rel_assigned : (hidden : List ℕ) (stack n : ℕ) (v : Value) (ps : List Pending) (env regs : List Value) (c : Captured) → n < length env → (Among n hidden → ⊥) → Rel hidden stack ps env c regs → Rel hidden stack ps (write n v env) c (write n v regs)
+pub rel_assigned : (hidden : Hidden) (stack n : ℕ) (v : Value) (ps : List Pending) (env regs : List Value) (c : Captured) → n < length env → (Among n hidden.integers → ⊥) → Rel hidden stack ps env c regs → Rel hidden stack ps (write n v env) c (write n v regs)
 rel_assigned hidden stack n v ps env regs c h other rel =
     let same = length_write n v env h in
     let more = write_more n v regs in
@@ -137,8 +148,12 @@ module _ (S : Setting) (back : ℕ) where
       (λ env2 regs2 c2 opened2 st2 same2. subst (λ q. Agree S n (tree.at (store rest) (of_tree S ps env2 c2) k) (before (of_code S ps q regs2 opened2) c2)) (sym there)
       (goes env2 regs2 c2 opened2 st2 (λ q lo hi. same2 q lo hi ∙ same q lo hi)))))
 
-  pub assign_goes : (line : ℕ) (targets es : Exps) → StatLaw S back (Assign line targets es)
-  assign_goes line targets es n closing closed t j pc named loops reach k fewer has placed titles inside under clear plain jumps done ps env regs c opened s st standing =
+  -- each target by its value
+  stored_goes : (targets es : Exps) (n t j line pc : ℕ) (closed : List ℕ) (ps : List Pending) (env regs : List Value) (c : Captured) (opened : ℕ) (s : State) (k : List Work)
+      → n ≤ S.bound → HasAt S pc (stored_code S.code.own.constants targets es t j line) → StoreIsPlaced S false targets es t j → pc + length (stored_code S.code.own.constants targets es t j line) < length S.code.own.code
+      → GoesOn S n t closed complete k (pc + length (stored_code S.code.own.constants targets es t j line)) → step s ≡ goes_on (tree.at (aim [] targets es) (of_tree S ps env c) k) → Standing S t closed ps env c regs
+      → Agree S n s (before (of_code S ps pc regs opened) c)
+  stored_goes targets es n t j line pc closed ps env regs c opened s k fewer has placed inside done st standing =
       let size = standing.size in
       go_left S n s (tree.at (aim [] targets es) (of_tree S ps env c) k) _ st
       (aim_goes S ps targets t t n j pc opened es [] env regs c k fewer (has_front S pc aims (values ++ stores) has) placed.0 (omega (arith, inside, sum)) size (omega arith) (omega (arith, room)) standing.rel
@@ -148,12 +163,12 @@ module _ (S : Setting) (back : ℕ) where
       (subst (λ u. ArePlaced S es u (j + made_in targets)) (sym (af1.size ∙ size)) placed.1.0)
       (subst (λ r. pc + length aims + length (exps_code S.code.own.constants es (Some (count targets)) r (j + made_in targets) line) < length S.code.own.code) (sym flat) (omega (arith, inside, sum))) refl (λ i lt. absurd (omega arith))
       (omega (arith, size, af1.size)) (omega (arith, room)) placed.1.1.0 af1.rel
-      (λ vs env2 regs2 c2 opened2 af2 listed. subst (λ q. Agree S n (tree.at (collect (for_assignment xs) vs EndExps) (of_tree S ps env2 c2) k) (before (of_code S ps q regs2 opened2) c2)) (sym there)
+      (λ vs env2 regs2 c2 opened2 af2 filled. subst (λ q. Agree S n (tree.at (collect (for_assignment xs) vs EndExps) (of_tree S ps env2 c2) k) (before (of_code S ps q regs2 opened2) c2)) (sym there)
       (go_left S n _ (tree.at (store (reverse (paired xs vs))) (of_tree S ps env2 c2) k) _ refl
       (subst (λ z. Agree S n (tree.at (store z) (of_tree S ps env2 c2) k) (before (of_code S ps (pc + length aims + length values) regs2 opened2) c2)) (append_nil (reverse (paired xs vs)))
       (stores_goes targets xs t v n t (pc + length aims + length values) closed ps env2 regs2 c2 opened2 vs [] k
       (all_still S targets t t v xs regs1 regs2 (omega arith) (omega arith) (λ q lo hi. af2.keeps q (omega (arith, size, af1.size, lo)) hi) all) (omega arith) (omega arith) room (has_back S (pc + length aims) values stores at_values) (omega (arith, inside, sum))
-      (record { numbered = standing.numbered; size = af2.size ∙ af1.size ∙ size; rel = af2.rel }) (λ i lt. listed i (omega (arith, lt)))
+      (record { numbered = standing.numbered; size = af2.size ∙ af1.size ∙ size; rel = af2.rel }) (λ i lt. filled i (omega (arith, lt)))
       (λ env3 regs3 c3 opened3 st3 same. go_left S n _ (tree.at complete (of_tree S ps env3 c3) k) _ refl
       (subst (λ q. Agree S n (tree.at complete (of_tree S ps env3 c3) k) (before (of_code S ps q regs3 opened3) c3)) end (done n (omega arith) ps env3 regs3 c3 opened3 st3)))))))))
     where
@@ -186,3 +201,68 @@ module _ (S : Setting) (back : ℕ) where
 
       end : pc + length (aims ++ (values ++ stores)) ≡ pc + length aims + length values + length stores
       end = omega (arith, sum)
+
+  -- a local gets the value straight into its register. Both sides write it at the end, so they are like each other again
+  direct_goes : (l : ℕ) (name : Name) (e : Exp) (r n t j pc : ℕ) (closed : List ℕ) (ps : List Pending) (env regs : List Value) (c : Captured) (opened : ℕ) (s : State) (k : List Work)
+      → name.place ≡ LocalPlace r → is_direct e ≡ true → n ≤ S.bound → HasAt S pc (direct_code S.code.own.constants e r t j) → r < t → (Among r S.hidden.integers → ⊥) → IsPlaced S e t j
+      → t + room_of_direct S.code.own.constants e ≤ S.code.own.stack → pc + length (direct_code S.code.own.constants e r t j) < length S.code.own.code
+      → GoesOn S n t closed complete k (pc + length (direct_code S.code.own.constants e r t j)) → step s ≡ goes_on (tree.at (aim [] (MoreExps (Var l name) EndExps) (MoreExps e EndExps)) (of_tree S ps env c) k)
+      → Standing S t closed ps env c regs → Agree S n s (before (of_code S ps pc regs opened) c)
+  direct_goes l name e r n t j pc closed ps env regs c opened s k place direct fewer has low other ok room inside done st standing =
+      let size = standing.size in
+      let to = for_assignment (to_local r ∷ []) in
+      go_left S n s (tree.at (aim [] (MoreExps (Var l name) EndExps) (MoreExps e EndExps)) (of_tree S ps env c) k) _ st
+      (go_left S n _ (tree.at (aim (to_local r ∷ []) EndExps (MoreExps e EndExps)) (of_tree S ps env c) k) _ (ap (λ p. aims_at_name l name.text p [] EndExps (MoreExps e EndExps) (of_tree S ps env c) k) place)
+      (go_left S n _ (tree.at (collect to [] (MoreExps e EndExps)) (of_tree S ps env c) k) _ refl
+      (go_left S n _ (tree.at (evaluate e) (of_tree S ps env c) (listed to [] EndExps ∷ k)) _ refl
+      (direct_same S ps e direct r t j n pc opened env regs c (listed to [] EndExps ∷ k) fewer has (subst (λ u. IsPlaced S e u j) (sym size) ok) inside (omega (arith, size)) (omega (arith, low, size, standing.rel.fits)) room standing.rel
+      (λ vs env1 regs1 c1 opened1 af one.
+      let same = length_write r (first vs) env1 (omega (arith, low, size, af.size)) in
+      subst (λ l. Agree S n (tree.at (give l) (of_tree S ps env1 c1) (listed to [] EndExps ∷ k)) (before (of_code S ps (pc + length (direct_code S.code.own.constants e r t j)) (write r (first vs) regs1) opened1) c1)) (sym one)
+      (go_left S n _ (tree.at (collect to (first vs ∷ []) EndExps) (of_tree S ps env1 c1) k) _ refl
+      (go_left S n _ (tree.at (store ((to_local r, first vs) ∷ [])) (of_tree S ps env1 c1) k) _ refl
+      (go_left S n _ (tree.at (store []) (of_tree S ps (write r (first vs) env1) c1) k) _ refl
+      (go_left S n _ (tree.at complete (of_tree S ps (write r (first vs) env1) c1) k) _ refl
+      (done n (omega arith) ps (write r (first vs) env1) (write r (first vs) regs1) c1 opened1
+      (record { numbered = standing.numbered; size = same ∙ af.size ∙ size; rel = rel_assigned S.hidden S.code.own.stack r (first vs) ps env1 regs1 c1 (omega (arith, low, size, af.size)) other af.rel })))))))))))
+
+  pub assign_goes : (line : ℕ) (targets es : Exps) → StatLaw S back (Assign line targets es)
+  assign_goes line targets es n closing closed t j pc named loops reach k fewer has placed titles inside under clear plain jumps done ps env regs c opened s st standing =
+      by (assigned targets es) refl has placed inside done
+    where
+      by : (o : Option ℕ) → assigned targets es ≡ o → HasAt S pc (assign_by S.code.own.constants o targets es t j line) → AssignIsPlaced S o targets es t j
+          → pc + length (assign_by S.code.own.constants o targets es t j line) < length S.code.own.code → GoesOn S n t closed complete k (pc + length (assign_by S.code.own.constants o targets es t j line))
+          → Agree S n s (before (of_code S ps pc regs opened) c)
+      by None is has placed inside done = by_field (stores_field targets es) refl has placed inside done
+        where
+          by_field : (b : Bool) → stores_field targets es ≡ b → HasAt S pc (store_by S.code.own.constants b targets es t j line) → StoreIsPlaced S b targets es t j
+              → pc + length (store_by S.code.own.constants b targets es t j line) < length S.code.own.code → GoesOn S n t closed complete k (pc + length (store_by S.code.own.constants b targets es t j line))
+              → Agree S n s (before (of_code S ps pc regs opened) c)
+          by_field false is has placed inside done = stored_goes targets es n t j line pc closed ps env regs c opened s k fewer has placed inside done st standing
+          by_field true is has placed inside done =
+              let form = stores_field_is targets es is in
+              let after = j + made_in targets in
+              let size = standing.size in
+              let target = subst (λ z. ArePlaced S z t j) form.target placed.0 in
+              let value = subst (λ z. ArePlaced S z t after) form.values placed.1.0 in
+              let code = λ (x y : Exps). first_field S.code.own.constants x y t j after in
+              let whole = MoreExps (Index form.line form.object form.key) EndExps in
+              let alone = MoreExps form.value EndExps in
+              let same : code targets es ≡ code whole alone = ap₂ code form.target form.values in
+              let room = ap₂ (λ x y. room_of_first S.code.own.constants x y) form.target form.values in
+              let long = ap length same in
+              go_left S n s (tree.at (aim [] whole alone) (of_tree S ps env c) k) _ (st ∙ ap₂ (λ x y. goes_on (tree.at (aim [] x y) (of_tree S ps env c) k)) form.target form.values)
+              (field_goes S ps form.line form.object form.key form.value t n j after pc opened env regs c k fewer (subst (HasAt S pc) same has) (subst (λ m. IsPlaced S (Index form.line form.object form.key) m j) (sym size) target.0)
+              (subst (λ m. IsPlaced S form.value m after) (sym size) value.0) (omega (arith, inside, long)) (omega (arith, size)) (omega (arith, room, placed.1.1)) standing.rel
+              (λ env1 regs1 c1 o1 af. go_left S n _ (tree.at complete (of_tree S ps env1 c1) k) _ refl
+              (subst (λ q. Agree S n (tree.at complete (of_tree S ps env1 c1) k) (before (of_code S ps (pc + q) regs1 o1) c1)) long
+              (done n (omega arith) ps env1 regs1 c1 o1 (record { numbered = standing.numbered; size = af.size ∙ size; rel = af.rel })))))
+      by (Some r) is has placed inside done =
+          let form = assigned_is targets es r is in
+          let from = j + made_in targets in
+          let all = subst (λ z. ArePlaced S z t from) form.values placed.1.1.0 in
+          direct_goes form.line form.name form.value r n t from pc closed ps env regs c opened s k form.place form.direct fewer (subst (λ z. HasAt S pc (first_direct S.code.own.constants z r t from)) form.values has)
+          placed.0 (none_among r S.hidden.integers placed.1.0) all.0 (subst (λ z. t + room_of_assigned S.code.own.constants z ≤ S.code.own.stack) form.values placed.1.1.1)
+          (subst (λ z. pc + length (first_direct S.code.own.constants z r t from) < length S.code.own.code) form.values inside)
+          (subst (λ z. GoesOn S n t closed complete k (pc + length (first_direct S.code.own.constants z r t from))) form.values done)
+          (st ∙ ap₂ (λ x y. goes_on (tree.at (aim [] x y) (of_tree S ps env c) k)) form.target form.values) standing

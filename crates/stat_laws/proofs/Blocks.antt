@@ -121,7 +121,7 @@ pub no_some : (xs : List ℕ) → has_some xs ≡ false → xs ≡ []
 no_some [] e = refl
 no_some (x ∷ xs) e = absurd (cc)
 
-some_numbers : (names : List Declared) (t : ℕ) → has_closed names ≡ has_some (closed_numbers names t)
+pub some_numbers : (names : List Declared) (t : ℕ) → has_closed names ≡ has_some (closed_numbers names t)
 some_numbers [] t = refl
 some_numbers (d ∷ names) t = by (is_closed d.attrib) (some_numbers names (t + 1))
   where
@@ -158,7 +158,7 @@ module _ (S : Setting) (back : ℕ) where
   StatLaw s =
       (n : ℕ) (closing : Bool) (closed : List ℕ) (t j pc : ℕ) (named : List Named) (loops : Bool) (reach : Reach) (k : List Work)
       → n ≤ S.bound → HasAt S pc (stat_code S.code.own.constants back s closing t j pc reach) → StatIsPlaced S s closing t j named loops → StatIsNamed S.lines S.code back s closing t j pc → pc + stat_size S.code.own.constants back s closing t j < length S.code.own.code
-      → AllBelow closed t → AllUnder S.hidden t → closing ≡ has_some closed → (t ≡ level_after s t → Jumps S back n pc (pc + stat_size S.code.own.constants back s closing t j) t closed named loops reach k)
+      → AllBelow closed t → AllUnder S.hidden.integers t → closing ≡ has_some closed → (t ≡ level_after s t → Jumps S back n pc (pc + stat_size S.code.own.constants back s closing t j) t closed named loops reach k)
       → GoesOn S n (level_after s t) (closed_after s t closed) complete k (pc + stat_size S.code.own.constants back s closing t j)
       → (ps : List Pending) (env regs : List Value) (c : Captured) (opened : ℕ) (st : State) → step st ≡ executes s (of_tree S ps env c) k → Standing S t closed ps env c regs
       → Agree S n st (before (of_code S ps pc regs opened) c)
@@ -193,7 +193,7 @@ module _ (S : Setting) (back : ℕ) where
       pub passed : Behind n pc t closed labels entries names
       pub added : Added outer base closed
       pub base_under : AllBelow base outer
-      pub clear : AllUnder S.hidden outer
+      pub clear : AllUnder S.hidden.integers outer
       pub titles : StatsAreNamed S.lines S.code back ss closing t j pc
       pub under : AllBelow closed t
       pub outer_low : outer ≤ t
@@ -410,5 +410,5 @@ module _ (S : Setting) (back : ℕ) where
             let i = w.inside in
             stat m closing closed t j pc (names_ahead ss falls t (level_after s t) ++ (names ++ named)) loops around (in_block t (at_point ss labels) ∷ k) (let b = w.fewer in omega arith)
             (has_front S pc (stat_code S.code.own.constants back s closing t j pc around) (stats_code S.code.own.constants back ss falls (closing_after s closing) outer (level_after s t) (j + made_by_stat s) (pc + stat_size S.code.own.constants back s closing t j) (passed_after s t pc entries) reach) w.has)
-            w.placed.0 w.titles.0 (omega arith) w.under (under_higher S.hidden outer t w.outer_low w.clear) w.known (jumps_here m le) (done m le) ps env regs c opened (tree.at (run (at_point (MoreStats s ss) labels)) (of_tree S ps env c) k)
+            w.placed.0 w.titles.0 (omega arith) w.under (under_higher S.hidden.integers outer t w.outer_low w.clear) w.known (jumps_here m le) (done m le) ps env regs c opened (tree.at (run (at_point (MoreStats s ss) labels)) (of_tree S ps env c) k)
             (runs_stat s ss (at_point (MoreStats s ss) labels) (of_tree S ps env c) k is ∙ ap (λ u. executes s (of_tree S ps env c) (in_block u (at_point ss labels) ∷ k)) st.size) st

@@ -71,7 +71,7 @@ this_fits = (
             (
               (lit< tt, (lit≤ tt, ((refl, tt), tt))),
               (
-                (record { prototype = code_of source gives_x; there = refl; near = lit< tt; upvalues = refl; alike = λ n lt. absurd (omega arith) }, (((λ e. (lit< tt, tt)), tt), lit< tt)),
+                (record { prototype = code_of source gives_x; there = refl; near = lit< tt; upvalues = refl; alike = λ n lt. absurd (omega arith) }, (((λ e. (lit< tt, (tt, tt))), tt), lit< tt)),
                 tt,
               ),
             ),
@@ -266,7 +266,7 @@ down_fits = (
                           (
                             (
                               record { prototype = code_of source gives_i; there = refl; near = lit< tt; upvalues = refl; alike = λ n lt. absurd (omega arith) },
-                              ((λ e. (lit< tt, ((λ d. omega (arith, d)), ((λ d. omega (arith, d)), ((λ d. omega (arith, d)), tt))))), tt),
+                              ((λ e. (lit< tt, (((λ d. omega (arith, d)), ((λ d. omega (arith, d)), ((λ d. omega (arith, d)), tt))), tt))), tt),
                             ),
                             tt,
                           ),

@@ -1,5 +1,7 @@
 -- Blocks, and the statements that have some: `do`, `if` and `while`.
 use Rattle.std.proofs.Common.{◌≡◌, ℕ, zero, suc, ◌+◌, ◌<◌, ◌≤◌, Bool, true, false, cond, List, [], ◌∷◌, ◌++◌, length, Option, Some, None, refl, sym, ap, subst, ◌∙◌, arith, append_assoc}
+use Rattle.std.proofs.lemmas.List.{length-map}
+use Rattle.std.specs.Prelude.{nat_eq, nat_lt}
 use Rattle.int_core.specs.Value.{Value, known, nil, shape, holds}
 use Rattle.int_core.specs.Ask.{Captured}
 use Rattle.tree_core.specs.Tree.{Block, Falls, Stats, EndStats, Empty, Do, While, If, IfElse, Label, Goto, Break, Arms, EndArms, MoreArms, Exp}
@@ -13,14 +15,14 @@ use Rattle.code_of.specs.Coded.{Coded, jump_over, jump_back}
 use Rattle.code_of.specs.Expressions.{made_by}
 use Rattle.code_of.specs.Conditions.{test_code}
 use Rattle.code_of.specs.Jumps.{Reach}
-use Rattle.code_of.specs.Levels.{made_in_arms, made_in_block}
+use Rattle.code_of.specs.Levels.{made_in_arms, made_in_stats, made_in_block, closings_after, may_hold, closed_below}
 use Rattle.tree_terms.specs.Levels.{levels_after}
 use Rattle.code_of.specs.Parts.{close_code, past_size, past}
 use Rattle.code_of.specs.Sizes.{arms_size, stats_size, block_size}
 use Rattle.code_of.specs.Statements.{in_loop, arms_code, stats_code, block_code}
 use Rattle.list_laws.proofs.Items.{append_nil}
-use Rattle.exp_laws.proofs.Registers.{AllUnder, Rel, Ascends}
-use Rattle.exp_laws.specs.Setting.{Setting}
+use Rattle.exp_laws.proofs.Registers.{AllUnder, HeldBelow, HeldUnder, Rel, Ascends}
+use Rattle.exp_laws.specs.Setting.{Hidden, Setting, with_scope, scoped}
 use Rattle.exp_laws.proofs.Talking.{Agree, go_left, go_right, of_tree, of_code}
 use Rattle.exp_laws.proofs.Placing.{HasAt, has_front, has_back}
 use Rattle.exp_laws.specs.Placed.{IsPlaced}
@@ -28,11 +30,13 @@ use Rattle.exp_laws.proofs.Conditions.{TestSame, truth_is}
 use Rattle.exp_laws.proofs.Going.{next_there}
 use Rattle.exp_laws.proofs.Tests.{jump_step}
 use Rattle.tree_activation.specs.Activation.{step}
-use Rattle.stat_laws.proofs.Closing.{AllBelow, ends_goes}
-use Rattle.stat_laws.proofs.Standing.{strong, numbers, AllFrom, from_lower, from_more, part, ascends_under, Standing, GoesOn, goes_fewer, goes_from, back_goes, lands_ahead, below_higher}
+use Rattle.stat_laws.proofs.Closing.{AllBelow, NothingHeld, nothing_held, ends_goes}
+use Rattle.stat_laws.proofs.Standing.{strong, numbers, AllFrom, from_lower, from_more, Parted, part, ascends_under, Standing, GoesOn, goes_fewer, goes_from, back_goes, lands_ahead, below_higher}
 use Rattle.stat_laws.proofs.Naming.{BlockIsNamed, ArmsAreNamed}
 use Rattle.tree_terms.specs.Labels.{Named}
-use Rattle.stat_laws.specs.Scoped.{ArmsArePlaced, BlockIsPlaced}
+use Rattle.stat_laws.specs.Scoped.{ArmsArePlaced, StatsArePlaced, BlockIsPlaced}
+use Rattle.stat_laws.proofs.Hiding.{low_there, rel_unscoped, rel_scoped, has_inner, jumps_inner}
+use Rattle.stat_laws.proofs.Scoping.{second_false, none_made, unmarked_after, stats_scoped}
 use Rattle.code_of.proofs.Sizes.{test_sized, past_sized, block_sized, arms_sized, stats_sized}
 use Rattle.stat_laws.proofs.Labels.{Jumps, jumps_within}
 use Rattle.stat_laws.proofs.Blocks.{has_some, Added, added_all, added_none, closeds_after, StatLaw, StatsLaw}
@@ -82,25 +86,26 @@ module _ (S : Setting) where
     BlockLaw block =
         (n : ℕ) (closing : Bool) (closed : List ℕ) (outer t j pc : ℕ) (named : List Named) (loops : Bool) (reach : Reach) (k : List Work)
         → n ≤ S.bound → HasAt S pc (block_code S.code.own.constants back block closing outer t j pc reach) → BlockIsPlaced S block closing t j named loops
-        → BlockIsNamed S.lines S.code back block closing outer t j pc → pc + block_size S.code.own.constants back block closing outer t j < length S.code.own.code → AllBelow closed outer → AllUnder S.hidden outer → outer ≤ t → closing ≡ has_some closed
+        → BlockIsNamed S.lines S.code back block closing outer t j pc → pc + block_size S.code.own.constants back block closing outer t j < length S.code.own.code → AllBelow closed outer → AllUnder S.hidden.integers outer → outer ≤ t → closing ≡ has_some closed
         → Jumps S back n pc (pc + block_size S.code.own.constants back block closing outer t j) outer closed named loops reach k
         → GoesOn S n outer closed complete k (pc + block_size S.code.own.constants back block closing outer t j)
-        → GoesOn S n t closed (run (point_of block outer)) k pc
+        → (m : ℕ) → m ≤ n → (ps : List Pending) (env regs : List Value) (c : Captured) (opened : ℕ) → Standing S t closed ps env c regs → HeldBelow c.held outer
+        → Agree S m (tree.at (run (point_of block outer)) (of_tree S ps env c) k) (before (of_code S ps pc regs opened) c)
 
     pub below_level : (closed : List ℕ) (outer t : ℕ) → AllBelow closed outer → outer ≤ t → AllBelow closed t
     below_level closed outer t h le = below_higher outer t closed le h
 
     -- a block that falls off its end
-    pub falls_goes : (ss : Stats) (tokens line : ℕ) → ((outer : ℕ) (closed : List ℕ) (k : List Work) → StatsLaw S back (falls_off line) true outer closed k (λ ss. refl) ss) → BlockLaw (Falls ss tokens line)
-    falls_goes ss tokens line law n closing closed outer t j pc named loops reach k fewer has placed titles inside under clear outer_low plain jumps done =
+    pub falls_goes : (ss : Stats) (tokens line : ℕ) → ((outer : ℕ) (closed : List ℕ) (k : List Work) → StatsLaw (scoped S (may_hold ss) outer) back (falls_off line) true outer closed k (λ ss. refl) ss) → BlockLaw (Falls ss tokens line)
+    falls_goes ss tokens line law n closing closed outer t j pc named loops reach k fewer has placed titles inside under clear outer_low plain jumps done m le ps env regs c opened st below =
         (law outer closed k n pc (pc + block_size S.code.own.constants back (Falls ss tokens line) closing outer t j) closing closed t j pc [] [] [] named loops reach (record {
           fewer = fewer;
-          has = has_front S pc code close has;
-          placed = placed;
+          has = has_inner S within pc code (has_front S pc code close has);
+          placed = placed_within;
           from = omega arith;
           to = omega arith;
           inside = inside;
-          jumps = jumps;
+          jumps = jumps_inner S within out back n pc (pc + block_size S.code.own.constants back (Falls ss tokens line) closing outer t j) outer closed named loops reach k jumps;
           passed = tt;
           added = added_none outer closed;
           base_under = under;
@@ -110,13 +115,23 @@ module _ (S : Setting) where
           outer_low = outer_low;
           known = plain;
           ends = record { full = full; low = λ is labels. low labels };
-        })).0
+        })).0 m le ps env regs c opened (record { numbered = st.numbered; size = st.size; rel = rel_scoped S.hidden (may_hold ss) outer S.code.own.stack ps env c regs below st.rel })
       where
+        within : Hidden
+        within = with_scope S.hidden (may_hold ss) outer
+
+        out : (ps : List Pending) (env : List Value) (c : Captured) (regs : List Value) → Rel within S.code.own.stack ps env c regs → Rel S.hidden S.code.own.stack ps env c regs
+        out ps env c regs rel = rel_unscoped S.hidden (may_hold ss) outer S.code.own.stack ps env c regs rel
+
+        -- no function is made in the scope, where none of its locals may be captured
+        placed_within : StatsArePlaced (scoped S (may_hold ss) outer) ss true closing t j [] named loops
+        placed_within = stats_scoped (may_hold ss) outer S ss true closing t j [] named loops placed (none_made ss)
+
         code : List Coded
         code = stats_code S.code.own.constants back ss true closing outer t j pc [] reach
 
         close : List Coded
-        close = close_code outer (levels_after ss t) line
+        close = close_code outer (closed_below ss outer t) line
 
         size : ℕ
         size = stats_size S.code.own.constants back ss closing t j
@@ -132,36 +147,43 @@ module _ (S : Setting) where
 
         -- whatever is in scope at the end
         leaves : (m : ℕ) → m ≤ n → (more : List ℕ) (ps : List Pending) (env regs : List Value) (c : Captured) (opened : ℕ) → numbers ps ≡ closed ++ more → AllFrom outer more → outer ≤ length env → length env ≤ levels_after ss t
-            → Rel S.hidden S.code.own.stack ps env c regs
+            → (may_hold ss ≡ false → numbers ps ≡ closed) → HeldUnder c.held within.free_from → Rel S.hidden S.code.own.stack ps env c regs
             → Agree S m (tree.at (leave_scope outer line (known nil) complete) (of_tree S ps env c) k) (before (of_code S ps (pc + size) regs opened) c)
-        leaves m le more ps env regs c opened numbered from lo hi rel =
+        leaves m le more ps env regs c opened numbered from lo hi unmarked low rel =
             let parted = part outer closed more ps numbered from in
-            let rises = levels_rise ss t in
-            ends_goes S m outer (levels_after ss t) line (pc + size) parted.base complete k at_end (omega (arith, rises, outer_low)) (omega (arith, lo, rel.fits, S.small)) (omega (arith, inside))
+            ends_goes S m outer (closed_below ss outer t) line (pc + size) parted.base complete k at_end (omega (arith, lo, rel.fits, S.small)) (omega (arith, inside))
             (ascends_under 0 (length env) outer parted.base parted.rest (subst (λ l. Ascends 0 l (length env)) parted.whole rel.ascends) (subst (λ l. AllBelow l outer) (sym parted.numbered) under))
             (λ env1 regs1 c1 opened1 size1 rel1. subst (λ q. Agree S m (tree.at complete (of_tree S parted.base env1 c1) k) (before (of_code S parted.base q regs1 opened1) c1)) joined
             (done m le parted.base env1 regs1 c1 opened1 (record { numbered = parted.numbered; size = size1; rel = rel1 })))
-            ps parted.grown env regs c opened lo hi rel
+            ps parted.grown env regs c opened lo (nothing m parted (may_hold ss) refl) rel
+          where
+            nothing : (m : ℕ) (parted : Parted outer closed ps) (captures : Bool) → may_hold ss ≡ captures → nat_eq outer (cond captures (levels_after ss t) outer) ≡ true → NothingHeld S outer parted.base ps c
+            nothing m parted true is e = nothing_held S outer (levels_after ss t) parted.base ps parted.grown env regs c lo hi rel e
+            nothing m parted false is e = (
+              low_there S.hidden.free_from (may_hold ss) outer c.held low is,
+              sym (length-map ps (λ p. p.number)) ∙ ap length (unmarked is ∙ sym parted.numbered) ∙ length-map parted.base (λ p. p.number),
+            )
 
-        full : (labels : List Passed) → GoesOn S n (levels_after ss t) (closeds_after ss t closed) (run (record { rest = EndStats; ending = falls_off line; level = outer; labels = labels })) k (pc + size)
+        full : (labels : List Passed) → GoesOn (scoped S (may_hold ss) outer) n (levels_after ss t) (closeds_after ss t closed) (run (record { rest = EndStats; ending = falls_off line; level = outer; labels = labels })) k (pc + size)
         full labels m le ps env regs c opened st =
             let rises = levels_rise ss t in
             let size1 = st.size in
             go_left S m _ (tree.at (leave_scope outer line (known nil) complete) (of_tree S ps env c) k) _ refl
-            (leaves m le all.more ps env regs c opened (st.numbered ∙ all.whole) (from_lower outer t all.more outer_low all.from) (omega (arith, rises, outer_low, size1)) (omega (arith, size1)) st.rel)
+            (leaves m le all.more ps env regs c opened (st.numbered ∙ all.whole) (from_lower outer t all.more outer_low all.from) (omega (arith, rises, outer_low, size1)) (omega (arith, size1))
+            (λ is. st.numbered ∙ unmarked_after ss t closed (second_false (nat_lt 0 (made_in_stats ss)) (closings_after ss false) is)) st.rel.hides.low (out ps env c regs st.rel))
 
-        low : (labels : List Passed) → GoesOn S n outer closed (run (record { rest = EndStats; ending = falls_off line; level = outer; labels = labels })) k (pc + size)
+        low : (labels : List Passed) → GoesOn (scoped S (may_hold ss) outer) n outer closed (run (record { rest = EndStats; ending = falls_off line; level = outer; labels = labels })) k (pc + size)
         low labels m le ps env regs c opened st =
             let rises = levels_rise ss t in
             let size1 = st.size in
             go_left S m _ (tree.at (leave_scope outer line (known nil) complete) (of_tree S ps env c) k) _ refl
-            (leaves m le [] ps env regs c opened (st.numbered ∙ sym (append_nil closed)) tt (omega (arith, size1)) (omega (arith, rises, outer_low, size1)) st.rel)
+            (leaves m le [] ps env regs c opened (st.numbered ∙ sym (append_nil closed)) tt (omega (arith, size1)) (omega (arith, rises, outer_low, size1)) (λ is. st.numbered) st.rel.hides.low (out ps env c regs st.rel))
 
     pub do_goes : (line : ℕ) (block : Block) → BlockLaw block → StatLaw S back (Do line block)
     do_goes line block law n closing closed t j pc named loops reach k fewer has placed titles inside under clear plain jumps done ps env regs c opened s st standing =
         go_left S n s (tree.at (run (point_of block (length env))) (of_tree S ps env c) k) _ st
         (subst (λ u. Agree S n (tree.at (run (point_of block u)) (of_tree S ps env c) k) (before (of_code S ps pc regs opened) c)) (sym standing.size)
-        (law n closing closed t t j pc named loops reach k fewer has placed titles inside under clear (omega arith) plain (jumps refl) done n (omega arith) ps env regs c opened standing))
+        (law n closing closed t t j pc named loops reach k fewer has placed titles inside under clear (omega arith) plain (jumps refl) done n (omega arith) ps env regs c opened standing (subst (HeldBelow c.held) standing.size standing.rel.held)))
 
     -- jumps
 
@@ -274,7 +296,7 @@ module _ (S : Setting) where
               (subst (λ u. Agree S m (tree.at (run (point_of block u)) (of_tree S ps env1 c1) (looping line e block u ∷ k)) (before (of_code S ps (pc + length test) regs1 o1) c1)) (sym (af.size ∙ size))
               (subst (λ q. Agree S m (tree.at (run (point_of block t)) (of_tree S ps env1 c1) (looping line e block t ∷ k)) (before (of_code S ps (pc + q) regs1 o1) c1)) (sym tested)
               (law m closing closed t t (j + made_by e) (pc + lt) named true around (looping line e block t ∷ k) (omega (arith, fewer, le)) at_block placed.1.1 titles (omega (arith, inside)) under clear (omega arith) plain
-              (in_block m le) (again m le loop) m (omega arith) ps env1 regs1 c1 o1 (record { numbered = st.numbered; size = af.size ∙ size; rel = af.rel })))))
+              (in_block m le) (again m le loop) m (omega arith) ps env1 regs1 c1 o1 (record { numbered = st.numbered; size = af.size ∙ size; rel = af.rel }) (subst (HeldBelow c1.held) (af.size ∙ size) af.rel.held)))))
               (λ vs env1 regs1 c1 o1 af is. go_left S m _ (tree.at complete (of_tree S ps env1 c1) k) _ (decides vs false ps env1 c1 (truth_is S ps _ false is))
               (let out : pc + length test + (length inner + 1) ≡ exit = omega (arith, tested, sized) in
               subst (λ q. Agree S m (tree.at complete (of_tree S ps env1 c1) k) (before (of_code S ps q regs1 o1) c1)) (sym out)
@@ -286,7 +308,7 @@ module _ (S : Setting) where
       ArmsLaw arms =
           (otherwise : Option Block) (code : List Coded) (n : ℕ) (closing : Bool) (closed : List ℕ) (t j pc line : ℕ) (named : List Named) (loops : Bool) (reach : Reach) (k : List Work)
           → n ≤ S.bound → HasAt S pc (arms_code S.code.own.constants back arms code closing t j pc line reach) → ArmsArePlaced S arms closing t j named loops
-          → ArmsAreNamed S.lines S.code back arms (length code) closing t j pc → pc + (arms_size S.code.own.constants back arms (length code) closing t j + length code) < length S.code.own.code → AllBelow closed t → AllUnder S.hidden t → closing ≡ has_some closed
+          → ArmsAreNamed S.lines S.code back arms (length code) closing t j pc → pc + (arms_size S.code.own.constants back arms (length code) closing t j + length code) < length S.code.own.code → AllBelow closed t → AllUnder S.hidden.integers t → closing ≡ has_some closed
           → Jumps S back n pc (pc + (arms_size S.code.own.constants back arms (length code) closing t j + length code)) t closed named loops reach k
           → GoesOn S n t closed complete k (pc + (arms_size S.code.own.constants back arms (length code) closing t j + length code))
           → GoesOn S n t closed (choose EndArms otherwise) k (pc + arms_size S.code.own.constants back arms (length code) closing t j)
@@ -314,7 +336,7 @@ module _ (S : Setting) where
           (subst (λ u. Agree S m (tree.at (run (point_of block u)) (of_tree S ps env1 c1) k) (before (of_code S ps (pc + length test) regs1 o1) c1)) (sym (af.size ∙ size))
           (subst (λ q. Agree S m (tree.at (run (point_of block t)) (of_tree S ps env1 c1) k) (before (of_code S ps (pc + q) regs1 o1) c1)) (sym tested)
           (law m closing closed t t (j + made_by e) (pc + lt) named loops reach k (omega (arith, fewer, le)) at_block placed.1.1.0 titles.0 (omega (arith, inside)) under clear (omega arith) plain (within m (pc + lt) (pc + lt + lb) le (omega arith) (omega arith))
-          (goes_fewer S m n t closed complete k (pc + lt + lb) le done_block) m (omega arith) ps env1 regs1 c1 o1 (record { numbered = st.numbered; size = af.size ∙ size; rel = af.rel })))))
+          (goes_fewer S m n t closed complete k (pc + lt + lb) le done_block) m (omega arith) ps env1 regs1 c1 o1 (record { numbered = st.numbered; size = af.size ∙ size; rel = af.rel }) (subst (HeldBelow c1.held) (af.size ∙ size) af.rel.held)))))
           (λ vs env1 regs1 c1 o1 af is. go_left S m _ (tree.at (choose arms otherwise) (of_tree S ps env1 c1) k) _ (decides vs false ps env1 c1 (truth_is S ps _ false is))
           (let there : pc + length test + (length inner + length (past rest line)) ≡ pc + lt + lb + skip = omega (arith, tested, inner_sized, skip_sized) in
           subst (λ q. Agree S m (tree.at (choose arms otherwise) (of_tree S ps env1 c1) k) (before (of_code S ps q regs1 o1) c1)) (sym there)
@@ -434,4 +456,4 @@ module _ (S : Setting) where
               (subst (λ u. Agree S m (tree.at (run (point_of block u)) (of_tree S ps env c) k) (before (of_code S ps (pc + lo) regs opened) c)) (sym st.size)
               (last m closing closed t t (j + made_in_arms arms) (pc + lo) named loops reach k (omega (arith, fewer, le)) at_block placed.1 titles.1 (omega (arith, inside)) under clear (omega arith) plain
               (subst (λ l. Jumps S back m (pc + lo) (pc + lo + lb) t l named loops reach k) (append_nil closed) (jumps_within S back n m pc (pc + (lo + lb)) (pc + lo) (pc + lo + lb) t t closed [] named loops reach k le (omega arith) (omega arith) (omega arith) tt (jumps refl)))
-              (goes_from S m t closed complete k (pc + (lo + lb)) (pc + lo + lb) there (goes_fewer S m n t closed complete k (pc + (lo + lb)) le done)) m (omega arith) ps env regs c opened st))
+              (goes_from S m t closed complete k (pc + (lo + lb)) (pc + lo + lb) there (goes_fewer S m n t closed complete k (pc + (lo + lb)) le done)) m (omega arith) ps env regs c opened st (subst (HeldBelow c.held) st.size st.rel.held)))

@@ -1,5 +1,5 @@
--- Within a numeric `for` its three hidden locals are there besides, and what stands around it holds as well.
-use Rattle.std.proofs.Common.{inr, ⊎_elim, ◌≡◌, ℕ, ◌+◌, ◌<◌, ◌≤◌, Bool, List, [], ◌∷◌, length, Option, sym, subst, arith}
+-- Within a numeric `for` its three hidden locals are there besides, and within a scope no local of it may be captured: what stands around holds as well.
+use Rattle.std.proofs.Common.{inr, ⊎_elim, ◌≡◌, ℕ, ◌+◌, ◌<◌, ◌≤◌, Bool, true, false, cond, List, [], ◌∷◌, length, Option, sym, subst, arith}
 use Rattle.int_core.specs.Value.{Value, nth}
 use Rattle.int_core.specs.Ask.{Captured, Next}
 use Rattle.tree_core.specs.Tree.{Body}
@@ -8,11 +8,11 @@ use Rattle.tree_activation.specs.Work as tree
 use Rattle.tree_activation.specs.Jumps.{goes_to, breaks}
 use Rattle.code_of.specs.Coded.{Coded}
 use Rattle.code_of.specs.Jumps.{Reach, Landing, label_in}
-use Rattle.exp_laws.specs.Setting.{Setting, hiding}
-use Rattle.exp_laws.proofs.Registers.{Among, AllUnder, IsFree, IsInteger, HeldBelow, Rel}
+use Rattle.exp_laws.specs.Setting.{Hidden, Setting, with_loop, with_scope}
+use Rattle.exp_laws.proofs.Registers.{Among, AllUnder, IsFree, IsInteger, HeldBelow, HeldUnder, Rel}
 use Rattle.exp_laws.proofs.Placing.{HasAt}
 use Rattle.tree_terms.specs.Labels.{Named}
-use Rattle.stat_laws.proofs.Standing.{Standing, GoesOn}
+use Rattle.stat_laws.proofs.Standing.{GoesOn}
 use Rattle.list_laws.proofs.Tests.{split}
 use Rattle.stat_laws.proofs.Labels.{JumpGoes, Jumps}
 
@@ -43,61 +43,97 @@ under_hiding hidden t h r a =
 
 -- the relation within the loop and around it
 
-module _ (hidden : List ℕ) (stack t : ℕ) (ps : List Pending) (env : List Value) (c : Captured) (regs : List Value) where
-  pub rel_outer : Rel (t ∷ (t + 1) ∷ (t + 2) ∷ hidden) stack ps env c regs → Rel hidden stack ps env c regs
+module _ (hidden : Hidden) (stack t : ℕ) (ps : List Pending) (env : List Value) (c : Captured) (regs : List Value) where
+  pub rel_outer : Rel (with_loop hidden t) stack ps env c regs → Rel hidden stack ps env c regs
   rel_outer h = record {
     agree = h.agree;
     held = h.held;
-    hides = record { free = λ r m. h.hides.free r (inr (inr (inr m))); whole = λ r m lt. h.hides.whole r (inr (inr (inr m))) lt };
+    hides = record { free = λ r m. h.hides.free r (inr (inr (inr m))); whole = λ r m lt. h.hides.whole r (inr (inr (inr m))) lt; low = h.hides.low };
     ascends = h.ascends;
     fits = h.fits;
     room = h.room;
   }
 
-  pub rel_hiding : HeldBelow c.held t → IsInteger (nth env t) → IsInteger (nth env (t + 1)) → IsInteger (nth env (t + 2)) → Rel hidden stack ps env c regs → Rel (t ∷ (t + 1) ∷ (t + 2) ∷ hidden) stack ps env c regs
+  pub rel_hiding : HeldBelow c.held t → IsInteger (nth env t) → IsInteger (nth env (t + 1)) → IsInteger (nth env (t + 2)) → Rel hidden stack ps env c regs → Rel (with_loop hidden t) stack ps env c regs
   rel_hiding low a b d h = record {
     agree = h.agree;
     held = h.held;
-    hides = record { free = λ r m. free r m; whole = λ r m lt. whole r m lt };
+    hides = record { free = λ r m. free r m; whole = λ r m lt. whole r m lt; low = h.hides.low };
     ascends = h.ascends;
     fits = h.fits;
     room = h.room;
   }
     where
       one_free : (r q : ℕ) → r ≡ q → t ≤ q → IsFree r c.held
-      one_free r q e le = held_free c.held t r (omega (arith, e)) low
+      one_free r q e le = held_free c.held t r (omega (arith, e, le)) low
 
-      free : (r : ℕ) → Among r (t ∷ (t + 1) ∷ (t + 2) ∷ hidden) → IsFree r c.held
+      free : (r : ℕ) → Among r (t ∷ (t + 1) ∷ (t + 2) ∷ hidden.integers) → IsFree r c.held
       free r m = ⊎_elim (λ e. one_free r t e (omega arith)) (λ m1. ⊎_elim (λ e. one_free r (t + 1) e (omega arith)) (λ m2. ⊎_elim (λ e. one_free r (t + 2) e (omega arith)) (λ m3. h.hides.free r m3) m2) m1) m
 
       one_whole : (r q : ℕ) → r ≡ q → IsInteger (nth env q) → IsInteger (nth env r)
       one_whole r q e i = subst (λ n. IsInteger (nth env n)) (sym e) i
 
-      whole : (r : ℕ) → Among r (t ∷ (t + 1) ∷ (t + 2) ∷ hidden) → r < length env → IsInteger (nth env r)
+      whole : (r : ℕ) → Among r (t ∷ (t + 1) ∷ (t + 2) ∷ hidden.integers) → r < length env → IsInteger (nth env r)
       whole r m lt = ⊎_elim (λ e. one_whole r t e a) (λ m1. ⊎_elim (λ e. one_whole r (t + 1) e b) (λ m2. ⊎_elim (λ e. one_whole r (t + 2) e d) (λ m3. h.hides.whole r m3 lt) m2) m1) m
 
-module _ (S : Setting) (u : ℕ) where
-  pub has_hiding : (pc : ℕ) (code : List Coded) → HasAt S pc code → HasAt (hiding S u) pc code
-  has_hiding pc [] h = tt
-  has_hiding pc (x ∷ code) h = (h.0, (h.1.0, has_hiding (pc + 1) code h.1.1))
+-- the relation within a scope, of which locals are captured or not, and around it
 
-  pub standing_outer : (t : ℕ) (closed : List ℕ) (ps : List Pending) (env : List Value) (c : Captured) (regs : List Value) → Standing (hiding S u) t closed ps env c regs → Standing S t closed ps env c regs
-  standing_outer t closed ps env c regs st = record { numbered = st.numbered; size = st.size; rel = rel_outer S.hidden S.code.own.stack u ps env c regs st.rel }
+low_in : (levels : List ℕ) (captures : Bool) (level : ℕ) (held : List (ℕ × ℕ)) → HeldBelow held level → HeldUnder held levels → HeldUnder held (cond captures levels (level ∷ levels))
+low_in levels true level held below h = h
+low_in levels false level held below h = (below, h)
 
-  pub goes_hiding : (n t : ℕ) (closed : List ℕ) (goes : Control) (k : List Work) (pc : ℕ) → GoesOn S n t closed goes k pc → GoesOn (hiding S u) n t closed goes k pc
-  goes_hiding n t closed goes k pc h m le ps env regs c opened st = h m le ps env regs c opened (standing_outer t closed ps env c regs st)
+low_out : (levels : List ℕ) (captures : Bool) (level : ℕ) (held : List (ℕ × ℕ)) → HeldUnder held (cond captures levels (level ∷ levels)) → HeldUnder held levels
+low_out levels true level held h = h
+low_out levels false level held h = h.1
 
-  jump_hiding : (back n lo hi t : ℕ) (closed : List ℕ) (jump : ℕ → tree.Activation → List Work → Next Body State) (there : Option Landing) (k : List Work)
-      → JumpGoes S back n lo hi t closed jump there k → JumpGoes (hiding S u) back n lo hi t closed jump there k
-  jump_hiding back n lo hi t closed jump there k h m line pc ps env regs c opened more s le has x y numbered above size rel st =
-      h m line pc ps env regs c opened more s le (has_outer pc _ has) x y numbered above size (rel_outer S.hidden S.code.own.stack u ps env c regs rel) st
-    where
-      has_outer : (pc : ℕ) (code : List Coded) → HasAt (hiding S u) pc code → HasAt S pc code
-      has_outer pc [] h = tt
-      has_outer pc (x ∷ code) h = (h.0, (h.1.0, has_outer (pc + 1) code h.1.1))
+pub low_there : (levels : List ℕ) (captures : Bool) (level : ℕ) (held : List (ℕ × ℕ)) → HeldUnder held (cond captures levels (level ∷ levels)) → captures ≡ false → HeldBelow held level
+low_there levels true level held h e = absurd (cc)
+low_there levels false level held h e = h.0
 
-  pub jumps_hiding : (back n lo hi t : ℕ) (closed : List ℕ) (named : List Named) (loops : Bool) (reach : Reach) (k : List Work) → Jumps S back n lo hi t closed named loops reach k → Jumps (hiding S u) back n lo hi t closed named loops reach k
-  jumps_hiding back n lo hi t closed named loops reach k h = record {
-    gotos = λ name ok. jump_hiding back n lo hi t closed (goes_to name) (label_in name reach.labels) k (h.gotos name ok);
-    exits = λ ok. jump_hiding back n lo hi t closed breaks reach.exit k (h.exits ok);
+module _ (hidden : Hidden) (captures : Bool) (level stack : ℕ) (ps : List Pending) (env : List Value) (c : Captured) (regs : List Value) where
+  pub rel_unscoped : Rel (with_scope hidden captures level) stack ps env c regs → Rel hidden stack ps env c regs
+  rel_unscoped h = record {
+    agree = h.agree;
+    held = h.held;
+    hides = record { free = h.hides.free; whole = h.hides.whole; low = low_out hidden.free_from captures level c.held h.hides.low };
+    ascends = h.ascends;
+    fits = h.fits;
+    room = h.room;
   }
+
+  pub rel_scoped : HeldBelow c.held level → Rel hidden stack ps env c regs → Rel (with_scope hidden captures level) stack ps env c regs
+  rel_scoped below h = record {
+    agree = h.agree;
+    held = h.held;
+    hides = record { free = h.hides.free; whole = h.hides.whole; low = low_in hidden.free_from captures level c.held below h.hides.low };
+    ascends = h.ascends;
+    fits = h.fits;
+    room = h.room;
+  }
+
+-- where more is known of locals than around
+
+module _ (S : Setting) (h : Hidden) where
+  pub has_inner : (pc : ℕ) (code : List Coded) → HasAt S pc code → HasAt (record S { hidden = h }) pc code
+  has_inner pc [] a = tt
+  has_inner pc (x ∷ code) a = (a.0, (a.1.0, has_inner (pc + 1) code a.1.1))
+
+  has_outer : (pc : ℕ) (code : List Coded) → HasAt (record S { hidden = h }) pc code → HasAt S pc code
+  has_outer pc [] a = tt
+  has_outer pc (x ∷ code) a = (a.0, (a.1.0, has_outer (pc + 1) code a.1.1))
+
+  module _ (out : (ps : List Pending) (env : List Value) (c : Captured) (regs : List Value) → Rel h S.code.own.stack ps env c regs → Rel S.hidden S.code.own.stack ps env c regs) where
+    pub goes_inner : (n t : ℕ) (closed : List ℕ) (goes : Control) (k : List Work) (pc : ℕ) → GoesOn S n t closed goes k pc → GoesOn (record S { hidden = h }) n t closed goes k pc
+    goes_inner n t closed goes k pc a m le ps env regs c opened st = a m le ps env regs c opened (record { numbered = st.numbered; size = st.size; rel = out ps env c regs st.rel })
+
+    jump_inner : (back n lo hi t : ℕ) (closed : List ℕ) (jump : ℕ → tree.Activation → List Work → Next Body State) (there : Option Landing) (k : List Work)
+        → JumpGoes S back n lo hi t closed jump there k → JumpGoes (record S { hidden = h }) back n lo hi t closed jump there k
+    jump_inner back n lo hi t closed jump there k a m line pc ps env regs c opened more s le has x y numbered above size rel st =
+        a m line pc ps env regs c opened more s le (has_outer pc _ has) x y numbered above size (out ps env c regs rel) st
+
+    pub jumps_inner : (back n lo hi t : ℕ) (closed : List ℕ) (named : List Named) (loops : Bool) (reach : Reach) (k : List Work)
+        → Jumps S back n lo hi t closed named loops reach k → Jumps (record S { hidden = h }) back n lo hi t closed named loops reach k
+    jumps_inner back n lo hi t closed named loops reach k a = record {
+      gotos = λ name ok. jump_inner back n lo hi t closed (goes_to name) (label_in name reach.labels) k (a.gotos name ok);
+      exits = λ ok. jump_inner back n lo hi t closed breaks reach.exit k (a.exits ok);
+    }

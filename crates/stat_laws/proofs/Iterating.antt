@@ -32,7 +32,7 @@ use Rattle.code_of.specs.Sizes.{block_size}
 use Rattle.code_of.specs.Statements.{in_loop, block_code}
 use Rattle.exp_laws.specs.Setting.{Setting}
 use Rattle.exp_laws.specs.Placed.{ArePlaced}
-use Rattle.exp_laws.proofs.Registers.{AllUnder, under_higher, Rel, Ascends, marked_in, told, share_same, after_share, after_above}
+use Rattle.exp_laws.proofs.Registers.{AllUnder, under_higher, HeldBelow, Rel, Ascends, marked_in, told, share_same, after_share, after_above}
 use Rattle.exp_laws.proofs.Lists.{Holds, write_all_more, write_all_below, write_range_holds, drops_none}
 use Rattle.exp_laws.proofs.Talking.{Agree, down, go_left, go_right, both_ask, both_mark, of_tree, of_code}
 use Rattle.exp_laws.proofs.Placing.{HasAt, has_front, has_back, here_abc, here_abx}
@@ -207,8 +207,8 @@ module _ (S : Setting) (back_field : ℕ) where
       under' : AllBelow closed' (t + 4)
       under' = below_more closed ((t + 3) ∷ []) (t + 4) (below_higher t (t + 4) closed (omega arith) under) (omega arith, tt)
 
-      clear' : AllUnder S.hidden (t + 4)
-      clear' = under_higher S.hidden t (t + 4) (omega arith) clear
+      clear' : AllUnder S.hidden.integers (t + 4)
+      clear' = under_higher S.hidden.integers t (t + 4) (omega arith) clear
 
       Loop : ℕ → Type 0
       Loop m = m ≤ n → (ps : List Pending) (env regs : List Value) (c : Captured) (opened : ℕ) → Standing S (t + 4) closed' ps env c regs
@@ -249,7 +249,7 @@ module _ (S : Setting) (back_field : ℕ) where
             numbered = st.numbered;
             size = omega (arith, sum, fit, more, size);
             rel = rel_declared S.hidden S.code.own.stack (t + 4) wide ps env1 (write (t + 2) (first vs) regs) vs c (more ∙ size) room clear' (λ i lt. nth_write_other (t + 2) (first vs) regs (t + 4 + i) (λ e. absurd (omega (arith, e))) ∙ held i lt) rel1;
-          })))
+          }) (subst (HeldBelow c.held) st.size st.rel.held)))
 
       turn : (m : ℕ) → m ≤ n → ((l : ℕ) → l < m → Loop l) → (b : Bool) (vs : List Value) (ps : List Pending) (env regs : List Value) (c : Captured) (opened : ℕ) → Standing S (t + 4) closed' ps env c regs → Holds (t + 4) wide vs regs
           → nth regs (t + 4) ≡ first vs → is_nil (first vs) ≡ b → Agree S m (tree.at (test_round vs) (of_tree S ps env c) (w ∷ k)) (before (of_code S ps (pc + li + 1 + lb + 1) regs opened) c)

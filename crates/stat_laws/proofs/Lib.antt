@@ -12,9 +12,11 @@ mod Rounds
 mod Ending
 mod Values
 mod Targets
+mod FieldStores
 mod Assigning
 mod Iterating
 mod Counting
+mod Scoping
 mod Hiding
 mod Numeric
 mod Bounds

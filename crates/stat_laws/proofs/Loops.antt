@@ -24,7 +24,7 @@ use Rattle.exp_laws.specs.Setting.{Setting}
 use Rattle.exp_laws.proofs.Talking.{Agree, go_left, of_tree, of_code}
 use Rattle.exp_laws.proofs.Placing.{HasAt, has_front, has_back}
 use Rattle.exp_laws.specs.Placed.{IsPlaced}
-use Rattle.stat_laws.proofs.Closing.{AllBelow, GoesLeft, ends_goes}
+use Rattle.stat_laws.proofs.Closing.{AllBelow, GoesLeft, nothing_held, ends_goes}
 use Rattle.stat_laws.proofs.Standing.{strong, numbers, part, ascends_under, Standing, GoesOn, goes_fewer, back_goes}
 use Rattle.code_of.proofs.Sizes.{test_sized, close_sized, stats_sized}
 use Rattle.stat_laws.proofs.Labels.{Jumps, jumps_within}
@@ -131,9 +131,9 @@ module _ (S : Setting) (back : ℕ) (tests : TestLaw S) where
           let parted = part t closed all.more ps (st.numbered ∙ all.whole) all.from in
           let rises = levels_rise ss t in
           let size = st.size in
-          ends_goes S m t (levels_after ss t) last place parted.base (decide truth) (w ∷ k) at_place rises (omega (arith, rises, size, st.rel.fits, S.small)) inside'
+          ends_goes S m t (levels_after ss t) last place parted.base (decide truth) (w ∷ k) at_place (omega (arith, rises, size, st.rel.fits, S.small)) inside'
           (ascends_under 0 (length env) t parted.base parted.rest (subst (λ l. Ascends 0 l (length env)) parted.whole st.rel.ascends) (subst (λ l. AllBelow l t) (sym parted.numbered) under))
-          (goes parted.base parted.numbered) ps parted.grown env regs c opened (omega (arith, rises, size)) (omega (arith, size)) st.rel
+          (goes parted.base parted.numbered) ps parted.grown env regs c opened (omega (arith, rises, size)) (nothing_held S t (levels_after ss t) parted.base ps parted.grown env regs c (omega (arith, rises, size)) (omega (arith, size)) st.rel) st.rel
 
       -- the truth is true: out of the loop
       turns_out : (m : ℕ) → m ≤ n → (ps : List Pending) (env regs : List Value) (c : Captured) (opened : ℕ) → Standing S (levels_after ss t) (closeds_after ss t closed) ps env c regs

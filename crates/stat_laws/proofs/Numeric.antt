@@ -26,8 +26,8 @@ use Rattle.code_of.specs.Coded.{Coded, with_abx}
 use Rattle.code_of.specs.Jumps.{Reach}
 use Rattle.code_of.specs.Sizes.{block_size}
 use Rattle.code_of.specs.Statements.{in_loop, block_code}
-use Rattle.exp_laws.specs.Setting.{Setting, hiding}
-use Rattle.exp_laws.proofs.Registers.{AllUnder, Ascends, HeldBelow, Rel, brought_free, told, share_same, after_share, after_above}
+use Rattle.exp_laws.specs.Setting.{Setting, with_loop, hiding}
+use Rattle.exp_laws.proofs.Registers.{AllUnder, Ascends, HeldBelow, held_higher, Rel, brought_free, told, share_same, after_share, after_above}
 use Rattle.exp_laws.proofs.Lists.{Holds}
 use Rattle.exp_laws.proofs.ListForms.{nth_behind}
 use Rattle.exp_laws.proofs.Talking.{Agree, go_left, go_right, both_ask, of_tree, of_code}
@@ -47,7 +47,7 @@ use Rattle.stat_laws.proofs.Forms.{BlockLaw, loop_jumps}
 use Rattle.stat_laws.proofs.Values.{rel_declared}
 use Rattle.stat_laws.proofs.Iterating.{back_to, take_whole}
 use Rattle.stat_laws.proofs.Counting.{integer_is, same_shape, runs_same, three, begin_step, turn_step, begun, begun_step, turned, turned_step}
-use Rattle.stat_laws.proofs.Hiding.{held_down, under_hiding, rel_outer, rel_hiding, has_hiding, goes_hiding, jumps_hiding}
+use Rattle.stat_laws.proofs.Hiding.{held_down, under_hiding, rel_outer, rel_hiding, has_inner, goes_inner, jumps_inner}
 
 pub holds_four : (t : ℕ) (a b d e : Value) (regs : List Value) → nth regs t ≡ a → nth regs (t + 1) ≡ b → nth regs (t + 2) ≡ d → nth regs (t + 3) ≡ e → Holds t 4 (a ∷ b ∷ d ∷ e ∷ []) regs
 holds_four t a b d e regs h0 h1 h2 h3 zero lt = let at : t + 0 ≡ t = omega arith in ap (nth regs) at ∙ h0
@@ -148,7 +148,7 @@ module _ (S : Setting) (back_field line : ℕ) (block : Block) (n : ℕ) (closin
     pub near : IsNear S.code.own.constants block closing (t + 3) (t + 4) j
     pub placed : BlockIsPlaced (hiding S t) block closing (t + 4) j named true
     pub under : AllBelow closed t
-    pub clear : AllUnder S.hidden t
+    pub clear : AllUnder S.hidden.integers t
     pub titles : BlockIsNamed S.lines S.code back_field block closing (t + 3) (t + 4) j (pc + 1)
     pub plain : closing ≡ has_some closed
     pub jumps : Jumps S back_field n lo exit t closed named loops reach k
@@ -177,9 +177,9 @@ module _ (S : Setting) (back_field line : ℕ) (block : Block) (n : ℕ) (closin
         let from = x.from in
         subst (λ l. Jumps (hiding S t) back_field m (pc + 1) (pc + 1 + size_of) (t + 3) l named true (in_loop reach exit t) (w ∷ k)) (append_nil closed)
         (loop_jumps (hiding S t) back_field w m lo exit (pc + 1) (pc + 1 + size_of) t (t + 3) exit closed [] named loops reach k (λ name line a. refl) (λ line a. refl) (omega arith) (omega (arith, out)) (omega (arith, out)) x.inside (omega arith) tt x.under
-        (jumps_hiding S t back_field m lo exit t closed named loops reach k
+        (jumps_inner S (with_loop S.hidden t) (rel_outer S.hidden S.code.own.stack t) back_field m lo exit t closed named loops reach k
         (subst (λ l. Jumps S back_field m lo exit t l named loops reach k) (append_nil closed) (jumps_within S back_field n m lo exit lo exit t t closed [] named loops reach k le (omega arith) (omega arith) (omega arith) tt x.jumps)))
-        (goes_hiding S t m t closed complete k exit (goes_fewer S m n t closed complete k exit le x.done)))
+        (goes_inner S (with_loop S.hidden t) (rel_outer S.hidden S.code.own.stack t) m t closed complete k exit (goes_fewer S m n t closed complete k exit le x.done)))
 
     -- the variable gets its value, and the block begins
     enters : (m : ℕ) → m ≤ n → ((l : ℕ) → l ≤ m → Loop l) → (i count d : ℤ) (ps : List Pending) (env regs : List Value) (c : Captured) (opened : ℕ) → numbers ps ≡ closed → length env ≡ t → Rel S.hidden S.code.own.stack ps env c regs → Holds t 4 (four i count d) regs
@@ -193,10 +193,10 @@ module _ (S : Setting) (back_field line : ℕ) (block : Block) (n : ℕ) (closin
         let places = nth_fourth i count d env t size in
         let rel2 = rel_hiding S.hidden S.code.own.stack t ps all c regs low (i, places.0) (count, places.1.0) (d, places.1.1) rel1 in
         subst (λ l. Agree S m (tree.at (run (point_of block (t + 3))) (of_tree S ps l c) (w ∷ k)) (before (of_code S ps (pc + 1) regs opened) c)) (sym (append_assoc env (hidden i count d) (known (integer i) ∷ [])))
-        (x.law m closing closed (t + 3) (t + 4) j (pc + 1) named true (in_loop reach exit t) (w ∷ k) (omega (arith, x.fewer, le)) (has_hiding S t (pc + 1) body at_block) x.placed x.titles (omega (arith, out, x.inside))
-        (below_higher t (t + 3) closed (omega arith) x.under) (under_hiding S.hidden t x.clear) (omega arith) x.plain (in_block m le)
+        (x.law m closing closed (t + 3) (t + 4) j (pc + 1) named true (in_loop reach exit t) (w ∷ k) (omega (arith, x.fewer, le)) (has_inner S (with_loop S.hidden t) (pc + 1) body at_block) x.placed x.titles (omega (arith, out, x.inside))
+        (below_higher t (t + 3) closed (omega arith) x.under) (under_hiding S.hidden.integers t x.clear) (omega arith) x.plain (in_block m le)
         (λ l less ps2 env2 regs2 c2 opened2 st2. loop l less (omega (arith, le, less)) ps2 env2 regs2 c2 opened2 st2) m (omega arith) ps all regs c opened
-        (record { numbered = numbered; size = omega (arith, sum, size); rel = rel2 }))
+        (record { numbered = numbered; size = omega (arith, sum, size); rel = rel2 }) (held_higher c.held t (t + 3) (omega arith) low))
 
     -- behind the block: the hidden locals are left
     module _ (ps : List Pending) (env regs : List Value) (c : Captured) (st : Standing (hiding S t) (t + 3) closed ps env c regs) where
@@ -251,7 +251,7 @@ module _ (S : Setting) (back_field line : ℕ) (block : Block) (n : ℕ) (closin
             let env1 = brought c.held shared env in
             let regs1 = brought c.held shared regs in
             let regs2 = turned t (sub r (pos 1)) (add i d) regs1 in
-            let af = after_share (t ∷ (t + 1) ∷ (t + 2) ∷ S.hidden) S.code.own.stack ps env regs shared c (t + 4) st.rel in
+            let af = after_share (with_loop S.hidden t) S.code.own.stack ps env regs shared c (t + 4) st.rel in
             let size = st.size in
             let st1 : Standing (hiding S t) (t + 3) closed ps env1 (told c) regs1 = record { numbered = st.numbered; size = af.size ∙ st.size; rel = af.rel } in
             let f0 = brought_free c.held shared env t (st.rel.hides.free t (inl refl)) ∙ e0 in
@@ -275,7 +275,7 @@ module _ (S : Setting) (back_field line : ℕ) (block : Block) (n : ℕ) (closin
         paid (suc m) le loop is =
             both_ask S m _ _ pays pays line _ _ _ _ _ refl
             (reads ∙ ap (λ b. talk S.code (cond b next (quick pay' (λ _. again_text i r d))) (three t regs) (of_code S ps (pc + 1 + size_of) regs opened) c) is) tt refl at_turn.1.0
-            (share_same (t ∷ (t + 1) ∷ (t + 2) ∷ S.hidden) S.code.own.stack ps env c regs st.rel)
+            (share_same (with_loop S.hidden t) S.code.own.stack ps env c regs st.rel)
             (λ y fits. again m (omega (arith, le)) (λ l less. loop l (omega (arith, less))) y.shared (three t regs ++ values_in y.reply))
 
         by : (b : Bool) → same_integer r (pos 0) ≡ b → Agree S m (tree.at complete (of_tree S ps env c) (w ∷ k)) (before (of_code S ps (pc + 1 + size_of) regs opened) c)

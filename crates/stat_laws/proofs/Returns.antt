@@ -313,7 +313,7 @@ module _ (S : Setting) where
 
     -- a block that ends by `return`
     pub returns_goes : (ss : Stats) (es : Exps) (tokens line : ℕ) → ((outer : ℕ) (closed : List ℕ) (k : List Work) → StatsLaw S back (returns_list line es) false outer closed k (λ ss. refl) ss) → BlockLaw S back (Returns ss es tokens line)
-    returns_goes ss es tokens line law n closing closed outer t j pc named loops reach k fewer has placed titles inside under clear outer_low plain jumps done =
+    returns_goes ss es tokens line law n closing closed outer t j pc named loops reach k fewer has placed titles inside under clear outer_low plain jumps done m le ps env regs c opened st below =
         (law outer closed k n pc (pc + block_size S.code.own.constants back (Returns ss es tokens line) closing outer t j) closing closed t j pc [] [] [] named loops reach (record {
           fewer = fewer;
           has = has_front S pc (stats_code S.code.own.constants back ss false closing outer t j pc [] reach) (return_code S.code.own.constants (closings_after ss closing) es (levels_after ss t) (j + made_in_stats ss) line back) has;
@@ -331,7 +331,7 @@ module _ (S : Setting) where
           outer_low = outer_low;
           known = plain;
           ends = record { full = return_ends ss es line n closing closed outer t j pc reach k fewer has placed.1 (omega (arith, inside)) plain; low = λ is. absurd (cc) };
-        })).0
+        })).0 m le ps env regs c opened st
 
     -- a `repeat` whose block ends by `return`: its test is never reached
     pub repeat_returns_goes : (line : ℕ) (ss : Stats) (es : Exps) (tokens last : ℕ) (e : Exp) → ((outer : ℕ) (closed : List ℕ) (k : List Work) → StatsLaw S back (returns_list last es) false outer closed k (λ ss. refl) ss)

@@ -18,9 +18,9 @@ use Rattle.code_of.specs.CodeOf.{back_field, opening, body_code, code_of}
 use Rattle.code_of.specs.Constants.{of_block}
 use Rattle.code_of.specs.Statements.{whole_code}
 use Rattle.stat_laws.specs.Fits.{is_known}
-use Rattle.code_of.proofs.Sizes.{whole_size}
-use Rattle.code_of.specs.Sizes.{stat_size, arms_size, stats_size, block_size, open_size}
-use Rattle.code_of.specs.Variables.{names_of, variables, hidden, looped, declared_by, within_stat, within_arms, within_stats, within_block, within_open}
+use Rattle.code_of.proofs.Sizes.{whole_sized}
+use Rattle.code_of.specs.Sizes.{stat_size, arms_size, stats_size, block_size, open_size, whole_size}
+use Rattle.code_of.specs.Variables.{names_of, variables, hidden, looped, declared_by, within_stat, within_arms, within_stats, within_block, within_open, within_whole}
 use Rattle.stat_laws.proofs.Naming.{StatIsNamed, ArmsAreNamed, StatsAreNamed, BlockIsNamed, OpenIsNamed}
 use Rattle.stat_laws.proofs.Alive.{alive, variables_alive, hidden_alive, Ended, ended_by, ended_both, variables_ended, hidden_ended, ended_none, alive_both, Around, narrow, first_part, second_part, second_count, declared_named, closed_unnamed}
 
@@ -274,6 +274,11 @@ module _ (lines : Bool) (p : Prototype) (back : ℕ) where
 
 -- a whole function
 
+whole_named : (lines : Bool) (p : Prototype) (back : ℕ) (block : Block) (params j pc : ℕ) (front after : List LocVar)
+    → Around lines p front (within_whole p.own.constants back block params j pc) after params pc (pc + whole_size p.own.constants back block params j) → BlockIsNamed lines p back block false 0 params j pc
+whole_named lines p back (Falls ss tokens line) params j pc front after h = stats_named lines p back ss false params j pc (pc + whole_size p.own.constants back (Falls ss tokens line) params j) front after (omega arith) h
+whole_named lines p back (Returns ss es tokens line) params j pc front after h = stats_named lines p back ss false params j pc (pc + whole_size p.own.constants back (Returns ss es tokens line) params j) front after (omega arith) h
+
 begin_size : (vararg : Bool) (params line : ℕ) → length (opening vararg params line) ≡ cond vararg 1 0
 begin_size true params line = refl
 begin_size false params line = refl
@@ -281,14 +286,14 @@ begin_size false params line = refl
 pub body_named : (source : Option (List ℕ)) (params : List Name) (vararg : Bool) (inner : Block) (ups : List UpName) (line : ℕ)
     → BlockIsNamed (is_known source) (code_of source (BodyOf params vararg inner ups line)) (back_field vararg (length params)) inner false 0 (length params) 0 (length (opening vararg (length params) line))
 body_named source params vararg inner ups line =
-    block_named (is_known source) (code_of source (BodyOf params vararg inner ups line)) (back_field vararg (length params)) inner false 0 (length params) 0 (length (opening vararg (length params) line)) parameters []
+    whole_named (is_known source) (code_of source (BodyOf params vararg inner ups line)) (back_field vararg (length params)) inner (length params) 0 (length (opening vararg (length params) line)) parameters []
     (record { whole = whole source; scope = λ q lo hi. variables_alive params 0 (length (body_code (BodyOf params vararg inner ups line))) q (omega arith) (omega (arith, hi, sum, wide)) })
   where
     parameters : List LocVar
     parameters = variables params 0 (length (body_code (BodyOf params vararg inner ups line)))
 
     within : ℕ → List LocVar
-    within pc = within_block (of_block inner []) (back_field vararg (length params)) inner false 0 (length params) 0 pc
+    within pc = within_whole (of_block inner []) (back_field vararg (length params)) inner (length params) 0 pc
 
     rest : List Coded
     rest = whole_code (of_block inner []) (back_field vararg (length params)) inner (length params) (length (opening vararg (length params) line))
@@ -296,8 +301,8 @@ body_named source params vararg inner ups line =
     sum : length (body_code (BodyOf params vararg inner ups line)) ≡ length (opening vararg (length params) line) + length rest
     sum = length-append (opening vararg (length params) line) rest
 
-    wide : block_size (of_block inner []) (back_field vararg (length params)) inner false 0 (length params) 0 ≤ length rest
-    wide = whole_size (of_block inner []) (back_field vararg (length params)) inner (length params) (length (opening vararg (length params) line))
+    wide : length rest ≡ whole_size (of_block inner []) (back_field vararg (length params)) inner (length params) 0
+    wide = whole_sized (of_block inner []) (back_field vararg (length params)) inner (length params) (length (opening vararg (length params) line))
 
     whole : (source : Option (List ℕ)) → (code_of source (BodyOf params vararg inner ups line)).own.locals ≡ cond (is_known source) (parameters ++ (within (length (opening vararg (length params) line)) ++ [])) []
     whole None = refl

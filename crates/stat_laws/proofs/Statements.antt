@@ -4,7 +4,8 @@ use Rattle.tree_core.specs.Tree.{Block, Falls, Returns, Stats, EndStats, MoreSta
 use Rattle.tree_activation.specs.Work.{Work, End, falls_off, returns_list, until}
 use Rattle.tree_terms.specs.Labels.{are_void}
 use Rattle.tree_activation.specs.Jumps.{is_at_end}
-use Rattle.exp_laws.specs.Setting.{Setting, hiding}
+use Rattle.exp_laws.specs.Setting.{Setting, hiding, scoped}
+use Rattle.code_of.specs.Levels.{may_hold}
 use Rattle.exp_laws.proofs.Conditions.{test_same}
 use Rattle.stat_laws.proofs.Blocks.{StatLaw, StatsLaw, none_goes, label_goes, more_goes}
 use Rattle.stat_laws.proofs.Forms.{TestLaw, BlockLaw, falls_goes, do_goes, goto_goes, break_goes, empty_stat_goes, label_stat_goes, while_goes, ArmsLaw, no_arms_goes, more_arms_goes, if_goes, if_else_goes}
@@ -40,7 +41,7 @@ module _ (back : ℕ) where
     stat_goes S (Label l name) = label_stat_goes S back l name
 
     pub block_goes : (S : Setting) (block : Block) → BlockLaw S back block
-    block_goes S (Falls ss tokens line) = falls_goes S back ss tokens line (λ outer closed k. stats_goes S ss (falls_off line) true outer closed k (λ more. refl))
+    block_goes S (Falls ss tokens line) = falls_goes S back ss tokens line (λ outer closed k. stats_goes (scoped S (may_hold ss) outer) ss (falls_off line) true outer closed k (λ more. refl))
     block_goes S (Returns ss es tokens line) = returns_goes S back ss es tokens line (λ outer closed k. stats_goes S ss (returns_list line es) false outer closed k (λ more. refl))
 
     pub arms_goes : (S : Setting) (arms : Arms) → ArmsLaw S back (tests S) arms

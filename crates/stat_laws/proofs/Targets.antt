@@ -23,11 +23,11 @@ use Rattle.code_of.specs.Constants.{loads, Found}
 use Rattle.code_of.specs.Expressions.{made_by, count, exp_code}
 use Rattle.code_of.specs.Parts.{name_target, target_code, targets_code, name_store, store_code}
 use Rattle.exp_laws.proofs.Registers.{Among, none_among, Rel, After, after_none, after_then, after_put}
-use Rattle.exp_laws.specs.Setting.{Setting}
+use Rattle.exp_laws.specs.Setting.{Hidden, Setting}
 use Rattle.exp_laws.proofs.Talking.{Agree, go_left, go_right, of_tree, of_code}
 use Rattle.exp_laws.proofs.Placing.{HasAt, has_front, has_back, here_abc}
 use Rattle.exp_laws.specs.Placed.{NameIsPlaced, IsPlaced}
-use Rattle.code_of.specs.Rooms.{room_of}
+use Rattle.code_of.specs.Rooms.{room_of_target}
 use Rattle.exp_laws.proofs.Going.{next_there, at_place}
 use Rattle.exp_laws.proofs.Asking.{one_alike}
 use Rattle.exp_laws.proofs.NameForms.{load_right}
@@ -41,12 +41,12 @@ store_to (to_local n) line r v = with_abc Move n v 0 line ∷ []
 store_to (to_upvalue l u) line r v = with_abc SetUpval v u 0 l ∷ []
 store_to (to_field l o key) line r v = with_abc SetTable r (r + 1) v l ∷ []
 
-abbrev pub Stands : (hidden : List ℕ) → Target → (r t : ℕ) → List Value → Type 0
-Stands hidden (to_local n) r t regs = (n < t) × (Among n hidden → ⊥)
+abbrev pub Stands : (hidden : Hidden) → Target → (r t : ℕ) → List Value → Type 0
+Stands hidden (to_local n) r t regs = (n < t) × (Among n hidden.integers → ⊥)
 Stands hidden (to_upvalue l u) r t regs = u < 2 ^ 8
 Stands hidden (to_field l o key) r t regs = (nth regs r ≡ o) × (nth regs (r + 1) ≡ key)
 
-pub stands_still : (hidden : List ℕ) (x : Target) (r t : ℕ) (regs regs' : List Value) → nth regs' r ≡ nth regs r → nth regs' (r + 1) ≡ nth regs (r + 1) → Stands hidden x r t regs → Stands hidden x r t regs'
+pub stands_still : (hidden : Hidden) (x : Target) (r t : ℕ) (regs regs' : List Value) → nth regs' r ≡ nth regs r → nth regs' (r + 1) ≡ nth regs (r + 1) → Stands hidden x r t regs → Stands hidden x r t regs'
 stands_still hidden (to_local n) r t regs regs' a b h = h
 stands_still hidden (to_upvalue l u) r t regs regs' a b h = h
 stands_still hidden (to_field l o key) r t regs regs' a b h = (a ∙ h.0, b ∙ h.1)
@@ -109,7 +109,7 @@ module _ (S : Setting) (ps : List Pending) where
   name_aims (LocalPlace m) text l r t n pc opened e ts es aimed s env regs c k st stores has ok free inside size le room rel goes =
       let same : pc ≡ pc + 0 = omega arith in
       go_left S n s (tree.at (aim (aimed ++ to_local m ∷ []) ts es) (of_tree S ps env c) k) _ st
-      (at_place S ps n pc (pc + 0) opened _ regs c same (goes (to_local m) env regs c opened (after_none S.hidden S.code.own.stack ps env regs c r rel) (record { line = l; stores = stores; stands = (ok, none_among m S.hidden free) })))
+      (at_place S ps n pc (pc + 0) opened _ regs c same (goes (to_local m) env regs c opened (after_none S.hidden S.code.own.stack ps env regs c r rel) (record { line = l; stores = stores; stands = (ok, none_among m S.hidden.integers free) })))
   name_aims (Upvalue u) text l r t n pc opened e ts es aimed s env regs c k st stores has ok free inside size le room rel goes =
       let same : pc ≡ pc + 0 = omega arith in
       go_left S n s (tree.at (aim (aimed ++ to_upvalue l u ∷ []) ts es) (of_tree S ps env c) k) _ st
@@ -135,7 +135,7 @@ module _ (S : Setting) (ps : List Pending) where
   AimLaw e =
       (r t n j pc opened : ℕ) (ts es : Exps) (aimed : List Target) (env regs : List Value) (c : Captured) (k : List Work)
       → n ≤ S.bound → HasAt S pc (target_code S.code.own.constants e r j) → IsTarget S.hidden e → IsPlaced S e t j → pc + length (target_code S.code.own.constants e r j) < length S.code.own.code
-      → length env ≡ t → t ≤ r → r + 1 < S.code.own.stack → r + room_of S.code.own.constants e 2 ≤ S.code.own.stack → Rel S.hidden S.code.own.stack ps env c regs
+      → length env ≡ t → t ≤ r → r + 1 < S.code.own.stack → r + room_of_target S.code.own.constants e ≤ S.code.own.stack → Rel S.hidden S.code.own.stack ps env c regs
       → Reaches n e ts es aimed r t env regs (pc + length (target_code S.code.own.constants e r j)) k
       → Agree S n (tree.at (aim aimed (MoreExps e ts) es) (of_tree S ps env c) k) (before (of_code S ps pc regs opened) c)
 

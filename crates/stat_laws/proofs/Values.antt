@@ -17,7 +17,7 @@ use Rattle.code_of.specs.Coded.{Coded, with_abc}
 use Rattle.code_of.specs.Expressions.{exps_code}
 use Rattle.code_of.specs.Parts.{marks_code}
 use Rattle.exp_laws.proofs.Registers.{AllUnder, hides_more, Rel, Ascends, held_higher, ascends_higher}
-use Rattle.exp_laws.specs.Setting.{Setting}
+use Rattle.exp_laws.specs.Setting.{Hidden, Setting}
 use Rattle.exp_laws.proofs.Talking.{Agree, go_left, of_tree, of_code}
 use Rattle.exp_laws.proofs.Placing.{HasAt, has_front, has_back}
 use Rattle.exp_laws.specs.Placed.{IsPlaced, ArePlaced}
@@ -44,7 +44,7 @@ nth_fitted (suc n) (v ∷ vs) zero h = refl
 nth_fitted (suc n) (v ∷ vs) (suc i) h = nth_fitted n vs i (omega arith)
 
 -- locals are declared whose values stand in the registers behind those in scope
-pub rel_declared : (hidden : List ℕ) (stack t m : ℕ) (ps : List Pending) (env regs vs : List Value) (c : Captured) → length env ≡ t → t + m ≤ stack → AllUnder hidden t → Holds t m vs regs → Rel hidden stack ps env c regs
+pub rel_declared : (hidden : Hidden) (stack t m : ℕ) (ps : List Pending) (env regs vs : List Value) (c : Captured) → length env ≡ t → t + m ≤ stack → AllUnder hidden.integers t → Holds t m vs regs → Rel hidden stack ps env c regs
     → Rel hidden stack ps (env ++ fitted m vs) c regs
 rel_declared hidden stack t m ps env regs vs c size room under held rel =
     let sum = length-append env (fitted m vs) in
@@ -52,7 +52,7 @@ rel_declared hidden stack t m ps env regs vs c size room under held rel =
     record {
       agree = λ r lr. ⊎_elim (λ h. nth_old env (fitted m vs) r h ∙ rel.agree r h) (λ h. new r (omega (arith, sum, wide, size, lr)) h) (split r (length env));
       held = held_higher c.held (length env) (length (env ++ fitted m vs)) (omega (arith, sum)) rel.held;
-      hides = hides_more hidden env (fitted m vs) c.held (subst (AllUnder hidden) (sym size) under) rel.hides;
+      hides = hides_more hidden env (fitted m vs) c.held (subst (AllUnder hidden.integers) (sym size) under) rel.hides;
       ascends = ascends_higher 0 (length env) (length (env ++ fitted m vs)) ps (omega (arith, sum)) rel.ascends;
       fits = omega (arith, sum, wide, size, room);
       room = rel.room;

@@ -105,7 +105,7 @@ module _ (S : Setting) (back : ℕ) where
 
   -- a function's block, at its first instruction
   block_runs : (inner : Block) (n params pc : ℕ) → n ≤ S.bound → HasAt S pc (whole_code S.code.own.constants back inner params pc) → pc + length (whole_code S.code.own.constants back inner params pc) ≤ length S.code.own.code
-      → BlockFits S params inner → AllUnder S.hidden 0 → BlockIsNamed S.lines S.code back inner false 0 params 0 pc → Runs inner n params pc
+      → BlockFits S params inner → AllUnder S.hidden.integers 0 → BlockIsNamed S.lines S.code back inner false 0 params 0 pc → Runs inner n params pc
   block_runs (Falls ss tokens line) n params pc fewer has inside fits clear titles env regs opened size rel =
       (stats_goes back S ss (falls_off line) true 0 [] (end_of_body line ∷ []) (λ more. refl) n pc (pc + length body) false [] params 0 pc [] [] [] [] false start_reach (record {
         fewer = fewer;
@@ -246,17 +246,17 @@ module _ (source : Option (List ℕ)) where
           record {
             agree = λ r lr. nth_fitted (length params) arguments r (omega (arith, lr, wide)) ∙ sym (nth_registers (code_of source (BodyOf params vararg inner ups line)).own.stack (length params) arguments r (omega (arith, lr, wide)) room);
             held = tt;
-            hides = record { free = λ r a. absurd a; whole = λ r a. absurd a };
+            hides = record { free = λ r a. absurd a; whole = λ r a. absurd a; low = tt };
             ascends = tt;
             fits = omega (arith, wide, room);
             room = omega (arith, all);
           }
 
       raised : (inner' : Block) → BlockFits (setting source p 0 [] fits.0.small fits.0.short) (length params) inner' → InBlock source p inner' 0 → BlockFits S (length params) inner'
-      raised (Falls ss tokens end) h g = (stats_up source p N (cond vararg (drop (length params) arguments) []) fits.0.small fits.0.short below [] ss true false (length params) 0 [] [] false h.0 g, h.1)
+      raised (Falls ss tokens end) h g = (stats_up source p N (cond vararg (drop (length params) arguments) []) fits.0.small fits.0.short below (record { integers = []; free_from = [] }) ss true false (length params) 0 [] [] false h.0 g, h.1)
       raised (Returns ss es tokens end) h g = (
-        stats_up source p N (cond vararg (drop (length params) arguments) []) fits.0.small fits.0.short below [] ss false false (length params) 0 [] [] false h.0 g.0,
-        return_up source p N (cond vararg (drop (length params) arguments) []) fits.0.small fits.0.short below [] es (closings_after ss false) (levels_after ss (length params)) (0 + made_in_stats ss) h.1 g.1,
+        stats_up source p N (cond vararg (drop (length params) arguments) []) fits.0.small fits.0.short below (record { integers = []; free_from = [] }) ss false false (length params) 0 [] [] false h.0 g.0,
+        return_up source p N (cond vararg (drop (length params) arguments) []) fits.0.small fits.0.short below (record { integers = []; free_from = [] }) es (closings_after ss false) (levels_after ss (length params)) (0 + made_in_stats ss) h.1 g.1,
       )
 
   -- the code of a body means it

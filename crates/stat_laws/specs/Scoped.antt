@@ -1,6 +1,6 @@
 -- What is assumed of a statement where t locals are in scope and j functions of its function are made before it: names and labels are in scope, and
 -- there are registers enough.
-use Rattle.std.specs.Prelude.{◌≡◌, ℕ, ◌+◌, ◌*◌, ◌<◌, ◌≤◌, ◌^◌, Bool, true, false, List, [], ◌++◌, length, Some, None}
+use Rattle.std.specs.Prelude.{◌≡◌, ℕ, ◌+◌, ◌*◌, ◌<◌, ◌≤◌, ◌^◌, Bool, true, false, List, [], ◌++◌, length, Option, Some, None}
 use Rattle.tree_core.specs.declared.name.Place.{Place}
 use Rattle.tree_core.specs.declared.name.Place.TheVariants.{Local as LocalPlace}
 use Rattle.tree_core.specs.Tree.{Block, Falls, Returns, Stats, EndStats, MoreStats, Stat, Empty, Local, LocalFunction, Assign, CallStat, Do, While, Repeat, If, IfElse, NumFor, NumForStep, GenFor, Label, Goto, Break, Arms, EndArms, MoreArms, Exp, Var, Index, Call, Method, Exps, EndExps, MoreExps}
@@ -12,18 +12,20 @@ use Rattle.code_of.specs.Expressions.{made_by, made_in, count, is_open}
 use Rattle.code_of.specs.Levels.{made_by_stat, made_in_arms, made_in_stats, made_in_block, closing_after, closings_after}
 use Rattle.tree_terms.specs.Levels.{level_after, levels_after, levels_in}
 use Rattle.code_of.specs.Sizes.{block_size}
-use Rattle.exp_laws.specs.Setting.{Setting, hiding}
+use Rattle.exp_laws.specs.Setting.{Hidden, Setting, hiding}
 use Rattle.code_of.specs.Constants.{Found}
 use Rattle.exp_laws.specs.Placed.{Inner, Captures, IsPlaced, ArePlaced}
 use Rattle.tree_terms.specs.Hidden.{IsNoneOf}
-use Rattle.code_of.specs.Rooms.{room_of, room_of_test, room_of_list, room_of_self}
+use Rattle.code_of.specs.Operands.{assigned}
+use Rattle.code_of.specs.Stores.{stores_field}
+use Rattle.code_of.specs.Rooms.{room_of, room_of_target, room_of_assigned, room_of_first, room_of_test, room_of_list, room_of_self}
 
 -- what can be assigned: a name, though no hidden local has one, or an index
-abbrev pub MayAssign : (hidden : List ℕ) → Place → Type 0
-MayAssign hidden (LocalPlace n) = IsNoneOf n hidden
+abbrev pub MayAssign : (hidden : Hidden) → Place → Type 0
+MayAssign hidden (LocalPlace n) = IsNoneOf n hidden.integers
 MayAssign hidden _ = Unit {0}
 
-abbrev pub IsTarget : (hidden : List ℕ) → Exp → Type 0
+abbrev pub IsTarget : (hidden : Hidden) → Exp → Type 0
 IsTarget hidden (Var line name) = MayAssign hidden name.place
 IsTarget hidden (Index line object key) = Unit {0}
 IsTarget hidden _ = ⊥
@@ -37,7 +39,21 @@ module _ (S : Setting) where
   abbrev pub TargetsArePlaced : Exps → (r t j : ℕ) → Type 0
   TargetsArePlaced EndExps r t j = Unit {0}
   TargetsArePlaced (MoreExps e targets) r t j =
-      IsTarget S.hidden e × (IsPlaced S e t j × ((r + room_of S.code.own.constants e 2 ≤ S.code.own.stack) × TargetsArePlaced targets (r + 2) t (j + made_by e)))
+      IsTarget S.hidden e × (IsPlaced S e t j × ((r + room_of_target S.code.own.constants e ≤ S.code.own.stack) × TargetsArePlaced targets (r + 2) t (j + made_by e)))
+
+  -- one value that goes to a field, or a list of values behind the tables and keys of their targets
+  abbrev pub StoreIsPlaced : (field : Bool) → (targets es : Exps) → (t j : ℕ) → Type 0
+  StoreIsPlaced true targets es t j =
+      ArePlaced S targets t j × (ArePlaced S es t (j + made_in targets) × (t + room_of_first S.code.own.constants targets es ≤ S.code.own.stack))
+  StoreIsPlaced false targets es t j =
+      TargetsArePlaced targets t t j × (ArePlaced S es t (j + made_in targets)
+      × ((t + 2 * count targets + room_of_list S.code.own.constants 0 es (Some (count targets)) ≤ S.code.own.stack) × ((t + 2 * count targets + count targets ≤ S.code.own.stack) × (count targets + 1 < 2 ^ 8))))
+
+  -- a local that gets a value straight into its register is in scope, and not a hidden one
+  abbrev pub AssignIsPlaced : Option ℕ → (targets es : Exps) → (t j : ℕ) → Type 0
+  AssignIsPlaced None targets es t j = StoreIsPlaced (stores_field targets es) targets es t j
+  AssignIsPlaced (Some r) targets es t j =
+      (r < t) × (IsNoneOf r S.hidden.integers × (ArePlaced S es t (j + made_in targets) × (t + room_of_assigned S.code.own.constants es ≤ S.code.own.stack)))
 
   abbrev pub ListIsPlaced : Exps → (t j : ℕ) → Type 0
   ListIsPlaced es t j = ArePlaced S es t j × ((t + room_of_list S.code.own.constants 0 es None ≤ S.code.own.stack) × (count es + 1 < 2 ^ 8))
@@ -68,9 +84,7 @@ abbrev mutual
   StatIsPlaced S (Local line names es) closing t j named loops =
       ArePlaced S es t j × ((t + room_of_list S.code.own.constants 0 es (Some (length names)) ≤ S.code.own.stack) × ((t + length names ≤ S.code.own.stack) × (length names + 1 < 2 ^ 8)))
   StatIsPlaced S (LocalFunction line name body) closing t j named loops = Inner S j body × (Captures S.hidden (upvalues_of body) (t + 1) × (t < S.code.own.stack))
-  StatIsPlaced S (Assign line targets es) closing t j named loops =
-      TargetsArePlaced S targets t t j × (ArePlaced S es t (j + made_in targets)
-      × ((t + 2 * count targets + room_of_list S.code.own.constants 0 es (Some (count targets)) ≤ S.code.own.stack) × ((t + 2 * count targets + count targets ≤ S.code.own.stack) × (count targets + 1 < 2 ^ 8))))
+  StatIsPlaced S (Assign line targets es) closing t j named loops = AssignIsPlaced S (assigned targets es) targets es t j
   StatIsPlaced S (CallStat line e) closing t j named loops = (is_open e ≡ true) × (IsPlaced S e t j × (t + room_of S.code.own.constants e 1 ≤ S.code.own.stack))
   StatIsPlaced S (Do line block) closing t j named loops = BlockIsPlaced S block closing t j named loops
   StatIsPlaced S (While line e block) closing t j named loops =

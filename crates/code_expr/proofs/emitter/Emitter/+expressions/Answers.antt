@@ -1,20 +1,22 @@
-use Rattle.std.proofs.Common.{arith, rules, ◌≡◌, ◌+◌, ◌-◌, ◌<◌, [], ◌∷◌, ◌++◌, cond, sym, ap, ◌∙◌, None, length, map}
+use Rattle.std.proofs.Common.{arith, rules, ◌≡◌, ℕ, ◌+◌, ◌-◌, ◌<◌, [], ◌∷◌, ◌++◌, cond, sym, ap, ◌∙◌, Some, None, length, map}
 use Rattle.tree_core.specs.Tree as tree
 use Rattle.tree_core.specs.Plain.{plain_exp, plain_exps, plain_field}
-use Rattle.code_core.specs.declared.opcode.Opcode.TheVariants.{Test, GetTable, SetTable, ExtraArg}
+use Rattle.code_core.specs.declared.opcode.Opcode.TheVariants.{Test, GetTable, GetI, GetField, SetTable, ExtraArg}
 use Rattle.code_core.specs.declared.opcode.Opcode.TheVariants.{Call as CallCode}
 use Rattle.code_core.specs.Instruction.{abc, op_ax}
 use Rattle.code_of.specs.Coded.{with_abc}
-use Rattle.code_of.specs.Operands.{local_of, second_of, first_of, seat}
-use Rattle.code_expr.specs.declared.operands.Second.TheVariants.{Register}
+use Rattle.code_of.specs.Operands.{local_of, second_of, key_operand, seat, unless}
+use Rattle.code_of.specs.Stores.{name_in}
+use Rattle.code_of.specs.FieldReads.{read_code}
+use Rattle.code_expr.proofs.FieldSeats.{name_makes}
+use Rattle.code_of.proofs.Operands.{operator_stands, key_stands}
 use Rattle.code_of.specs.Operators.{self_code, prefix_code, operator_code, number_code}
-use Rattle.code_expr.specs.Operands.{standing, seated_code, done_code}
-use Rattle.code_expr.proofs.Seats.{seated, local_written, beside_written, beside_stands, both_written, both_stand}
+use Rattle.code_expr.proofs.Seats.{local_written, seated_written, seated_stand, done_written}
 use Rattle.code_of.specs.Expressions.{exp_code, exps_code, set_list, list_field, made_by, made_in}
 use Rattle.code_expr.specs.Listing.{listed, followed}
 use Rattle.code_expr.proofs.Joining.{then_made, then_listed, listed_then, jumped}
 use Rattle.code_expr.proofs.Going.{fields_from, next_exp, next_field}
-use Rattle.std.proofs.lemmas.Result.{on_ok_weaker, IfOk-weaker}
+use Rattle.std.proofs.lemmas.Result.{on_ok_weaker}
 use Rattle.std.proofs.Common.{ap₂}
 use Rattle.tree_core.specs.Plain.{plain_exp_node}
 use Rattle.tree_core.proofs.Rows.{plain-call, plain-method}
@@ -51,11 +53,11 @@ binary-returns t c =
     let s = second_of c.args.op d in
     let left = exp_code k e c.args.target c.args.self.now.made 2 in
     let right = exp_code k d (c.args.target + 1) (c.args.self.now.made + made_by e) 2 in
-    let last = done_code (standing s c.args.target) (seat (first_of s e) c.args.target) (λ x y. operator_code c.args.op x y c.args.target c.args.line) (λ x n. number_code c.args.op x n c.args.target c.args.line) in
-    let applied : c.apply.new.self ≡ listed c.operands.new.self last = rw c.in_ok-operands.ensures.places at c.in_ok-apply.ensures in
-    then_listed c.args.self.now c.operands.new.self c.apply.new.self (seated_code s (first_of s e) left right) (made_by e + made_by d) (λ k. last) c.in_ok-operands.ensures.code applied
-    ∙ ap (λ code. followed c.args.self.now code (made_by e + made_by d))
-    (sym (seated s e left right c.args.target (λ x y. operator_code c.args.op x y c.args.target c.args.line) (λ x n. number_code c.args.op x n c.args.target c.args.line)))
+    let code = rw c.staying.ensures at c.in_ok-operands.ensures.code in
+    let places = rw c.staying.ensures at c.in_ok-operands.ensures.places in
+    done_written c.args.self.now c.operands.new.self c.apply.new.self s e left right c.args.target (made_by e + made_by d) c.in_ok-operands.operands
+    (λ x y. operator_code c.args.op x y c.args.target c.args.line) (λ x n. number_code c.args.op x n c.args.target c.args.line)
+    (seated_written c.args.self.now c.operands.new.self s e d 128 left right (operator_stands c.args.op d) code) (seated_stand s e c.args.target c.in_ok-operands.operands places) c.in_ok-apply.ensures
 
 pub operand-returns-in-Some-clause-code : goal.operand-returns-in-Some-clause-code
 operand-returns-in-Some-clause-code t c =
@@ -69,47 +71,37 @@ both-returns-clause-code t c =
     then_made c.args.self.now c.expression.new.self c.expression-2.new.self (exp_code k (plain_exp c.args.left.now) c.args.target c.args.self.now.made 2) (made_by (plain_exp c.args.left.now))
     (λ k j. exp_code k (plain_exp c.args.right.now) (c.args.target + 1) j 2) (made_by (plain_exp c.args.right.now)) c.in_ok-expression.ensures right
 
-pub operands-returns-in-Some-clause-code : goal.operands-returns-in-Some-clause-code
-operands-returns-in-Some-clause-code t c =
+pub index-returns-in_ok-register-in-Some : goal.index-returns-in_ok-register-in-Some
+index-returns-in_ok-register-in-Some t c =
     let k = c.args.self.now.constants in
-    let e = plain_exp c.args.left.now in
-    let d = plain_exp c.args.right.now in
-    on_ok_weaker c.beside.result (beside_written c.args.self.now c.beside.new.self c.args.op d e c.in-Some.second (exp_code k e c.args.target c.args.self.now.made 2) (exp_code k d (c.args.target + 1) (c.args.self.now.made + made_by e) 2)
-    (sym c.staying.ensures ∙ c.in-Some.is)) c.beside.ensures.code
+    let e = plain_exp c.args.object.now in
+    let d = plain_exp c.args.key.now in
+    let number = c.in-Some.number in
+    let named : name_in k d ≡ Some number = sym c.name_in.ensures ∙ c.in-Some.is in
+    let first = exp_code k e c.args.free c.args.self.now.made 2 in
+    let second = exp_code k d (c.args.free + 1) (c.args.self.now.made + made_by e) 2 in
+    let read = λ (x : ℕ). with_abc GetField c.args.target x number c.args.line ∷ [] in
+    on_ok_weaker c.put_abc.result
+    (λ h. then_listed c.args.self.now c.operand.new.self c.put_abc.new.self (unless (local_of e) first) (made_by e) (λ k. read (seat (local_of e) c.args.free)) c.in_ok-register-in-Some.ensures.code
+    (h ∙ ap (λ x. listed c.operand.new.self (read x)) c.in_ok-register-in-Some.ensures.place)
+    ∙ ap₂ (λ o n. followed c.args.self.now (read_code o e d first second c.args.target c.args.free c.args.line) n) (sym named) (name_makes k e d number named)) c.put_abc.ensures
 
-pub operands-returns-in-Some-clause-places : goal.operands-returns-in-Some-clause-places
-operands-returns-in-Some-clause-places t c =
-    let e = plain_exp c.args.left.now in
-    let s = second_of c.args.op (plain_exp c.args.right.now) in
-    IfOk-weaker c.beside.result (λ o. o ≡ record { first = seat (local_of e) c.args.target; second = c.in-Some.second }) (λ o. o ≡ record { first = seat (first_of s e) c.args.target; second = standing s c.args.target })
-    (λ o h. beside_stands s c.in-Some.second e c.args.target o (sym c.staying.ensures ∙ c.in-Some.is) h) c.beside.ensures.places
-
-pub operands-returns-in-None-clause-code : goal.operands-returns-in-None-clause-code
-operands-returns-in-None-clause-code t c =
+pub index-returns-in_ok-operands-in-None : goal.index-returns-in_ok-operands-in-None
+index-returns-in_ok-operands-in-None t c =
     let k = c.args.self.now.constants in
-    let e = plain_exp c.args.left.now in
-    let d = plain_exp c.args.right.now in
-    on_ok_weaker c.both.result (both_written c.args.self.now c.both.new.self (second_of c.args.op d) e (exp_code k e c.args.target c.args.self.now.made 2) (exp_code k d (c.args.target + 1) (c.args.self.now.made + made_by e) 2) (made_by e + made_by d)
-    (sym c.staying.ensures ∙ c.in-None.is)) c.both.ensures.code
-
-pub operands-returns-in-None-clause-places : goal.operands-returns-in-None-clause-places
-operands-returns-in-None-clause-places t c =
-    let e = plain_exp c.args.left.now in
-    let s = second_of c.args.op (plain_exp c.args.right.now) in
-    IfOk-weaker c.both.result (λ o. o ≡ record { first = c.args.target; second = Register (c.args.target + 1) }) (λ o. o ≡ record { first = seat (first_of s e) c.args.target; second = standing s c.args.target })
-    (λ o h. both_stand s e c.args.target o (sym c.staying.ensures ∙ c.in-None.is) h) c.both.ensures.places
-
-pub index-returns : goal.index-returns
-index-returns t c =
-    let k = c.args.self.now.constants in
-    let key : c.expression-2.new.self ≡ followed c.expression.new.self (exp_code c.expression.new.self.constants (plain_exp c.args.key.now) (c.args.target + 1) c.expression.new.self.made 2) (made_by (plain_exp c.args.key.now)) =
-    rw c.in_ok-above.ensures at c.in_ok-expression-2.ensures in
-    let get : c.put_abc.new.self ≡ listed c.expression-2.new.self (with_abc GetTable c.args.target c.args.target (c.args.target + 1) c.args.line ∷ []) =
-    rw c.in_ok-above.ensures at c.in_ok-put_abc.ensures in
-    then_made c.args.self.now c.expression.new.self c.put_abc.new.self (exp_code k (plain_exp c.args.object.now) c.args.target c.args.self.now.made 2) (made_by (plain_exp c.args.object.now))
-    (λ k j. exp_code k (plain_exp c.args.key.now) (c.args.target + 1) j 2 ++ with_abc GetTable c.args.target c.args.target (c.args.target + 1) c.args.line ∷ []) (made_by (plain_exp c.args.key.now)) c.in_ok-expression.ensures
-    (then_listed c.expression.new.self c.expression-2.new.self c.put_abc.new.self (exp_code c.expression.new.self.constants (plain_exp c.args.key.now) (c.args.target + 1) c.expression.new.self.made 2) (made_by (plain_exp c.args.key.now))
-    (λ k. with_abc GetTable c.args.target c.args.target (c.args.target + 1) c.args.line ∷ []) key get)
+    let e = plain_exp c.args.object.now in
+    let d = plain_exp c.args.key.now in
+    let s = key_operand d in
+    let named : name_in k d ≡ None = sym c.name_in.ensures ∙ c.in-None.is in
+    let first = exp_code k e c.args.free c.args.self.now.made 2 in
+    let second = exp_code k d (c.args.free + 1) (c.args.self.now.made + made_by e) 2 in
+    let code = rw c.key_staying.ensures at c.in_ok-operands-in-None.ensures.code in
+    let places = rw c.key_staying.ensures at c.in_ok-operands-in-None.ensures.places in
+    on_ok_weaker c.read_field.result
+    (λ h. done_written c.args.self.now c.operands.new.self c.read_field.new.self s e first second c.args.free (made_by e + made_by d) c.in_ok-operands-in-None.operands
+    (λ x y. with_abc GetTable c.args.target x y c.args.line ∷ []) (λ x n. with_abc GetI c.args.target x n c.args.line ∷ [])
+    (seated_written c.args.self.now c.operands.new.self s e d 255 first second (key_stands d) code) (seated_stand s e c.args.free c.in_ok-operands-in-None.operands places) h
+    ∙ ap (λ o. followed c.args.self.now (read_code o e d first second c.args.target c.args.free c.args.line) (made_by e + made_by d)) (sym named)) c.read_field.ensures
 
 pub either-returns : goal.either-returns
 either-returns t c =
@@ -209,9 +201,6 @@ operands-beside-requires t c = (omega (arith, c.decreases), tt)
 
 pub both-expression-requires-2 : goal.both-expression-requires-2
 both-expression-requires-2 t c = (omega (arith, c.decreases), tt)
-
-pub index-expression-requires-2 : goal.index-expression-requires-2
-index-expression-requires-2 t c = (omega (arith, c.decreases), tt)
 
 pub either-expression-requires-2 : goal.either-expression-requires-2
 either-expression-requires-2 t c = (omega (arith, c.decreases), tt)

@@ -54,7 +54,7 @@ abbrev pub decreases-operand : goal.decreases-operand
 decreases-operand l = 5 * the_size l.exp.now + 1
 
 abbrev pub decreases-index : goal.decreases-index
-decreases-index l = 5 * max (the_size l.object.now) (the_size l.key.now) + 1
+decreases-index l = 5 * max (the_size l.object.now) (the_size l.key.now) + 4
 
 abbrev pub decreases-either : goal.decreases-either
 decreases-either l = 5 * max (the_size l.first.now) (the_size l.second.now) + 1

@@ -25,7 +25,7 @@ use Rattle.code_of.specs.Levels.{closings_after}
 use Rattle.code_stat.specs.Drafts.{WroteStat, WroteBlock, WroteOpen, newest_first}
 use Rattle.code_stat.proofs.Lists.{all_left, none_left, next_left, levels_next, closings_next}
 use Rattle.code_stat.proofs.Looping.{while_wrote, repeat_wrote, counted_wrote, iterated_wrote, num_for_wrote, gen_for_wrote}
-use Rattle.code_stat.proofs.Ends.{falls_wrote, returns_wrote, open_returns, nothing_wrote}
+use Rattle.code_stat.proofs.Ends.{top_is, falls_wrote, returns_wrote, open_returns, nothing_wrote}
 use Rattle.code_stat.specs.Declares.{DeclaresStat, DeclaresBlock, DeclaresOpen}
 use Rattle.code_stat.proofs.Declaring.{begun_from, nothing_declared, next_declared, all_declared, scopes_end, block_ends, repeat_declares, rounds_declare, counted_long, iterated_long, num_for_declares, gen_for_declares, arm_declares}
 use Rattle.code_stat.proofs.writer.Writer.+statements.Goals as goal
@@ -174,9 +174,11 @@ iterated-returns-clause-code t c =
 pub block-returns-in_ok-end_scopes-in-None-clause-code : goal.block-returns-in_ok-end_scopes-in-None-clause-code
 block-returns-in_ok-end_scopes-in-None-clause-code t c =
     let b = out-Block c.args.block.now in
+    let top = top_is c.args.self.now c.statements.new.self (tree.stats (map plain_stat b.stats.items)) c.args.closing c.args.outer c.args.level c.in_ok-end-in-None.end.level c.closed_below-top.result c.made-before.result c.made-behind.result
+    c.in_ok-end-in-None.ensures.code c.in_ok-end-in-None.ensures.level c.made-before.ensures c.made-behind.ensures c.closed_below-top.ensures in
     subst (λ p. WroteBlock c.args.self.now (record c.statements.new.self { emitter = c.write_close.new.emitter; variables = c.end_scopes.new.self }) p c.args.closing c.args.outer c.args.level) (sym (falls_of c.args.block.now c.in-None.is))
-    (falls_wrote c.args.self.now c.statements.new.self (record c.statements.new.self { emitter = c.write_close.new.emitter; variables = c.end_scopes.new.self }) (tree.stats (map plain_stat b.stats.items)) b.tokens b.line c.args.closing c.args.outer c.args.level c.in_ok-end-in-None.end.level
-    c.in_ok-end-in-None.ensures.code c.in_ok-end-in-None.ensures.level c.in_ok-write_close-in-None.ensures refl refl)
+    (falls_wrote c.args.self.now c.statements.new.self (record c.statements.new.self { emitter = c.write_close.new.emitter; variables = c.end_scopes.new.self }) (tree.stats (map plain_stat b.stats.items)) b.tokens b.line c.args.closing c.args.outer c.args.level c.closed_below-top.result
+    c.in_ok-end-in-None.ensures.code top c.in_ok-write_close-in-None.ensures refl refl)
 
 pub block-returns-in_ok-end_scopes-in-Some-clause-code : goal.block-returns-in_ok-end_scopes-in-Some-clause-code
 block-returns-in_ok-end_scopes-in-Some-clause-code t c =

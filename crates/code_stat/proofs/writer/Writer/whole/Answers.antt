@@ -1,12 +1,12 @@
-use Rattle.std.proofs.Common.{rules, ◌≡◌, false, sym, ap, subst, refl, map, length}
+use Rattle.std.proofs.Common.{rules, ◌≡◌, sym, ap, subst, refl, map, length}
 use Rattle.tree_core.specs.declared.tree.Block.{out-Block}
 use Rattle.tree_core.specs.Tree as tree
 use Rattle.tree_core.specs.Plain.{plain_stat, plain_block}
 use Rattle.code_of.specs.Levels.{made_in_block}
 use Rattle.code_stat.specs.declared.writer.Writer.{Writer}
-use Rattle.code_stat.specs.Declares.{DeclaresBlock}
+use Rattle.code_stat.specs.Declares.{DeclaresWhole}
 use Rattle.code_stat.specs.Drafts.{Wrote}
-use Rattle.code_stat.proofs.Bodies.{falls_declared}
+use Rattle.code_stat.proofs.Bodies.{falls_declared, returns_declared}
 use Rattle.code_stat.specs.Whole.{whole_from}
 use Rattle.code_stat.proofs.Plain.{falls_of, returns_of}
 use Rattle.code_stat.proofs.Filling.{whole_falls, whole_returns, ends_by_return}
@@ -30,6 +30,10 @@ returns-in_ok-end_scopes-in-None-clause-variables c =
     let b = out-Block c.args.block.now in
     let after : Writer = record c.statements.new.self { emitter = c.put_leaving.new.emitter; variables = c.end_scopes.new.self } in
     let first : c.count-first.result ≡ length c.args.self.now.variables = search rules in
-    subst (λ p. DeclaresBlock c.args.self.now after p false 0 c.args.params) (sym (falls_of c.args.block.now c.in-None.is))
+    subst (λ p. DeclaresWhole c.args.self.now after p c.args.params) (sym (falls_of c.args.block.now c.in-None.is))
     (falls_declared c.args.self.now c.statements.new.self after (tree.stats (map plain_stat b.stats.items)) b.tokens b.line c.args.params c.statements.new.self.back c.in_ok-end-in-None.end.level c.count-first.result c.place-place.result
     c.in_ok-end-in-None.ensures.code c.in_ok-end-in-None.ensures.variables c.in_ok-put_leaving-in-None.ensures first c.place-place.ensures c.in_ok-end_scopes-in-None.ensures)
+
+pub returns-in_ok-block-in-Some-clause-variables : goal.returns-in_ok-block-in-Some-clause-variables
+returns-in_ok-block-in-Some-clause-variables c =
+    returns_declared c.args.self.now c.block.new.self (plain_block c.args.block.now) c.args.params c.in_ok-block-in-Some.ensures.variables (ap ends_by_return (returns_of c.args.block.now c.in-Some.field-0 c.in-Some.is))

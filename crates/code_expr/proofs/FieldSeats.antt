@@ -1,0 +1,137 @@
+-- Where the key of a stored field stands, and the store that is written piece by piece.
+use Rattle.std.proofs.Common.{◌≡◌, ℕ, ◌+◌, ◌<◌, ◌≤◌, Bool, true, false, cond, List, [], ◌∷◌, ◌++◌, Option, Some, None, refl, sym, ap, ap₂, ◌∙◌, arith, lt-ltb, ltb-true}
+use Rattle.std.specs.Prelude.{nat_lt}
+use Rattle.tree_core.specs.Tree.{Exp, Index}
+use Rattle.code_core.specs.declared.proto.Const.{Const}
+use Rattle.code_of.specs.Coded.{Coded}
+use Rattle.code_of.specs.Expressions.{made_by, exp_code}
+use Rattle.code_of.specs.Operands.{local_of, numeral_of, seat, unless}
+use Rattle.code_of.specs.Parts.{field_code}
+use Rattle.code_of.specs.Stores.{FieldKey, a_name, an_index, a_register, evaluated, short_number, name_in, field_key_by, beside_local, field_key, object_of, key_code, field_store}
+use Rattle.code_of.proofs.Operands.{local_makes}
+use Rattle.code_of.proofs.Stores.{FieldKeyStands, name_is, field_key_stands, object_stays}
+use Rattle.code_expr.specs.Listing.{Listing, listed, followed}
+use Rattle.code_expr.specs.Stores.{key_seat, object_at, made_unless, seat_code, seat_made, seat_store}
+use Rattle.code_expr.specs.declared.stores.KeySeat.TheVariants.{Name, Index as Numeral, Register, Above}
+use Rattle.code_expr.proofs.Joining.{then_made, then_listed}
+use Rattle.code_expr.proofs.Seats.{nothing_more}
+
+-- numbers of 8 bits
+
+pub near : (n : ℕ) → n < 256 → short_number n ≡ Some n
+near n h = ap (λ b. cond b (Some n) None) (lt-ltb n 256 h)
+
+pub far : (n : ℕ) → 256 ≤ n → short_number n ≡ None
+far n h = by (nat_lt n 256) refl
+  where
+    by : (b : Bool) → nat_lt n 256 ≡ b → cond b (Some n) None ≡ None
+    by false e = refl
+    by true e = let less = ltb-true n 256 e in absurd (omega (arith, less, h))
+
+-- where the key stands
+
+pub seat_named : (constants : List Const) (value : Option ℕ) (key : Exp) (number : ℕ) → name_in constants key ≡ Some number → key_seat (field_key constants value key) ≡ Name number
+seat_named constants value key number h = ap (λ o. key_seat (field_key_by o (numeral_of key (Some 255)) (beside_local value (local_of key)))) h
+
+pub seat_indexed : (constants : List Const) (value : Option ℕ) (key : Exp) (n : ℕ) → name_in constants key ≡ None → numeral_of key (Some 255) ≡ Some n → key_seat (field_key constants value key) ≡ Numeral n
+seat_indexed constants value key n h i = ap₂ (λ o m. key_seat (field_key_by o m (beside_local value (local_of key)))) h i
+
+pub seat_standing : (constants : List Const) (value : Option ℕ) (key : Exp) (r : ℕ) → name_in constants key ≡ None → numeral_of key (Some 255) ≡ None → beside_local value (local_of key) ≡ Some r
+    → key_seat (field_key constants value key) ≡ Register r
+seat_standing constants value key r h i l = ap₂ (λ o m. key_seat (field_key_by o m (beside_local value (local_of key)))) h i ∙ ap (λ o. key_seat (field_key_by None None o)) l
+
+pub seat_above : (constants : List Const) (value : Option ℕ) (key : Exp) → name_in constants key ≡ None → numeral_of key (Some 255) ≡ None → beside_local value (local_of key) ≡ None
+    → key_seat (field_key constants value key) ≡ Above
+seat_above constants value key h i l = ap₂ (λ o m. key_seat (field_key_by o m (beside_local value (local_of key)))) h i ∙ ap (λ o. key_seat (field_key_by None None o)) l
+
+pub stays_written : (s : Listing) (at : Option ℕ) (r : ℕ) (code : List Coded) (n : ℕ) → at ≡ Some r → s ≡ followed s (unless at code) (made_unless at n)
+stays_written s at r code n h = nothing_more s ∙ ap (λ o. followed s (unless o code) (made_unless o n)) (sym h)
+
+-- what stands makes no function
+
+unless_makes : (at : Option ℕ) (e : Exp) → ((r : ℕ) → at ≡ Some r → local_of e ≡ Some r) → made_unless at (made_by e) ≡ made_by e
+unless_makes None e h = refl
+unless_makes (Some r) e h = sym (local_makes e r (h r refl))
+
+-- a key that is a name makes none
+pub name_makes : (constants : List Const) (object key : Exp) (number : ℕ) → name_in constants key ≡ Some number → made_by object ≡ made_by object + made_by key
+name_makes constants object key number h = let none : made_by key ≡ 0 = ap made_by (name_is constants key number h).is in omega (arith, none)
+
+key_makes : (s : FieldKey) (constants : List Const) (value : Option ℕ) (key : Exp) → FieldKeyStands constants value key s → seat_made (key_seat s) (made_by key) ≡ made_by key
+key_makes evaluated constants value key stands = refl
+key_makes (a_name number) constants value key stands = sym (ap made_by (stands.name number refl).is)
+key_makes (an_index n) constants value key stands = sym (ap made_by (stands.index n refl).is)
+key_makes (a_register r) constants value key stands = sym (local_makes key r (stands.local r refl))
+
+seat_code_is : (s : FieldKey) (code : List Coded) → seat_code (key_seat s) code ≡ key_code s code
+seat_code_is evaluated code = refl
+seat_code_is (a_name number) code = refl
+seat_code_is (an_index n) code = refl
+seat_code_is (a_register r) code = refl
+
+seat_store_is : (s : FieldKey) (x t v line : ℕ) → seat_store (key_seat s) x (t + 1) v line ≡ field_store s x t v line
+seat_store_is evaluated x t v line = refl
+seat_store_is (a_name number) x t v line = refl
+seat_store_is (an_index n) x t v line = refl
+seat_store_is (a_register r) x t v line = refl
+
+object_at_is : (s : FieldKey) (value : Option ℕ) (object : Exp) → object_at (key_seat s) value object ≡ object_of s value object
+object_at_is evaluated value object = refl
+object_at_is (a_name number) value object = refl
+object_at_is (an_index n) value object = refl
+object_at_is (a_register r) value object = refl
+
+-- the pieces make the whole together
+pub field_written :
+    (s0 s1 s2 s3 q : Listing) (line : ℕ) (object key e : Exp) (t : ℕ) (at : Option ℕ) → at ≡ object_at (key_seat (field_key s0.constants (local_of e) key)) (local_of e) object
+    → s1 ≡ followed s0 (unless at (exp_code s0.constants object t s0.made 2)) (made_unless at (made_by object))
+    → s2 ≡ followed s1 (seat_code (key_seat (field_key s0.constants (local_of e) key)) (exp_code s1.constants key (t + 1) s1.made 2)) (seat_made (key_seat (field_key s0.constants (local_of e) key)) (made_by key))
+    → s3 ≡ followed s2 (unless (local_of e) (exp_code s2.constants e (t + 2) s2.made 2)) (made_unless (local_of e) (made_by e))
+    → q ≡ listed s3 (seat_store (key_seat (field_key s0.constants (local_of e) key)) (seat at t) (t + 1) (seat (local_of e) (t + 2)) line ∷ [])
+    → q ≡ followed s0 (field_code s0.constants (Index line object key) e t s0.made (s0.made + (made_by object + made_by key))) (made_by object + made_by key + made_by e)
+field_written s0 s1 s2 s3 q line object key e t at at_is e1 e2 e3 e4 =
+    then_made s0 s1 q (first at) m1 (λ k j. key_code s (exp_code k key (t + 1) j 2) ++ (unless value (exp_code k e (t + 2) (j + m2) 2) ++ last)) (m2 + m3) (e1 ∙ ap (followed s0 (first at)) (unless_makes at object at_local))
+    (then_made s1 s2 q (key_code s (exp_code s1.constants key (t + 1) s1.made 2)) m2 (λ k j. unless value (exp_code k e (t + 2) j 2) ++ last) m3 (e2 ∙ ap₂ (followed s1) (seat_code_is s (exp_code s1.constants key (t + 1) s1.made 2)) (key_makes s s0.constants value key stands))
+    (then_listed s2 s3 q (unless value (exp_code s2.constants e (t + 2) s2.made 2)) m3 (λ k. last) (e3 ∙ ap (followed s2 (unless value (exp_code s2.constants e (t + 2) s2.made 2))) (unless_makes value e (λ r h. h)))
+    (e4 ∙ ap (λ c. listed s3 (c ∷ [])) (seat_store_is s (seat at t) t (seat value (t + 2)) line))))
+    ∙ ap₂ (λ j n. followed s0 (first at ++ (second ++ (unless value (exp_code s0.constants e (t + 2) j 2) ++ last))) n) joined counted
+    ∙ ap (λ o. followed s0 (first o ++ (second ++ (unless value (exp_code s0.constants e (t + 2) (s0.made + (m1 + m2)) 2) ++ field_store s (seat o t) t (seat value (t + 2)) line ∷ []))) (m1 + m2 + m3)) object_is
+  where
+    value : Option ℕ
+    value = local_of e
+
+    s : FieldKey
+    s = field_key s0.constants (local_of e) key
+
+    stands : FieldKeyStands s0.constants (local_of e) key (field_key s0.constants (local_of e) key)
+    stands = field_key_stands s0.constants (local_of e) key
+
+    m1 : ℕ
+    m1 = made_by object
+
+    m2 : ℕ
+    m2 = made_by key
+
+    m3 : ℕ
+    m3 = made_by e
+
+    first : Option ℕ → List Coded
+    first o = unless o (exp_code s0.constants object t s0.made 2)
+
+    second : List Coded
+    second = key_code s (exp_code s0.constants key (t + 1) (s0.made + m1) 2)
+
+    last : List Coded
+    last = field_store s (seat at t) t (seat value (t + 2)) line ∷ []
+
+    object_is : at ≡ object_of s value object
+    object_is = at_is ∙ object_at_is s value object
+
+    at_local : (r : ℕ) → at ≡ Some r → local_of object ≡ Some r
+    at_local r h = (object_stays s value object r (sym object_is ∙ h)).local
+
+    joined : s0.made + m1 + m2 ≡ s0.made + (m1 + m2)
+    joined = omega arith
+
+    counted : m1 + (m2 + m3) ≡ m1 + m2 + m3
+    counted = omega arith

@@ -1,0 +1,143 @@
+// Values that go straight to the register of a local (Lua 5.4 manual, 3.3.3).
+ghost use Rattle.std.specs.Prelude.{◌≡◌, cond, None, OnOk};
+ghost use Rattle.tree_core.specs.Tree.{Binary};
+ghost use Rattle.tree_core.specs.Plain.{plain_exp};
+ghost use Rattle.code_of.specs.Expressions.{made_by};
+ghost use Rattle.code_of.specs.Operands.{computes, is_direct, target_local};
+ghost use Rattle.code_of.specs.Parts.{direct_code};
+ghost use Rattle.code_expr.specs.Listing.{followed};
+ghost use Rattle.code_expr.specs.Operands.{made_directly};
+
+use crate::emitter::Emitter;
+use crate::operands::{local_at, staying};
+use std::alloc::AllocError;
+use tree_core::{BinOp, Exp, ExpNode};
+
+/// Whether an operator has an instruction that writes its result.
+fn computes(op: BinOp) -> bool
+    ensures { result ≡ computes op }
+{
+    match op {
+        BinOp::Add
+        | BinOp::Sub
+        | BinOp::Mul
+        | BinOp::Mod
+        | BinOp::Idiv
+        | BinOp::Band
+        | BinOp::Bor
+        | BinOp::Bxor
+        | BinOp::Shl
+        | BinOp::Shr => true,
+        BinOp::Concat | BinOp::Eq | BinOp::Ne | BinOp::Lt | BinOp::Le | BinOp::Gt | BinOp::Ge =>
+            false,
+    }
+}
+
+/// Whether the value of an expression is written by one instruction at its end.
+fn is_direct(exp: &Exp) -> bool
+    ensures { result ≡ is_direct (plain_exp exp.now) }
+{
+    match &exp.node {
+        ExpNode::Binary(op, _, _) => computes(*op),
+        ExpNode::Index(_, _) => true,
+        ExpNode::Nil
+        | ExpNode::True
+        | ExpNode::False
+        | ExpNode::Int(_)
+        | ExpNode::Str(_)
+        | ExpNode::Vararg
+        | ExpNode::Function(_)
+        | ExpNode::Var(_)
+        | ExpNode::Call(_, _)
+        | ExpNode::Method(_, _, _)
+        | ExpNode::Unary(_, _)
+        | ExpNode::And(_, _)
+        | ExpNode::Or(_, _)
+        | ExpNode::Paren(_)
+        | ExpNode::Table(_) => false,
+    }
+}
+
+/// The register of a target that is a local, or none.
+fn target_local(target: &Exp) -> Option<usize>
+    ensures { result ≡ target_local (plain_exp target.now) }
+{
+    match &target.node {
+        ExpNode::Var(name) => local_at(name),
+        ExpNode::Nil
+        | ExpNode::True
+        | ExpNode::False
+        | ExpNode::Int(_)
+        | ExpNode::Str(_)
+        | ExpNode::Vararg
+        | ExpNode::Function(_)
+        | ExpNode::Index(_, _)
+        | ExpNode::Call(_, _)
+        | ExpNode::Method(_, _, _)
+        | ExpNode::Unary(_, _)
+        | ExpNode::Binary(_, _, _)
+        | ExpNode::And(_, _)
+        | ExpNode::Or(_, _)
+        | ExpNode::Paren(_)
+        | ExpNode::Table(_) => None,
+    }
+}
+
+/// The register that an assignment of one value writes straight to, or none.
+pub fn direct_local(target: &Exp, value: &Exp) -> Option<usize>
+    ensures { result ≡ cond (is_direct (plain_exp value.now)) (target_local (plain_exp target.now)) None }
+{
+    if is_direct(value) {
+        target_local(target)
+    } else {
+        None
+    }
+}
+
+impl Emitter {
+    /// Writes an operator whose result goes to one register and whose operands stand in those from another one on.
+    fn binary_into(
+        &mut self,
+        op: BinOp,
+        left: &Exp,
+        right: &Exp,
+        target: usize,
+        free: usize,
+        line: u32,
+    ) -> Result<(), AllocError>
+        ensures { OnOk result (self.new ≡ followed self.old (direct_code self.old.constants (Binary line op (plain_exp left.now) (plain_exp right.now)) target free self.old.made) (made_by (Binary line op (plain_exp left.now) (plain_exp right.now)))) }
+    {
+        let operands = self.operands(staying(op, right), left, right, free)?;
+        self.apply(op, operands, target, line)?;
+        Ok(())
+    }
+
+    /// Writes a value straight to a register, where the registers from another one on are free. Of an
+    /// expression that has no instruction for it nothing is written.
+    #[tactic(auto, using(crate::proofs::Seats::nothing_more))]
+    pub fn direct(&mut self, exp: &Exp, target: usize, free: usize) -> Result<(), AllocError>
+        ensures { OnOk result (self.new ≡ followed self.old (direct_code self.old.constants (plain_exp exp.now) target free self.old.made) (made_directly (plain_exp exp.now))) }
+    {
+        match &exp.node {
+            ExpNode::Binary(op, left, right) => {
+                self.binary_into(*op, left, right, target, free, exp.line)
+            }
+            ExpNode::Index(object, key) => self.index(object, key, target, free, exp.line),
+            ExpNode::Nil
+            | ExpNode::True
+            | ExpNode::False
+            | ExpNode::Int(_)
+            | ExpNode::Str(_)
+            | ExpNode::Vararg
+            | ExpNode::Function(_)
+            | ExpNode::Var(_)
+            | ExpNode::Call(_, _)
+            | ExpNode::Method(_, _, _)
+            | ExpNode::Unary(_, _)
+            | ExpNode::And(_, _)
+            | ExpNode::Or(_, _)
+            | ExpNode::Paren(_)
+            | ExpNode::Table(_) => Ok(()),
+        }
+    }
+}

@@ -1,0 +1,225 @@
+// Values that are stored in fields by a statement of their own (Lua 5.4 manual, 3.3.3).
+ghost use Rattle.std.specs.Prelude.{◌≡◌, ◌+◌, [], ◌∷◌, OnOk, IfOk};
+ghost use Rattle.tree_core.specs.Tree.{Index};
+ghost use Rattle.tree_core.specs.Plain.{plain_exp};
+ghost use Rattle.code_of.specs.Expressions.{exp_code, made_by};
+ghost use Rattle.code_of.specs.Operands.{local_of, seat, unless};
+ghost use Rattle.code_of.specs.Parts.{field_code};
+ghost use Rattle.code_of.specs.Stores.{short_number, name_in, beside_local, field_key, is_field};
+ghost use Rattle.code_expr.specs.Listing.{followed, listed};
+ghost use Rattle.code_expr.specs.Stores.{key_seat, object_at, made_unless, seat_code, seat_made, seat_store, made_in_field};
+
+use crate::emitter::{Emitter, next};
+use crate::operands::{local_of, numeral_of};
+use code_core::Opcode;
+use std::alloc::AllocError;
+use tree_core::{Exp, ExpNode};
+
+/// Where the key of a field stands.
+#[derive(Clone, Copy, Debug, PartialEq, Eq)]
+pub(crate) enum KeySeat {
+    /// It is the constant of this number.
+    Name(usize),
+    /// It is a numeral in the instruction.
+    Index(usize),
+    /// It is a local in its own register.
+    Register(usize),
+    /// It is made above the object.
+    Above,
+}
+
+/// The number of a constant, where a field of 8 bits holds it, or none.
+#[tactic(auto, using(crate::proofs::FieldSeats::near, crate::proofs::FieldSeats::far))]
+fn short(number: usize) -> Option<usize>
+    ensures { result ≡ short_number number }
+{
+    if number < 256 {
+        return Some(number);
+    }
+    None
+}
+
+/// The register of a local that stays where the value stored is a local too, or none.
+fn beside_local(value: Option<usize>, local: Option<usize>) -> Option<usize>
+    ensures { result ≡ beside_local value local }
+{
+    match value {
+        Some(_) => local,
+        None => None,
+    }
+}
+
+/// The register in which the object stays, or none for one that is made.
+fn object_at(key: KeySeat, value: Option<usize>, object: &Exp) -> Option<usize>
+    ensures { result ≡ object_at key value (plain_exp object.now) }
+{
+    match key {
+        KeySeat::Above => None,
+        KeySeat::Name(_) => beside_local(value, local_of(object)),
+        KeySeat::Index(_) => beside_local(value, local_of(object)),
+        KeySeat::Register(_) => beside_local(value, local_of(object)),
+    }
+}
+
+/// Whether a target of an assignment is a field.
+pub fn is_field(target: &Exp) -> bool
+    ensures { result ≡ is_field (plain_exp target.now) }
+{
+    match &target.node {
+        ExpNode::Index(_, _) => true,
+        ExpNode::Nil
+        | ExpNode::True
+        | ExpNode::False
+        | ExpNode::Int(_)
+        | ExpNode::Str(_)
+        | ExpNode::Vararg
+        | ExpNode::Function(_)
+        | ExpNode::Var(_)
+        | ExpNode::Call(_, _)
+        | ExpNode::Method(_, _, _)
+        | ExpNode::Unary(_, _)
+        | ExpNode::Binary(_, _, _)
+        | ExpNode::And(_, _)
+        | ExpNode::Or(_, _)
+        | ExpNode::Paren(_)
+        | ExpNode::Table(_) => false,
+    }
+}
+
+impl Emitter {
+    /// The number of a key that is a string, where a field of 8 bits holds it, or none.
+    pub(crate) fn name_in(&self, key: &Exp) -> Option<usize>
+        ensures { result ≡ name_in self.now.constants (plain_exp key.now) }
+    {
+        match &key.node {
+            ExpNode::Str(bytes) => short(self.constants().number_of_text(bytes)),
+            ExpNode::Nil
+            | ExpNode::True
+            | ExpNode::False
+            | ExpNode::Int(_)
+            | ExpNode::Vararg
+            | ExpNode::Function(_)
+            | ExpNode::Var(_)
+            | ExpNode::Index(_, _)
+            | ExpNode::Call(_, _)
+            | ExpNode::Method(_, _, _)
+            | ExpNode::Unary(_, _)
+            | ExpNode::Binary(_, _, _)
+            | ExpNode::And(_, _)
+            | ExpNode::Or(_, _)
+            | ExpNode::Paren(_)
+            | ExpNode::Table(_) => None,
+        }
+    }
+
+    /// Where a key stands beside a value that is stored.
+    #[tactic(auto, using(crate::proofs::FieldSeats::seat_named, crate::proofs::FieldSeats::seat_indexed, crate::proofs::FieldSeats::seat_standing, crate::proofs::FieldSeats::seat_above))]
+    fn key_seat(&self, value: Option<usize>, key: &Exp) -> KeySeat
+        ensures { result ≡ key_seat (field_key self.now.constants value (plain_exp key.now)) }
+    {
+        if let Some(number) = self.name_in(key) {
+            return KeySeat::Name(number);
+        }
+        if let Some(number) = numeral_of(key, Some(255)) {
+            return KeySeat::Index(number);
+        }
+        match beside_local(value, local_of(key)) {
+            Some(register) => KeySeat::Register(register),
+            None => KeySeat::Above,
+        }
+    }
+
+    /// Writes an operand that does not stay in a register, and answers where it stands.
+    #[tactic(auto, using(crate::proofs::FieldSeats::stays_written))]
+    fn stand(&mut self, stays: Option<usize>, exp: &Exp, target: usize) -> Result<usize, AllocError>
+        ensures code { OnOk result (self.new ≡ followed self.old (unless stays (exp_code self.old.constants (plain_exp exp.now) target self.old.made 2)) (made_unless stays (made_by (plain_exp exp.now)))) }
+        ensures place { IfOk result (λ register. register ≡ seat stays target) }
+    {
+        if let Some(register) = stays {
+            return Ok(register);
+        }
+        self.expression(exp, target, 2)?;
+        Ok(target)
+    }
+
+    /// Writes a key that is made.
+    #[tactic(auto, using(crate::proofs::Seats::nothing_more))]
+    fn write_key(&mut self, stands: KeySeat, key: &Exp, target: usize) -> Result<(), AllocError>
+        ensures { OnOk result (self.new ≡ followed self.old (seat_code stands (exp_code self.old.constants (plain_exp key.now) target self.old.made 2)) (seat_made stands (made_by (plain_exp key.now)))) }
+    {
+        match stands {
+            KeySeat::Above => self.expression(key, target, 2),
+            KeySeat::Name(_) => Ok(()),
+            KeySeat::Index(_) => Ok(()),
+            KeySeat::Register(_) => Ok(()),
+        }
+    }
+
+    /// Writes the store of a value, where the object and the value stand in registers, and a key that is made in another.
+    fn put_store(
+        &mut self,
+        stands: KeySeat,
+        object: usize,
+        above: usize,
+        value: usize,
+        line: u32,
+    ) -> Result<(), AllocError>
+        ensures { OnOk result (self.new ≡ listed self.old (seat_store stands object above value line ∷ [])) }
+    {
+        match stands {
+            KeySeat::Name(number) => self.put_abc(Opcode::SetField, object, number, value, line),
+            KeySeat::Index(number) => self.put_abc(Opcode::SetI, object, number, value, line),
+            KeySeat::Register(key) => self.put_abc(Opcode::SetTable, object, key, value, line),
+            KeySeat::Above => self.put_abc(Opcode::SetTable, object, above, value, line),
+        }
+    }
+
+    /// Writes a value that goes to the field of an object, where the registers from one on are free.
+    fn store_field(
+        &mut self,
+        object: &Exp,
+        key: &Exp,
+        value: &Exp,
+        free: usize,
+        line: u32,
+    ) -> Result<(), AllocError>
+        ensures { OnOk result (self.new ≡ followed self.old (field_code self.old.constants (Index line (plain_exp object.now) (plain_exp key.now)) (plain_exp value.now) free self.old.made (self.old.made + (made_by (plain_exp object.now) + made_by (plain_exp key.now)))) (made_by (plain_exp object.now) + made_by (plain_exp key.now) + made_by (plain_exp value.now))) }
+    {
+        let above = next(free)?;
+        let top = next(above)?;
+        let local = local_of(value);
+        let stands = self.key_seat(local, key);
+        let first = self.stand(object_at(stands, local, object), object, free)?;
+        self.write_key(stands, key, above)?;
+        let third = self.stand(local, value, top)?;
+        self.put_store(stands, first, above, third, line)?;
+        Ok(())
+    }
+
+    /// Writes an assignment of one value to one field, where the registers from one on are free. For another target
+    /// nothing is written.
+    #[tactic(auto, using(crate::proofs::Seats::nothing_more))]
+    pub fn store(&mut self, target: &Exp, value: &Exp, free: usize) -> Result<(), AllocError>
+        ensures { OnOk result (self.new ≡ followed self.old (field_code self.old.constants (plain_exp target.now) (plain_exp value.now) free self.old.made (self.old.made + made_by (plain_exp target.now))) (made_in_field (plain_exp target.now) (plain_exp value.now))) }
+    {
+        match &target.node {
+            ExpNode::Index(object, key) => self.store_field(object, key, value, free, target.line),
+            ExpNode::Nil
+            | ExpNode::True
+            | ExpNode::False
+            | ExpNode::Int(_)
+            | ExpNode::Str(_)
+            | ExpNode::Vararg
+            | ExpNode::Function(_)
+            | ExpNode::Var(_)
+            | ExpNode::Call(_, _)
+            | ExpNode::Method(_, _, _)
+            | ExpNode::Unary(_, _)
+            | ExpNode::Binary(_, _, _)
+            | ExpNode::And(_, _)
+            | ExpNode::Or(_, _)
+            | ExpNode::Paren(_)
+            | ExpNode::Table(_) => Ok(()),
+        }
+    }
+}

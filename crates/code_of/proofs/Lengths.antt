@@ -1,0 +1,124 @@
+-- Each expression has code, and so have values that are wanted.
+use Rattle.std.proofs.Common.{◌≡◌, ℕ, suc, ◌+◌, ◌≤◌, Bool, true, false, cond, List, [], ◌∷◌, ◌++◌, length, Option, Some, None, refl, arith, length-append}
+use Rattle.std.specs.Prelude.{nat_lt}
+use Rattle.tree_core.specs.declared.name.Place.{Place}
+use Rattle.tree_core.specs.declared.name.Place.TheVariants.{Unset, Upvalue, GlobalIn, GlobalOf}
+use Rattle.tree_core.specs.declared.name.Place.TheVariants.{Local as LocalPlace}
+use Rattle.tree_core.specs.declared.operator.BinOp.{BinOp}
+use Rattle.tree_core.specs.declared.operator.BinOp.TheVariants.{Add as Plus, Sub as Minus, Mul as Times, Mod as Modulo, Idiv, Band, Bor, Bxor, Shl as ShiftLeft, Shr as ShiftRight, Concat as Join, Eq as Equal, Ne, Lt as Less, Le as AtMost, Gt, Ge}
+use Rattle.tree_core.specs.Tree.{Exp, Nil, True, False, Int, Str, Vararg, Function, Var, Index, Call, Method, Unary, Binary, And, Or, Paren, Table, Exps, EndExps, MoreExps}
+use Rattle.code_core.specs.declared.opcode.Opcode.TheVariants.{LoadI, LoadK, LoadKx, ExtraArg, GetUpval, GetTabUp, GetTable, GetI, GetField}
+use Rattle.code_core.specs.declared.proto.Const.{Const}
+use Rattle.code_core.specs.declared.proto.Const.TheVariants.{Int as IntConst, Str as StrConst}
+use Rattle.code_core.specs.Instruction.{op_ax}
+use Rattle.code_of.specs.Coded.{Coded, with_abc, with_abx}
+use Rattle.code_of.specs.Constants.{number_in, is_small, small_field, loads_numbered, loads}
+use Rattle.code_of.specs.Operands.{local_of, greatest, numeral_of, Second, a_number, a_local, made, second_of, key_operand, first_of, unless, seat, operands_code}
+use Rattle.code_of.specs.Stores.{name_in}
+use Rattle.code_of.specs.FieldReads.{read_code}
+use Rattle.code_of.specs.Operators.{name_code, operator_code, number_code}
+use Rattle.code_of.specs.Expressions.{made_by, field_of, exp_code, exps_code}
+use Rattle.code_of.proofs.Operands.{numeral_none, second_number}
+
+some_behind : (xs ys : List Coded) → 1 ≤ length ys → 1 ≤ length (xs ++ ys)
+some_behind xs ys h = let sum = length-append xs ys in omega (arith, sum, h)
+
+some_before : (xs ys : List Coded) → 1 ≤ length xs → 1 ≤ length (xs ++ ys)
+some_before xs ys h = let sum = length-append xs ys in omega (arith, sum, h)
+
+numbered_some : (number t line : ℕ) → 1 ≤ length (loads_numbered number t line)
+numbered_some number t line = by (nat_lt number 131072)
+  where
+    by : (b : Bool) → 1 ≤ length (cond b (with_abx LoadK t number line ∷ []) (with_abx LoadKx t 0 line ∷ (op_ax ExtraArg number, line) ∷ []))
+    by true = omega arith
+    by false = omega arith
+
+operator_some : (op : BinOp) (x y t line : ℕ) → 1 ≤ length (operator_code op x y t line)
+operator_some Plus x y t line = omega arith
+operator_some Minus x y t line = omega arith
+operator_some Times x y t line = omega arith
+operator_some Modulo x y t line = omega arith
+operator_some Idiv x y t line = omega arith
+operator_some Band x y t line = omega arith
+operator_some Bor x y t line = omega arith
+operator_some Bxor x y t line = omega arith
+operator_some ShiftLeft x y t line = omega arith
+operator_some ShiftRight x y t line = omega arith
+operator_some Join x y t line = omega arith
+operator_some Equal x y t line = omega arith
+operator_some Ne x y t line = omega arith
+operator_some Less x y t line = omega arith
+operator_some AtMost x y t line = omega arith
+operator_some Gt x y t line = omega arith
+operator_some Ge x y t line = omega arith
+
+-- an operator that takes no numeral is never asked for one
+number_some : (op : BinOp) (d : Exp) (m : ℕ) → numeral_of d (greatest op) ≡ Some m → (x n t line : ℕ) → 1 ≤ length (number_code op x n t line)
+number_some Plus d m e x n t line = omega arith
+number_some Minus d m e x n t line = omega arith
+number_some ShiftRight d m e x n t line = omega arith
+number_some Equal d m e x n t line = omega arith
+number_some Ne d m e x n t line = omega arith
+number_some Less d m e x n t line = omega arith
+number_some AtMost d m e x n t line = omega arith
+number_some Gt d m e x n t line = omega arith
+number_some Ge d m e x n t line = omega arith
+number_some Times d m e x n t line = absurd (numeral_none d m e)
+number_some Modulo d m e x n t line = absurd (numeral_none d m e)
+number_some Idiv d m e x n t line = absurd (numeral_none d m e)
+number_some Band d m e x n t line = absurd (numeral_none d m e)
+number_some Bor d m e x n t line = absurd (numeral_none d m e)
+number_some Bxor d m e x n t line = absurd (numeral_none d m e)
+number_some ShiftLeft d m e x n t line = absurd (numeral_none d m e)
+number_some Join d m e x n t line = absurd (numeral_none d m e)
+
+operands_some : (s : Second) (at : Option ℕ) (first code : List Coded) (t : ℕ) (by num : (x y : ℕ) → List Coded) → ((x y : ℕ) → 1 ≤ length (by x y)) → ((n : ℕ) → s ≡ a_number n → (x : ℕ) → 1 ≤ length (num x n))
+    → 1 ≤ length (operands_code s at first code t by num)
+operands_some made at first code t by num e d = some_behind (unless at first) _ (some_behind code (by (seat at t) (t + 1)) (e (seat at t) (t + 1)))
+operands_some (a_local r) at first code t by num e d = some_behind (unless at first) (by (seat at t) r) (e (seat at t) r)
+operands_some (a_number n) at first code t by num e d = some_behind (unless at first) (num (seat at t) n) (d n refl (seat at t))
+
+read_some : (name : Option ℕ) (object key : Exp) (first second : List Coded) (r t line : ℕ) → 1 ≤ length (read_code name object key first second r t line)
+read_some (Some number) object key first second r t line = some_behind (unless (local_of object) first) (with_abc GetField r (seat (local_of object) t) number line ∷ []) (omega arith)
+read_some None object key first second r t line = operands_some (key_operand key) (first_of (key_operand key) object) first second t (λ x y. with_abc GetTable r x y line ∷ []) (λ x n. with_abc GetI r x n line ∷ []) (λ x y. omega arith) (λ n is x. omega arith)
+
+module _ (cs : List Const) where
+  name_some : (place : Place) (text : List ℕ) (t line : ℕ) → 1 ≤ length (name_code cs place text t line)
+  name_some Unset text t line = omega arith
+  name_some (LocalPlace n) text t line = omega arith
+  name_some (Upvalue u) text t line = omega arith
+  name_some (GlobalIn n) text t line = some_behind (loads cs (StrConst text) t line) (with_abc GetTable t n t line ∷ []) (omega arith)
+  name_some (GlobalOf u) text t line = by (nat_lt (number_in cs (StrConst text)) 256)
+    where
+      by : (b : Bool) → 1 ≤ length (cond b (with_abc GetTabUp t u (number_in cs (StrConst text)) line ∷ []) (with_abc GetUpval t u 0 line ∷ (loads cs (StrConst text) (t + 1) line ++ with_abc GetTable t t (t + 1) line ∷ [])))
+      by true = omega arith
+      by false = omega arith
+
+  pub exp_some : (e : Exp) (t j c : ℕ) → 1 ≤ length (exp_code cs e t j c)
+  exp_some (Nil line) t j c = omega arith
+  exp_some (True line) t j c = omega arith
+  exp_some (False line) t j c = omega arith
+  exp_some (Int line n) t j c = by (is_small n)
+    where
+      by : (b : Bool) → 1 ≤ length (cond b (with_abx LoadI t (small_field n) line ∷ []) (loads cs (IntConst n) t line))
+      by true = omega arith
+      by false = numbered_some (number_in cs (IntConst n)) t line
+  exp_some (Str line bytes) t j c = numbered_some (number_in cs (StrConst bytes)) t line
+  exp_some (Vararg line) t j c = omega arith
+  exp_some (Function line body) t j c = omega arith
+  exp_some (Var line name) t j c = name_some name.place name.text t line
+  exp_some (Index line object key) t j c = read_some (name_in cs key) object key (exp_code cs object t j 2) (exp_code cs key (t + 1) (j + made_by object) 2) t t line
+  exp_some (Call line f es) t j c = some_before (exp_code cs f t j 2) _ (exp_some f t j 2)
+  exp_some (Method line object name es) t j c = some_before (exp_code cs object t j 2) _ (exp_some object t j 2)
+  exp_some (Unary line op e) t j c = some_before (exp_code cs e t j 2) _ (exp_some e t j 2)
+  exp_some (Binary line op e d) t j c =
+      operands_some (second_of op d) (first_of (second_of op d) e) (exp_code cs e t j 2) (exp_code cs d (t + 1) (j + made_by e) 2) t (λ x y. operator_code op x y t line) (λ x n. number_code op x n t line) (λ x y. operator_some op x y t line) (λ n is x. number_some op d n (second_number op d n is) x n t line)
+  exp_some (And line e d) t j c = some_before (exp_code cs e t j 2) _ (exp_some e t j 2)
+  exp_some (Or line e d) t j c = some_before (exp_code cs e t j 2) _ (exp_some e t j 2)
+  exp_some (Paren line e) t j c = exp_some e t j 2
+  exp_some (Table line fs) t j c = omega arith
+
+  -- where a value is wanted, there is code
+  pub values_some : (es : Exps) (n t j line : ℕ) → 1 ≤ length (exps_code cs es (Some (suc n)) t j line)
+  values_some EndExps n t j line = omega arith
+  values_some (MoreExps e es) n t j line = some_before (exp_code cs e t j (field_of e es (Some (suc n)))) _ (exp_some e t j (field_of e es (Some (suc n))))

@@ -1,0 +1,151 @@
+-- Statements that store a value in a field, and where the object and the key stand.
+use Rattle.std.proofs.Common.{◌≡◌, ℕ, ◌+◌, ◌<◌, ◌≤◌, ltb-true, Bool, true, false, cond, List, length, ◌++◌, [], ◌∷◌, Option, Some, None, refl, sym, ap, arith, length-append}
+use Rattle.std.specs.Prelude.{nat_lt}
+use Rattle.tree_core.specs.Tree.{Exp, Str, Index, Exps, EndExps, MoreExps}
+use Rattle.code_core.specs.declared.proto.Const.{Const}
+use Rattle.code_core.specs.declared.proto.Const.TheVariants.{Str as StrConst}
+use Rattle.code_of.specs.Coded.{Coded}
+use Rattle.code_of.specs.Constants.{number_in}
+use Rattle.code_of.specs.Operands.{local_of, numeral_of, seat, unless}
+use Rattle.code_of.proofs.Operands.{some_is, IsNumeral, numeral_is}
+use Rattle.code_of.specs.Stores.{FieldKey, a_name, an_index, a_register, evaluated, short_number, name_in, field_key_by, beside_local, field_key, object_of, key_code, field_store, fields_store, is_field, stores_field}
+
+pub record StoresField (targets es : Exps) : Type 0 where
+  pub line : ℕ
+  pub object : Exp
+  pub key : Exp
+  pub value : Exp
+  pub target : targets ≡ MoreExps (Index line object key) EndExps
+  pub values : es ≡ MoreExps value EndExps
+
+of_index : (x e : Exp) → is_field x ≡ true → StoresField (MoreExps x EndExps) (MoreExps e EndExps)
+of_index (Index line object key) e h = record { line = line; object = object; key = key; value = e; target = refl; values = refl }
+of_index _ e h = absurd (cc)
+
+pub stores_field_is : (targets es : Exps) → stores_field targets es ≡ true → StoresField targets es
+stores_field_is EndExps es h = absurd (cc)
+stores_field_is (MoreExps x (MoreExps y targets)) es h = absurd (cc)
+stores_field_is (MoreExps x EndExps) EndExps h = absurd (cc)
+stores_field_is (MoreExps x EndExps) (MoreExps e (MoreExps d es)) h = absurd (cc)
+stores_field_is (MoreExps x EndExps) (MoreExps e EndExps) h = of_index x e h
+
+-- a key that is a name
+
+pub record IsName (constants : List Const) (key : Exp) (number : ℕ) : Type 0 where
+  pub line : ℕ
+  pub bytes : List ℕ
+  pub is : key ≡ Str line bytes
+  pub same : number ≡ number_in constants (StrConst bytes)
+  pub short : number < 256
+
+short_is : (n number : ℕ) → short_number n ≡ Some number → (number ≡ n) × (number < 256)
+short_is n number h = by (nat_lt n 256) refl h
+  where
+    by : (b : Bool) → nat_lt n 256 ≡ b → cond b (Some n) None ≡ Some number → (number ≡ n) × (number < 256)
+    by true below h = let same = some_is n number h in let less = ltb-true n 256 below in (sym same, omega (arith, same, less))
+    by false below h = absurd (cc)
+
+pub name_is : (constants : List Const) (key : Exp) (number : ℕ) → name_in constants key ≡ Some number → IsName constants key number
+name_is constants (Str line bytes) number h =
+    let short = short_is (number_in constants (StrConst bytes)) number h in
+    record { line = line; bytes = bytes; is = refl; same = short.0; short = short.1 }
+name_is constants _ number h = absurd (cc)
+
+-- where the key stands
+
+abbrev name_part : FieldKey → Option ℕ
+name_part (a_name number) = Some number
+name_part _ = None
+
+abbrev index_part : FieldKey → Option ℕ
+index_part (an_index n) = Some n
+index_part _ = None
+
+abbrev register_part : FieldKey → Option ℕ
+register_part (a_register r) = Some r
+register_part _ = None
+
+none_some : {A : Type 0} (n : ℕ) → None ≡ Some n → A
+none_some n h = absurd (cc)
+
+named_by : (name index local : Option ℕ) (number : ℕ) → field_key_by name index local ≡ a_name number → name ≡ Some number
+named_by (Some m) index local number h = ap name_part h
+named_by None (Some n) local number h = none_some number (ap name_part h)
+named_by None None (Some r) number h = none_some number (ap name_part h)
+named_by None None None number h = none_some number (ap name_part h)
+
+indexed_by : (name index local : Option ℕ) (n : ℕ) → field_key_by name index local ≡ an_index n → index ≡ Some n
+indexed_by (Some m) index local n h = none_some n (ap index_part h)
+indexed_by None (Some m) local n h = ap index_part h
+indexed_by None None (Some r) n h = none_some n (ap index_part h)
+indexed_by None None None n h = none_some n (ap index_part h)
+
+standing_by : (name index local : Option ℕ) (r : ℕ) → field_key_by name index local ≡ a_register r → local ≡ Some r
+standing_by (Some m) index local r h = none_some r (ap register_part h)
+standing_by None (Some n) local r h = none_some r (ap register_part h)
+standing_by None None (Some q) r h = ap register_part h
+standing_by None None None r h = none_some r (ap register_part h)
+
+beside_is : (value local : Option ℕ) (r : ℕ) → beside_local value local ≡ Some r → local ≡ Some r
+beside_is None local r h = none_some r h
+beside_is (Some v) local r h = h
+
+beside_some : (value local : Option ℕ) (r : ℕ) → beside_local value local ≡ Some r → value ≡ None → ⊥
+beside_some None local r h e = none_some r h
+beside_some (Some v) local r h e = none_some v (sym e)
+
+-- a key that stands so is that name, that numeral, or that local, and a local is there only if the value is one too
+pub record FieldKeyStands (constants : List Const) (value : Option ℕ) (key : Exp) (s : FieldKey) : Type 0 where
+  pub name : (number : ℕ) → s ≡ a_name number → IsName constants key number
+  pub index : (n : ℕ) → s ≡ an_index n → IsNumeral key n 255
+  pub local : (r : ℕ) → s ≡ a_register r → local_of key ≡ Some r
+  pub only : (r : ℕ) → s ≡ a_register r → value ≡ None → ⊥
+
+pub field_key_stands : (constants : List Const) (value : Option ℕ) (key : Exp) → FieldKeyStands constants value key (field_key constants value key)
+field_key_stands constants value key =
+    let name = name_in constants key in
+    let index = numeral_of key (Some 255) in
+    let local = beside_local value (local_of key) in
+    record {
+      name = λ number h. name_is constants key number (named_by name index local number h);
+      index = λ n h. numeral_is key 255 n (indexed_by name index local n h);
+      local = λ r h. beside_is value (local_of key) r (standing_by name index local r h);
+      only = λ r h. beside_some value (local_of key) r (standing_by name index local r h);
+    }
+
+-- an object that stays is that local, and nothing is evaluated behind it
+
+pub record ObjectStays (key : FieldKey) (value : Option ℕ) (object : Exp) (r : ℕ) : Type 0 where
+  pub local : local_of object ≡ Some r
+  pub only : value ≡ None → ⊥
+  pub key_stays : key ≡ evaluated → ⊥
+
+pub object_stays : (key : FieldKey) (value : Option ℕ) (object : Exp) (r : ℕ) → object_of key value object ≡ Some r → ObjectStays key value object r
+object_stays evaluated value object r h = none_some r h
+object_stays (a_name number) value object r h = record { local = beside_is value (local_of object) r h; only = beside_some value (local_of object) r h; key_stays = λ e. none_some number (sym (ap name_part e)) }
+object_stays (an_index n) value object r h = record { local = beside_is value (local_of object) r h; only = beside_some value (local_of object) r h; key_stays = λ e. none_some n (sym (ap index_part e)) }
+object_stays (a_register q) value object r h = record { local = beside_is value (local_of object) r h; only = beside_some value (local_of object) r h; key_stays = λ e. none_some q (sym (ap register_part e)) }
+
+-- sizes
+
+pub fields_store_short : (key : FieldKey) (object value : Option ℕ) (first second third : List Coded) (t line : ℕ) → length (fields_store key object value first second third t line) ≤ length first + (length second + (length third + 1))
+fields_store_short key object value first second third t line =
+    omega (
+      arith,
+      unless_short object first,
+      key_short key,
+      unless_short value third,
+      length-append (unless object first) (key_code key second ++ (unless value third ++ field_store key (seat object t) t (seat value (t + 2)) line ∷ [])),
+      length-append (key_code key second) (unless value third ++ field_store key (seat object t) t (seat value (t + 2)) line ∷ []),
+      length-append (unless value third) (field_store key (seat object t) t (seat value (t + 2)) line ∷ []),
+    )
+  where
+    unless_short : (at : Option ℕ) (code : List Coded) → length (unless at code) ≤ length code
+    unless_short None code = omega arith
+    unless_short (Some r) code = omega arith
+
+    key_short : (key : FieldKey) → length (key_code key second) ≤ length second
+    key_short evaluated = omega arith
+    key_short (a_name number) = omega arith
+    key_short (an_index n) = omega arith
+    key_short (a_register r) = omega arith

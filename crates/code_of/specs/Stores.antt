@@ -1,0 +1,85 @@
+-- Where a value is stored in a field by a statement with one target: the object, the key and the value stand where they are, if nothing is evaluated between their turn and
+-- the store, and else in the registers t, t + 1 and t + 2.
+use Rattle.std.specs.Prelude.{ℕ, ◌+◌, max, Bool, true, false, cond, nat_lt, List, [], ◌∷◌, ◌++◌, Option, Some, None}
+use Rattle.tree_core.specs.Tree.{Exp, Str, Index, Exps, EndExps, MoreExps}
+use Rattle.code_core.specs.declared.opcode.Opcode.TheVariants.{SetTable, SetI, SetField}
+use Rattle.code_core.specs.declared.proto.Const.{Const}
+use Rattle.code_core.specs.declared.proto.Const.TheVariants.{Str as StrConst}
+use Rattle.code_of.specs.Coded.{Coded, with_abc}
+use Rattle.code_of.specs.Constants.{number_in}
+use Rattle.code_of.specs.Operands.{local_of, numeral_of, seat, unless}
+
+-- The key is the number of a string, a numeral in the instruction, a local, or made
+pub data FieldKey : Type 0 where
+  a_name : (number : ℕ) → FieldKey
+  an_index : (n : ℕ) → FieldKey
+  a_register : (r : ℕ) → FieldKey
+  evaluated : FieldKey
+
+-- the field B holds numbers up to 255
+abbrev pub short_number : (number : ℕ) → Option ℕ
+short_number number = cond (nat_lt number 256) (Some number) None
+
+abbrev pub name_in : List Const → Exp → Option ℕ
+name_in constants (Str line bytes) = short_number (number_in constants (StrConst bytes))
+name_in constants _ = None
+
+abbrev pub field_key_by : (name index local : Option ℕ) → FieldKey
+field_key_by (Some number) index local = a_name number
+field_key_by None (Some n) local = an_index n
+field_key_by None None (Some r) = a_register r
+field_key_by None None None = evaluated
+
+-- a local stays where the value is one too; any other value may call code that assigns the local
+abbrev pub beside_local : (value local : Option ℕ) → Option ℕ
+beside_local None local = None
+beside_local (Some v) local = local
+
+abbrev pub field_key : List Const → (value : Option ℕ) → Exp → FieldKey
+field_key constants value key = field_key_by (name_in constants key) (numeral_of key (Some 255)) (beside_local value (local_of key))
+
+-- the object stays where it is if the key is not evaluated behind it
+abbrev pub before_key : FieldKey → (local : Option ℕ) → Option ℕ
+before_key evaluated local = None
+before_key _ local = local
+
+abbrev pub object_of : FieldKey → (value : Option ℕ) → Exp → Option ℕ
+object_of key value object = before_key key (beside_local value (local_of object))
+
+abbrev pub key_code : FieldKey → List Coded → List Coded
+key_code evaluated code = code
+key_code _ code = []
+
+-- the object stands in register x and the value in register v
+abbrev pub field_store : FieldKey → (x t v line : ℕ) → Coded
+field_store (a_name number) x t v line = with_abc SetField x number v line
+field_store (an_index n) x t v line = with_abc SetI x n v line
+field_store (a_register r) x t v line = with_abc SetTable x r v line
+field_store evaluated x t v line = with_abc SetTable x (t + 1) v line
+
+-- the code of all three is given
+abbrev pub fields_store : FieldKey → (object value : Option ℕ) → (first second third : List Coded) → (t line : ℕ) → List Coded
+fields_store key object value first second third t line =
+    unless object first ++ (key_code key second ++ (unless value third ++ field_store key (seat object t) t (seat value (t + 2)) line ∷ []))
+
+-- a statement that does so
+
+abbrev pub is_field : Exp → Bool
+is_field (Index line object key) = true
+is_field _ = false
+
+abbrev pub stores_field : (targets es : Exps) → Bool
+stores_field (MoreExps x EndExps) (MoreExps e EndExps) = is_field x
+stores_field _ _ = false
+
+-- how many registers are taken from t on
+abbrev pub room_unless : Option ℕ → (room : ℕ) → ℕ
+room_unless None room = room
+room_unless (Some r) room = 0
+
+abbrev pub room_of_key : FieldKey → (room : ℕ) → ℕ
+room_of_key evaluated room = 1 + room
+room_of_key _ room = 0
+
+abbrev pub fields_room : FieldKey → (object value : Option ℕ) → (first second third : ℕ) → ℕ
+fields_room key object value first second third = max (room_unless object first) (max (room_of_key key second) (room_unless value (2 + third)))
