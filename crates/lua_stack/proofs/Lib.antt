@@ -17,3 +17,5 @@ pub mod PendingValues
 pub mod Told
 pub mod Viewed
 pub mod Lent
+pub mod BelowTop
+pub mod Varargs

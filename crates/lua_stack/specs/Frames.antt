@@ -13,6 +13,7 @@ use Rattle.table_core.specs.declared.value.CellId.{CellId}
 use Rattle.lua_stack.specs.declared.frame.Wait.{Wait as KeptWait}
 use Rattle.lua_stack.specs.declared.frame.Wait.TheVariants.{Running, ForCall, ForIterator, ForValue, ForTruth, Dropped, ForConcat, ForClose, Returning, Leaving}
 use Rattle.lua_stack.specs.declared.frame.OpenCell.{OpenCell}
+use Rattle.lua_stack.specs.declared.frame.LuaState.{LuaState}
 use Rattle.lua_stack.specs.declared.frame.Shape.{Shape}
 use Rattle.lua_stack.specs.declared.frame.Top.{Top}
 use Rattle.lua_stack.specs.declared.frame.Top.TheVariants.{Missing as TopMissing, Lua as TopLua, Pcall as TopPcall, Xpcall as TopXpcall, Handler as TopHandler, Closing as TopClosing}
@@ -131,6 +132,15 @@ kept_place (Some kept_pcall) = None
 kept_place (Some (kept_xpcall h)) = None
 kept_place (Some kept_handler) = None
 kept_place (Some (kept_closing error left)) = None
+
+-- a frame without its values, if it is a Lua frame
+abbrev pub kept_state : Option KeptFrame → Option LuaState
+kept_state None = None
+kept_state (Some (kept_lua t)) = Some (record { function = t.function; wait = t.wait; pc = t.pc; size = length t.registers })
+kept_state (Some kept_pcall) = None
+kept_state (Some (kept_xpcall h)) = None
+kept_state (Some kept_handler) = None
+kept_state (Some (kept_closing error left)) = None
 
 -- calls
 

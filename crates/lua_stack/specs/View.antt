@@ -11,6 +11,7 @@ use Rattle.lua_stack.specs.declared.frame.Wait.TheVariants.{Running as Begins}
 use Rattle.lua_stack.specs.declared.frame.Window.{Window}
 use Rattle.lua_stack.specs.declared.frame.Running.{Running}
 use Rattle.lua_stack.specs.declared.frame.Layout.{Layout}
+use Rattle.lua_stack.specs.declared.frame.LuaState.{LuaState}
 use Rattle.lua_stack.specs.declared.frame.Shape.{Shape}
 use Rattle.lua_stack.specs.declared.frame.Record.{Record}
 use Rattle.lua_stack.specs.declared.frame.Kind.{Kind}
@@ -244,6 +245,19 @@ place_by (Closing error) r = None
 abbrev pub place_in : Option Record → Option (FuncId × ℕ)
 place_in None = None
 place_in (Some r) = place_by r.kind r.running
+
+-- what is told of a Lua frame
+abbrev pub state_by : Kind → Running → Window → Option LuaState
+state_by Lua r w = Some (record { function = r.function; wait = r.wait; pc = r.pc; size = w.size })
+state_by Missing r w = None
+state_by Pcall r w = None
+state_by (Xpcall h) r w = None
+state_by Handler r w = None
+state_by (Closing error) r w = None
+
+abbrev pub state_in : Option Record → Option LuaState
+state_in None = None
+state_in (Some r) = state_by r.kind r.running r.window
 
 -- with all its registers
 abbrev pub whole_record : Record → Record

@@ -38,6 +38,16 @@ pub struct Shape {
     pub stack: usize,
 }
 
+/// A Lua frame without its values.
+#[derive(Clone, Copy)]
+pub struct LuaState {
+    pub function: FuncId,
+    pub wait: Wait,
+    pub pc: usize,
+    /// How many registers it has.
+    pub size: usize,
+}
+
 /// What frame is on top.
 #[derive(Clone, Copy, Debug)]
 pub enum Top {

@@ -1,10 +1,11 @@
 // Frames that are pushed and popped, and those that are found by their numbers.
 ghost use Rattle.std.specs.Prelude.{◌≡◌, ◌+◌, ◌-◌, ◌<◌, ◌≤◌, [], ◌∷◌, ◌++◌, true, Some, length, slice_get, OnOk, OnErr};
-ghost use Rattle.int_core.specs.Value.{without_last};
-ghost use Rattle.lua_stack.specs.Frames.{OnTop, NoneFrom, kept_pcall, kept_xpcall, kept_handler, kept_place};
-ghost use Rattle.lua_stack.specs.View.{tops, is_missing, is_plain, plain_frame, place_in, record_behind, whole_record};
+ghost use Rattle.int_core.specs.Value.{last, without_last};
+ghost use Rattle.lua_stack.specs.Frames.{OnTop, NoneFrom, kept_pcall, kept_xpcall, kept_handler, kept_place, kept_state};
+ghost use Rattle.lua_stack.specs.View.{tops, is_missing, is_plain, plain_frame, place_in, record_behind, state_by, whole_record};
 
-use crate::frame::{Kind, Record, Window};
+use crate::closing::frame_in;
+use crate::frame::{Kind, LuaState, Record, Running, Window};
 use crate::stack::Stack;
 use crate::values::{clear, place_of};
 use std::alloc::AllocError;
@@ -72,6 +73,19 @@ impl Stack {
         ensures { result ≡ kept_place (slice_get self.now.frames frame) }
     {
         place(record_at(&self.below, self.top, frame))
+    }
+
+    /// The frame below the one on top, if it is a Lua frame.
+    #[inline]
+    pub fn below_top(&self) -> Option<LuaState>
+        ensures { result ≡ kept_state (last (without_last self.now.frames)) }
+    {
+        let count = self.below.len();
+        if count == 0 {
+            return None;
+        }
+        let record = frame_in(&self.below, count - 1);
+        state(record.kind, record.running, record.window)
     }
 }
 
@@ -148,6 +162,26 @@ pub(crate) fn record_at(below: &[Record], top: Record, frame: usize) -> Option<R
         return None;
     }
     Some(top)
+}
+
+/// What is told of a Lua frame.
+#[inline(always)]
+fn state(kind: Kind, running: Running, window: Window) -> Option<LuaState>
+    ensures { result ≡ state_by kind running window }
+{
+    match kind {
+        Kind::Lua => Some(LuaState {
+            function: running.function,
+            wait: running.wait,
+            pc: running.pc,
+            size: window.size,
+        }),
+        Kind::Missing => None,
+        Kind::Pcall => None,
+        Kind::Xpcall(_) => None,
+        Kind::Handler => None,
+        Kind::Closing(_) => None,
+    }
 }
 
 /// Where a frame is in its code.

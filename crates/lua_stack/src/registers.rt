@@ -1,12 +1,13 @@
 // The registers of the Lua frame on top.
-ghost use Rattle.std.specs.Prelude.{◌≡◌, ◌+◌, ◌≤◌, Some, length, map, slice_get, take, OnErr, OnOk};
+ghost use Rattle.std.specs.Prelude.{◌≡◌, ◌+◌, ◌-◌, ◌≤◌, Some, length, map, slice_get, take, OnErr, OnOk};
 ghost use Rattle.std.specs.Borrow.{sem};
 ghost use Rattle.int_core.specs.Value.{write, write_all};
 ghost use Rattle.machine_core.specs.Text.{nils};
 ghost use Rattle.lua_stack.specs.Frames.{HasLuaTop, HasRegisters, NoneFrom, OnTop, TopBecomes, cut_at, with_registers, with_opened};
 
+use crate::frame::Window;
 use crate::stack::Stack;
-use crate::values::{clear, end_of, grow, place_of, put, put_one, value_at};
+use crate::values::{clear, copy, end_of, grow, place_of, put, put_one, value_at};
 use std::alloc::AllocError;
 use table_core::Value;
 
@@ -56,6 +57,25 @@ impl Stack {
         self.top.window.kept = size;
         self.top.window.size = size;
         self.top.running.opened = values.len();
+        Ok(())
+    }
+
+    /// Writes the arguments beyond the parameters from a register on as a list that is open: the frame gets as many registers as it takes.
+    pub fn write_varargs(&mut self, at: usize) -> Result<(), AllocError>
+        requires { HasRegisters self.old (at + 1) }
+        ensures ok { OnOk result (TopBecomes self.old self.new (λ f t. with_opened (length t.own.varargs) (with_registers (write_all at t.own.varargs t.own.registers) t))) }
+        ensures err { OnErr result (self.new ≡ self.old) }
+    {
+        let window = self.top.window;
+        let to = place_of(window, at, self.values.len());
+        let count = extra_in(window);
+        let end = end_of(to, count)?;
+        grow(&mut self.values, end)?;
+        copy(&mut self.values, window.start, to, count);
+        let size = window.size.max(at + count);
+        self.top.window.kept = size;
+        self.top.window.size = size;
+        self.top.running.opened = count;
         Ok(())
     }
 
@@ -122,4 +142,13 @@ impl Stack {
         let end = place_of(self.top.window, self.top.window.size, self.values.len());
         self.values.slice_mut(base..end)
     }
+}
+
+/// How many arguments a frame has beyond the parameters.
+#[inline(always)]
+fn extra_in(window: Window) -> usize
+    requires { window.start ≤ window.base }
+    ensures { result ≡ window.base - window.start }
+{
+    window.base - window.start
 }

@@ -6,7 +6,7 @@ ghost use Rattle.int_core.specs.Value.{bind};
 ghost use Rattle.machine_arms_numbers.specs.Numbers.{event_of, has_registers, has_constant};
 ghost use Rattle.machine_view.specs.View.{IsAt, Goes};
 
-use crate::registers::{behind, constant, get_b, get_c, integer, set_a};
+use crate::registers::{behind, constant, get_b, get_c, integer, set_a_integer};
 use code_core::{Instruction, Opcode};
 use int_core::{add, floor_div, floor_mod, mul, neg, shl, shr, sub};
 use table_core::Value;
@@ -95,7 +95,7 @@ pub(crate) fn with_registers(
         return Some(behind(words, pc, 1));
     };
     let k = computed(op, m, n)?;
-    set_a(registers, i, Value::Int(k));
+    set_a_integer(registers, i, k);
     Some(behind(words, pc, 2))
 }
 
@@ -121,7 +121,7 @@ pub(crate) fn with_constant(
         return Some(behind(words, pc, 1));
     };
     let k = computed(op, m, n)?;
-    set_a(registers, i, Value::Int(k));
+    set_a_integer(registers, i, k);
     Some(behind(words, pc, 2))
 }
 
@@ -140,7 +140,7 @@ pub(crate) fn add_number(
     let Some(m) = integer(get_b(registers, i)) else {
         return behind(words, pc, 1);
     };
-    set_a(registers, i, Value::Int(add(m, i64::from(i.sc()))));
+    set_a_integer(registers, i, add(m, i64::from(i.sc())));
     behind(words, pc, 2)
 }
 
@@ -159,7 +159,7 @@ pub(crate) fn shift_right_by(
     let Some(m) = integer(get_b(registers, i)) else {
         return behind(words, pc, 1);
     };
-    set_a(registers, i, Value::Int(shr(m, i64::from(i.sc()))));
+    set_a_integer(registers, i, shr(m, i64::from(i.sc())));
     behind(words, pc, 2)
 }
 
@@ -178,7 +178,7 @@ pub(crate) fn shift_number_left(
     let Some(m) = integer(get_b(registers, i)) else {
         return behind(words, pc, 1);
     };
-    set_a(registers, i, Value::Int(shl(i64::from(i.sc()), m)));
+    set_a_integer(registers, i, shl(i64::from(i.sc()), m));
     behind(words, pc, 2)
 }
 
@@ -196,7 +196,7 @@ pub(crate) fn negate(
     ensures kept { IfNone result (registers.new ≡ registers.old) }
 {
     let n = integer(get_b(registers, i))?;
-    set_a(registers, i, Value::Int(neg(n)));
+    set_a_integer(registers, i, neg(n));
     Some(behind(words, pc, 1))
 }
 
@@ -214,6 +214,6 @@ pub(crate) fn complement(
     ensures kept { IfNone result (registers.new ≡ registers.old) }
 {
     let n = integer(get_b(registers, i))?;
-    set_a(registers, i, Value::Int(flipped(n)));
+    set_a_integer(registers, i, flipped(n));
     Some(behind(words, pc, 1))
 }

@@ -5,7 +5,7 @@ ghost use Rattle.machine_core.specs.InstructionRows.{runs, rounds};
 ghost use Rattle.machine_arms_numbers.specs.Numbers.{leads_back, distance_of};
 ghost use Rattle.machine_view.specs.View.{IsAt, Goes};
 
-use crate::registers::{behind, get_above, integer, set_above, truthy};
+use crate::registers::{behind, get_above, integer, set_above, set_above_integer, truthy};
 use code_core::Instruction;
 use int_core::{add, sub};
 use table_core::Value;
@@ -100,9 +100,9 @@ pub(crate) fn for_loop(
     }
     pay(fuel)?;
     let next = add(from, step);
-    set_above(registers, i, 1, Value::Int(sub(count, 1)));
-    set_above(registers, i, 0, Value::Int(next));
-    set_above(registers, i, 3, Value::Int(next));
+    set_above_integer(registers, i, 1, sub(count, 1));
+    set_above_integer(registers, i, 0, next);
+    set_above_integer(registers, i, 3, next);
     Some(back(words, pc, i.bx() as usize))
 }
 
@@ -163,8 +163,8 @@ pub(crate) fn for_prep(
         return Some(behind(words, pc, i.bx() as usize + 2));
     }
     let count = further_rounds(from, limit, step);
-    set_above(registers, i, 1, Value::Int(count));
-    set_above(registers, i, 3, Value::Int(from));
+    set_above_integer(registers, i, 1, count);
+    set_above_integer(registers, i, 3, from);
     Some(behind(words, pc, 1))
 }
 

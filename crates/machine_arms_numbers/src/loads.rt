@@ -4,7 +4,7 @@ ghost use Rattle.code_core.specs.declared.opcode.Opcode.TheVariants.{Move, LoadI
 ghost use Rattle.machine_arms_numbers.specs.Numbers.{cleared};
 ghost use Rattle.machine_view.specs.View.{IsAt, Goes};
 
-use crate::registers::{behind, constant, fetch, get_b, set_a};
+use crate::registers::{behind, constant, fetch, get_b, set_a, set_a_integer};
 use code_core::Instruction;
 use table_core::Value;
 
@@ -37,7 +37,7 @@ pub(crate) fn load_integer(
     requires { IsAt LoadI i words.now constants.now registers.old pc }
     ensures { (fuel : ℕ) → Goes LoadI i words.now constants.now registers.old pc fuel registers.new result fuel }
 {
-    set_a(registers, i, Value::Int(i64::from(i.sbx())));
+    set_a_integer(registers, i, i64::from(i.sbx()));
     behind(words, pc, 1)
 }
 

@@ -3,6 +3,7 @@ ghost use Rattle.std.specs.Prelude.{◌≡◌, ◌+◌, ◌<◌, length, slice_g
 ghost use Rattle.code_core.specs.Instruction.{a_of, b_of, c_of, k_of};
 ghost use Rattle.int_core.specs.Value.{same_truth};
 ghost use Rattle.machine_arms_numbers.specs.Numbers.{integer_in, is_truthy};
+ghost use Rattle.table_core.specs.declared.value.Value.TheVariants.{Int};
 
 use code_core::Instruction;
 use table_core::Value;
@@ -61,6 +62,25 @@ pub(crate) fn set_a(registers: &mut [Value], i: Instruction, v: Value)
     ensures { registers.new ≡ slice_set registers.old (a_of i) v }
 {
     registers[i.a() as usize] = v;
+}
+
+/// R[A] := an integer. It is made here, so that none of the bytes of another value goes with it.
+#[inline(always)]
+pub(crate) fn set_a_integer(registers: &mut [Value], i: Instruction, n: i64)
+    requires { a_of i < length registers.old }
+    ensures { registers.new ≡ slice_set registers.old (a_of i) (Int n) }
+{
+    registers[i.a() as usize] = Value::Int(n);
+}
+
+/// R[A + at] := an integer, made here as well.
+#[inline(always)]
+pub(crate) fn set_above_integer(registers: &mut [Value], i: Instruction, at: usize, n: i64)
+    requires { a_of i + at < length registers.old }
+    ensures { registers.new ≡ slice_set registers.old (a_of i + at) (Int n) }
+{
+    let _size = registers.len();
+    registers[i.a() as usize + at] = Value::Int(n);
 }
 
 /// K[n].

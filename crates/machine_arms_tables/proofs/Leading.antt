@@ -49,12 +49,19 @@ pub if_some : {A : Type 0} {P Q : A → Type 0} (o : Option A) → ((x : A) → 
 if_some None f h = tt
 if_some (Some x) f h = f x h
 
-pub none_same : {A B : Type 0} (x : B) (o : Option A) → IfNone o (x ≡ x)
-none_same x None = refl
-none_same x (Some y) = tt
+pub if_none : {A : Type 0} {P Q : Type 0} (o : Option A) → (P → Q) → IfNone o P → IfNone o Q
+if_none None f h = f h
+if_none (Some x) f h = tt
 
 pub by_opcode : {op arm : Opcode} {w : Instruction} {k : Code} {m n : Moment} → op ≡ arm → Leads arm w k m n → Leads op w k m n
 by_opcode {w = w} {k = k} {m = m} {n = n} e d = subst (λ op. Leads op w k m n) (sym e) d
+
+-- what is as it was, and a budget of which nothing was paid
+pub as_before : {op : Opcode} {w : Instruction} {k : Code} {ts ts' : List Contents} {cs cs' : List KeptCell} {r r' s : List Kept} {pc to fuel left : ℕ} → r' ≡ r → left ≡ fuel
+    → ((fuel : ℕ) → Leads op w k (moment ts cs r' pc fuel) (moment ts' cs' s to fuel)) → Leads op w k (moment ts cs r pc fuel) (moment ts' cs' s to left)
+as_before {op} {w} {k} {ts} {ts'} {cs} {cs'} {r} {r'} {s} {pc} {to} {fuel} {left} e f goes =
+    subst (λ r. Leads op w k (moment ts cs r pc fuel) (moment ts' cs' s to left)) e
+    (subst (λ fuel. Leads op w k (moment ts cs r' pc fuel) (moment ts' cs' s to left)) f (goes left))
 
 -- a place in a list, by another name of its number
 pub got : {A : Type 0} (xs : List A) {m n : ℕ} {x : A} → m ≡ n → slice_get xs m ≡ Some x → slice_get xs n ≡ Some x

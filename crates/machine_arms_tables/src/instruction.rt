@@ -1,5 +1,5 @@
 // The instructions of one frame, by their opcodes.
-ghost use Rattle.std.specs.Prelude.{◌≡◌, IfSome, IfNone};
+ghost use Rattle.std.specs.Prelude.{◌≡◌, ℕ, IfSome, IfNone};
 ghost use Rattle.machine_arms_tables.specs.Frame.{Leads, code, moment};
 ghost use Rattle.machine_view.specs.View.{IsAt};
 
@@ -34,6 +34,39 @@ pub fn run_instruction(
     ensures registers { IfNone result (registers.new ≡ registers.old) }
     ensures unpaid { IfNone result (fuel.new ≡ fuel.old) }
 {
+    let done = machine_arms_numbers::run_instruction(
+        op,
+        closure.words,
+        closure.constants,
+        registers,
+        i,
+        pc,
+        fuel,
+    );
+    match done {
+        Some(to) => Some(to),
+        None => run_on_objects(op, closure, strings, tables, cells, registers, i, pc),
+    }
+}
+
+/// Does an instruction on tables and on closed cells.
+#[inline(always)]
+fn run_on_objects(
+    op: Opcode,
+    closure: Closure,
+    strings: &Strings,
+    tables: &mut Pool<Table>,
+    cells: &mut Pool<Cell>,
+    registers: &mut [Value],
+    i: Instruction,
+    pc: usize,
+) -> Option<usize>
+    requires { IsAt op i closure.words.now closure.constants.now registers.old pc }
+    ensures goes { IfSome result (λ to. (fuel : ℕ) → Leads op i (code closure.entry strings.now) (moment tables.old.objects cells.old.objects registers.old pc fuel) (moment tables.new.objects cells.new.objects registers.new to fuel)) }
+    ensures tables { IfNone result (tables.new ≡ tables.old) }
+    ensures cells { IfNone result (cells.new ≡ cells.old) }
+    ensures registers { IfNone result (registers.new ≡ registers.old) }
+{
     match op {
         Opcode::GetUpval => get_upvalue(closure, cells, registers, i, pc),
         Opcode::SetUpval => set_upvalue(closure, cells, registers, i, pc),
@@ -47,14 +80,6 @@ pub fn run_instruction(
         Opcode::SetField => set_field(closure, tables, registers, i, pc),
         Opcode::OpSelf => get_method(closure, tables, registers, i, pc),
         Opcode::Len => get_length(closure, strings, tables, registers, i, pc),
-        _ => machine_arms_numbers::run_instruction(
-            op,
-            closure.words,
-            closure.constants,
-            registers,
-            i,
-            pc,
-            fuel,
-        ),
+        _ => None,
     }
 }

@@ -1,15 +1,19 @@
 -- What a call on a stack tests.
-use Rattle.std.proofs.Common.{◌≡◌, ℕ, zero, suc, ◌<◌, ◌≤◌, ◌∷◌, [], List, Option, Some, None, refl, ap, sym, arith, Bool, true}
+use Rattle.std.proofs.Common.{◌≡◌, ℕ, zero, suc, ◌≤◌, ◌∷◌, [], List, Option, Some, None, refl, ap, sym, arith, true}
 use Rattle.code_core.specs.declared.opcode.Opcode.{Opcode}
-use Rattle.code_core.specs.declared.opcode.Opcode.TheVariants.{Call}
+use Rattle.code_core.specs.declared.opcode.Opcode.TheVariants.{Call, TailCall}
 use Rattle.machine_sound.proofs.Lists.{some_is}
 use Rattle.lua_stack.specs.declared.frame.OpenCell.{OpenCell}
 use Rattle.lua_stack.specs.Frames.{AllBelow, KeptStack, NoneFrom, top_number}
-use Rattle.running_frame.specs.Calling.{is_call, one_less}
+use Rattle.running_frame.specs.Calling.{is_call, is_tail_call, one_less}
 
 pub call_is : (o : Option Opcode) → is_call o ≡ true → o ≡ Some Call
 call_is (Some Call) h = refl
 call_is _ h = absurd (cc)
+
+pub tail_call_is : (o : Option Opcode) → is_tail_call o ≡ true → o ≡ Some TailCall
+tail_call_is (Some TailCall) h = refl
+tail_call_is _ h = absurd (cc)
 
 -- numbers that are counted from one
 

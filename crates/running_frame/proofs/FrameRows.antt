@@ -1,24 +1,25 @@
 -- CALL of a Lua function and returns to a Lua frame that waits for them, with the frame that runs held apart: each is steps of the machine.
-use Rattle.std.proofs.Common.{◌≡◌, ℕ, suc, ◌+◌, List, [], ◌∷◌, ◌++◌, length, drop, Option, Some, None, refl, ap, sym, ◌∙◌, Bool, true, false}
-use Rattle.std.specs.Prelude.{◌==◌, ◌-◌, pos, cond, filter, nat_le, nat_lt, slice_get}
+use Rattle.std.proofs.Common.{◌≡◌, ℕ, zero, suc, ◌+◌, List, [], ◌∷◌, ◌++◌, length, drop, Option, Some, None, refl, ap, sym, ◌∙◌, true}
+use Rattle.std.specs.Prelude.{◌==◌, ◌-◌, cond, filter, nat_le, nat_lt, slice_get}
 use Rattle.code_core.specs.Check.{at}
 use Rattle.code_core.specs.Instruction.{a_of, b_of, c_of, opcode_of}
 use Rattle.code_core.specs.declared.instruction.Instruction.{Instruction}
 use Rattle.code_core.specs.declared.opcode.Opcode.{Opcode}
-use Rattle.code_core.specs.declared.opcode.Opcode.TheVariants.{Call, Return}
-use Rattle.code_core.specs.Prototype.{Prototype}
+use Rattle.code_core.specs.declared.opcode.Opcode.TheVariants.{Call, Return, TailCall}
 use Rattle.int_core.specs.Limits.{greatest_depth}
-use Rattle.int_core.specs.Value.{Value, Shape, a_function, boolean, is_known, nil, nth, object, range, write_all}
-use Rattle.machine_core.specs.World.{Function, Cell, for_call, returning, Activation, LuaFrame, Frame, lua, close_from, World}
-use Rattle.machine_core.specs.Text.{Own, behind, blanked, call, close, cut_from, done, drop_pending, fits, is_there, last_pending, leave, own, read, read_register, read_registers, reads, results, see_pending, tells, Text, trap, value_if, write_registers, written}
-use Rattle.machine_core.specs.FrameRows.{at_once, expand, expand_by}
+use Rattle.int_core.specs.Heap.{Heap}
+use Rattle.int_core.specs.Operations.{callee, callee_of, greatest_chain}
+use Rattle.int_core.specs.Value.{Value, Shape, a_function, bind, boolean, is_known, nil, nth, object, range, write_all}
+use Rattle.machine_core.specs.World.{Function, Cell, for_call, returning, Activation, LuaFrame, Frame, lua, close_from, Place, World}
+use Rattle.machine_core.specs.Text.{Arg, arg, Own, behind, blanked, call, tail_call, close, cut_from, drop_pending, fits, is_there, last_pending, leave, own, read, read_register, read_registers, reads, results, see_pending, tells, Text, trap, value_if, write_registers, written}
+use Rattle.machine_core.specs.FrameRows.{after_call, at_once, expand, expand_by}
 use Rattle.machine_core.specs.InstructionRows.{counted, is_true, next, read_values, rest_at, rest_by, returned_so, returns, row_of, text_at, text_by, write_values}
 use Rattle.machine_core.specs.MachineStep.{from_world, step, steps}
-use Rattle.machine_core.specs.Moves.{go, made, on_own, Row, ends, run}
-use Rattle.machine_focus.specs.Focus.{Context, Held, Stands, held_own, local, with_pc, world}
-use Rattle.machine_focus.proofs.Calls.{began, call_is, inner, returned}
+use Rattle.machine_core.specs.Moves.{CallShape, Made, called_tail, enter_tail, enters, go, is_entered, made, new_frame, not_paid, on_own, popped, Row, ends, run}
+use Rattle.machine_focus.specs.Focus.{Context, Held, Stands, held_own, local, place, stacked, top, with_pc, world}
+use Rattle.machine_focus.proofs.Calls.{began, call_is, entered_is, inner, pop_is, returned}
 use Rattle.machine_focus.proofs.Local.{drop_front, made_is}
-use Rattle.machine_focus.proofs.Places.{own_move, step_is}
+use Rattle.machine_focus.proofs.Places.{own_move, place_is, step_is}
 
 module _ (c : Context) (s : Stands c) (h : Held) where
   -- a move on the frame, and what follows it
@@ -67,6 +68,61 @@ module _ (c : Context) (s : Stands c) (h : Held) (w : Instruction) (at_pc : at c
       ∙ ap (λ n. run (expand (read_values (a + 1) n (λ v _. called_with 0 v ms))) (x ∷ []) W) b
       ∙ own_runs c s h (read_registers (a + 1) given) (λ v _. called_with 0 v ms) (x ∷ []) all
       ∙ call_is c s h (x ∷ range (a + 1) given h.own.registers) (read 0) 1 for_call ms id q left is fn pay room)
+
+-- tail calls
+
+-- the context in the function that takes the frame's place
+abbrev pub in_place : Context → ℕ → Function → Context
+in_place c n q = record { base = c.base; coroutine = c.coroutine; below = c.below; function = n; closure = q }
+
+function_is : (links : ℕ) (H : Heap) (n : ℕ) (vs : List Value) → callee_of links H (object a_function n) vs ≡ callee (object a_function n) vs
+function_is zero H n vs = refl
+function_is (suc links) H n vs = refl
+
+-- the frame is gone
+gone : (c : Context) (s : Stands c) (h : Held) → popped (world c h) (place c h) ≡ stacked c.base c.coroutine c.below h.heap (close_from c.coroutine (length c.below) 0 h.own.registers h.cells) h.fuel []
+unfolding popped
+gone c s h = pop_is c.base c.coroutine s.chain s.there h.heap (close_from c.coroutine (length c.below) 0 h.own.registers h.cells) h.fuel [] c.below (lua (top c h.own))
+
+-- a tail call that is paid
+paid_so : (W : World) (spot : Place) (v : Value) (vs : List Value) (left : ℕ) → W.fuel ≡ suc left → called_tail W spot (callee v vs) ≡ enters (record (popped W spot) { fuel = left }) v vs
+paid_so W spot v vs left pay = ap (λ (m : ℕ). elim m as (λ _. Option (Made CallShape)) [ zero ↦ made W [] not_paid | suc fuel ↦ enters (record (popped W spot) { fuel = fuel }) v vs ]) pay
+
+tail_is : (c : Context) (s : Stands c) (h : Held) (env : List Value) (f : Arg) (slot n : ℕ) (q : Function) (left : ℕ) → arg env f ≡ object a_function n → slice_get c.base.functions n ≡ Some q → h.fuel ≡ suc left
+    → nat_le (length c.below + 1) greatest_depth ≡ true
+    → run (expand (tail_call f slot)) env (world c h)
+    ≡ ends go (world (in_place c n q) (record { heap = h.heap; cells = close_from c.coroutine (length c.below) 0 h.own.registers h.cells; fuel = left; own = began q.code (drop slot env) }))
+tail_is c s h env f slot n q left e fn pay r =
+    let W = world c h in
+    let spot = place c h in
+    let cs = close_from c.coroutine (length c.below) 0 h.own.registers h.cells in
+    let vs = drop slot env in
+    let V = stacked c.base c.coroutine (c.below ++ new_frame n q.code vs ∷ []) h.heap cs left [] in
+    let found : called_tail W spot (callee_of greatest_chain W.heap (arg env f) vs) ≡ called_tail W spot (callee_of greatest_chain W.heap (object a_function n) vs) = ap (λ v. called_tail W spot (callee_of greatest_chain W.heap v vs)) e in
+    let is_function : called_tail W spot (callee_of greatest_chain W.heap (object a_function n) vs) ≡ called_tail W spot (callee (object a_function n) vs) = ap (called_tail W spot) (function_is greatest_chain W.heap n vs) in
+    let paid : called_tail W spot (callee (object a_function n) vs) ≡ enters (record (popped W spot) { fuel = left }) (object a_function n) vs = paid_so W spot (object a_function n) vs left pay in
+    let left_so : enters (record (popped W spot) { fuel = left }) (object a_function n) vs ≡ enters (stacked c.base c.coroutine c.below h.heap cs left []) (object a_function n) vs =
+    ap (λ (U : World). enters (record U { fuel = left }) (object a_function n) vs) (gone c s h) in
+    let entered : enters (stacked c.base c.coroutine c.below h.heap cs left []) (object a_function n) vs ≡ made V [] is_entered = entered_is c.base c.coroutine s.chain s.there h.heap cs left [] c.below n q vs fn r in
+    let all : called_tail W spot (callee_of greatest_chain W.heap (arg env f) vs) ≡ made V [] is_entered = found ∙ (is_function ∙ (paid ∙ (left_so ∙ entered))) in
+    made_is (enter_tail f slot) (λ _ s. after_call s) env W V [] is_entered (ap (λ o. bind o (λ p. called_tail W p (callee_of greatest_chain W.heap (arg env f) vs))) (place_is c s h) ∙ all)
+
+module _ (c : Context) (s : Stands c) (h : Held) (w : Instruction) (at_pc : at c.closure.code h.own.pc ≡ Some w) (is_tail_call : opcode_of w ≡ Some TailCall) where
+  pub tail_call_steps : (given id : ℕ) (q : Function) (left : ℕ) → b_of w ≡ suc given → nat_lt (a_of w) (length h.own.registers) ≡ true → nth h.own.registers (a_of w) ≡ object a_function id
+      → nat_le (behind (a_of w + 1) given) (length h.own.registers) ≡ true → slice_get c.base.functions id ≡ Some q → h.fuel ≡ suc left → nat_le (length c.below + 1) greatest_depth ≡ true
+      → close_from c.coroutine (length c.below) 0 h.own.registers h.cells ≡ h.cells → (rows : ℕ → Row)
+      → step rows go (world c h) ≡ ends go (world (in_place c id q) (record { heap = h.heap; cells = h.cells; fuel = left; own = began q.code (range (a_of w + 1) given h.own.registers) }))
+  tail_call_steps given id q left b there is all fn pay room closed rows =
+      let W = world c h in
+      let a = a_of w in
+      let x = nth h.own.registers a in
+      row_is c s h w TailCall at_pc is_tail_call rows
+      ∙ ap (from_world W) (
+      own_runs c s h (read_register a) (λ f _. read_values (a + 1) (b_of w) (λ v _. tail_call (read f) v)) [] there
+      ∙ ap (λ n. run (expand (read_values (a + 1) n (λ v _. tail_call (read 0) v))) (x ∷ []) W) b
+      ∙ own_runs c s h (read_registers (a + 1) given) (λ v _. tail_call (read 0) v) (x ∷ []) all
+      ∙ tail_is c s h (x ∷ range (a + 1) given h.own.registers) (read 0) 1 id q left is fn pay room
+      ∙ ap (λ (cs : List Cell). ends go (world (in_place c id q) (record { heap = h.heap; cells = cs; fuel = left; own = began q.code (range (a + 1) given h.own.registers) }))) closed)
 
 -- returns
 

@@ -1,15 +1,14 @@
 -- A return on a stack is two steps of the machine: the frame is left, and the frame below goes on with what it returned.
-use Rattle.std.proofs.Common.{◌≡◌, ◌⊎◌, inl, inr, ℕ, zero, suc, ◌+◌, ◌-◌, ◌<◌, ◌≤◌, List, [], ◌∷◌, ◌++◌, length, map, take, Option, Some, None, refl, ap, sym, subst, ◌∙◌, arith, true, false, length-append}
+use Rattle.std.proofs.Common.{◌≡◌, inl, inr, ℕ, zero, suc, ◌+◌, ◌-◌, ◌≤◌, List, [], ◌∷◌, ◌++◌, length, map, take, Option, Some, None, refl, ap, sym, subst, ◌∙◌, arith, true, false}
 use Rattle.std.proofs.lemmas.Bool.Decides.{nat_tests}
 use Rattle.std.specs.Prelude.{IfNone, IfSome, ◌==◌, cond, nat_le, slice_get}
 use Rattle.std.proofs.lemmas.List.{length-map}
 use Rattle.code_core.specs.Check.{at}
-use Rattle.code_core.specs.Instruction.{a_of, b_of, c_of, opcode_of}
-use Rattle.code_core.specs.Prototype.{Prototype}
+use Rattle.code_core.specs.Instruction.{a_of, b_of, opcode_of}
 use Rattle.code_core.specs.declared.instruction.Instruction.{Instruction}
 use Rattle.code_core.specs.declared.opcode.Opcode.{Opcode}
 use Rattle.code_core.specs.declared.opcode.Opcode.TheVariants.{Return, Return0, Return1}
-use Rattle.int_core.specs.Value.{Value, known, nil, nth, range, without_last, write_all}
+use Rattle.int_core.specs.Value.{Value, known, last, nil, range, without_last, write_all}
 use Rattle.machine_core.specs.World.{for_call, running, Activation, close_from, Wait, LuaFrame, Frame, lua, World}
 use Rattle.machine_core.specs.Text.{behind, last_pending}
 use Rattle.machine_core.specs.InstructionRows.{returns, row_of}
@@ -18,14 +17,14 @@ use Rattle.machine_core.specs.Moves.{ends, go, run}
 use Rattle.machine_core.specs.MachineStep.{steps}
 use Rattle.machine_focus.specs.Focus.{Context, Held, Reaches, Stands, stacked, world}
 use Rattle.machine_sound.proofs.Values.{le_true}
-use Rattle.machine_sound.proofs.Lists.{get_front, get_map, get_there, get_within, some_is, without_push}
+use Rattle.machine_sound.proofs.Lists.{get_there, get_within, last_push, last_splits, some_is, without_push}
 use Rattle.machine_view.proofs.Rows.{nth_map}
 use Rattle.table_core.specs.Table.{Contents}
 use Rattle.table_core.specs.declared.value.FuncId.{FuncId}
 use Rattle.table_core.specs.declared.value.Value.{Value as Kept}
 use Rattle.table_core.specs.declared.value.Value.TheVariants.{Nil}
 use Rattle.lua_stack.proofs.Parts.{map_take}
-use Rattle.lua_stack.specs.Frames.{KeptLua, KeptStack, frame_of, frames, kept_lua, lua_of, wait_of}
+use Rattle.lua_stack.specs.Frames.{KeptStack, frame_of, frames, kept_lua, lua_of, wait_of}
 use Rattle.lua_heap.specs.declared.codes.Codes.{Codes}
 use Rattle.lua_heap.specs.declared.world.Cell.{Cell as KeptCell}
 use Rattle.lua_heap.specs.declared.world.Func.{Func}
@@ -35,14 +34,14 @@ use Rattle.machine_arms_tables.specs.Frame.{Code}
 use Rattle.machine_loop.specs.Running.{Running}
 use Rattle.machine_loop.proofs.Closing.{stays}
 use Rattle.running_frame.specs.Calling.{AreFunctions, KnownFunction}
-use Rattle.running_frame.specs.Returning.{Crosses, IsGiven, ReturnsIn, count_of, taken}
+use Rattle.running_frame.specs.Returning.{Crosses, IsGiven, ReturnsIn, count_of}
 use Rattle.running_frame.specs.Standing.{RunsAt, standing}
 use Rattle.running_frame.proofs.Calls.{less_is}
-use Rattle.running_frame.proofs.Called.{behind_within, called_so, held_on, own_now, ready_held, shape_known, standing_is, word_is}
+use Rattle.running_frame.proofs.Called.{behind_within, called_so, held_on, own_now, ready_held, shape_known, standing_is, tail_called_so, word_is}
 use Rattle.running_frame.proofs.Chained.{reaches_none}
-use Rattle.running_frame.proofs.Closed.{closes_nothing, frame_count}
+use Rattle.running_frame.proofs.Closed.{closes_nothing}
 use Rattle.running_frame.proofs.FrameRows.{given, return_row, return_steps}
-use Rattle.running_frame.proofs.Takers.{splits_at}
+use Rattle.running_frame.proofs.Takers.{map_more}
 
 -- without its last item, item by item
 map_without : {A B : Type 0} (f : A → B) (xs : List A) → map f (without_last xs) ≡ without_last (map f xs)
@@ -113,25 +112,25 @@ module _ (g : Running) (k : Code) (s : KeptStack) (ts : List Contents) (cs : Lis
   abbrev caller_at : ℕ → Wait Value → Activation → LuaFrame
   caller_at n w own = record { function = n; wait = w; own = own }
 
-  count_is : length s.frames ≡ length ctx.below + 1
-  count_is = frame_count read s ctx.below r.may.top r.may.is
+  below_read : ctx.below ≡ map (frame_of read) (without_last s.frames)
+  below_read =
+      sym (without_push ctx.below (lua r.may.top))
+      ∙ ap without_last (sym r.may.is)
+      ∙ sym (map_without (frame_of read) s.frames)
 
-  in_below : slice_get ctx.below (length ctx.below - 1) ≡ Some (lua waiting)
+  in_below : last ctx.below ≡ Some (lua waiting)
   in_below =
-      let n = count_is in
-      let m = x.calls.many in
-      let l : length ctx.below - 1 < length ctx.below = omega (arith, n, m) in
-      let same : length ctx.below - 1 ≡ length s.frames - 2 = omega (arith, n, m) in
-      sym (get_front ctx.below (lua r.may.top ∷ []) (length ctx.below - 1) l)
-      ∙ ap (λ fs. slice_get fs (length ctx.below - 1)) (sym r.may.is)
-      ∙ ap (slice_get (frames read s)) same
-      ∙ get_map (frame_of read) s.frames (length s.frames - 2) (kept_lua x.calls.frame) x.calls.at
+      let lower = map (frame_of read) (without_last (without_last s.frames)) in
+      ap last (below_read
+      ∙ ap (map (frame_of read)) (last_splits (without_last s.frames) (kept_lua x.calls.frame) x.calls.at)
+      ∙ map_more (frame_of read) (without_last (without_last s.frames)) (kept_lua x.calls.frame ∷ []))
+      ∙ last_push lower (lua waiting)
 
   abbrev lower : List Frame
   lower = without_last ctx.below
 
   splits : ctx.below ≡ lower ++ lua waiting ∷ []
-  splits = splits_at ctx.below (lua waiting) in_below
+  splits = last_splits ctx.below (lua waiting) in_below
 
   abbrev number : ℕ
   number = x.caller.function.0
@@ -236,7 +235,10 @@ crossed_so : (g : Running) (k : Code) (s : KeptStack) (ts : List Contents) (cs :
 crossed_so g k s ts cs fuel pc r u size funcs codes w left a e word (inl x) =
     let q = shape_known g.around.context.base.functions funcs codes a x.enters.id x.enters.shape x.enters.has in
     called_so g k s ts cs fuel pc r u size funcs codes w left x q.0 q.1 q.2 e word
-crossed_so g k s ts cs fuel pc r u size funcs codes w left a e word (inr x) =
+crossed_so g k s ts cs fuel pc r u size funcs codes w left a e word (inr (inl x)) =
+    let q = shape_known g.around.context.base.functions funcs codes a x.enters.id x.enters.shape x.enters.has in
+    tail_called_so g k s ts cs fuel pc r u funcs codes w left x q.0 q.1 q.2 word
+crossed_so g k s ts cs fuel pc r u size funcs codes w left a e word (inr (inr x)) =
     subst (λ (n : ℕ). Reaches g.around.rows (standing g s ts cs fuel) (standing g u ts cs n)) (sym x.1) (returned_so g k s ts cs fuel pc r u funcs codes w x.0 a word)
 
 pub crossed_or_not : (g : Running) (k : Code) (s : KeptStack) (ts : List Contents) (cs : List KeptCell) (fuel pc : ℕ) → RunsAt g k s ts cs fuel pc → (u : KeptStack) (size : ℕ) (funcs : List Func) (codes : Codes) (w : Instruction) (left : ℕ)

@@ -1,15 +1,16 @@
 -- What a return on a stack tests and does.
-use Rattle.std.proofs.Common.{◌≡◌, ℕ, zero, suc, ◌+◌, ◌-◌, ◌<◌, ◌≤◌, [], ◌∷◌, ◌++◌, List, Option, Some, None, refl, ap, sym, subst, ◌∙◌, arith, length, length-append, map}
+use Rattle.std.proofs.Common.{◌≡◌, ℕ, ◌+◌, ◌-◌, ◌<◌, ◌≤◌, [], ◌∷◌, ◌++◌, List, Option, Some, None, refl, ap, sym, subst, ◌∙◌, arith, length, length-append, map}
 use Rattle.std.specs.Prelude.{IfNone, IfSome, slice_get}
 use Rattle.std.proofs.lemmas.List.{length-map}
 use Rattle.int_core.specs.Value.{Value, known, last, nil, range, without_last, write, write_all}
 use Rattle.machine_core.specs.World.{LuaFrame, lua}
 use Rattle.table_core.specs.declared.value.Value.{Value as Kept}
 use Rattle.table_core.specs.declared.value.Value.TheVariants.{Nil}
-use Rattle.machine_sound.proofs.Lists.{get_front, get_there, last_splits}
-use Rattle.lua_stack.specs.Frames.{HasLuaTop, HasRegisters, KeptStack, TopBecomes, frame_of, frames, kept_lua, lua_of, with_registers}
-use Rattle.running_frame.specs.Returning.{HasKept, IsCaller, IsGiven}
-use Rattle.running_frame.specs.declared.returning.Caller.{Caller}
+use Rattle.machine_sound.proofs.Lists.{last_splits, some_is}
+use Rattle.lua_stack.specs.Frames.{HasLuaTop, HasRegisters, KeptFrame, KeptLua, KeptStack, TopBecomes, frame_of, frames, kept_closing, kept_handler, kept_lua, kept_pcall, kept_state, kept_xpcall, lua_of, with_registers}
+use Rattle.lua_stack.specs.declared.frame.LuaState.{LuaState}
+use Rattle.lua_stack.specs.declared.frame.Wait.TheVariants.{ForCall}
+use Rattle.running_frame.specs.Returning.{HasKept, IsCaller, IsCallerIn, IsGiven}
 
 -- what is returned
 pub given_nil : (registers : List Kept) (register count : ℕ) → count ≡ 0 → IsGiven registers register count Nil
@@ -38,37 +39,44 @@ pub none_then : {A : Type 0} {P Q : Type 0} (o : Option A) → (P → Q) → IfN
 none_then None f x = f x
 none_then (Some a) f x = x
 
--- a list by its last item, and without it by the one before
+-- a Lua frame is on top
 
-last_at : {A : Type 0} (xs : List A) (x : A) → slice_get xs (length xs - 1) ≡ Some x → last xs ≡ Some x
-last_at [] x h = absurd (cc)
-last_at (y ∷ xs) x h = let e : suc (length xs) - 1 ≡ length xs = omega arith in ap (slice_get (y ∷ xs)) (sym e) ∙ h
+pub frames_there : {s : KeptStack} → HasLuaTop s → 0 < length s.frames
+frames_there {s} h =
+    let same = sym (length-map s.frames (frame_of h.value)) ∙ ap length h.is in
+    let more = length-append h.below (lua h.top ∷ []) in
+    omega (arith, same, more)
 
-pub splits_at : {A : Type 0} (xs : List A) (x : A) → slice_get xs (length xs - 1) ≡ Some x → xs ≡ without_last xs ++ x ∷ []
-splits_at xs x h = last_splits xs x (last_at xs x h)
-
-splits_before : {A : Type 0} (xs : List A) (x : A) → 2 ≤ length xs → slice_get xs (length xs - 2) ≡ Some x → without_last xs ≡ without_last (without_last xs) ++ x ∷ []
-splits_before {A} xs x l h =
-    let z = get_there xs (length xs - 1) (omega (arith, l)) in
-    let ws = without_last xs in
-    let whole : xs ≡ ws ++ z.0 ∷ [] = splits_at xs z.0 z.1 in
-    let size = length-append ws (z.0 ∷ []) in
-    let sizes : length xs ≡ length (ws ++ z.0 ∷ []) = ap length whole in
-    let within : length ws - 1 < length ws = omega (arith, size, sizes, l) in
-    let same : length ws - 1 ≡ length xs - 2 = omega (arith, size, sizes, l) in
-    splits_at ws x (sym (get_front ws (z.0 ∷ []) (length ws - 1) within) ∙ ap (λ l. slice_get l (length ws - 1)) (sym whole) ∙ ap (slice_get xs) same ∙ h)
-
-map_more : {A B : Type 0} (f : A → B) (xs ys : List A) → map f (xs ++ ys) ≡ map f xs ++ map f ys
+pub map_more : {A B : Type 0} (f : A → B) (xs ys : List A) → map f (xs ++ ys) ≡ map f xs ++ map f ys
 map_more f [] ys = refl
 map_more f (x ∷ xs) ys = ap (λ l. f x ∷ l) (map_more f xs ys)
 
 -- the frame below has the registers that its call names
 
-pub caller_kept : {s t : KeptStack} {c : Caller} (n : ℕ) → IsCaller s c → t.frames ≡ without_last s.frames → n ≤ c.size → HasKept t n
+abbrev state_of : KeptLua → LuaState
+state_of t = record { function = t.function; wait = t.wait; pc = t.pc; size = length t.registers }
+
+waiting_there : (o : Option KeptFrame) (c : LuaState) → Some c ≡ kept_state o → c.wait ≡ ForCall → (t : KeptLua) × (o ≡ Some (kept_lua t)) × IsCallerIn t c
+waiting_there None c e w = absurd (cc)
+waiting_there (Some (kept_lua t)) c e w =
+    let same : state_of t ≡ c = some_is {o = Some c} e refl in (
+      t,
+      refl,
+      record { waits = ap (λ (c : LuaState). c.wait) same ∙ w; function = ap (λ (c : LuaState). c.function) same; pc = ap (λ (c : LuaState). c.pc) same; size = ap (λ (c : LuaState). c.size) same },
+    )
+waiting_there (Some kept_pcall) c e w = absurd (cc)
+waiting_there (Some (kept_xpcall h)) c e w = absurd (cc)
+waiting_there (Some kept_handler) c e w = absurd (cc)
+waiting_there (Some (kept_closing error left)) c e w = absurd (cc)
+
+pub caller_there : (s : KeptStack) (c : LuaState) (o : Option KeptFrame) → Some c ≡ kept_state o → o ≡ last (without_last s.frames) → c.wait ≡ ForCall → IsCaller s c
+caller_there s c o e l w = let t = waiting_there o c e w in record { frame = t.0; at = sym l ∙ t.1; knows = t.2 }
+
+pub caller_kept : {s t : KeptStack} {c : LuaState} (n : ℕ) → IsCaller s c → t.frames ≡ without_last s.frames → n ≤ c.size → HasKept t n
 caller_kept {s} {t} {c} n x e l = record {
   below = without_last (without_last s.frames);
   top = x.frame;
-  is = e ∙ splits_before s.frames (kept_lua x.frame) x.many x.at;
+  is = e ∙ last_splits (without_last s.frames) (kept_lua x.frame) x.at;
   room = let m = x.knows.size in omega (arith, l, m);
 }
 

@@ -2,7 +2,7 @@
 use Rattle.std.specs.Prelude.{◌≡◌, ◌+◌, ◌<◌, ◌≤◌, ℕ, zero, suc, Bool, true, false, List, Option, Some, None, length, map, slice_get}
 use Rattle.code_core.specs.declared.instruction.Instruction.{Instruction}
 use Rattle.code_core.specs.declared.opcode.Opcode.{Opcode}
-use Rattle.code_core.specs.declared.opcode.Opcode.TheVariants.{Call}
+use Rattle.code_core.specs.declared.opcode.Opcode.TheVariants.{Call, TailCall}
 use Rattle.code_core.specs.Instruction.{a_of, b_of, opcode_of}
 use Rattle.int_core.specs.Limits.{greatest_depth}
 use Rattle.machine_core.specs.World.{Function}
@@ -11,14 +11,19 @@ use Rattle.table_core.specs.declared.value.Value.{Value as Kept}
 use Rattle.table_core.specs.declared.value.Value.TheVariants.{Func as a_func}
 use Rattle.lua_stack.specs.declared.frame.Shape.{Shape}
 use Rattle.lua_stack.specs.declared.frame.Wait.TheVariants.{ForCall}
-use Rattle.lua_stack.specs.Frames.{Calls, KeptStack, OnTop}
+use Rattle.lua_stack.specs.Frames.{Calls, KeptStack, OnTop, Replaces}
 use Rattle.lua_heap.specs.declared.codes.Code.{Code}
 use Rattle.lua_heap.specs.declared.codes.Codes.{Codes}
 use Rattle.lua_heap.specs.declared.world.Func.{Func}
+use Rattle.running_frame.specs.Standing.{IsClosedFrom}
 
 abbrev pub is_call : Option Opcode → Bool
 is_call (Some Call) = true
 is_call _ = false
+
+abbrev pub is_tail_call : Option Opcode → Bool
+is_tail_call (Some TailCall) = true
+is_tail_call _ = false
 
 -- one less than a number of values that is counted from one: 0 stands for an open list
 abbrev pub one_less : ℕ → Option ℕ
@@ -61,6 +66,26 @@ pub record CallsIn (s u : KeptStack) (size : ℕ) (funcs : List Func) (codes : C
   pub is_call : opcode_of w ≡ Some Call
   pub paid : fuel ≡ suc left
   pub enters : EntersIn s u size funcs codes w
+
+-- it takes the place of the frame on top, in which nothing is open or to be closed
+pub record ReplacesIn (s u : KeptStack) (funcs : List Func) (codes : Codes) (w : Instruction) : Type 0 where
+  pub given : ℕ
+  pub wants : b_of w ≡ suc given
+  pub id : FuncId
+  pub registers : List Kept
+  pub are : OnTop s (λ f t. map f registers ≡ t.own.registers)
+  pub holds : HoldsCallee registers (a_of w) given id
+  pub shape : Shape
+  pub has : HasShapeIn funcs codes id shape
+  pub closed : IsClosedFrom s 0
+  pub replaces : Replaces s u (a_of w) given id shape
+  pub room : length s.frames ≤ greatest_depth
+
+-- a TAILCALL does so for a unit of the budget
+pub record TailCallsIn (s u : KeptStack) (funcs : List Func) (codes : Codes) (w : Instruction) (fuel left : ℕ) : Type 0 where
+  pub is_tail_call : opcode_of w ≡ Some TailCall
+  pub paid : fuel ≡ suc left
+  pub enters : ReplacesIn s u funcs codes w
 
 -- a function of the machine's world, by its code in memory
 pub record KnownFunction (functions : List Function) (id : ℕ) (code : Code) : Type 0 where

@@ -1,21 +1,21 @@
 -- Returns to a Lua frame that waits for a call, as changes of a stack.
-use Rattle.std.specs.Prelude.{◌≡◌, ◌⊎◌, ◌+◌, ◌-◌, ◌<◌, ◌≤◌, ℕ, zero, suc, [], ◌∷◌, ◌++◌, List, Option, Some, None, length, map, slice_get}
+use Rattle.std.specs.Prelude.{◌≡◌, ◌⊎◌, ◌+◌, ◌<◌, ◌≤◌, ℕ, zero, suc, [], ◌∷◌, ◌++◌, List, Option, Some, None, length, map, slice_get}
 use Rattle.code_core.specs.declared.instruction.Instruction.{Instruction}
 use Rattle.code_core.specs.declared.opcode.Opcode.{Opcode}
 use Rattle.code_core.specs.declared.opcode.Opcode.TheVariants.{Call, Return, Return0, Return1}
 use Rattle.code_core.specs.Instruction.{a_of, b_of, c_of, opcode_of}
-use Rattle.int_core.specs.Value.{Value, known, nil, range, without_last, write_all}
+use Rattle.int_core.specs.Value.{Value, known, last, nil, range, without_last, write_all}
 use Rattle.machine_core.specs.World.{running, LuaFrame}
 use Rattle.table_core.specs.declared.value.Value.{Value as Kept}
 use Rattle.table_core.specs.declared.value.Value.TheVariants.{Nil}
+use Rattle.lua_stack.specs.declared.frame.LuaState.{LuaState}
 use Rattle.lua_stack.specs.declared.frame.Wait.TheVariants.{ForCall}
 use Rattle.lua_stack.specs.Frames.{KeptFrame, KeptLua, KeptStack, OnTop, TopBecomes, kept_lua, with_pc, with_registers, with_wait}
 use Rattle.lua_heap.specs.declared.codes.Code.{Code}
 use Rattle.lua_heap.specs.declared.codes.Codes.{Codes}
 use Rattle.lua_heap.specs.declared.world.Func.{Func}
-use Rattle.running_frame.specs.Calling.{CallsIn, one_less}
+use Rattle.running_frame.specs.Calling.{CallsIn, TailCallsIn, one_less}
 use Rattle.running_frame.specs.Standing.{IsClosedFrom}
-use Rattle.running_frame.specs.declared.returning.Caller.{Caller}
 use Rattle.running_frame.specs.declared.returning.Taker.{Taker}
 
 -- how many values an instruction returns, where it says so
@@ -31,21 +31,20 @@ IsGiven registers register zero v = v ≡ Nil
 IsGiven registers register (suc n) v = (n ≡ 0) × (slice_get registers register ≡ Some v)
 
 -- what is known of a frame that waits for a call
-pub record IsCallerIn (t : KeptLua) (c : Caller) : Type 0 where
+pub record IsCallerIn (t : KeptLua) (c : LuaState) : Type 0 where
   pub waits : t.wait ≡ ForCall
   pub function : t.function ≡ c.function
   pub pc : t.pc ≡ c.pc
   pub size : length t.registers ≡ c.size
 
 -- it is the one below the frame on top
-pub record IsCaller (s : KeptStack) (c : Caller) : Type 0 where
+pub record IsCaller (s : KeptStack) (c : LuaState) : Type 0 where
   pub frame : KeptLua
-  pub at : slice_get s.frames (length s.frames - 2) ≡ Some (kept_lua frame)
-  pub many : 2 ≤ length s.frames
+  pub at : last (without_last s.frames) ≡ Some (kept_lua frame)
   pub knows : IsCallerIn frame c
 
 -- the CALL at its place wants at most one value, in a register of its own
-pub record IsTaker (words : List Instruction) (c : Caller) (t : Taker) : Type 0 where
+pub record IsTaker (words : List Instruction) (c : LuaState) (t : Taker) : Type 0 where
   pub word : Instruction
   pub at_pc : slice_get words c.pc ≡ Some word
   pub is_call : opcode_of word ≡ Some Call
@@ -56,7 +55,7 @@ pub record IsTaker (words : List Instruction) (c : Caller) (t : Taker) : Type 0 
   pub next : t.to ≡ c.pc + 1
   pub within : t.to < length words
 
-pub record TakesIn (funcs : List Func) (codes : Codes) (c : Caller) (t : Taker) : Type 0 where
+pub record TakesIn (funcs : List Func) (codes : Codes) (c : LuaState) (t : Taker) : Type 0 where
   pub func : Func
   pub func_there : slice_get funcs c.function.0 ≡ Some func
   pub code : Code
@@ -83,7 +82,7 @@ pub record ReturnsIn (s u : KeptStack) (funcs : List Func) (codes : Codes) (w : 
   pub are : OnTop s (λ f t. map f registers ≡ t.own.registers)
   pub value : Kept
   pub gives : IsGiven registers (a_of w) count value
-  pub caller : Caller
+  pub caller : LuaState
   pub calls : IsCaller s caller
   pub taker : Taker
   pub takes : TakesIn funcs codes caller taker
@@ -92,6 +91,10 @@ pub record ReturnsIn (s u : KeptStack) (funcs : List Func) (codes : Codes) (w : 
   pub hands : TopBecomes popped u (λ f t. taken taker (f value) t)
   pub listed : u.open_cells ≡ s.open_cells
 
--- a call or a return
+-- a tail call or a return
+abbrev pub Leaves : (s u : KeptStack) → List Func → Codes → Instruction → (fuel left : ℕ) → Type 0
+Leaves s u funcs codes w fuel left = TailCallsIn s u funcs codes w fuel left ⊎ (ReturnsIn s u funcs codes w × (left ≡ fuel))
+
+-- one of these, or a call
 abbrev pub Crosses : (s u : KeptStack) (size : ℕ) → List Func → Codes → Instruction → (fuel left : ℕ) → Type 0
-Crosses s u size funcs codes w fuel left = CallsIn s u size funcs codes w fuel left ⊎ (ReturnsIn s u funcs codes w × (left ≡ fuel))
+Crosses s u size funcs codes w fuel left = CallsIn s u size funcs codes w fuel left ⊎ Leaves s u funcs codes w fuel left

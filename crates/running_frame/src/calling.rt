@@ -3,8 +3,8 @@ ghost use Rattle.std.specs.Prelude.{◌≡◌, ◌≤◌, IfNone, IfSome, slice_
 ghost use Rattle.code_core.specs.Instruction.{opcode_of};
 ghost use Rattle.lua_stack.specs.Frames.{HasLuaTop, HasRegisters, NoneFrom};
 ghost use Rattle.running_frame.specs.Calling.{CallsIn, EntersIn, HasShapeIn, HaveCode, HoldsCallee, is_call, one_less};
+ghost use Rattle.running_frame.specs.Standing.{IsClosedFrom};
 
-use crate::stack::closed_from;
 use code_core::{Instruction, Opcode};
 use lua_heap::{Codes, Func};
 use lua_stack::{Shape, Stack, Wait};
@@ -12,10 +12,11 @@ use object_pool::Pool;
 use table_core::{FuncId, Value};
 
 /// How many frames a stack may have.
-const GREATEST_DEPTH: usize = 100000;
+pub(crate) const GREATEST_DEPTH: usize = 100000;
 
 /// A CALL that gives a Lua function its arguments in registers, for a unit of the budget: the function's frame is on top. `size` is the number of registers
-/// of the caller's code. `None`, with all as before, at any other instruction, and where the call takes more than the stack.
+/// of the caller's code. `None`, with all as before, at any other instruction, and where the call takes more than the stack. From the register `closed` on
+/// nothing of the frame on top is open or to be closed.
 pub(crate) fn call_function(
     stack: &mut Stack,
     size: usize,
@@ -23,9 +24,11 @@ pub(crate) fn call_function(
     codes: &Codes,
     budget: &mut u64,
     i: Instruction,
+    closed: Option<usize>,
 ) -> Option<()>
     requires top { HasLuaTop stack.old }
     requires codes { HaveCode funcs.now.objects codes.now }
+    requires closed { IfSome closed (λ register. IsClosedFrom stack.old register) }
     ensures calls { IfSome result (λ _. CallsIn stack.old stack.new size funcs.now.objects codes.now i budget.old budget.new) }
     ensures kept { IfNone result ((stack.new ≡ stack.old) × (budget.new ≡ budget.old)) }
     ensures listed { stack.new.open_cells ≡ stack.old.open_cells }
@@ -34,7 +37,7 @@ pub(crate) fn call_function(
         return None;
     }
     let left = budget.checked_sub(1)?;
-    enter(stack, size, funcs, codes, i)?;
+    enter(stack, size, funcs, codes, i, closed)?;
     *budget = left;
     Some(())
 }
@@ -46,9 +49,11 @@ fn enter(
     funcs: &Pool<Func>,
     codes: &Codes,
     i: Instruction,
+    closed: Option<usize>,
 ) -> Option<()>
     requires top { HasLuaTop stack.old }
     requires codes { HaveCode funcs.now.objects codes.now }
+    requires closed { IfSome closed (λ register. IsClosedFrom stack.old register) }
     ensures enters { IfSome result (λ _. EntersIn stack.old stack.new size funcs.now.objects codes.now i) }
     ensures kept { IfNone result (stack.new ≡ stack.old) }
     ensures listed { stack.new.open_cells ≡ stack.old.open_cells }
@@ -60,7 +65,7 @@ fn enter(
     let given = one_less(i.b())?;
     let id = callee(stack.registers(), register, given)?;
     let shape = shape_of(funcs, codes, id)?;
-    if !may_give_up(stack, register, size) {
+    if !may_give_up(stack, register, size, closed) {
         return None;
     }
     match stack.call(register, given, Wait::ForCall, size, id, shape) {
@@ -70,7 +75,7 @@ fn enter(
 }
 
 /// The Lua function in a register, where so many registers are behind it.
-fn callee(registers: &[Value], register: usize, given: usize) -> Option<FuncId>
+pub(crate) fn callee(registers: &[Value], register: usize, given: usize) -> Option<FuncId>
     ensures { IfSome result (λ id. HoldsCallee registers.now register given id) }
 {
     let end = register.checked_add(1)?.checked_add(given)?;
@@ -91,7 +96,7 @@ pub(crate) fn register_of(registers: &[Value], register: usize) -> Option<Value>
 }
 
 /// What a call needs to know of a function's code.
-fn shape_of(funcs: &Pool<Func>, codes: &Codes, id: FuncId) -> Option<Shape>
+pub(crate) fn shape_of(funcs: &Pool<Func>, codes: &Codes, id: FuncId) -> Option<Shape>
     requires { HaveCode funcs.now.objects codes.now }
     ensures { IfSome result (λ shape. HasShapeIn funcs.now.objects codes.now id shape) }
 {
@@ -110,12 +115,12 @@ fn shape_of(funcs: &Pool<Func>, codes: &Codes, id: FuncId) -> Option<Shape>
 }
 
 /// Whether the frame on top may give its registers from one on up: nothing is open behind those of its code.
-fn may_give_up(stack: &mut Stack, register: usize, size: usize) -> bool
-    requires { HasLuaTop stack.old }
-    ensures kept { stack.new ≡ stack.old }
+fn may_give_up(stack: &Stack, register: usize, size: usize, closed: Option<usize>) -> bool
+    requires top { HasLuaTop stack.now }
+    requires closed { IfSome closed (λ register. IsClosedFrom stack.now register) }
     ensures within { result ≡ true → register ≤ size }
-    ensures there { result ≡ true → HasRegisters stack.new size }
-    ensures closed { result ≡ true → NoneFrom stack.new size }
+    ensures there { result ≡ true → HasRegisters stack.now size }
+    ensures closed { result ≡ true → NoneFrom stack.now size }
 {
     if register > size {
         return false;
@@ -123,8 +128,8 @@ fn may_give_up(stack: &mut Stack, register: usize, size: usize) -> bool
     if size > stack.registers().len() {
         return false;
     }
-    match closed_from(stack) {
-        Some(closed) => closed <= size,
+    match closed {
+        Some(first) => first <= size,
         None => false,
     }
 }

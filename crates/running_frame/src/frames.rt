@@ -5,13 +5,14 @@ ghost use Rattle.machine_arms_tables.specs.Frame.{AreOpenAlike, code};
 ghost use Rattle.machine_focus.specs.Focus.{Reaches};
 ghost use Rattle.machine_loop.specs.Running.{Running};
 ghost use Rattle.running_frame.specs.Calling.{AreFunctions, HaveCode};
-ghost use Rattle.running_frame.specs.Returning.{Crosses};
-ghost use Rattle.running_frame.specs.Standing.{IsHereIn, MayRun, standing};
+ghost use Rattle.running_frame.specs.Returning.{Crosses, Leaves};
+ghost use Rattle.running_frame.specs.Standing.{IsClosedFrom, IsHereIn, MayRun, standing};
 
 use crate::calling::call_function;
 use crate::place::Here;
 use crate::returning::return_value;
-use crate::stack::run_stack;
+use crate::stack::{Stop, run_stack};
+use crate::tail_calling::tail_call_function;
 use lua_heap::{Cell, Codes, Func, Strings};
 use lua_stack::Stack;
 use machine_arms_tables::Closure;
@@ -43,13 +44,13 @@ pub(crate) fn run_frame_on_top(
     ensures opened { AreOpenAlike cells.old.objects cells.new.objects }
     ensures listed { stack.new.open_cells ≡ stack.old.open_cells }
 {
-    let here = run_stack(stack, closure, strings, tables, cells, budget, co);
-    if !here.runs {
-        return Some(here);
+    let stop = run_stack(stack, closure, strings, tables, cells, budget, co);
+    if !stop.here.runs {
+        return Some(stop.here);
     }
-    match cross(stack, size, funcs, codes, budget, here) {
+    match cross(stack, size, funcs, codes, budget, stop) {
         Some(()) => None,
-        None => Some(here),
+        None => Some(stop.here),
     }
 }
 
@@ -60,16 +61,46 @@ fn cross(
     funcs: &Pool<Func>,
     codes: &Codes,
     budget: &mut u64,
-    here: Here,
+    stop: Stop,
 ) -> Option<()>
     requires top { HasLuaTop stack.old }
     requires codes { HaveCode funcs.now.objects codes.now }
-    ensures crosses { IfSome result (λ _. Crosses stack.old stack.new size funcs.now.objects codes.now here.word budget.old budget.new) }
+    requires closed { IfSome stop.closed (λ register. IsClosedFrom stack.old register) }
+    ensures crosses { IfSome result (λ _. Crosses stack.old stack.new size funcs.now.objects codes.now stop.here.word budget.old budget.new) }
     ensures kept { IfNone result ((stack.new ≡ stack.old) × (budget.new ≡ budget.old)) }
     ensures listed { stack.new.open_cells ≡ stack.old.open_cells }
 {
-    match call_function(stack, size, funcs, codes, budget, here.word) {
+    match call_function(
+        stack,
+        size,
+        funcs,
+        codes,
+        budget,
+        stop.here.word,
+        stop.closed,
+    ) {
         Some(()) => Some(()),
-        None => return_value(stack, funcs, codes, here.word),
+        None => leave(stack, funcs, codes, budget, stop),
+    }
+}
+
+/// Calls a function in place of the frame on top, or returns from it.
+fn leave(
+    stack: &mut Stack,
+    funcs: &Pool<Func>,
+    codes: &Codes,
+    budget: &mut u64,
+    stop: Stop,
+) -> Option<()>
+    requires top { HasLuaTop stack.old }
+    requires codes { HaveCode funcs.now.objects codes.now }
+    requires closed { IfSome stop.closed (λ register. IsClosedFrom stack.old register) }
+    ensures leaves { IfSome result (λ _. Leaves stack.old stack.new funcs.now.objects codes.now stop.here.word budget.old budget.new) }
+    ensures kept { IfNone result ((stack.new ≡ stack.old) × (budget.new ≡ budget.old)) }
+    ensures listed { stack.new.open_cells ≡ stack.old.open_cells }
+{
+    match tail_call_function(stack, funcs, codes, budget, stop.here.word, stop.closed) {
+        Some(()) => Some(()),
+        None => return_value(stack, funcs, codes, stop.here.word, stop.closed),
     }
 }

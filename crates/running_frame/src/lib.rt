@@ -8,6 +8,7 @@ mod frames;
 mod place;
 mod returning;
 mod stack;
+mod tail_calling;
 mod upvalues;
 
 pub use ahead::run_ahead;

@@ -1,30 +1,19 @@
 // Returns of a value or of none to a Lua frame below that waits for a call, which change nothing but the stack (luaD_poscall of ldo.c).
-ghost use Rattle.std.specs.Prelude.{◌≡◌, ◌+◌, ◌≤◌, [], ◌∷◌, IfNone, IfSome, true};
+ghost use Rattle.std.specs.Prelude.{◌≡◌, ◌+◌, ◌≤◌, [], ◌∷◌, IfNone, IfSome, Some, true};
 ghost use Rattle.code_core.specs.Instruction.{b_of, opcode_of};
 ghost use Rattle.int_core.specs.Value.{range, write_all};
 ghost use Rattle.lua_stack.specs.Frames.{HasLuaTop, HasRegisters, TopBecomes, with_registers};
-ghost use Rattle.lua_stack.specs.Reading.{viewed_lua};
 ghost use Rattle.running_frame.specs.Calling.{HaveCode};
-ghost use Rattle.running_frame.specs.Returning.{HasKept, IsCaller, IsCallerIn, IsGiven, IsTaker, ReturnsIn, TakesIn, count_of, taken};
+ghost use Rattle.running_frame.specs.Returning.{HasKept, IsCaller, IsGiven, IsTaker, ReturnsIn, TakesIn, count_of, taken};
 ghost use Rattle.running_frame.specs.Standing.{IsClosedFrom};
 
 use crate::calling::{is_call, one_less, register_of};
-use crate::stack::closed_from;
 use crate::upvalues::fetch;
 use code_core::{Instruction, Opcode};
 use lua_heap::{Codes, Func};
-use lua_stack::{FrameView, LuaView, Stack, Wait};
+use lua_stack::{LuaState, Stack, Wait};
 use object_pool::Pool;
-use table_core::{FuncId, Value};
-
-/// A Lua frame that waits for a call.
-#[derive(Clone, Copy, Debug)]
-pub(crate) struct Caller {
-    function: FuncId,
-    pc: usize,
-    /// How many registers it has.
-    size: usize,
-}
+use table_core::Value;
 
 /// What its CALL wants: at most one value, in a register, and where it goes on.
 #[derive(Clone, Copy, Debug)]
@@ -35,21 +24,23 @@ pub(crate) struct Taker {
 }
 
 /// A return of at most one value to a Lua frame whose CALL wants at most one: that frame runs again, behind the CALL. `None`, with all as before, at any other
-/// instruction, and where the return takes more than the stack.
+/// instruction, and where the return takes more than the stack. From the register `closed` on nothing of the frame on top is open or to be closed.
 pub(crate) fn return_value(
     stack: &mut Stack,
     funcs: &Pool<Func>,
     codes: &Codes,
     i: Instruction,
+    closed: Option<usize>,
 ) -> Option<()>
     requires top { HasLuaTop stack.old }
+    requires closed { IfSome closed (λ register. IsClosedFrom stack.old register) }
     requires codes { HaveCode funcs.now.objects codes.now }
     ensures returns { IfSome result (λ _. ReturnsIn stack.old stack.new funcs.now.objects codes.now i) }
     ensures kept { IfNone result (stack.new ≡ stack.old) }
     ensures listed { stack.new.open_cells ≡ stack.old.open_cells }
 {
     let count = count_returned(i)?;
-    if !closes_nothing(stack) {
+    if !is_first(closed) {
         return None;
     }
     let value = given(stack.registers(), i.a() as usize, count)?;
@@ -72,13 +63,11 @@ fn count_returned(i: Instruction) -> Option<usize>
     }
 }
 
-/// Whether no cell of the frame on top is open, and none of its variables is still to be closed.
-fn closes_nothing(stack: &mut Stack) -> bool
-    requires { HasLuaTop stack.old }
-    ensures kept { stack.new ≡ stack.old }
-    ensures closed { result ≡ true → IsClosedFrom stack.new 0 }
+/// Whether this is the first register.
+pub(crate) fn is_first(closed: Option<usize>) -> bool
+    ensures { result ≡ true → closed ≡ Some 0 }
 {
-    match closed_from(stack) {
+    match closed {
         Some(register) => register == 0,
         None => false,
     }
@@ -98,33 +87,18 @@ fn given(registers: &[Value], register: usize, count: usize) -> Option<Value>
 }
 
 /// The frame below, where it is a Lua frame that waits for a call.
-fn caller_of(stack: &Stack) -> Option<Caller>
+fn caller_of(stack: &Stack) -> Option<LuaState>
     ensures { IfSome result (λ c. IsCaller stack.now c) }
 {
-    let number = stack.len().checked_sub(2)?;
-    match stack.frame_at(number)? {
-        FrameView::Lua(view) => caller_in(view),
-        _ => None,
-    }
-}
-
-/// What is known of it.
-fn caller_in(view: LuaView) -> Option<Caller>
-    ensures { IfSome result (λ c. IsCallerIn (viewed_lua view.entry) c) }
-{
-    let size = view.registers.len().checked_add(view.nils)?;
-    match view.wait {
-        Wait::ForCall => Some(Caller {
-            function: view.function,
-            pc: view.pc,
-            size,
-        }),
+    let state = stack.below_top()?;
+    match state.wait {
+        Wait::ForCall => Some(state),
         _ => None,
     }
 }
 
 /// What its CALL wants.
-fn taker_of(funcs: &Pool<Func>, codes: &Codes, caller: Caller) -> Option<Taker>
+fn taker_of(funcs: &Pool<Func>, codes: &Codes, caller: LuaState) -> Option<Taker>
     requires { HaveCode funcs.now.objects codes.now }
     ensures { IfSome result (λ t. TakesIn funcs.now.objects codes.now caller t) }
 {
@@ -136,7 +110,7 @@ fn taker_of(funcs: &Pool<Func>, codes: &Codes, caller: Caller) -> Option<Taker>
 }
 
 /// What the CALL at its place in these words wants.
-fn taker_in(words: &[Instruction], caller: Caller) -> Option<Taker>
+fn taker_in(words: &[Instruction], caller: LuaState) -> Option<Taker>
     ensures { IfSome result (λ t. IsTaker words.now caller t) }
 {
     let to = caller.pc.checked_add(1)?;

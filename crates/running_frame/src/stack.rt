@@ -15,6 +15,13 @@ use machine_loop::run_frame;
 use object_pool::Pool;
 use table_core::{CoroId, Table};
 
+/// Where the frame on top stops, and from which register on nothing of it is open or to be closed, where that is known.
+#[derive(Clone, Copy, Debug)]
+pub(crate) struct Stop {
+    pub(crate) here: Here,
+    pub(crate) closed: Option<usize>,
+}
+
 /// Runs the frame on top, where it does not wait, up to an instruction that takes more than the frame and the variables of those below.
 pub(crate) fn run_stack(
     stack: &mut Stack,
@@ -24,25 +31,28 @@ pub(crate) fn run_stack(
     cells: &mut Pool<Cell>,
     budget: &mut u64,
     co: CoroId,
-) -> Here
+) -> Stop
     ghost g: { Running }
     requires may { MayRun g (code closure strings.now) stack.old tables.old.objects cells.old.objects budget.old }
     requires own { co.0 ≡ g.around.context.coroutine }
     ensures reaches { Reaches g.around.rows (standing g stack.old tables.old.objects cells.old.objects budget.old) (standing g stack.new tables.new.objects cells.new.objects budget.new) }
-    ensures here { IsHereIn g (code closure.entry strings.now) stack.new result }
-    ensures runs { result.runs ≡ true → RunsAt g (code closure.entry strings.now) stack.new tables.new.objects cells.new.objects budget.new result.pc }
+    ensures here { IsHereIn g (code closure.entry strings.now) stack.new result.here }
+    ensures runs { result.here.runs ≡ true → RunsAt g (code closure.entry strings.now) stack.new tables.new.objects cells.new.objects budget.new result.here.pc }
+    ensures closed { IfSome result.closed (λ register. IsClosedFrom stack.new register) }
     ensures opened { AreOpenAlike cells.old.objects cells.new.objects }
     ensures listed { stack.new.open_cells ≡ stack.old.open_cells }
 {
     let start = stack.pc();
     let runs = is_none(stack.wait());
     if !runs {
-        return here_at(closure.words, start, false);
+        let here = here_at(closure.words, start, false);
+        return Stop { here, closed: None };
     }
     let closed = closed_from(stack);
-    run_on_top(
+    let here = run_on_top(
         stack, closure, strings, tables, cells, budget, co, closed, start,
-    )
+    );
+    Stop { here, closed }
 }
 
 /// Runs the frame on top, which does not wait.
@@ -142,7 +152,7 @@ fn run_round(
 }
 
 /// From which register on no cell of the frame on top is open. None is said where a variable there is still to be closed.
-pub(crate) fn closed_from(stack: &mut Stack) -> Option<usize>
+fn closed_from(stack: &mut Stack) -> Option<usize>
     requires { HasLuaTop stack.old }
     ensures kept { stack.new ≡ stack.old }
     ensures closed { IfSome result (λ register. IsClosedFrom stack.new register) }

@@ -37,14 +37,14 @@ returns-then-count-eq0-clause-goes c =
     let z : same_integer c.in_ok-count.count (pos 0) ≡ true = search rules in
     round_ends c.in_ok-from.from c.in_ok-count.count c.in_ok-step.step c.requires c.get_above.ensures c.get_above-2.ensures c.get_above-3.ensures c.in_ok-from.ensures c.in_ok-count.ensures c.in_ok-step.ensures z c.behind.ensures
 
-pub set_above-requires : goal.set_above-requires
-set_above-requires c = loop_register 1 (omega arith) c.requires
+pub set_above_integer-requires : goal.set_above_integer-requires
+set_above_integer-requires c = loop_register 1 (omega arith) c.requires
 
-pub set_above-requires-2 : goal.set_above-requires-2
-set_above-requires-2 c = let l = loop_register 0 (omega arith) c.requires in let e = ap length c.set_above.ensures ∙ length_set c.args.registers.now _ _ in omega (arith, l, e)
+pub set_above_integer-requires-2 : goal.set_above_integer-requires-2
+set_above_integer-requires-2 c = let l = loop_register 0 (omega arith) c.requires in let e = ap length c.set_above_integer.ensures ∙ length_set c.args.registers.now _ _ in omega (arith, l, e)
 
-pub set_above-requires-3 : goal.set_above-requires-3
-set_above-requires-3 c = let l = loop_register 3 (omega arith) c.requires in let e = ap length c.set_above.ensures ∙ length_set c.args.registers.now _ _ in let f = ap length c.set_above-2.ensures ∙ length_set c.set_above.new.registers _ _ in omega (arith, l, e, f)
+pub set_above_integer-requires-3 : goal.set_above_integer-requires-3
+set_above_integer-requires-3 c = let l = loop_register 3 (omega arith) c.requires in let e = ap length c.set_above_integer.ensures ∙ length_set c.args.registers.now _ _ in let f = ap length c.set_above_integer-2.ensures ∙ length_set c.set_above_integer.new.registers _ _ in omega (arith, l, e, f)
 
 pub back-requires-clause-there : goal.back-requires-clause-there
 back-requires-clause-there c = next_there c.requires refl
@@ -55,7 +55,7 @@ back-requires-clause-near c = let l = loop_back c.requires in let m = l.0 in let
 pub returns-clause-goes : goal.returns-clause-goes
 returns-clause-goes c =
     let z : same_integer c.in_ok-count.count (pos 0) ≡ false = search rules in
-    let s1 : c.set_above.new.registers ≡ slice_set c.args.registers.now (a_of c.args.i + 1) (Int (sub c.in_ok-count.count (pos 1))) = search rules in
-    let s2 : c.set_above-2.new.registers ≡ slice_set c.set_above.new.registers (a_of c.args.i + 0) (Int (add c.in_ok-from.from c.in_ok-step.step)) = search rules in
-    let s3 : c.set_above-3.new.registers ≡ slice_set c.set_above-2.new.registers (a_of c.args.i + 3) (Int (add c.in_ok-from.from c.in_ok-step.step)) = search rules in
+    let s1 : c.set_above_integer.new.registers ≡ slice_set c.args.registers.now (a_of c.args.i + 1) (Int (sub c.in_ok-count.count (pos 1))) = search rules in
+    let s2 : c.set_above_integer-2.new.registers ≡ slice_set c.set_above_integer.new.registers (a_of c.args.i + 0) (Int (add c.in_ok-from.from c.in_ok-step.step)) = search rules in
+    let s3 : c.set_above_integer-3.new.registers ≡ slice_set c.set_above_integer-2.new.registers (a_of c.args.i + 3) (Int (add c.in_ok-from.from c.in_ok-step.step)) = search rules in
     round_goes c.in_ok-from.from c.in_ok-count.count c.in_ok-step.step c.requires c.get_above.ensures c.get_above-2.ensures c.get_above-3.ensures c.in_ok-from.ensures c.in_ok-count.ensures c.in_ok-step.ensures z c.in_ok-pay.ensures.paid s1 s2 s3 (c.back.ensures ∙ ap (λ d. c.args.pc + 1 - d) c.bx.ensures)

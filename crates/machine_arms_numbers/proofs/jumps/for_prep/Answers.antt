@@ -38,11 +38,11 @@ returns-then-not-has_round-clause-goes c =
     let b : runs c.in_ok-from.from c.in_ok-limit.limit c.in_ok-step.step ≡ false = search rules in
     prep_passes c.in_ok-from.from c.in_ok-limit.limit c.in_ok-step.step c.requires c.get_above.ensures c.get_above-2.ensures c.get_above-3.ensures c.in_ok-from.ensures c.in_ok-limit.ensures c.in_ok-step.ensures z b (c.behind.ensures ∙ ap (λ n. c.args.pc + (n + 2)) c.bx.ensures)
 
-pub set_above-requires : goal.set_above-requires
-set_above-requires c = prep_register 1 (omega arith) c.requires
+pub set_above_integer-requires : goal.set_above_integer-requires
+set_above_integer-requires c = prep_register 1 (omega arith) c.requires
 
-pub set_above-requires-2 : goal.set_above-requires-2
-set_above-requires-2 c = let l = prep_register 3 (omega arith) c.requires in let e = ap length c.set_above.ensures ∙ length_set c.args.registers.now _ _ in omega (arith, l, e)
+pub set_above_integer-requires-2 : goal.set_above_integer-requires-2
+set_above_integer-requires-2 c = let l = prep_register 3 (omega arith) c.requires in let e = ap length c.set_above_integer.ensures ∙ length_set c.args.registers.now _ _ in omega (arith, l, e)
 
 pub behind-requires-2 : goal.behind-requires-2
 behind-requires-2 c = next_there c.requires refl
@@ -51,6 +51,6 @@ pub returns-clause-goes : goal.returns-clause-goes
 returns-clause-goes c =
     let z : same_integer c.in_ok-step.step (pos 0) ≡ false = search rules in
     let b : runs c.in_ok-from.from c.in_ok-limit.limit c.in_ok-step.step ≡ true = search rules in
-    let s1 : c.set_above.new.registers ≡ slice_set c.args.registers.now (a_of c.args.i + 1) (Int (rounds c.in_ok-from.from c.in_ok-limit.limit c.in_ok-step.step)) = search rules in
-    let s2 : c.set_above-2.new.registers ≡ slice_set c.set_above.new.registers (a_of c.args.i + 3) (Int c.in_ok-from.from) = search rules in
+    let s1 : c.set_above_integer.new.registers ≡ slice_set c.args.registers.now (a_of c.args.i + 1) (Int (rounds c.in_ok-from.from c.in_ok-limit.limit c.in_ok-step.step)) = search rules in
+    let s2 : c.set_above_integer-2.new.registers ≡ slice_set c.set_above_integer.new.registers (a_of c.args.i + 3) (Int c.in_ok-from.from) = search rules in
     prep_starts c.in_ok-from.from c.in_ok-limit.limit c.in_ok-step.step c.requires c.get_above.ensures c.get_above-2.ensures c.get_above-3.ensures c.in_ok-from.ensures c.in_ok-limit.ensures c.in_ok-step.ensures z b s1 s2 c.behind-2.ensures

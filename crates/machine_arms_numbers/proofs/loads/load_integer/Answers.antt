@@ -19,13 +19,13 @@ use Rattle.machine_arms_numbers.proofs.TruthRows.{not_does, test_does, set_does,
 use Rattle.machine_arms_numbers.proofs.LoopRows.{jump_fits, back_fits, forward_does, back_does, loop_back, each_back, loop_register, prep_register, round_ends, round_goes, prep_place, prep_passes, prep_starts, each_value, each_place, each_begins, each_ends, each_goes}
 use Rattle.machine_arms_numbers.proofs.loads.load_integer.Goals as goal
 
-pub set_a-requires : goal.set_a-requires
-set_a-requires c = register_there c.requires 0 (a_of c.args.i) refl
+pub set_a_integer-requires : goal.set_a_integer-requires
+set_a_integer-requires c = register_there c.requires 0 (a_of c.args.i) refl
 
 pub behind-requires : goal.behind-requires
 behind-requires c = next_there c.requires refl
 
 pub returns : goal.returns
 returns c =
-    let t : c.set_a.new.registers ≡ slice_set c.args.registers.now (a_of c.args.i) (Int (sbx_of c.args.i)) = search rules in
+    let t : c.set_a_integer.new.registers ≡ slice_set c.args.registers.now (a_of c.args.i) (Int (sbx_of c.args.i)) = search rules in
     written_does (written (Rattle.int_core.specs.Value.integer (sbx_of c.args.i))) 1 (Int (sbx_of c.args.i)) (λ p pc. refl) (λ texts. refl) (subst (λ n. n < length c.args.words.now) (sym c.behind.ensures) (next_there c.requires refl)) (register_there c.requires 0 (a_of c.args.i) refl) t c.behind.ensures

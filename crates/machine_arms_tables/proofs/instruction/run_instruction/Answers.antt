@@ -1,48 +1,20 @@
+use Rattle.std.proofs.Common.{sym, subst, ◌∙◌}
 use Rattle.machine_arms_tables.specs.Frame.{code}
-use Rattle.machine_arms_tables.proofs.Leading.{if_some, none_same, by_opcode, goes_leads}
+use Rattle.machine_arms_tables.proofs.Leading.{if_some, if_none, goes_leads, as_before}
+use Rattle.machine_view.specs.View.{IsAt}
 use Rattle.machine_arms_tables.proofs.instruction.run_instruction.Goals as goal
 
-pub returns-in-GetUpval-clause-goes : goal.returns-in-GetUpval-clause-goes
-returns-in-GetUpval-clause-goes c = if_some c.get_upvalue.result (λ to goes. by_opcode c.in-GetUpval.is (goes c.args.strings.now c.args.tables.now.objects c.args.fuel.now)) c.get_upvalue.ensures.goes
+pub returns-in-Some-clause-goes : goal.returns-in-Some-clause-goes
+returns-in-Some-clause-goes c = goes_leads (code c.args.closure c.args.strings.now) c.args.tables.now.objects c.args.cells.now.objects c.in-Some.ensures.goes
 
-pub returns-in-SetUpval-clause-goes : goal.returns-in-SetUpval-clause-goes
-returns-in-SetUpval-clause-goes c = if_some c.set_upvalue.result (λ to goes. by_opcode c.in-SetUpval.is (goes c.args.strings.now c.args.tables.now.objects c.args.fuel.now)) c.set_upvalue.ensures.goes
+pub run_on_objects-requires : goal.run_on_objects-requires
+run_on_objects-requires c = subst (λ r. IsAt c.args.op c.args.i c.args.closure.words.now c.args.closure.constants.now r c.args.pc) (sym c.in-None.ensures.kept) c.requires
 
-pub returns-in-GetTabUp-clause-goes : goal.returns-in-GetTabUp-clause-goes
-returns-in-GetTabUp-clause-goes c = if_some c.get_upvalue_field.result (λ to goes. by_opcode c.in-GetTabUp.is (goes c.args.strings.now c.args.fuel.now)) c.get_upvalue_field.ensures.goes
-
-pub returns-in-GetTable-clause-goes : goal.returns-in-GetTable-clause-goes
-returns-in-GetTable-clause-goes c = if_some c.get_element.result (λ to goes. by_opcode c.in-GetTable.is (goes c.args.strings.now c.args.cells.now.objects c.args.fuel.now)) c.get_element.ensures.goes
-
-pub returns-in-GetI-clause-goes : goal.returns-in-GetI-clause-goes
-returns-in-GetI-clause-goes c = if_some c.get_integer.result (λ to goes. by_opcode c.in-GetI.is (goes c.args.strings.now c.args.cells.now.objects c.args.fuel.now)) c.get_integer.ensures.goes
-
-pub returns-in-GetField-clause-goes : goal.returns-in-GetField-clause-goes
-returns-in-GetField-clause-goes c = if_some c.get_field.result (λ to goes. by_opcode c.in-GetField.is (goes c.args.strings.now c.args.cells.now.objects c.args.fuel.now)) c.get_field.ensures.goes
-
-pub returns-in-SetTabUp-clause-goes : goal.returns-in-SetTabUp-clause-goes
-returns-in-SetTabUp-clause-goes c = if_some c.set_upvalue_field.result (λ to goes. by_opcode c.in-SetTabUp.is (goes c.args.strings.now c.args.fuel.now)) c.set_upvalue_field.ensures.goes
-
-pub returns-in-SetTable-clause-goes : goal.returns-in-SetTable-clause-goes
-returns-in-SetTable-clause-goes c = if_some c.set_element.result (λ to goes. by_opcode c.in-SetTable.is (goes c.args.strings.now c.args.cells.now.objects c.args.fuel.now)) c.set_element.ensures.goes
-
-pub returns-in-SetI-clause-goes : goal.returns-in-SetI-clause-goes
-returns-in-SetI-clause-goes c = if_some c.set_integer.result (λ to goes. by_opcode c.in-SetI.is (goes c.args.strings.now c.args.cells.now.objects c.args.fuel.now)) c.set_integer.ensures.goes
-
-pub returns-in-SetField-clause-goes : goal.returns-in-SetField-clause-goes
-returns-in-SetField-clause-goes c = if_some c.set_field.result (λ to goes. by_opcode c.in-SetField.is (goes c.args.strings.now c.args.cells.now.objects c.args.fuel.now)) c.set_field.ensures.goes
-
-pub returns-in-OpSelf-clause-goes : goal.returns-in-OpSelf-clause-goes
-returns-in-OpSelf-clause-goes c = if_some c.get_method.result (λ to goes. by_opcode c.in-OpSelf.is (goes c.args.strings.now c.args.cells.now.objects c.args.fuel.now)) c.get_method.ensures.goes
-
-pub returns-in-Len-clause-goes : goal.returns-in-Len-clause-goes
-returns-in-Len-clause-goes c = if_some c.get_length.result (λ to goes. by_opcode c.in-Len.is (goes c.args.cells.now.objects c.args.fuel.now)) c.get_length.ensures.goes
-
-pub returns-in_default : goal.returns-in_default
-returns-in_default c = record {
-  goes = if_some c.run_instruction.result (λ to goes. goes_leads (code c.args.closure c.args.strings.now) c.args.tables.now.objects c.args.cells.now.objects goes) c.run_instruction.ensures.goes;
-  tables = none_same c.args.tables.now c.run_instruction.result;
-  cells = none_same c.args.cells.now c.run_instruction.result;
-  registers = c.run_instruction.ensures.kept;
-  unpaid = c.run_instruction.ensures.unpaid;
+pub returns-in-None : goal.returns-in-None
+returns-in-None c = record {
+  goes = if_some c.run_on_objects.result (λ to goes. as_before c.in-None.ensures.kept c.in-None.ensures.unpaid goes) c.run_on_objects.ensures.goes;
+  tables = c.run_on_objects.ensures.tables;
+  cells = c.run_on_objects.ensures.cells;
+  registers = if_none c.run_on_objects.result (λ same. same ∙ c.in-None.ensures.kept) c.run_on_objects.ensures.registers;
+  unpaid = if_none c.run_on_objects.result (λ _. c.in-None.ensures.unpaid) c.run_on_objects.ensures.tables;
 }

@@ -1,9 +1,8 @@
-use Rattle.std.proofs.Common.{◌≡◌, ◌≤◌, ◌+◌, length, map, rules, arith, Some, true, ap, ◌∙◌, sym, subst}
+use Rattle.std.proofs.Common.{◌≡◌, ◌≤◌, ◌+◌, length, rules, arith, Some, true, ap, ◌∙◌, sym, subst}
 use Rattle.std.proofs.lemmas.List.{length-map}
 use Rattle.code_core.specs.Instruction.{b_of}
 use Rattle.int_core.specs.Limits.{greatest_depth}
-use Rattle.lua_stack.specs.Frames.{HasRegisters, KeptStack, OnTop}
-use Rattle.running_frame.specs.Calling.{EntersIn, HoldsCallee, one_less}
+use Rattle.running_frame.specs.Calling.{HoldsCallee, one_less}
 use Rattle.running_frame.proofs.Calls.{less_is}
 use Rattle.running_frame.proofs.calling.enter.Goals as goal
 
@@ -12,7 +11,7 @@ call-requires-clause-arguments c =
     let h = c.requires.top in
     let many = ap length (sym (c.registers.ensures h.value h.below h.top h.is)) ∙ length-map c.registers.result.now h.value in
     let room = c.in_ok-id.ensures.room in
-    subst (λ (s : KeptStack). HasRegisters s (c.a-register.result + 1 + c.in_ok-given.given)) (sym c.may_give_up.ensures.kept) (record { value = h.value; below = h.below; top = h.top; is = h.is; room = omega (arith, many, room) })
+    record { value = h.value; below = h.below; top = h.top; is = h.is; room = omega (arith, many, room) }
 
 pub call-requires-clause-size : goal.call-requires-clause-size
 call-requires-clause-size c =
@@ -36,16 +35,15 @@ pub returns-in-Ok-clause-enters : goal.returns-in-Ok-clause-enters
 returns-in-Ok-clause-enters c =
     let count : one_less (b_of c.args.i) ≡ Some c.in_ok-given.given = search rules in
     let deep : length c.args.stack.now.frames + 1 ≤ greatest_depth = search (rules, arith) in
-    let kept = c.may_give_up.ensures.kept in
-    subst (λ (s : KeptStack). EntersIn s c.call.new.self c.args.size c.args.funcs.now.objects c.args.codes.now c.args.i) kept (record {
+    record {
       given = c.in_ok-given.given;
       wants = less_is (b_of c.args.i) c.in_ok-given.given count;
       id = c.in_ok-id.id;
       registers = c.registers.result.now;
-      are = subst (λ (s : KeptStack). OnTop s (λ f t. map f c.registers.result.now ≡ t.own.registers)) (sym kept) c.registers.ensures;
+      are = c.registers.ensures;
       holds = subst (λ a. HoldsCallee c.registers.result.now a c.in_ok-given.given c.in_ok-id.id) c.a-register.ensures c.in_ok-id.ensures;
       shape = c.in_ok-shape.shape;
       has = c.in_ok-shape.ensures;
       calls = search rules;
-      room = subst (λ (s : KeptStack). length s.frames + 1 ≤ greatest_depth) (sym kept) deep;
-    })
+      room = deep;
+    }

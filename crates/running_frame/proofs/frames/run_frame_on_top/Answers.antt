@@ -9,34 +9,37 @@ use Rattle.running_frame.proofs.Chained.{reaches_then}
 use Rattle.running_frame.proofs.Places.{runs_where}
 use Rattle.running_frame.proofs.frames.run_frame_on_top.Goals as goal
 
-pub run_stack-here-requires : goal.run_stack-here-requires
-run_stack-here-requires g c = (c.requires.0, c.requires.1.0)
+pub run_stack-stop-requires : goal.run_stack-stop-requires
+run_stack-stop-requires g c = (c.requires.0, c.requires.1.0)
 
 pub cross-requires-clause-top : goal.cross-requires-clause-top
 cross-requires-clause-top g c =
-    let k = c.run_stack-here.ensures.here in
+    let k = c.run_stack-stop.ensures.here in
     record { value = value g.g.around.texts; below = g.g.around.context.below; top = k.top; is = k.is }
 
 pub cross-requires-clause-codes : goal.cross-requires-clause-codes
 cross-requires-clause-codes g c = c.requires.1.1.0.have
 
+pub cross-requires-clause-closed : goal.cross-requires-clause-closed
+cross-requires-clause-closed g c = c.run_stack-stop.ensures.closed
+
 pub returns-in-Some-clause-reaches : goal.returns-in-Some-clause-reaches
 returns-in-Some-clause-reaches g c =
-    let r = c.run_stack-here.ensures.runs (runs_where c.run_stack-here.result.runs c.if-not-here.false) in
-    reaches_then g.g.around.rows c.run_stack-here.ensures.reaches
-    (crossed_or_not g.g (code c.args.closure c.args.strings.now) c.run_stack-here.new.stack c.run_stack-here.new.tables.objects c.run_stack-here.new.cells.objects c.run_stack-here.new.budget c.run_stack-here.result.pc r
-    c.cross.new.stack c.args.size c.args.funcs.now.objects c.args.codes.now c.run_stack-here.result.word c.cross.new.budget c.requires.1.1.0 c.requires.1.1.1 c.run_stack-here.ensures.here.word
+    let r = c.run_stack-stop.ensures.runs (runs_where c.run_stack-stop.result.here.runs c.if-not-stop.false) in
+    reaches_then g.g.around.rows c.run_stack-stop.ensures.reaches
+    (crossed_or_not g.g (code c.args.closure c.args.strings.now) c.run_stack-stop.new.stack c.run_stack-stop.new.tables.objects c.run_stack-stop.new.cells.objects c.run_stack-stop.new.budget c.run_stack-stop.result.here.pc r
+    c.cross.new.stack c.args.size c.args.funcs.now.objects c.args.codes.now c.run_stack-stop.result.here.word c.cross.new.budget c.requires.1.1.0 c.requires.1.1.1 c.run_stack-stop.ensures.here.word
     c.cross.result c.cross.ensures.crosses c.cross.ensures.kept)
 
 pub returns-in-None-clause-reaches : goal.returns-in-None-clause-reaches
 returns-in-None-clause-reaches g c =
-    let r = c.run_stack-here.ensures.runs (runs_where c.run_stack-here.result.runs c.if-not-here.false) in
-    reaches_then g.g.around.rows c.run_stack-here.ensures.reaches
-    (crossed_or_not g.g (code c.args.closure c.args.strings.now) c.run_stack-here.new.stack c.run_stack-here.new.tables.objects c.run_stack-here.new.cells.objects c.run_stack-here.new.budget c.run_stack-here.result.pc r
-    c.cross.new.stack c.args.size c.args.funcs.now.objects c.args.codes.now c.run_stack-here.result.word c.cross.new.budget c.requires.1.1.0 c.requires.1.1.1 c.run_stack-here.ensures.here.word
+    let r = c.run_stack-stop.ensures.runs (runs_where c.run_stack-stop.result.here.runs c.if-not-stop.false) in
+    reaches_then g.g.around.rows c.run_stack-stop.ensures.reaches
+    (crossed_or_not g.g (code c.args.closure c.args.strings.now) c.run_stack-stop.new.stack c.run_stack-stop.new.tables.objects c.run_stack-stop.new.cells.objects c.run_stack-stop.new.budget c.run_stack-stop.result.here.pc r
+    c.cross.new.stack c.args.size c.args.funcs.now.objects c.args.codes.now c.run_stack-stop.result.here.word c.cross.new.budget c.requires.1.1.0 c.requires.1.1.1 c.run_stack-stop.ensures.here.word
     c.cross.result c.cross.ensures.crosses c.cross.ensures.kept)
 
 pub returns-in-None-clause-here : goal.returns-in-None-clause-here
 returns-in-None-clause-here g c =
-    let kept = subst (λ o. IfNone o ((c.cross.new.stack ≡ c.run_stack-here.new.stack) × (c.cross.new.budget ≡ c.run_stack-here.new.budget))) c.in-None.is c.cross.ensures.kept in
-    subst (λ (u : KeptStack). IsHereIn g.g (code c.args.closure c.args.strings.now) u c.run_stack-here.result) (sym kept.0) c.run_stack-here.ensures.here
+    let kept = subst (λ o. IfNone o ((c.cross.new.stack ≡ c.run_stack-stop.new.stack) × (c.cross.new.budget ≡ c.run_stack-stop.new.budget))) c.in-None.is c.cross.ensures.kept in
+    subst (λ (u : KeptStack). IsHereIn g.g (code c.args.closure c.args.strings.now) u c.run_stack-stop.result.here) (sym kept.0) c.run_stack-stop.ensures.here

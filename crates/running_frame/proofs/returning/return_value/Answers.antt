@@ -1,19 +1,18 @@
-use Rattle.std.proofs.Common.{◌≡◌, sym, subst, ◌∙◌, arith, rules, true}
-use Rattle.lua_stack.specs.Frames.{HasLuaTop, KeptStack}
-use Rattle.running_frame.specs.Returning.{IsGiven, ReturnsIn}
-use Rattle.running_frame.proofs.Takers.{caller_kept}
+use Rattle.std.proofs.Common.{◌≡◌, subst, ◌∙◌, rules, true}
+use Rattle.std.specs.Prelude.{IfSome}
+use Rattle.running_frame.specs.Returning.{IsGiven}
+use Rattle.running_frame.specs.Standing.{IsClosedFrom}
+use Rattle.running_frame.proofs.Takers.{caller_kept, frames_there}
 use Rattle.running_frame.proofs.returning.return_value.Goals as goal
 
-pub registers-requires : goal.registers-requires
-registers-requires c = subst HasLuaTop (sym c.closes_nothing.ensures.kept) c.requires.top
-
 pub pop-requires-clause-there : goal.pop-requires-clause-there
-pop-requires-clause-there c = let m = c.in_ok-caller.ensures.many in omega (arith, m)
+pop-requires-clause-there c = frames_there c.requires.top
 
 pub pop-requires-clause-closed : goal.pop-requires-clause-closed
 pop-requires-clause-closed c =
-    let yes : c.closes_nothing.result ≡ true = search rules in
-    λ f below t e. (c.closes_nothing.ensures.closed yes).none
+    let yes : c.is_first.result ≡ true = search rules in
+    let closed = subst (λ o. IfSome o (λ register. IsClosedFrom c.args.stack.now register)) (c.is_first.ensures yes) c.requires.closed in
+    λ f below t e. closed.none
 
 pub hand-requires-clause-few : goal.hand-requires-clause-few
 hand-requires-clause-few c = c.in_ok-taker.ensures.takes.few
@@ -23,12 +22,11 @@ hand-requires-clause-room c = caller_kept _ c.in_ok-caller.ensures c.pop.ensures
 
 pub returns-clause-returns : goal.returns-clause-returns
 returns-clause-returns c =
-    let yes : c.closes_nothing.result ≡ true = search rules in
-    let s = c.closes_nothing.new.stack in
-    subst (λ (s : KeptStack). ReturnsIn s c.hand.new.stack c.args.funcs.now.objects c.args.codes.now c.args.i) c.closes_nothing.ensures.kept (record {
+    let yes : c.is_first.result ≡ true = search rules in
+    record {
       count = c.in_ok-count.count;
       is = search rules;
-      closed = c.closes_nothing.ensures.closed yes;
+      closed = subst (λ o. IfSome o (λ register. IsClosedFrom c.args.stack.now register)) (c.is_first.ensures yes) c.requires.closed;
       registers = c.registers.result.now;
       are = c.registers.ensures;
       value = c.in_ok-value.value;
@@ -41,4 +39,4 @@ returns-clause-returns c =
       pops = c.pop.ensures.frames;
       hands = c.hand.ensures;
       listed = c.hand.ensures.cells ∙ c.pop.ensures.cells;
-    })
+    }

@@ -1,16 +1,17 @@
-use Rattle.std.proofs.Common.{sym, ap, subst, ◌∙◌, arith}
+use Rattle.std.proofs.Common.{◌≡◌, [], ◌∷◌, ◌++◌, sym, ap, subst, ◌∙◌, arith}
 use Rattle.machine_focus.specs.Focus.{Reaches}
 use Rattle.machine_arms_tables.specs.Frame.{code}
 use Rattle.lua_heap.specs.Reading.{value}
-use Rattle.lua_stack.specs.Frames.{KeptStack}
+use Rattle.lua_stack.specs.Frames.{KeptStack, frames}
+use Rattle.machine_core.specs.World.{lua}
 use Rattle.running_frame.specs.Here.{is_none}
 use Rattle.running_frame.specs.Standing.{MayRun, RunsAt, standing}
-use Rattle.running_frame.proofs.Closed.{closes_nothing}
+use Rattle.running_frame.proofs.Closed.{closes_nothing, still_closed}
 use Rattle.running_frame.proofs.Places.{none_is}
 use Rattle.running_frame.proofs.stack.run_stack.Goals as goal
 
-pub here_at-requires : goal.here_at-requires
-here_at-requires g c =
+pub here_at-here-requires : goal.here_at-here-requires
+here_at-here-requires g c =
     let m = c.requires.0 in
     let v = value g.g.around.texts in
     let below = g.g.around.context.below in
@@ -27,16 +28,16 @@ returns-then-not-runs-clause-here g c =
       top = m.top;
       is = m.is;
       function = m.function;
-      at_pc = sym (c.here_at.ensures.place ∙ c.pc-start.ensures v below m.top m.is);
-      word = c.here_at.ensures.word;
-      runs = c.here_at.ensures.runs ∙ sym c.if-not-runs.true ∙ c.is_none-runs.ensures g.g.around.texts ∙ ap is_none (c.wait.ensures v below m.top m.is);
+      at_pc = sym (c.here_at-here.ensures.place ∙ c.pc-start.ensures v below m.top m.is);
+      word = c.here_at-here.ensures.word;
+      runs = c.here_at-here.ensures.runs ∙ sym c.if-not-runs.true ∙ c.is_none-runs.ensures g.g.around.texts ∙ ap is_none (c.wait.ensures v below m.top m.is);
     }
 
 pub closed_from-closed-requires : goal.closed_from-closed-requires
 closed_from-closed-requires g c = let m = c.requires.0 in record { value = value g.g.around.texts; below = g.g.around.context.below; top = m.top; is = m.is }
 
-pub run_on_top-requires : goal.run_on_top-requires
-run_on_top-requires g c =
+pub run_on_top-here-requires : goal.run_on_top-here-requires
+run_on_top-here-requires g c =
     let m = c.requires.0 in
     let v = value g.g.around.texts in
     let below = g.g.around.context.below in
@@ -52,12 +53,20 @@ run_on_top-requires g c =
       ),
     )
 
+pub returns-clause-closed : goal.returns-clause-closed
+returns-clause-closed g c =
+    let m = c.requires.0 in
+    let u = c.run_on_top-here.ensures.runs.may in
+    let kept = c.closed_from-closed.ensures.kept in
+    still_closed (value g.g.around.texts) c.closed_from-closed.new.stack c.run_on_top-here.new.stack g.g.around.context.below m.top u.top (subst (λ (s : KeptStack). frames (value g.g.around.texts) s ≡ g.g.around.context.below ++ lua m.top ∷ []) (sym kept) m.is)
+    u.is (u.pending ∙ sym m.pending) c.run_on_top-here.ensures.listed c.closed_from-closed.result c.closed_from-closed.ensures.closed
+
 pub returns-clause-reaches : goal.returns-clause-reaches
 returns-clause-reaches g c =
-    subst (λ (s : KeptStack). Reaches g.g.around.rows (standing g.g s c.args.tables.now.objects c.args.cells.now.objects c.args.budget.now) (standing g.g c.run_on_top.new.stack c.run_on_top.new.tables.objects c.run_on_top.new.cells.objects c.run_on_top.new.budget)) c.closed_from-closed.ensures.kept c.run_on_top.ensures.reaches
+    subst (λ (s : KeptStack). Reaches g.g.around.rows (standing g.g s c.args.tables.now.objects c.args.cells.now.objects c.args.budget.now) (standing g.g c.run_on_top-here.new.stack c.run_on_top-here.new.tables.objects c.run_on_top-here.new.cells.objects c.run_on_top-here.new.budget)) c.closed_from-closed.ensures.kept c.run_on_top-here.ensures.reaches
 
 pub returns-clause-listed : goal.returns-clause-listed
-returns-clause-listed g c = c.run_on_top.ensures.listed ∙ ap (λ (s : KeptStack). s.open_cells) c.closed_from-closed.ensures.kept
+returns-clause-listed g c = c.run_on_top-here.ensures.listed ∙ ap (λ (s : KeptStack). s.open_cells) c.closed_from-closed.ensures.kept
 
 pub returns-then-not-runs-clause-runs : goal.returns-then-not-runs-clause-runs
-returns-then-not-runs-clause-runs g c = λ e. absurd (let f = sym e ∙ c.here_at.ensures.runs in cc)
+returns-then-not-runs-clause-runs g c = λ e. absurd (let f = sym e ∙ c.here_at-here.ensures.runs in cc)
