@@ -1,9 +1,11 @@
 -- Values that stand for what was written out, also after more strings.
-use Rattle.std.proofs.Common.{◌≡◌, ℕ, zero, suc, ◌+◌, ◌<◌, List, [], ◌∷◌, ◌++◌, map, length, take, get_or, Some, Bool, true, false, refl, ap, sym, subst, ◌∙◌, append_assoc, arith}
+use Rattle.std.proofs.Common.{◌≡◌, ℕ, zero, suc, ◌+◌, ◌<◌, ◌≤◌, List, [], ◌∷◌, ◌++◌, map, length, take, get_or, Some, Bool, true, false, refl, ap, sym, subst, ◌∙◌, append_assoc, arith}
 use Rattle.std.specs.Prelude.{slice_get, ◌&&◌}
 use Rattle.std.specs.List.{list_all}
 use Rattle.std.proofs.lemmas.List.{take_more}
 use Rattle.int_core.specs.Value.{Plain, string, Value, known, shape, nth}
+use Rattle.library_arguments.specs.Shapes.{shape_of, shapes_of}
+use Rattle.library_arguments.specs.declared.shape.Shape.{Shape as Seen}
 use Rattle.list_laws.proofs.Items.{append_nil, get_old}
 use Rattle.table_core.specs.declared.value.StrId.{StrId}
 use Rattle.table_core.specs.declared.value.Value.{Value as Kept}
@@ -49,6 +51,20 @@ taken_more vs at h = let e : at + 1 ≡ suc at = omega arith in ap (λ n. map sh
     go [] at h = absurd (omega (arith, h))
     go (v ∷ vs) zero h = refl
     go (v ∷ vs) (suc at) h = ap (λ ss. shape v ∷ ss) (go vs at (omega (arith, h)))
+
+-- a list of at most four is seen by its first four places
+
+consed : {A : Type 0} {x y : A} {xs ys : List A} → x ≡ y → xs ≡ ys → x ∷ xs ≡ y ∷ ys
+consed {y = y} {xs = xs} e f = ap (λ x. x ∷ xs) e ∙ ap (λ xs. y ∷ xs) f
+
+pub few_seen : (vs : List Value) (a b c d : Seen) → length vs ≤ 4 → shape_of a ≡ shape (nth vs 0) → shape_of b ≡ shape (nth vs 1) → shape_of c ≡ shape (nth vs 2) → shape_of d ≡ shape (nth vs 3) →
+    shapes_of (take (length vs) (a ∷ b ∷ c ∷ d ∷ [])) ≡ map shape vs
+few_seen [] a b c d h e f g k = refl
+few_seen (v ∷ []) a b c d h e f g k = consed e refl
+few_seen (v ∷ w ∷ []) a b c d h e f g k = consed e (consed f refl)
+few_seen (v ∷ w ∷ x ∷ []) a b c d h e f g k = consed e (consed f (consed g refl))
+few_seen (v ∷ w ∷ x ∷ y ∷ []) a b c d h e f g k = consed e (consed f (consed g (consed k refl)))
+few_seen (v ∷ w ∷ x ∷ y ∷ z ∷ vs) a b c d h e f g k = absurd (omega (arith, h))
 
 -- written values, one after another
 

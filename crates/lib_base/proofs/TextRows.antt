@@ -47,3 +47,8 @@ module _ (vs : List Value) (H : Heap) where
 
   pub shown_too_long : (text : List ℕ) → IsShown vs H text → greatest_string < length text → looked texts vs H ≡ refused too_large
   shown_too_long text s h = text_is ∙ ap (λ text. looked (told_as (one (string text))) vs H) (sym s.is) ∙ too_long_text text vs H h
+
+-- a string is its own text
+pub own_text_is : (vs : List Value) (H : Heap) (bytes : List ℕ) → nth vs 0 ≡ known (string bytes) → length bytes ≤ greatest_string → looked texts vs H ≡ done H (nth vs 0 ∷ [])
+own_text_is vs H bytes e h =
+    shown_is vs H bytes (record { is = sym (ap (λ v. shown_of (shape v) (shape (name_in H v))) e) }) h ∙ ap (λ v. done H (v ∷ [])) (sym e)

@@ -1,5 +1,5 @@
 -- What the functions answer, beside their rows.
-use Rattle.std.specs.Prelude.{◌≡◌, ℕ, List, ◌++◌, map, Result, Ok, Err}
+use Rattle.std.specs.Prelude.{◌≡◌, ℕ, List, [], ◌∷◌, ◌++◌, map, Result, Ok, Err}
 use Rattle.int_core.specs.Value.{Plain, known, nth}
 use Rattle.library_rows.specs.Look.{Look, Done, done, refused, raised, looked}
 use Rattle.machine_sound.specs.Sound.{Each, Valid, sizes, Sound}
@@ -13,7 +13,7 @@ use Rattle.lua_heap.specs.Plain.{plain}
 use Rattle.lua_heap.specs.Reading.{value}
 use Rattle.lib_base.specs.Raw.{heap_of}
 use Rattle.lib_base.specs.declared.answer.Answer.{Answer}
-use Rattle.lib_base.specs.declared.answer.Answer.TheVariants.{Gives, Raises}
+use Rattle.lib_base.specs.declared.answer.Answer.TheVariants.{One, Gives, Raises}
 
 -- a sound world, in which the arguments are valid
 pub record Stands (W : Memory) (arguments : List Kept) : Type 0 where
@@ -51,6 +51,7 @@ abbrev pub IsArgument : List Kept → ℕ → Kept → Type 0
 IsArgument arguments at v = (texts : List (List ℕ)) → nth (map (value texts) arguments) at ≡ value texts v
 
 abbrev pub told : Memory → Answer → Done
+told W (One v) = done (heap_of W) (value W.strings v ∷ [])
 told W (Gives vs) = done (heap_of W) (map (value W.strings) vs.items)
 told W (Raises v) = raised (heap_of W) (value W.strings v)
 

@@ -12,19 +12,12 @@ use table_core::Value;
 /// What a library function gives, where it neither refuses its arguments nor wants for memory.
 #[derive(Debug, Drop)]
 pub enum Answer {
+    /// One result, which takes no memory.
+    One(Value),
     /// Its results.
     Gives(Vec<Value>),
     /// An error whose value is handed on as it is.
     Raises(Value),
-}
-
-/// One result.
-pub(crate) fn one(alloc: Global, given: Value) -> Result<Answer, AllocError>
-    ensures { IfOk result (λ answer. (W : Memory) → told W answer ≡ done (heap_of W) (value W.strings given ∷ [])) }
-{
-    let mut results = Vec::with_capacity(alloc, 1)?;
-    results.push_reserved(given);
-    Ok(Answer::Gives(results))
 }
 
 /// The argument of a place, from 0; nil where there is none.

@@ -5,7 +5,7 @@ ghost use Rattle.library_rows.specs.Base.{asserts, collects_garbage, is_count, n
 ghost use Rattle.lib_base.specs.Answers.{Answers, Changes, OnlyStrings, Stands};
 ghost use Rattle.lib_base.specs.Select.{IsBorderValue, IsLength, selected_place};
 
-use crate::answer::{Answer, all_from, argument, one, two};
+use crate::answer::{Answer, all_from, argument, two};
 use crate::raw;
 use crate::shapes::{argument_shape, table_argument, wrong_type};
 use crate::strings::string;
@@ -18,8 +18,7 @@ use table_core::{Key, NoSuchKey, Value};
 pub fn collect_garbage(world: &World, arguments: &[Value]) -> Result<Answer, Fault>
     ensures { Answers collects_garbage arguments.now world.now world.now result }
 {
-    let answer = one(world.alloc, Value::Int(0))?;
-    Ok(answer)
+    Ok(Answer::One(Value::Int(0)))
 }
 
 /// `rawequal`: whether two values are the same.
@@ -27,8 +26,7 @@ pub fn raw_equal(world: &World, arguments: &[Value]) -> Result<Answer, Fault>
     ensures { Answers raw_equal arguments.now world.now world.now result }
 {
     let equal = raw::equal(world, argument(arguments, 0), argument(arguments, 1));
-    let answer = one(world.alloc, Value::Bool(equal))?;
-    Ok(answer)
+    Ok(Answer::One(Value::Bool(equal)))
 }
 
 /// `rawget`: the value at a key.
@@ -38,8 +36,7 @@ pub fn raw_get(world: &World, arguments: &[Value]) -> Result<Answer, Fault>
 {
     let id = table_argument(world, b"rawget", arguments)?;
     let found = raw::read_field(world, Value::Table(id), argument(arguments, 1));
-    let answer = one(world.alloc, found)?;
-    Ok(answer)
+    Ok(Answer::One(found))
 }
 
 /// `rawlen`: the border of a table, or how many bytes a string has.
@@ -48,8 +45,7 @@ pub fn raw_length(world: &World, arguments: &[Value]) -> Result<Answer, Fault>
     ensures { Answers raw_length arguments.now world.now world.now result }
 {
     let size = length(world, arguments)?;
-    let answer = one(world.alloc, size)?;
-    Ok(answer)
+    Ok(Answer::One(size))
 }
 
 /// The length of the first argument.
@@ -94,9 +90,8 @@ pub fn raw_set(world: &mut World, arguments: &[Value]) -> Result<Answer, Fault>
     let Some(key) = Key::of(argument(arguments, 1)) else {
         return Err(Fault::Refused(Refusal::Text(b"table index is nil")));
     };
-    let answer = one(world.alloc, Value::Table(id))?;
     raw::write_field(world, id, key, argument(arguments, 2))?;
-    Ok(answer)
+    Ok(Answer::One(Value::Table(id)))
 }
 
 /// `next`: the first row after a key's that is not cleared, or nil at the end.
@@ -110,10 +105,7 @@ pub fn next(world: &World, arguments: &[Value]) -> Result<Answer, Fault>
             let answer = two(world.alloc, key.value(), found)?;
             Ok(answer)
         }
-        Ok(None) => {
-            let answer = one(world.alloc, Value::Nil)?;
-            Ok(answer)
-        }
+        Ok(None) => { Ok(Answer::One(Value::Nil)) }
         Err(NoSuchKey) => Err(Fault::Refused(Refusal::Text(b"invalid key to 'next'"))),
     }
 }
@@ -126,8 +118,7 @@ pub fn select(world: &World, arguments: &[Value]) -> Result<Answer, Fault>
     let first = argument_shape(world, arguments, 0);
     let many = arguments.len().saturating_sub(1);
     if is_count(first) {
-        let answer = one(world.alloc, Value::Int(many as i64))?;
-        return Ok(answer);
+        return Ok(Answer::One(Value::Int(many as i64)));
     }
     let n = integer_argument(b"select", 1, first)?;
     match selected_place(n, many) {
@@ -188,6 +179,5 @@ pub fn type_of(world: &mut World, arguments: &[Value]) -> Result<Answer, Fault>
 {
     let name = argument_shape(world, arguments, 0).type_name();
     let made = string(world, arguments, name)?;
-    let answer = one(world.alloc, made)?;
-    Ok(answer)
+    Ok(Answer::One(made))
 }

@@ -1,5 +1,5 @@
 // Each function by its name.
-ghost use Rattle.std.specs.Prelude.{OnErr, map};
+ghost use Rattle.std.specs.Prelude.{◌≡◌, ◌≤◌, OnErr, length, map, take};
 ghost use Rattle.int_core.specs.Value.{shape};
 ghost use Rattle.library_arguments.specs.Answers.{IsAnswer};
 ghost use Rattle.library_arguments.specs.Shapes.{shapes_of};
@@ -10,6 +10,7 @@ ghost use Rattle.lib_base.specs.Functions.{function_row, plain_row};
 
 use crate::answer::Answer;
 use crate::plain::{all_shapes, given};
+use crate::shapes::argument_shape;
 use crate::{
     base, expanding, joining, lists, math, metatables, packing, seeking, sorting, text, texts,
 };
@@ -110,9 +111,39 @@ fn plain_results(world: &World, function: Plain, arguments: &[Value]) -> Result<
     requires { Stands world.now arguments.now }
     ensures { IsAnswer result (plain_row function (map shape (map (value world.now.strings) arguments.now))) }
 {
+    if arguments.len() <= FEW {
+        return few_results(world, function, arguments);
+    }
     let shapes = all_shapes(world, arguments)?;
     let results = results_of(world.alloc, function, shapes.as_slice())?;
     Ok(results)
+}
+
+/// How many arguments are seen without asking for memory.
+const FEW: usize = 4;
+
+/// What such a function gives for few arguments.
+fn few_results(world: &World, function: Plain, arguments: &[Value]) -> Result<Results, Fault>
+    requires few { length arguments.now ≤ 4 }
+    requires stands { Stands world.now arguments.now }
+    ensures { IsAnswer result (plain_row function (map shape (map (value world.now.strings) arguments.now))) }
+{
+    let seen = [
+        argument_shape(world, arguments, 0),
+        argument_shape(world, arguments, 1),
+        argument_shape(world, arguments, 2),
+        argument_shape(world, arguments, 3),
+    ];
+    results_of(world.alloc, function, front(&seen, arguments.len()))
+}
+
+/// The first `count` of some shapes.
+fn front<'s, 'a>(shapes: &'s [Shape<'a>], count: usize) -> &'s [Shape<'a>]
+    requires { count ≤ length shapes.now }
+    ensures { result.now ≡ take count shapes.now }
+{
+    let (front, _) = shapes.split_at(count);
+    front
 }
 
 /// What such a function gives, by what it sees of its arguments.

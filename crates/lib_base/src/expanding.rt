@@ -59,7 +59,7 @@ fn captures<'a>(
     ensures { IfOk result (λ captures. shapes_of captures.items ≡ map shape (items_from (heap_of world.now) (object a_table id.0) 10 0)) }
 {
     strings_are_there();
-    let mut captures = Vec::new(world.alloc);
+    let mut captures = Vec::with_capacity(world.alloc, 10)?;
     for i in 0..10usize {
         let item = raw::read_field(world, Value::Table(id), Value::Int(i as i64));
         captures.push(shape(world, item))?;

@@ -6,7 +6,7 @@ ghost use Rattle.lib_base.specs.Answers.{Answers, OnlyStrings, Stands};
 ghost use Rattle.lib_base.specs.Lists.{IsFaultOf, IsText, items_from};
 ghost use Rattle.lib_base.specs.Raw.{heap_of};
 
-use crate::answer::{Answer, one};
+use crate::answer::Answer;
 use crate::lists::count;
 use crate::raw;
 use crate::shapes::{argument_shape, shape, table_argument};
@@ -27,8 +27,7 @@ pub fn join(world: &mut World, arguments: &[Value]) -> Result<Answer, Fault>
     let many = count(b"join", argument_shape(world, arguments, 1))?;
     let text = joined(world, arguments, id, many)?;
     let made = string(world, arguments, text.as_slice())?;
-    let answer = one(world.alloc, made)?;
-    Ok(answer)
+    Ok(Answer::One(made))
 }
 
 /// The texts of the items 1 to `many`, one after another.

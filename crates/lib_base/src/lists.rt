@@ -40,7 +40,7 @@ pub(crate) fn items(world: &World, id: TableId, many: usize) -> Result<Vec<Value
     requires { many < 2 ^ 63 }
     ensures { IfOk result (λ items. map (value world.now.strings) items.items ≡ items_from (heap_of world.now) (object a_table id.0) many 1) }
 {
-    let mut items = Vec::new(world.alloc);
+    let mut items = Vec::with_capacity(world.alloc, many)?;
     for i in 0..many {
         let item = raw::read_field(world, Value::Table(id), Value::Int(i as i64 + 1));
         items.push(item)?;

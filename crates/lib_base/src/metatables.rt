@@ -6,7 +6,7 @@ ghost use Rattle.lua_heap.specs.Reading.{value};
 ghost use Rattle.lib_base.specs.Answers.{Answers, Changes, OnlyStrings, Stands};
 ghost use Rattle.lib_base.specs.Metatables.{IsMetatableArgument, field_or};
 
-use crate::answer::{Answer, argument, one};
+use crate::answer::{Answer, argument};
 use crate::raw;
 use crate::shapes::{argument_shape, table_argument, wrong_type};
 use crate::strings::string;
@@ -20,8 +20,7 @@ pub fn meta_field(world: &World, arguments: &[Value]) -> Result<Answer, Fault>
 {
     let metatable = raw::value_of(raw::metatable(world, argument(arguments, 0)));
     let found = raw::read_field(world, metatable, argument(arguments, 1));
-    let answer = one(world.alloc, found)?;
-    Ok(answer)
+    Ok(Answer::One(found))
 }
 
 /// `getmetatable`: the field `__metatable` of a value's metatable where there is one, else the metatable or nil.
@@ -33,8 +32,7 @@ pub fn get_metatable(world: &mut World, arguments: &[Value]) -> Result<Answer, F
     let name = string(world, arguments, b"__metatable")?;
     let metatable = raw::value_of(raw::metatable(world, argument(arguments, 0)));
     let given = field_or(raw::read_field(world, metatable, name), metatable);
-    let answer = one(world.alloc, given)?;
-    Ok(answer)
+    Ok(Answer::One(given))
 }
 
 /// `setmetatable`: sets or takes off a table's metatable, and gives the table.
@@ -51,9 +49,8 @@ pub fn set_metatable(world: &mut World, arguments: &[Value]) -> Result<Answer, F
     let Value::Nil = raw::read_field(world, present, name) else {
         return Err(Fault::Refused(Refusal::Text(b"cannot change a protected metatable")));
     };
-    let answer = one(world.alloc, Value::Table(id))?;
     raw::set_metatable(world, id, metatable);
-    Ok(answer)
+    Ok(Answer::One(Value::Table(id)))
 }
 
 /// The second argument: a table, or nil for none.

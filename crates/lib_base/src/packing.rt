@@ -23,10 +23,8 @@ pub fn pack(world: &mut World, arguments: &[Value]) -> Result<Answer, Fault>
 {
     let name = string(world, arguments, b"n")?;
     let table = packed(world, arguments, name)?;
-    let mut results = Vec::with_capacity(world.alloc, 1)?;
     let id = world.add_table(table)?;
-    results.push_reserved(Value::Table(id));
-    Ok(Answer::Gives(results))
+    Ok(Answer::One(Value::Table(id)))
 }
 
 /// The table of the arguments, where `name` is the string `n`.

@@ -10,7 +10,7 @@ ghost use Rattle.lua_heap.specs.Reading.{value};
 ghost use Rattle.lib_base.specs.Answers.{Means, MeanAll, OnlyStrings, Stands, told};
 ghost use Rattle.lib_base.specs.Raw.{heap_of};
 
-use crate::answer::{Answer, one};
+use crate::answer::Answer;
 use crate::shapes::argument_shape;
 use crate::strings::string;
 use library_arguments::{Plain, Results, Shape};
@@ -23,7 +23,7 @@ pub fn all_shapes<'a>(world: &'a World, arguments: &[Value]) -> Result<Vec<Shape
     requires { Stands world.now arguments.now }
     ensures { IfOk result (λ shapes. shapes_of shapes.items ≡ map shape (map (value world.now.strings) arguments.now)) }
 {
-    let mut shapes = Vec::new(world.alloc);
+    let mut shapes = Vec::with_capacity(world.alloc, arguments.len())?;
     for at in 0..arguments.len() {
         let seen = argument_shape(world, arguments, at);
         shapes.push(seen)?;
@@ -45,8 +45,7 @@ pub fn given(
     match results {
         Results::One(written) => {
             let made = value_of(world, arguments, written)?;
-            let answer = one(world.alloc, made)?;
-            Ok(answer)
+            Ok(Answer::One(made))
         }
         Results::Many(all) => {
             let values = values_of(world, arguments, all.as_slice())?;
@@ -85,7 +84,7 @@ pub(crate) fn values_of(
     ensures mean { IfOk result (λ values. MeanAll world.new.strings values.items (map known_of all.now)) }
     ensures kept { OnlyStrings world.old world.new arguments.now }
 {
-    let mut values = Vec::new(world.alloc);
+    let mut values = Vec::with_capacity(world.alloc, all.len())?;
     for written in all {
         let made = value_of(world, arguments, written)?;
         values.push(made)?;

@@ -1,14 +1,15 @@
 // The text of a value without `__tostring` (Lua 5.4 manual, 6.1, `tostring`).
-ghost use Rattle.std.specs.Prelude.{◌≡◌, IfOk, codes, map};
+ghost use Rattle.std.specs.Prelude.{◌≡◌, IfOk, Ok, codes, map};
 ghost use Rattle.int_core.specs.Value.{known, nth, shape, string};
 ghost use Rattle.library_arguments.specs.Shapes.{shape_of};
 ghost use Rattle.library_rows.specs.Base.{kind_text, texts};
+ghost use Rattle.table_core.specs.declared.value.Value.TheVariants.{Str};
 ghost use Rattle.lua_heap.specs.Reading.{value};
-ghost use Rattle.lib_base.specs.Answers.{Answers, OnlyStrings, Stands};
+ghost use Rattle.lib_base.specs.Answers.{Answers, IsArgument, OnlyStrings, Stands};
 ghost use Rattle.lib_base.specs.Raw.{heap_of};
 ghost use Rattle.lib_base.specs.Texts.{IsShown, shown_of};
 
-use crate::answer::{Answer, argument, one};
+use crate::answer::{Answer, argument};
 use crate::raw;
 use crate::shapes::{argument_shape, shape};
 use crate::strings::string;
@@ -16,7 +17,7 @@ use library_arguments::{Digits, Fault, Refusal, Shape};
 use lua_heap::World;
 use lua_heap::law::strings_are_there;
 use std::alloc::{AllocError, Global};
-use table_core::Value;
+use table_core::{StrId, Value};
 use text_functions::MAX_TEXT;
 
 /// The text of a value without `__tostring`, for `tostring` of the prelude: of an object it begins with a string `__name` of its
@@ -30,14 +31,40 @@ pub fn text(world: &mut World, arguments: &[Value]) -> Result<Answer, Fault>
     ensures answers { Answers texts arguments.now world.old world.new result }
     ensures kept { OnlyStrings world.old world.new arguments.now }
 {
+    match argument(arguments, 0) {
+        Value::Str(id) => Ok(own_text(world, arguments, id)),
+        _ => {
+            let answer = made_text(world, arguments)?;
+            Ok(answer)
+        }
+    }
+}
+
+/// A string is its own text.
+fn own_text(world: &World, arguments: &[Value], id: StrId) -> Answer
+    requires stands { Stands world.now arguments.now }
+    requires first { IsArgument arguments.now 0 (Str id) }
+    ensures { Answers texts arguments.now world.now world.now (Ok result) }
+{
+    strings_are_there();
+    world.strings.len();
+    world.bytes(id);
+    Answer::One(Value::Str(id))
+}
+
+/// The text of a value as a string, which is added where there is none.
+fn made_text(world: &mut World, arguments: &[Value]) -> Result<Answer, Fault>
+    requires { Stands world.old arguments.now }
+    ensures answers { Answers texts arguments.now world.old world.new result }
+    ensures kept { OnlyStrings world.old world.new arguments.now }
+{
     let name = string(world, arguments, b"__name")?;
     let bytes = shown(world, arguments, name)?;
     if bytes.len() > MAX_TEXT {
         return Err(Fault::Refused(Refusal::Text(b"resulting string too large")));
     }
     let made = string(world, arguments, bytes.as_slice())?;
-    let answer = one(world.alloc, made)?;
-    Ok(answer)
+    Ok(Answer::One(made))
 }
 
 /// The text of the first argument, where `name` is the string `__name`.

@@ -89,6 +89,21 @@ moves_again old taken new arguments m e t o = record {
       ∙ ap (λ (W : World). record W { moving = (plain old fuel).moving }) (o.plain fuel ∙ t.plain fuel);
 }
 
+-- so does what was taken where nothing was done
+pub moves_back : (old taken : Memory) (arguments : List Kept) (m : Vec Kept) → m.items ≡ arguments → Taken old taken arguments → ReadsSame old (record taken { moving = m })
+moves_back old taken arguments m e t = record {
+  is = λ fuel.
+      ap (λ vs. record (plain taken fuel) { moving = map (value taken.strings) vs }) e
+      ∙ ap (λ vs. record (plain taken fuel) { moving = vs }) (ap (λ (M : Memory). map (value M.strings) arguments) t.rest ∙ ap (map (value old.strings)) t.items)
+      ∙ ap (λ (W : World). record W { moving = (plain old fuel).moving }) (t.plain fuel);
+}
+
+pub order_back : (old taken : Memory) (m : Vec Kept) → InOrder old → taken ≡ record old { moving = taken.moving } → InOrder (record taken { moving = m })
+order_back old taken m i e = record {
+  codes = subst (λ (M : Memory). AreCodes M.strings M.codes) (sym e) i.codes;
+  listed = subst CellsAreListed (sym e) i.listed;
+}
+
 pub order_again : (old taken new : Memory) (arguments : List Kept) (m : Vec Kept) → InOrder old → Taken old taken arguments → OnlyStrings taken new arguments → InOrder (record new { moving = m })
 order_again old taken new arguments m i t o = in_order old taken new arguments i t o.codes (o.rest)
   where

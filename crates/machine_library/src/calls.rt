@@ -1,9 +1,8 @@
 // Functions that look at values and tables alone, called with the values on their way (luaD_precall of ldo.c and luaL_error of lauxlib.c).
-ghost use Rattle.std.specs.Prelude.{◌≡◌, ◌<◌, [], List, IfOk, OnErr};
-ghost use Rattle.std.specs.Vec.{vec_len, vec_capacity};
+ghost use Rattle.std.specs.Prelude.{◌≡◌, ◌∷◌, ◌<◌, [], List, IfOk, IsTrue, OnErr};
+ghost use Rattle.std.specs.Vec.{vec_capacity};
 ghost use Rattle.int_core.specs.Value.{Value as Meant};
 ghost use Rattle.library_arguments.specs.Refusals.{refusal_text};
-ghost use Rattle.lib_base.specs.declared.answer.Answer.TheVariants.{Raises};
 ghost use Rattle.lib_base.specs.Functions.{function_row};
 ghost use Rattle.machine_core.specs.FrameRows.{blames};
 ghost use Rattle.machine_core.specs.MachineStep.{look_row};
@@ -30,10 +29,13 @@ pub fn call_function(world: &mut World, function: Function) -> Result<Ending, Al
     ensures order { InOrder world.new }
     ensures err { OnErr result (ReadsSame world.old world.new) }
 {
-    let error = Vec::with_capacity(world.alloc, 1)?;
-    let arguments = take_moving(world);
+    let mut arguments = take_moving(world);
+    if !make_room(&mut arguments) {
+        world.moving = arguments;
+        return Err(AllocError);
+    }
     match call(world, function, arguments.as_slice()) {
-        Ok(answer) => Ok(tell(world, answer, error)),
+        Ok(answer) => Ok(tell(world, answer, arguments)),
         Err(Fault::Refused(refusal)) => {
             world.moving = arguments;
             let ending = refuse(world, refusal)?;
@@ -46,36 +48,50 @@ pub fn call_function(world: &mut World, function: Function) -> Result<Ending, Al
     }
 }
 
-/// Results are for the frame on top, and a raised value is an error; `error` has room for that.
-fn tell(world: &mut World, answer: Answer, error: Vec<Value>) -> Ending
+/// Makes room for one value at least, whatever is there, and says whether memory was left for it.
+fn make_room(values: &mut Vec<Value>) -> bool
+    ensures items { values.new.items ≡ values.old.items }
+    ensures room { IsTrue result → 0 < vec_capacity values.new }
+{
+    if values.capacity() > 0 {
+        return true;
+    }
+    values.reserve(1).is_ok()
+}
+
+/// Results are for the frame on top, and a raised value is an error. A single value takes the place of the arguments, which have room for one.
+fn tell(world: &mut World, answer: Answer, arguments: Vec<Value>) -> Ending
     requires running { HasStack world.old }
-    requires empty { error.items ≡ [] }
-    requires room { vec_len error < vec_capacity error }
+    requires room { 0 < vec_capacity arguments }
     ensures tells { Tells world.old world.new answer (ending_of result) }
     ensures goes { Goes result }
     ensures rest { world.new ≡ record world.old { moving = world.new.moving } }
 {
     match answer {
+        Answer::One(given) => {
+            give_values(world, alone(given, arguments));
+            hand_over(world)
+        }
         Answer::Gives(results) => {
             give_values(world, results);
             hand_over(world)
         }
-        Answer::Raises(raised) => raise_value(world, raised, error),
+        Answer::Raises(raised) => {
+            give_values(world, alone(raised, arguments));
+            Ending::Raised
+        }
     }
 }
 
-/// A value is raised as it is.
-fn raise_value(world: &mut World, raised: Value, error: Vec<Value>) -> Ending
-    requires empty { error.items ≡ [] }
-    requires room { vec_len error < vec_capacity error }
-    ensures tells { Tells world.old world.new (Raises raised) (ending_of result) }
-    ensures goes { Goes result }
-    ensures rest { world.new ≡ record world.old { moving = world.new.moving } }
+/// A value in place of others, which have room for one.
+fn alone(value: Value, others: Vec<Value>) -> Vec<Value>
+    requires { 0 < vec_capacity others }
+    ensures { result.items ≡ value ∷ [] }
 {
-    let mut error = error;
-    error.push_reserved(raised);
-    give_values(world, error);
-    Ending::Raised
+    let mut values = others;
+    values.clear();
+    values.push_reserved(value);
+    values
 }
 
 /// An argument is wrong, which is an error of the caller. A refusal of memory changes nothing.

@@ -1,4 +1,4 @@
-use Rattle.std.proofs.Common.{rules, ◌≡◌, [], ◌∷◌, ap, sym, ◌∙◌, map}
+use Rattle.std.proofs.Common.{rules, ◌≡◌, [], ◌∷◌, ap, ◌∙◌, map}
 use Rattle.int_core.specs.Operations.{type_name}
 use Rattle.int_core.specs.Value.{nth, known, string, shape}
 use Rattle.library_rows.specs.Look.{done}
@@ -14,4 +14,3 @@ returns-clause-answers c =
     let g : known (string name) ≡ value c.string.new.world.strings c.in_ok-made.made = search rules in
     ap (λ H. done H (known (string name) ∷ [])) (same_heap c.args.world.now c.string.new.world c.args.arguments.now c.string.ensures.kept)
     ∙ ap (λ v. done (heap_of c.string.new.world) (v ∷ [])) g
-    ∙ sym (c.in_ok-answer.ensures c.string.new.world)

@@ -29,4 +29,3 @@ returns-clause-answers c =
     join_is vs (heap_of W) c.in_ok-id.id c.in_ok-many.many c.in_ok-id.ensures n c.in_ok-text.text.items c.in_ok-text.ensures.0 c.in_ok-text.ensures.1
     ∙ ap (λ H. done H (known (string c.in_ok-text.text.items) ∷ [])) (same_heap W new c.args.arguments.now c.string.ensures.kept)
     ∙ ap (λ v. done (heap_of new) (v ∷ [])) g
-    ∙ sym (c.in_ok-answer.ensures new)

@@ -1,4 +1,4 @@
-use Rattle.std.proofs.Common.{rules, ◌≡◌, ap, sym, ◌∙◌, map}
+use Rattle.std.proofs.Common.{rules, ◌≡◌, ap, ◌∙◌, map}
 use Rattle.std.specs.Prelude.{[], ◌∷◌, codes}
 use Rattle.int_core.specs.Value.{nth, known, string, object, a_table}
 use Rattle.library_rows.specs.Base.{sets_metatable}
@@ -12,9 +12,6 @@ use Rattle.lib_base.proofs.metatables.set_metatable.Goals as goal
 
 pub returns-in_err-name-clause-changes : goal.returns-in_err-name-clause-changes
 returns-in_err-name-clause-changes c = changes_strings c.args.world.now c.string.new.world c.args.arguments.now c.string.ensures.kept
-
-pub returns-in_err-answer-clause-changes : goal.returns-in_err-answer-clause-changes
-returns-in_err-answer-clause-changes c = changes_strings c.args.world.now c.string.new.world c.args.arguments.now c.string.ensures.kept
 
 pub returns-in_default-clause-changes : goal.returns-in_default-clause-changes
 returns-in_default-clause-changes c = changes_strings c.args.world.now c.string.new.world c.args.arguments.now c.string.ensures.kept
@@ -45,4 +42,3 @@ returns-clause-answers c =
     let o : Operates read_metatable new (Table c.in_ok-id.id ∷ []) new (c.value_of-present.result ∷ []) no_word = search rules in
     as_before sets_metatable c.args.world.now new c.args.arguments.now c.string.ensures.kept
     ∙ sets_metatable_is new vs c.in_ok-id.id e c.in_ok-metatable.metatable c.value_of-present.result c.in_ok-name.name c.read_field.result g f o c.read_field.ensures c.set_metatable.new.world (search rules) c.set_metatable.ensures
-    ∙ sym (c.in_ok-answer.ensures c.set_metatable.new.world)

@@ -1,9 +1,6 @@
-use Rattle.std.proofs.Common.{rules, ◌≡◌, [], ◌∷◌, ap, sym, ◌∙◌, map}
+use Rattle.std.proofs.Common.{rules, ◌≡◌, ◌∙◌, map}
 use Rattle.library_rows.specs.Base.{packs}
-use Rattle.library_rows.specs.Look.{done}
-use Rattle.table_core.specs.declared.value.Value.TheVariants.{Table}
 use Rattle.lua_heap.specs.Reading.{value}
-use Rattle.lib_base.specs.Raw.{heap_of}
 use Rattle.lib_base.proofs.Interning.{as_before, changes_both, changes_strings, same_world}
 use Rattle.lib_base.proofs.PackRows.{packed_told}
 use Rattle.lib_base.proofs.packing.pack.Goals as goal
@@ -13,9 +10,6 @@ returns-in_err-name-clause-changes c = changes_strings c.args.world.now c.string
 
 pub returns-in_err-table-clause-changes : goal.returns-in_err-table-clause-changes
 returns-in_err-table-clause-changes c = changes_strings c.args.world.now c.string.new.world c.args.arguments.now c.string.ensures.kept
-
-pub returns-in_err-results-clause-changes : goal.returns-in_err-results-clause-changes
-returns-in_err-results-clause-changes c = changes_strings c.args.world.now c.string.new.world c.args.arguments.now c.string.ensures.kept
 
 pub returns-in_err-id-clause-changes : goal.returns-in_err-id-clause-changes
 returns-in_err-id-clause-changes c =
@@ -30,7 +24,5 @@ returns-clause-answers c =
     let mid = c.string.new.world in
     let new = c.add_table.new.self in
     let vs = map (value mid.strings) c.args.arguments.now in
-    let items : c.push_reserved.new.self.items ≡ Table c.in_ok-id.id ∷ [] = search rules in
     as_before packs c.args.world.now mid c.args.arguments.now c.string.ensures.kept
     ∙ packed_told mid new c.in_ok-table.table c.in_ok-id.id vs c.in_ok-id.ensures.added c.in_ok-id.ensures.id c.in_ok-table.ensures.rows c.in_ok-table.ensures.metatable
-    ∙ ap (λ vs. done (heap_of new) (map (value new.strings) vs)) (sym items)

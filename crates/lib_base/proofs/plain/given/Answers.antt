@@ -8,11 +8,10 @@ use Rattle.lib_base.specs.Raw.{heap_of}
 use Rattle.lib_base.proofs.Meaning.{all_mean_now, means_now}
 use Rattle.lib_base.proofs.plain.given.Goals as goal
 
-pub returns-in_ok-answer-in-One-clause-answers : goal.returns-in_ok-answer-in-One-clause-answers
-returns-in_ok-answer-in-One-clause-answers c =
+pub returns-in_ok-made-in-One-clause-answers : goal.returns-in_ok-made-in-One-clause-answers
+returns-in_ok-made-in-One-clause-answers c =
     let new = c.value_of.new.world in
-    c.in_ok-answer-in-One.ensures new
-    ∙ ap (λ v. done (heap_of new) (v ∷ [])) (means_now new.strings c.in_ok-made-in-One.made (known_of c.in-One.written) c.in_ok-made-in-One.ensures.means)
+    ap (λ v. done (heap_of new) (v ∷ [])) (means_now new.strings c.in_ok-made-in-One.made (known_of c.in-One.written) c.in_ok-made-in-One.ensures.means)
     ∙ ap (λ r. done (heap_of new) (map known (results_of r))) (sym c.in-One.is)
 
 pub returns-in_ok-values-in-Many-clause-answers : goal.returns-in_ok-values-in-Many-clause-answers
