@@ -1,13 +1,15 @@
 -- The longest mark at the front of a text.
 use Rattle.std.proofs.Common.{◌≡◌, ℕ, ◌+◌, ◌<◌, ◌≤◌, List, [], ◌∷◌, ◌++◌, length, take, drop, Bool, true, false, Some, None, refl, ap, sym, ◌∙◌, arith, nat_eq, ⊎_elim, length-append, take-append-drop, length-take-le}
-use Rattle.std.specs.Prelude.{◌&&◌, nat_lt, nat_le}
+use Rattle.std.specs.Prelude.{◌&&◌, ◌||◌, ◌==◌, nat_lt, nat_le, slice_index, Option}
 use Rattle.std.specs.List.{position_from, list_all}
 use Rattle.std.specs.Cmp.Lexicographic.{pointwise, same_text}
-use Rattle.std.proofs.lemmas.List.{take_at}
+use Rattle.std.proofs.lemmas.List.{take_at, get_or-take}
 use Rattle.std.proofs.lemmas.Bool.{cases_lt}
 use Rattle.std.proofs.lemmas.Bool.Decides.{nat_tests}
 use Rattle.lua_lex.specs.Words.{marks, place_of}
+use Rattle.lua_lex.specs.Classes.{is_in_mark}
 use Rattle.lua_lex.specs.Lexical.{IsMark}
+use Rattle.lua_lex.specs.Inner.{NoneFrom}
 
 pub and-left : (a b : Bool) → a && b ≡ true → a ≡ true
 and-left true b h = refl
@@ -37,9 +39,34 @@ mark-bounds spelling place found =
     let high = and-right (nat_lt 0 (length spelling)) (nat_le (length spelling) 3) passes in
     (grind (arith, nat_tests), grind (arith, nat_tests))
 
--- from this length on, no front of the text is a mark
-abbrev pub NoneFrom : List ℕ → ℕ → Type 0
-NoneFrom text len = (longer : ℕ) → len < longer → longer ≤ 3 → longer ≤ length text → place_of marks (take longer text) ≡ None
+-- what fails a test that all of a list passes has no place in it
+unplaced : (test : List ℕ → Bool) (words : List (List ℕ)) (word : List ℕ) → list_all test words ≡ true → test word ≡ false → place_of words word ≡ None
+unplaced test words word all fails = by_place (place_of words word) refl where
+  by_place : (place : Option ℕ) → place_of words word ≡ place → place_of words word ≡ None
+  by_place None found = found
+  by_place (Some place) found = let bad : true ≡ false = sym (placed_passes test words word 0 place all found) ∙ fails in absurd cc
+
+goes_on : List ℕ → Bool
+goes_on word = nat_le (length word) 1 || is_in_mark (slice_index word 1)
+
+-- a mark of more bytes than one goes on with one of six
+pub none_longer_than_one : (text : List ℕ) → is_in_mark (slice_index text 1) ≡ false → NoneFrom text 1
+unfolding marks goes_on
+none_longer_than_one text ends longer more most in_range =
+    let long : nat_le longer 1 ≡ false = grind (arith, nat_tests) in
+    let fails : goes_on (take longer text) ≡ false = rw (length-take-le longer text in_range, get_or-take longer text 1 0 more, ends, long) refl in
+    unplaced goes_on marks (take longer text) refl fails
+
+has_three : List ℕ → Bool
+has_three word = nat_le (length word) 2 || slice_index word 2 == 46
+
+-- a mark of three bytes ends by `.`
+pub none_longer_than_two : (text : List ℕ) → (slice_index text 2 == 46) ≡ false → NoneFrom text 2
+unfolding marks has_three
+none_longer_than_two text ends longer more most in_range =
+    let long : nat_le longer 2 ≡ false = grind (arith, nat_tests) in
+    let fails : has_three (take longer text) ≡ false = rw (length-take-le longer text in_range, get_or-take longer text 2 0 more, ends, long) refl in
+    unplaced has_three marks (take longer text) refl fails
 
 no_longer : (text : List ℕ) (len : ℕ) → NoneFrom text len → (other after : List ℕ) (place : ℕ) → place_of marks other ≡ Some place → text ≡ other ++ after → len < length other → ⊥
 no_longer text len none other after place placed whole long =

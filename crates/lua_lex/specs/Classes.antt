@@ -1,5 +1,5 @@
 -- Classes of bytes, and the ends of lines in a text (Lua 5.4 manual, 3.1).
--- Bytes stand by their numbers: `.` is 46, `=` 61 and `_` 95.
+-- Bytes stand by their numbers: `.` is 46, `/` 47, `:` 58, `<` 60, `=` 61, `>` 62 and `_` 95.
 use Rattle.std.specs.Prelude.{ℕ, ◌+◌, Bool, ◌==◌, ◌||◌, ◌&&◌, not, List, [], ◌∷◌, drop, slice_index, if◌then◌else◌}
 use Rattle.std.specs.Char.{is_ascii_alphabetic, is_ascii_digit, is_digit}
 
@@ -24,6 +24,10 @@ is_hex_digit byte = is_digit byte 16
 -- the sign `=` of a long bracket
 abbrev pub is_equals : ℕ → Bool
 is_equals byte = byte == 61
+
+-- what a mark of more bytes than one goes on with
+abbrev pub is_in_mark : ℕ → Bool
+is_in_mark byte = byte == 46 || (byte == 47 || (byte == 58 || (byte == 60 || (byte == 61 || byte == 62))))
 
 -- two different bytes of `\n` and `\r` are one end of line
 abbrev pub is_pair : ℕ → ℕ → Bool

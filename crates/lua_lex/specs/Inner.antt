@@ -1,13 +1,14 @@
--- What the private functions say: the bytes of a run's class, and what is known of a text by its kind.
-use Rattle.std.specs.Prelude.{◌≡◌, ℕ, ◌<◌, ◌≤◌, Bool, true, List, length, drop, ◌+◌, ◌==◌, ◌&&◌, slice_index}
+-- What the private functions say: the bytes of a run's class, what is known of a text by its kind, and how long a mark may be.
+use Rattle.std.specs.Prelude.{◌≡◌, ℕ, ◌<◌, ◌≤◌, Bool, true, List, length, take, drop, ◌+◌, ◌==◌, ◌&&◌, slice_index, None}
 use Rattle.std.specs.Char.{is_ascii_digit}
 use Rattle.int_core.specs.Numeral.{is_space}
 use Rattle.lua_lex.specs.declared.class.Class.{Class}
 use Rattle.lua_lex.specs.declared.class.Class.TheVariants as class
 use Rattle.lua_lex.specs.declared.kind.Kind.{Kind}
 use Rattle.lua_lex.specs.declared.kind.Kind.TheVariants.{End, Comment, LongComment, LongString}
-use Rattle.lua_lex.specs.Classes.{is_name_byte, is_numeral_byte, is_hex_digit, is_equals}
+use Rattle.lua_lex.specs.Classes.{is_name_byte, is_numeral_byte, is_hex_digit, is_equals, is_in_mark}
 use Rattle.lua_lex.specs.Brackets.{level_of, opens_long}
+use Rattle.lua_lex.specs.Words.{marks, place_of}
 
 abbrev pub is_in : Class → ℕ → Bool
 is_in class.Space byte = is_space byte
@@ -16,6 +17,7 @@ is_in class.Numeral byte = is_numeral_byte byte
 is_in class.Digit byte = is_ascii_digit byte
 is_in class.HexDigit byte = is_hex_digit byte
 is_in class.Equals byte = is_equals byte
+is_in class.InMark byte = is_in_mark byte
 
 abbrev pub Begins : Kind → List ℕ → Type 0
 Begins End text = Unit {0}
@@ -32,3 +34,7 @@ closes level text = slice_index text 0 == 93 && (level_of text == level && slice
 pub record IsContent (text : List ℕ) (level len : ℕ) : Type 0 where
   pub closed : closes level (drop len text) ≡ true
   pub before : (at : ℕ) → at < len → closes level (drop at text) ≡ true → ⊥
+
+-- from this length on, no front of the text is a mark
+abbrev pub NoneFrom : List ℕ → ℕ → Type 0
+NoneFrom text len = (longer : ℕ) → len < longer → longer ≤ 3 → longer ≤ length text → place_of marks (take longer text) ≡ None

@@ -2,7 +2,7 @@
 ghost use Rattle.std.specs.Prelude.{◌≡◌, ◌≤◌, ◌==◌, ◌<◌, length, slice_index};
 ghost use Rattle.std.specs.List.{prefix_len};
 ghost use Rattle.int_core.specs.Numeral.{is_space};
-ghost use Rattle.lua_lex.specs.Classes.{is_line_end, is_name_start, is_name_byte, is_hex_digit};
+ghost use Rattle.lua_lex.specs.Classes.{is_line_end, is_name_start, is_name_byte, is_hex_digit, is_in_mark};
 ghost use Rattle.lua_lex.specs.Inner.{is_in};
 
 use crate::digits::digit_value;
@@ -22,6 +22,8 @@ pub enum Class {
     HexDigit,
     /// The sign `=` of a long bracket.
     Equals,
+    /// What a mark of more bytes than one goes on with.
+    InMark,
 }
 
 /// How many bytes of the class stand at the front.
@@ -84,6 +86,7 @@ impl Class {
             Class::Digit => byte.is_ascii_digit(),
             Class::HexDigit => digit_value(byte) < 16,
             Class::Equals => byte == b'=',
+            Class::InMark => is_in_mark(byte),
         }
     }
 }
@@ -92,4 +95,10 @@ fn is_name_byte(byte: u8) -> bool
     ensures { result ≡ is_name_byte byte }
 {
     is_name_start(byte) || byte.is_ascii_digit()
+}
+
+fn is_in_mark(byte: u8) -> bool
+    ensures { result ≡ is_in_mark byte }
+{
+    matches!(byte, b'.' | b'/' | b':' | b'<' | b'=' | b'>')
 }

@@ -3,10 +3,11 @@ ghost use Rattle.std.specs.Prelude.{◌≡◌, ◌≤◌, ◌<◌, ℕ, List, le
 ghost use Rattle.lua_lex.specs.declared.kind.Kind.TheVariants as kind;
 ghost use Rattle.lua_lex.specs.declared.token.Token.{Token};
 ghost use Rattle.lua_lex.specs.Brackets.{opens_long};
+ghost use Rattle.lua_lex.specs.Inner.{NoneFrom};
 ghost use Rattle.lua_lex.specs.Lexical.{kind_of, IsToken, IsTokenOf, IsMark};
 
 use crate::bracket::long_bracket;
-use crate::class::{Class, run_len};
+use crate::class::{Class, is_byte_at, is_class_at, run_len};
 use crate::kind::{Kind, kind_of};
 use crate::line::{behind_line_end, read_lines};
 use crate::quoted::quoted;
@@ -87,13 +88,29 @@ fn long_string(alloc: Global, text: &[u8]) -> Result<Option<(Token, usize)>, All
     Ok(Some((Token::Str(Bytes::of(bytes)), len)))
 }
 
+// How many bytes the mark at the front has at most, by its second and third byte: few marks have so many.
+#[tactic(auto, using(crate::proofs::WordLemmas::none_longer_than_one, crate::proofs::WordLemmas::none_longer_than_two))]
+fn most_bytes(text: &[u8]) -> usize
+    ensures bound { result ≤ length text.now }
+    ensures enough { NoneFrom text.now result }
+{
+    let most = if !is_class_at(text, 1, Class::InMark) {
+        1
+    } else if is_byte_at(text, 2, b'.') {
+        LONGEST_MARK
+    } else {
+        2
+    };
+    text.len().min(most)
+}
+
 // The longest mark at the front, if there is one.
 fn mark(text: &[u8]) -> Option<(Token, usize)>
     ensures found { IfSome result (λ found. IsTokenOf kind.Symbol text.now found.0 (drop found.1 text.now)) }
     ensures bound { IfSome result (λ found. (0 < found.1) × (found.1 ≤ length text.now)) }
     ensures none { IfNone result ((token : Token) (rest : List ℕ) → IsTokenOf kind.Symbol text.now token rest → ⊥) }
 {
-    let mut len = text.len().min(LONGEST_MARK);
+    let mut len = most_bytes(text);
     while len > 0 {
         if let Some(number) = mark_number(&text[..len]) {
             return Some((Token::Mark(number), len));

@@ -1,8 +1,10 @@
 // The keywords and the other fixed tokens, numbered by their places in two lists.
-ghost use Rattle.std.specs.Prelude.{◌≡◌, ◌<◌, length, nat_eq};
+ghost use Rattle.std.specs.Prelude.{◌≡◌, ◌<◌, [], ◌∷◌, length, nat_eq};
 ghost use Rattle.std.specs.List.{position_from};
 ghost use Rattle.std.specs.Cmp.Lexicographic.{pointwise};
 ghost use Rattle.lua_lex.specs.Words.{keywords, marks, place_of};
+
+use crate::mark;
 
 /// The keywords (Lua 5.4 manual, 3.1).
 pub const KEYWORDS: [&[u8]; 22] = [
@@ -49,8 +51,50 @@ pub fn keyword_number(word: &[u8]) -> Option<u8>
 }
 
 /// The place of a spelling among the marks.
-#[tactic(auto, unfolding(crate::specs::Words::marks))]
 pub fn mark_number(spelling: &[u8]) -> Option<u8>
+    ensures { result ≡ place_of marks spelling.now }
+{
+    match spelling {
+        [byte] => byte_number(*byte),
+        _ => listed_number(spelling),
+    }
+}
+
+/// The place of one byte among the marks: most marks have one, so these are not looked for in the list.
+#[tactic(auto, unfolding(crate::specs::Words::marks))]
+fn byte_number(byte: u8) -> Option<u8>
+    ensures { result ≡ place_of marks (byte ∷ []) }
+{
+    let number = match byte {
+        b'+' => mark::PLUS,
+        b'-' => mark::MINUS,
+        b'*' => mark::STAR,
+        b'%' => mark::PERCENT,
+        b'&' => mark::AMPERSAND,
+        b'~' => mark::TILDE,
+        b'|' => mark::BAR,
+        b'#' => mark::LENGTH,
+        b'<' => mark::LESS,
+        b'>' => mark::GREATER,
+        b'=' => mark::ASSIGN,
+        b'(' => mark::OPEN_ROUND,
+        b')' => mark::CLOSE_ROUND,
+        b'{' => mark::OPEN_CURLY,
+        b'}' => mark::CLOSE_CURLY,
+        b'[' => mark::OPEN_SQUARE,
+        b']' => mark::CLOSE_SQUARE,
+        b';' => mark::SEMICOLON,
+        b':' => mark::COLON,
+        b',' => mark::COMMA,
+        b'.' => mark::DOT,
+        _ => return None,
+    };
+    Some(number)
+}
+
+/// The place of a spelling among the marks, looked for in their list.
+#[tactic(auto, unfolding(crate::specs::Words::marks))]
+fn listed_number(spelling: &[u8]) -> Option<u8>
     ensures { result ≡ place_of marks spelling.now }
 {
     place_of(&MARKS, spelling)

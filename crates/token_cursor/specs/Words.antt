@@ -1,5 +1,5 @@
 -- What a token is for the grammar (Lua 5.4 manual, 3.1, 3.3 and 3.4.8).
-use Rattle.std.specs.Prelude.{ℕ, Bool, true, false, ◌==◌, ◌||◌, if◌then◌else◌, Option, Some, None, List, [], ◌∷◌}
+use Rattle.std.specs.Prelude.{ℕ, Bool, true, false, ◌==◌, ◌||◌, nat_le, if◌then◌else◌, Option, Some, None, List, [], ◌∷◌}
 use Rattle.lua_lex.specs.Lexical.{is_end}
 use Rattle.lua_lex.specs.declared.token.Token.{Token}
 use Rattle.lua_lex.specs.declared.token.Token.TheVariants as token
@@ -83,6 +83,12 @@ operator_of level.Product t =
     else if is_word FLOOR_DIVISION t then Some (joining.Binary Idiv)
     else if is_word PERCENT t then Some (joining.Binary Mod)
     else None
+
+-- the tokens that may be an operator of some level: `and`, `or`, `..`, and the marks up to `>`
+abbrev pub may_join : Token → Bool
+may_join (token.Keyword n) = n == 0 || n == 15
+may_join (token.Mark n) = nat_le n 16 || n == 29
+may_join _ = false
 
 -- the levels in their order
 

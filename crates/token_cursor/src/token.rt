@@ -2,7 +2,7 @@
 ghost use Rattle.std.specs.Prelude.{◌≡◌, ◌||◌};
 ghost use Rattle.lua_lex.specs.Lexical.{is_end};
 ghost use Rattle.token_cursor.specs.declared.level.Level.TheVariants.{Comparison, Shift, Sum, Product};
-ghost use Rattle.token_cursor.specs.Words.{is_word, is_string, ends_block, begins_suffix, is_separator, operator_of, unary_of, start_of};
+ghost use Rattle.token_cursor.specs.Words.{is_word, is_string, ends_block, begins_suffix, is_separator, may_join, operator_of, unary_of, start_of};
 
 use crate::level::Level;
 use crate::start::Start;
@@ -12,7 +12,7 @@ use crate::word::{
     LESS_EQUAL, LOCAL, MINUS, NOT, NOT_EQUAL, OPEN_CURLY, OPEN_ROUND, OPEN_SQUARE, OR, PERCENT,
     PLUS, REPEAT, RETURN, SEMICOLON, SHIFT_LEFT, SHIFT_RIGHT, STAR, TILDE, UNTIL, WHILE, Word,
 };
-use lua_lex::Token;
+use lua_lex::{Token, keyword, mark};
 use tree_core::{BinOp, UnOp};
 use tree_making::Infix;
 
@@ -79,9 +79,13 @@ pub fn is_separator(token: &Token) -> bool
 }
 
 /// The operator of the level that this is (Lua 5.4 manual, 3.4.8).
+#[tactic(auto, using(crate::proofs::OperatorLemmas::none_joins))]
 pub fn operator(token: &Token, level: Level) -> Option<Infix>
     ensures { result ≡ operator_of level token.now }
 {
+    if !may_join(token) {
+        return None;
+    }
     let (word, infix) = match level {
         Level::Comparison => return comparison(token),
         Level::Shift => return shift(token),
@@ -95,6 +99,17 @@ pub fn operator(token: &Token, level: Level) -> Option<Infix>
         Level::Concat => (CONCAT, Infix::Binary(BinOp::Concat)),
     };
     is_word(token, word).then_some(infix)
+}
+
+/// Whether the token may be an operator of some level. Most that stand behind an operand are none, and all levels are asked there.
+fn may_join(token: &Token) -> bool
+    ensures { result ≡ may_join token.now }
+{
+    match token {
+        Token::Keyword(number) => *number == keyword::AND || *number == keyword::OR,
+        Token::Mark(number) => *number <= mark::GREATER || *number == mark::CONCAT,
+        _ => false,
+    }
 }
 
 fn comparison(token: &Token) -> Option<Infix>

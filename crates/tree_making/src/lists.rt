@@ -36,7 +36,8 @@ pub fn more_exps(
 pub fn one_exp(alloc: Global, item: Found<Box<Exp>>) -> Result<Found<Vec<Exp>>, AllocError>
     ensures { IfOk result (λ made. IsMade all_plain made (plain_boxed item.node ∷ []) item.height) }
 {
-    let mut items = Vec::new(alloc);
+    // Most lists have one expression and never grow.
+    let mut items = Vec::with_capacity(alloc, 1)?;
     items.push(Box::into_inner(item.node))?;
     Ok(Found {
         node: items,
@@ -78,7 +79,7 @@ pub fn no_stats(alloc: Global) -> Found<Vec<Stat>>
 pub fn one_arm(alloc: Global, item: Found<Arm>) -> Result<Found<Vec<Arm>>, AllocError>
     ensures { IfOk result (λ made. IsMade all_arms made (plain_arm item.node ∷ []) item.height) }
 {
-    let mut items = Vec::new(alloc);
+    let mut items = Vec::with_capacity(alloc, 1)?;
     items.push(item.node)?;
     Ok(Found {
         node: items,

@@ -1,6 +1,7 @@
 use Rattle.std.proofs.Common.{◌≡◌, rules, take, Some, refl, subst, arith}
 use Rattle.lua_lex.specs.Words.{marks, place_of}
-use Rattle.lua_lex.proofs.WordLemmas.{NoneFrom, longest_mark, no_mark}
+use Rattle.lua_lex.specs.Inner.{NoneFrom}
+use Rattle.lua_lex.proofs.WordLemmas.{longest_mark, no_mark}
 use Rattle.lua_lex.proofs.scan.mark.Goals as goal
 
 pub returns-in-Some-clause-found : goal.returns-in-Some-clause-found

@@ -1,5 +1,5 @@
 use Rattle.std.proofs.Common.{◌≤◌, length}
-use Rattle.lua_lex.proofs.WordLemmas.{NoneFrom}
+use Rattle.lua_lex.specs.Inner.{NoneFrom}
 use Rattle.lua_lex.proofs.scan.mark.Given as goal
 
 abbrev pub invariant-loop-len : goal.invariant-loop-len
