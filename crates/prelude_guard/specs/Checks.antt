@@ -3,7 +3,7 @@
 use Rattle.std.specs.Prelude.{ℕ, Bool, true, false, ◌&&◌, ◌||◌, not, List, length, Option, Some, None, nat_eq, nat_lt, slice_get}
 use Rattle.std.specs.List.{list_all, list_any}
 use Rattle.code_core.specs.declared.opcode.Opcode.{Opcode}
-use Rattle.code_core.specs.declared.opcode.Opcode.TheVariants.{GetUpval, SetUpval, GetTabUp, GetTable, SetTabUp, Concat, Call, TailCall, Return, Return0, Return1, ForLoop, ForPrep, TForCall, SetList}
+use Rattle.code_core.specs.declared.opcode.Opcode.TheVariants.{GetUpval, SetUpval, GetTabUp, GetTable, GetField, SetTabUp, Concat, Call, TailCall, Return, Return0, Return1, ForLoop, ForPrep, TForCall, SetList}
 use Rattle.code_core.specs.declared.instruction.Instruction.{Instruction}
 use Rattle.code_core.specs.declared.proto.UpDesc.{UpDesc}
 use Rattle.code_core.specs.Instruction.{opcode_of, a_of, b_of, c_of}
@@ -56,6 +56,7 @@ is_apart held code GetUpval w = not (held (b_of w)) || is_taken held code (a_of 
 is_apart held code SetUpval w = not (held (b_of w)) && spares held code SetUpval w
 is_apart held code GetTabUp w = true
 is_apart held code GetTable w = not (is_taken held code (c_of w))
+is_apart held code GetField w = true
 is_apart held code SetTabUp w = not (held (a_of w)) && spares held code SetTabUp w
 is_apart held code op w = spares held code op w
 

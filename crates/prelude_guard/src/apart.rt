@@ -126,7 +126,7 @@ fn is_apart(outer: &Proto, own: &Proto, is_inner: bool, op: Opcode, word: Instru
             || is_taken(outer, own, is_inner, u16::from(word.a())),
         Opcode::SetUpval => !is_held(outer, own, is_inner, word.b())
             && spares(outer, own, is_inner, op, word),
-        Opcode::GetTabUp => true,
+        Opcode::GetTabUp | Opcode::GetField => true,
         Opcode::GetTable => is_free(outer, own, is_inner, u16::from(word.c())),
         Opcode::SetTabUp => !is_held(outer, own, is_inner, word.a())
             && spares(outer, own, is_inner, op, word),

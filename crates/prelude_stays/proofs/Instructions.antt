@@ -14,7 +14,7 @@ use Rattle.machine_core.specs.Moves.{on_own, outside, made, own_cell, settled, i
 use Rattle.machine_core.specs.FrameRows.{raises, at_once, calls_row, prepares, expand}
 use Rattle.machine_sound.specs.Sound.{Each}
 use Rattle.machine_sound.proofs.Lists.{each_none, each_cons, each_one}
-use Rattle.prelude_stays.specs.Guards.{Guard, Row as RowOf, apart, takes, from_upvalue, from_register}
+use Rattle.prelude_stays.specs.Guards.{Guard, Row as RowOf, apart, takes, from_upvalue, from_register, from_register_named}
 use Rattle.prelude_stays.specs.Kept.{Home, Apart, Keeps}
 use Rattle.prelude_stays.proofs.Heaps.{SettledOk, does_ok, variable_ok}
 use Rattle.prelude_stays.proofs.Own.{held_write}
@@ -212,3 +212,8 @@ module _ (y : Home) (g : Guard) where
       (idle_goes gs W k t (read_register (b_of w)) tt [] (λ _. expand (own (read_register (c_of w)) (λ key _. gets (read 0) (read key) [] (a_of w)))) (λ p o told.
       keyed_goes gs (with_own W p p.top.wait (read_register (b_of w) ∷ []) []) (idle_keeps gs W k t (read_register (b_of w)) tt p o []) (idle_top gs W k t (read_register (b_of w)) tt p o []) (a_of w) (c_of w)
       (nth p.top.own.registers (b_of w)) h))
+  row_keeps p pc text (from_register_named w e) gs W k t =
+      subst (λ text. EndKeeps y (run (expand text) [] W)) (sym e)
+      (idle_goes gs W k t (read_register (b_of w)) tt [] (λ _. expand (own (read_constant (c_of w)) (λ key _. gets (read 0) (read key) [] (a_of w)))) (λ p o told.
+      variable_goes gs (with_own W p p.top.wait (read_register (b_of w) ∷ []) []) (idle_keeps gs W k t (read_register (b_of w)) tt p o []) (idle_top gs W k t (read_register (b_of w)) tt p o []) (a_of w) (c_of w)
+      (nth p.top.own.registers (b_of w))))

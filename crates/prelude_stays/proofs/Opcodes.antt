@@ -18,7 +18,7 @@ use Rattle.machine_core.specs.Text.{Arg, read, written, Text, write_register, re
 use Rattle.machine_core.specs.InstructionRows.{row_of, value_comes, rest, with_register, with_constant, counted, return_count, then, back, with_loop, is_true, integer_of_shape, fast, event_numbered, handled, joins, starts, prepares, goes_round, runs, jumps, marks, opens, upvalues_of_inner, fills_by, register_or_constant, read_values, write_values, to_register, to_register_before, closes, returns, next, skip}
 use Rattle.machine_sound.specs.Sound.{waits_at}
 use Rattle.machine_sound.proofs.Values.{both_of, all_get, lt_of}
-use Rattle.prelude_stays.specs.Guards.{Guard, guard_with, Reads, Row, apart, takes, from_upvalue, from_register}
+use Rattle.prelude_stays.specs.Guards.{Guard, guard_with, Reads, Row, apart, takes, from_upvalue, from_register, from_register_named}
 use Rattle.prelude_stays.proofs.Steps.{fails_reads}
 use Rattle.prelude_guard.specs.Checks.{takes_by, is_taken, takes_below_by, takes_below, reads_from, names_none, spares, is_apart}
 
@@ -196,7 +196,7 @@ module _ (held : ℕ → Bool) (code : List Instruction) where
   row_reads p pc GetTabUp w h = from_upvalue w refl
   row_reads p pc GetTable w h = from_register w (false_of (is_taken held code (c_of w)) h) refl
   row_reads p pc GetI w h = apart (named GetI w h 1 (b_of w) refl, λ _ _. (tt, (tt, λ _ _. tt)))
-  row_reads p pc GetField w h = apart (named GetField w h 1 (b_of w) refl, λ _ _. (tt, λ _ _. (tt, (tt, λ _ _. tt))))
+  row_reads p pc GetField w h = from_register_named w refl
   row_reads p pc SetTabUp w h =
       let b = both_of (not (held (a_of w))) (spares held code SetTabUp w) h in
       apart (false_of (held (a_of w)) b.0, λ _. (tt, λ _ _. on_rk w _ (λ e. named SetTabUp w b.1 0 (c_of w) (rw e refl)) (λ _ _. (tt, tt))))

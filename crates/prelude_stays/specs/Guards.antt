@@ -4,7 +4,7 @@ use Rattle.int_core.specs.Value.{Value, Shape}
 use Rattle.code_core.specs.declared.proto.UpDesc.{UpDesc}
 use Rattle.code_core.specs.declared.instruction.Instruction.{Instruction}
 use Rattle.code_core.specs.declared.opcode.Opcode.{Opcode}
-use Rattle.code_core.specs.declared.opcode.Opcode.TheVariants.{GetUpval, GetTabUp, GetTable}
+use Rattle.code_core.specs.declared.opcode.Opcode.TheVariants.{GetUpval, GetTabUp, GetTable, GetField}
 use Rattle.code_core.specs.Instruction.{opcode_of, a_of, c_of}
 use Rattle.code_core.specs.Prototype.{Prototype, list_of}
 use Rattle.code_core.specs.Check.{at}
@@ -63,6 +63,7 @@ pub data Row (g : Guard) (p : Prototype) (pc : ℕ) (t : Text) : Type 0 where
   takes : (w : Instruction) → g.registers (a_of w) ≡ true → t ≡ row_of p pc GetUpval w → Row g p pc t
   from_upvalue : (w : Instruction) → t ≡ row_of p pc GetTabUp w → Row g p pc t
   from_register : (w : Instruction) → g.registers (c_of w) ≡ false → t ≡ row_of p pc GetTable w → Row g p pc t
+  from_register_named : (w : Instruction) → t ≡ row_of p pc GetField w → Row g p pc t
 
 -- nor does what is left of an instruction when the answer comes for which it waits
 abbrev pub WaitsRead : Guard → Prototype → Type 0
