@@ -2,43 +2,46 @@
 use Rattle.std.proofs.Common.{◌≡◌, ℕ, ◌+◌, ◌*◌, ◌<◌, ◌≤◌, max, Bool, true, false, List, [], ◌∷◌, ◌++◌, Option, Some, None, refl, sym, ap, subst, lit≤, arith}
 use Rattle.tree_core.specs.declared.name.Place.{Place}
 use Rattle.tree_core.specs.declared.name.Place.TheVariants.{Unset, Upvalue, GlobalIn, GlobalOf, Local as LocalPlace}
-use Rattle.tree_core.specs.Tree.{Exp, Var, Index, Exps, EndExps, MoreExps}
+use Rattle.tree_core.specs.Tree.{Exp, Str, Var, Index, Exps, EndExps, MoreExps}
 use Rattle.code_core.specs.declared.opcode.Opcode.TheVariants.{Move, GetUpval, SetUpval}
 use Rattle.code_core.specs.declared.proto.Const.{Const}
 use Rattle.code_core.specs.declared.proto.Const.TheVariants.{Str as StrConst}
 use Rattle.code_of.specs.Coded.{Coded, with_abc}
-use Rattle.code_of.specs.Constants.{loads}
+use Rattle.code_of.specs.Constants.{number_in, loads}
 use Rattle.code_of.specs.Expressions.{made_by, made_in, count, exp_code, exps_code}
 use Rattle.code_of.specs.Operands.{is_direct, assigned}
 use Rattle.code_of.proofs.Operands.{assigned_is}
-use Rattle.code_of.specs.Parts.{name_target, target_code, targets_code, name_store, store_code, stores_code, direct_code, first_direct, first_field, stored_code, store_by, assign_by, assign_code}
-use Rattle.code_of.specs.Stores.{stores_field}
+use Rattle.code_of.specs.Parts.{name_target, target_code, targets_code, name_store, store_code, stores_code, direct_code, first_direct, first_field, stored_code, kept_code, store_by, assign_by, assign_code}
+use Rattle.code_of.specs.Stores.{key_code, stores_field}
 use Rattle.code_of.proofs.Stores.{stores_field_is}
+use Rattle.code_of.specs.Targets.{waiting_key, text_key, single_store}
+use Rattle.code_of.proofs.Targets.{key_waits, single_store_is}
 use Rattle.scope_core.specs.Held.{held, held_behind, held_targets}
 use Rattle.code_of.specs.Rooms.{room_of_name, room_of_direct, room_of_assigned, room_of_first, room_of_list}
 use Rattle.scope_laws.specs.Finding.{PlaceIsThere, ExpFinds, ExpsFind}
-use Rattle.code_bounds.specs.Registers.{TargetHasRoom, TargetsHaveRoom, StoreHasRoom, AssignHasRoom}
-use Rattle.code_bounds.proofs.Tops.{top, one, top_more, top_append, one_a, one_ab, one_store}
+use Rattle.code_bounds.specs.Registers.{TargetHasRoom, TargetsHaveRoom, KeptHasRoom, StoreHasRoom, AssignHasRoom}
+use Rattle.code_bounds.proofs.Tops.{top, one, top_more, top_append, one_a, one_ab}
 use Rattle.code_bounds.proofs.Pieces.{loads_top}
 use Rattle.code_bounds.proofs.Holding.{name_two, held_shifted, exp_held}
-use Rattle.code_bounds.proofs.Expressions.{direct_takes, direct_less}
+use Rattle.code_bounds.proofs.Expressions.{direct_takes, direct_less, local_found}
 use Rattle.code_bounds.proofs.Room.{HasRoom, room_as, room_append, room_of_top}
 use Rattle.code_bounds.proofs.Simple.{exp_room, exps_room, filled}
 use Rattle.code_bounds.proofs.FieldStores.{field_room}
+use Rattle.code_bounds.proofs.Targets.{key_top, waiting_top, waiting_room, local_top}
 
 -- stores name the registers of their target and their value, or a local in scope
 
 module _ (cs : List Const) (hidden : List ℕ) (ups : ℕ) where
-  name_store_top : (p : Place) (size r v line limit : ℕ) → PlaceIsThere hidden size ups p → size ≤ limit → r + 2 ≤ limit → v + 1 ≤ limit → limit ≤ 250 → top (name_store cs p r v line) ≤ limit
-  name_store_top Unset size r v line limit known a b c small = absurd known
-  name_store_top (LocalPlace n) size r v line limit known a b c small = let e = one_ab Move n v 0 false refl (omega (arith, known.0)) (omega arith) in omega (arith, e, known.0)
-  name_store_top (Upvalue u) size r v line limit known a b c small = let e = one_a SetUpval v u 0 false refl (omega arith) in omega (arith, e)
-  name_store_top (GlobalIn n) size r v line limit known a b c small = let e = one_store r (r + 1) v (omega arith) (omega arith) (omega arith) in omega (arith, e)
-  name_store_top (GlobalOf u) size r v line limit known a b c small = let e = one_store r (r + 1) v (omega arith) (omega arith) (omega arith) in omega (arith, e)
+  name_store_top : (p : Place) (text : List ℕ) (size r v line limit : ℕ) → PlaceIsThere hidden size ups p → size ≤ limit → r + 2 ≤ limit → v + 1 ≤ limit → limit ≤ 250 → top (name_store cs p text r v line) ≤ limit
+  name_store_top Unset text size r v line limit known a b c small = absurd known
+  name_store_top (LocalPlace n) text size r v line limit known a b c small = let e = one_ab Move n v 0 false refl (omega (arith, known.0)) (omega arith) in omega (arith, e, known.0)
+  name_store_top (Upvalue u) text size r v line limit known a b c small = let e = one_a SetUpval v u 0 false refl (omega arith) in omega (arith, e)
+  name_store_top (GlobalIn n) text size r v line limit known a b c small = waiting_top cs (text_key cs text) (Str line text) r v line limit (key_waits cs (Str line text)) b c small
+  name_store_top (GlobalOf u) text size r v line limit known a b c small = waiting_top cs (text_key cs text) (Str line text) r v line limit (key_waits cs (Str line text)) b c small
 
   store_top : (e : Exp) (size r v limit : ℕ) → ExpFinds e hidden size ups → size ≤ limit → r + 2 ≤ limit → v + 1 ≤ limit → limit ≤ 250 → top (store_code cs e r v) ≤ limit
-  store_top (Var line name) size r v limit known a b c small = name_store_top name.place size r v line limit known a b c small
-  store_top (Index line object key) size r v limit known a b c small = let e = one_store r (r + 1) v (omega arith) (omega arith) (omega arith) in omega (arith, e)
+  store_top (Var line name) size r v limit known a b c small = name_store_top name.place name.text size r v line limit known a b c small
+  store_top (Index line object key) size r v limit known a b c small = waiting_top cs (waiting_key cs key) key r v line limit (key_waits cs key) b c small
   store_top _ size r v limit known a b c small = omega arith
 
   stores_top : (targets : Exps) (size r v limit : ℕ) → ExpsFind targets hidden size ups → size ≤ limit → r + 2 * count targets ≤ limit → v + count targets ≤ limit → limit ≤ 250 → top (stores_code cs targets r v) ≤ limit
@@ -55,12 +58,14 @@ module _ (cs : List Const) (hidden : List ℕ) (ups : ℕ) where
     plain_target p text r = let two = name_two cs p text in record { below = omega arith; gives = λ small room. omega (arith, two, room) }
 
     global_target : (p : Place) (text : List ℕ) (r : ℕ) (first : Coded) (line : ℕ) → one first.0 ≤ 250 → r + 2 ≤ 250 →
-        HasRoom stack (first ∷ loads cs (StrConst text) (r + 1) line) (r + 2 ≤ stack → r + room_of_name cs p text ≤ stack)
+        HasRoom stack (first ∷ key_code (text_key cs text) (loads cs (StrConst text) (r + 1) line)) (r + 2 ≤ stack → r + room_of_name cs p text ≤ stack)
     global_target p text r first line small fits =
         let two = name_two cs p text in
-        let e = top_more first (loads cs (StrConst text) (r + 1) line) in
+        let key = loads cs (StrConst text) (r + 1) line in
+        let e = top_more first (key_code (text_key cs text) key) in
         let f = loads_top cs (StrConst text) (r + 1) line (omega arith) in
-        record { below = omega (arith, e, f, small); gives = λ within room. omega (arith, two, room) }
+        let g = key_top (text_key cs text) key in
+        record { below = omega (arith, e, f, g, small); gives = λ within room. omega (arith, two, room) }
 
     name_target_room : (p : Place) (text : List ℕ) (size r line : ℕ) → PlaceIsThere hidden size ups p → size ≤ r → r + 2 ≤ 250 → HasRoom stack (name_target cs p text r line) (r + 2 ≤ stack → r + room_of_name cs p text ≤ stack)
     name_target_room Unset text size r line known a few = absurd known
@@ -77,10 +82,10 @@ module _ (cs : List Const) (hidden : List ℕ) (ups : ℕ) where
     target_room (Var line name) size r j known a few fits = name_target_room name.place name.text size r line known a fits
     target_room (Index line object key) size r j known a few fits =
         let first = exp_code cs object r j 2 in
-        let second = exp_code cs key (r + 1) (j + made_by object) 2 in
+        let second = key_code (waiting_key cs key) (exp_code cs key (r + 1) (j + made_by object) 2) in
         let h = exp_room cs hidden ups stack object size r j 2 known.0 a (omega arith) (omega arith) (lit≤ tt) in
-        let k = exp_room cs hidden ups stack key size (r + 1) (j + made_by object) 2 known.1 (omega arith) (omega arith) (omega arith) (lit≤ tt) in
-        room_as (room_append first second h k) (λ both room. omega (arith, both.0, both.1, room))
+        let k = waiting_room cs hidden ups stack (waiting_key cs key) key size r (j + made_by object) (key_waits cs key) known.1 a (omega arith) fits in
+        room_as (room_append first second h k) (λ both room. let behind = both.1 room in omega (arith, both.0, behind, room))
     target_room _ size r j known a few fits = record { below = omega arith; gives = λ small room. tt }
 
     targets_room : (targets : Exps) (size t before r j : ℕ) → r ≡ t + before → ExpsFind targets hidden size ups → size ≤ r → t + held_targets before targets ≤ 250 → r + 2 * count targets ≤ 250 →
@@ -123,15 +128,24 @@ module _ (cs : List Const) (hidden : List ℕ) (ups : ℕ) where
         let all = direct_takes cs hidden ups e is r t t j known (omega arith) low (omega (arith, h, less)) in
         record { below = omega (arith, h, less, fits, all.0); gives = λ small within. omega (arith, all.1, small, within) }
 
-    pub assign_room : (targets es : Exps) (t j line : ℕ) → ExpsFind targets hidden t ups → ExpsFind es hidden t ups → t + held_targets 0 targets ≤ 250 → t + held_behind (2 * count targets) es ≤ 250 → t + 3 * count targets ≤ 250 →
+    pub assign_room : (targets es : Exps) (t j line : ℕ) → ups ≤ 255 → ExpsFind targets hidden t ups → ExpsFind es hidden t ups → t + held_targets 0 targets ≤ 250 → t + held_behind (2 * count targets) es ≤ 250 → t + 3 * count targets ≤ 250 →
         HasRoom stack (assign_code cs targets es t j line) (t ≤ stack → AssignHasRoom cs stack (assigned targets es) targets es t)
-    assign_room targets es t j line known_targets known few values many = by (assigned targets es) refl
+    assign_room targets es t j line few_ups known_targets known few values many = by (assigned targets es) refl
       where
         by : (o : Option ℕ) → assigned targets es ≡ o → HasRoom stack (assign_by cs o targets es t j line) (t ≤ stack → AssignHasRoom cs stack o targets es t)
         by None is = by_field (stores_field targets es) refl
           where
             by_field : (b : Bool) → stores_field targets es ≡ b → HasRoom stack (store_by cs b targets es t j line) (t ≤ stack → StoreHasRoom cs stack b targets es t)
-            by_field false is = stored_room targets es t j line known_targets known few values many
+            by_field false is = by_store (single_store cs targets es) refl
+              where
+                by_store : (o : Option Coded) → single_store cs targets es ≡ o → HasRoom stack (kept_code cs o targets es t j line) (t ≤ stack → KeptHasRoom cs stack o targets es t)
+                by_store None is = stored_room targets es t j line known_targets known few values many
+                by_store (Some x) is =
+                    let form = single_store_is cs targets es x is in
+                    let found = subst (λ z. ExpsFind z hidden t ups) form.target known_targets in
+                    let value_known = subst (λ z. ExpsFind z hidden t ups) form.values known in
+                    let below = local_found hidden ups form.value form.local t form.is value_known.0 in
+                    record { below = local_top cs hidden ups form.name.place (number_in cs (StrConst form.name.text)) form.local form.line t x form.store found.0 form.short below (omega (arith, many)) few_ups; gives = λ h small. tt }
             by_field true is =
                 let form = stores_field_is targets es is in
                 let after = j + made_in targets in

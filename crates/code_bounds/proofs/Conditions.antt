@@ -7,15 +7,18 @@ use Rattle.tree_core.specs.declared.operator.BinOp.TheVariants.{Add as Plus, Sub
 use Rattle.tree_core.specs.Tree.{Exp, Nil, True, False, Int, Str, Vararg, Function, Var, Index, Call, Method, Unary, Binary, And, Or, Paren, Table}
 use Rattle.tree_terms.specs.Weight.{weight}
 use Rattle.code_core.specs.declared.opcode.Opcode.{Opcode}
-use Rattle.code_core.specs.declared.opcode.Opcode.TheVariants.{Jmp, Test, Eq, Lt, Le, EqI, LtI, LeI, GtI, GeI}
+use Rattle.code_core.specs.declared.opcode.Opcode.TheVariants.{Jmp, Test, Eq, Lt, Le, EqK, EqI, LtI, LeI, GtI, GeI}
 use Rattle.code_core.specs.declared.proto.Const.{Const}
 use Rattle.code_core.specs.Instruction.{abc}
 use Rattle.code_of.specs.Coded.{Coded, jump_over}
 use Rattle.code_of.specs.Expressions.{made_by, exp_code}
 use Rattle.code_of.specs.Conditions.{jump_if, pick, compared, line_of, value_test, test_code}
-use Rattle.code_of.specs.Operands.{Second, a_number, a_local, made, second_of, first_of, operands_code, operands_room}
+use Rattle.code_of.specs.Operands.{local_of, operand_code, Second, a_number, a_local, made, second_of, first_of, operands_code, operands_room, seat, unless}
 use Rattle.code_of.specs.Operators.{number_opcode}
-use Rattle.code_of.proofs.Operands.{second_local, first_local, operands_short}
+use Rattle.code_of.specs.FieldReads.{object_room}
+use Rattle.code_of.proofs.Operands.{second_local, first_local, operand_short}
+use Rattle.code_of.specs.Operations.{constant_in, operation_by, operation_room}
+use Rattle.code_of.proofs.Operations.{operation_short}
 use Rattle.code_bounds.proofs.Expressions.{local_found}
 use Rattle.code_of.specs.Rooms.{room_of, room_of_test}
 use Rattle.scope_core.specs.Held.{held}
@@ -33,7 +36,7 @@ module _ (cs : List Const) where
   Short e = (k : Bool) (ahead t j : ℕ) → length (test_code cs e k ahead t j) ≤ 6 * weight e
 
   value_short : (e : Exp) (k : Bool) (ahead t j : ℕ) → length (value_test cs e k ahead t j) ≤ 6 * weight e
-  value_short e k ahead t j = omega (arith, exp_short cs e t j 2, length-append (exp_code cs e t j 2) (jump_if Test t 0 (not k) ahead (line_of e)))
+  value_short e k ahead t j = omega (arith, exp_short cs e t j 2, operand_short (local_of e) (exp_code cs e t j 2) t (λ x. jump_if Test x 0 (not k) ahead (line_of e)) 2 (λ x. omega arith))
 
   not_short : (line : ℕ) (op : UnOp) (e : Exp) → Short e → Short (Unary line op e)
   not_short line Negation e h k ahead t j = let a = h (not k) ahead t j in omega (arith, a)
@@ -51,17 +54,18 @@ module _ (cs : List Const) where
       code = exp_code cs d (t + 1) (j + made_by e) 2
 
       compare_short : (x y : ℕ → ℕ → ℕ) (opcode number_op : Opcode) (field : Bool)
-          → length (operands_code (second_of op d) (first_of (second_of op d) e) first_code code t (λ m n. jump_if opcode (x m n) (y m n) field ahead line) (λ m n. jump_if number_op m (n + 127) field ahead line)) ≤ 6 * weight (Binary line op e d)
+          → length (operation_by (constant_in cs op d) op e d first_code code t (λ m n. jump_if EqK m n field ahead line) (λ m n. jump_if opcode (x m n) (y m n) field ahead line) (λ m n. jump_if number_op m (n + 127) field ahead line)) ≤ 6 * weight (Binary line op e d)
       compare_short x y opcode number_op field =
           omega (
             arith,
             exp_short cs e t j 2,
             exp_short cs d (t + 1) (j + made_by e) 2,
-            operands_short (second_of op d) (first_of (second_of op d) e) first_code code t (λ m n. jump_if opcode (x m n) (y m n) field ahead line) (λ m n. jump_if number_op m (n + 127) field ahead line) 2 (λ m n. omega arith) (λ m n. omega arith),
+            operation_short (constant_in cs op d) op e d first_code code t (λ m n. jump_if EqK m n field ahead line) (λ m n. jump_if opcode (x m n) (y m n) field ahead line) (λ m n. jump_if number_op m (n + 127) field ahead line) 2 (λ m n. omega arith) (λ m n. omega arith) (λ m n. omega arith),
           )
 
       by : (o : BinOp) → length (compared o (value_test cs (Binary line op e d) k ahead t j)
-          (λ opcode swapped wanted. operands_code (second_of op d) (first_of (second_of op d) e) first_code code t
+          (λ opcode swapped wanted. operation_by (constant_in cs op d) op e d first_code code t
+          (λ x n. jump_if EqK x n (cond wanted (not k) k) ahead line)
           (λ x y. jump_if opcode (pick swapped x y) (pick swapped y x) (cond wanted (not k) k) ahead line)
           (λ x n. jump_if (number_opcode op) x (n + 127) (cond wanted (not k) k) ahead line))) ≤ 6 * weight (Binary line op e d)
       by Equal = compare_short (λ x y. x) (λ x y. y) Eq (number_opcode op) (not k)
@@ -123,13 +127,22 @@ module _ (cs : List Const) (hidden : List ℕ) (ups stack : ℕ) where
   abbrev pub Room : Exp → Type 0
   Room e = (k : Bool) (ahead size t j : ℕ) → ExpFinds e hidden size ups → size ≤ t → t + held e ≤ 250 → HasRoom stack (test_code cs e k ahead t j) (t + room_of_test cs e ≤ max t stack)
 
-  value_room : (e : Exp) (k : Bool) (ahead size t j : ℕ) → ExpFinds e hidden size ups → size ≤ t → t + held e ≤ 250 → HasRoom stack (value_test cs e k ahead t j) (t + room_of cs e 2 ≤ max t stack)
+  value_room : (e : Exp) (k : Bool) (ahead size t j : ℕ) → ExpFinds e hidden size ups → size ≤ t → t + held e ≤ 250 → HasRoom stack (value_test cs e k ahead t j) (t + object_room 0 (local_of e) (room_of cs e 2) ≤ max t stack)
   value_room e k ahead size t j known above few =
-      let some = some_held e in
-      room_as
-      (room_append (exp_code cs e t j 2) (jump_if Test t 0 (not k) ahead (line_of e)) (exp_room cs hidden ups stack e size t j 2 known above few (omega (arith, few, some)) (lit≤ tt))
-      (room_more (abc Test t 0 0 (not k), line_of e) (t + 1) _ (one_a Test t 0 0 (not k) refl (omega (arith, few, some))) (omega (arith, few, some)) (leap_room ahead (line_of e) [] room_end)))
-      (λ all. all.0)
+      by (local_of e) refl
+    where
+      some : 1 ≤ held e
+      some = some_held e
+
+      tested : (x : ℕ) → x ≤ 249 → HasRoom stack (jump_if Test x 0 (not k) ahead (line_of e)) ((x + 1 ≤ stack) × ((0 ≤ stack) × Unit {0}))
+      tested x below = room_more (abc Test x 0 0 (not k), line_of e) (x + 1) _ (one_a Test x 0 0 (not k) refl (omega (arith, below))) (omega (arith, below)) (leap_room ahead (line_of e) [] room_end)
+
+      by : (at : Option ℕ) → local_of e ≡ at → HasRoom stack (operand_code at (exp_code cs e t j 2) t (λ x. jump_if Test x 0 (not k) ahead (line_of e))) (t + object_room 0 at (room_of cs e 2) ≤ max t stack)
+      by None is =
+          room_as
+          (room_append (exp_code cs e t j 2) (jump_if Test t 0 (not k) ahead (line_of e)) (exp_room cs hidden ups stack e size t j 2 known above few (omega (arith, few, some)) (lit≤ tt)) (tested t (omega (arith, few, some))))
+          (λ all. all.0)
+      by (Some x) is = let below = local_found hidden ups e x size is known in room_as (tested x (omega (arith, below, above, few, some))) (λ all. omega arith)
 
   not_room : (line : ℕ) (op : UnOp) (e : Exp) → Room e → Room (Unary line op e)
   not_room line Negation e h k ahead size t j known above few = h (not k) ahead size t j known above few
@@ -138,8 +151,8 @@ module _ (cs : List Const) (hidden : List ℕ) (ups stack : ℕ) where
   not_room line Length e h k ahead size t j known above few = value_room (Unary line Length e) k ahead size t j known above few
 
   -- a comparison, whose two ways to be written name no register but those of its operands
-  module _ (line : ℕ) (op : BinOp) (e d : Exp) (by_registers by_number : (x y : ℕ) → List Coded) (size t j : ℕ) (known_e : ExpFinds e hidden size ups) (known_d : ExpFinds d hidden size ups) (above : size ≤ t)
-      (few_e : t + held e ≤ 250) (few_d : t + (1 + held d) ≤ 250) (registers_room : (x y : ℕ) → x ≤ 249 → y ≤ 249 → HasRoom stack (by_registers x y) (max (x + 1) (y + 1) ≤ stack))
+  module _ (line : ℕ) (op : BinOp) (e d : Exp) (by_constant by_registers by_number : (x y : ℕ) → List Coded) (size t j : ℕ) (known_e : ExpFinds e hidden size ups) (known_d : ExpFinds d hidden size ups) (above : size ≤ t)
+      (few_e : t + held e ≤ 250) (few_d : t + (1 + held d) ≤ 250) (constants_room : (x n : ℕ) → x ≤ 249 → HasRoom stack (by_constant x n) (x + 1 ≤ stack)) (registers_room : (x y : ℕ) → x ≤ 249 → y ≤ 249 → HasRoom stack (by_registers x y) (max (x + 1) (y + 1) ≤ stack))
       (number_room : (x n : ℕ) → x ≤ 249 → HasRoom stack (by_number x n) (x + 1 ≤ stack)) where
     some_d : 1 ≤ held d
     some_d = some_held d
@@ -169,6 +182,18 @@ module _ (cs : List Const) (hidden : List ℕ) (ups stack : ℕ) where
         let x_below = local_found hidden ups e x size (first_local (a_number n) e x at_is) known_e in
         room_as (number_room x n (omega (arith, x_below, above, few_d, some_d))) (λ all. omega arith)
 
+    compare_constant : (n : ℕ) (at : Option ℕ) → local_of e ≡ at
+        → HasRoom stack (unless at (exp_code cs e t j 2) ++ by_constant (seat at t) n) (t + object_room 0 at (room_of cs e 2) ≤ max t stack)
+    compare_constant n None at_is = room_as (room_append (exp_code cs e t j 2) _ first_room (constants_room t n (omega (arith, few_d, some_d)))) (λ all. all.0)
+    compare_constant n (Some x) at_is =
+        let x_below = local_found hidden ups e x size at_is known_e in
+        room_as (constants_room x n (omega (arith, x_below, above, few_d, some_d))) (λ all. omega arith)
+
+    compare_operation : (o : Option ℕ) → HasRoom stack (operation_by o op e d (exp_code cs e t j 2) (exp_code cs d (t + 1) (j + made_by e) 2) t by_constant by_registers by_number)
+        (t + operation_room 0 o op e d (room_of cs e 2) (room_of cs d 2) ≤ max t stack)
+    compare_operation (Some n) = compare_constant n (local_of e) refl
+    compare_operation None = compare_by (second_of op d) (first_of (second_of op d) e) refl refl
+
   pair_room : (opcode : Opcode) (x y : ℕ) (field : Bool) (ahead line : ℕ) → one (abc opcode x y 0 field) ≡ max (x + 1) (y + 1) → x ≤ 249 → y ≤ 249 → HasRoom stack (jump_if opcode x y field ahead line) (max (x + 1) (y + 1) ≤ stack)
   pair_room opcode x y field ahead line names x_few y_few =
       room_as (room_more (abc opcode x y 0 field, line) (max (x + 1) (y + 1)) _ names (omega (arith, x_few, y_few)) (leap_room ahead line [] room_end)) (λ all. all.0)
@@ -180,25 +205,29 @@ module _ (cs : List Const) (hidden : List ℕ) (ups stack : ℕ) where
   single_room opcode x n field ahead line names x_few =
       room_as (room_more (abc opcode x (n + 127) 0 field, line) (x + 1) _ names (omega (arith, x_few)) (leap_room ahead line [] room_end)) (λ all. all.0)
 
-  compare_room : (line : ℕ) (op : BinOp) (e d : Exp) (by_registers by_number : (x y : ℕ) → List Coded) (size t j : ℕ) → ExpFinds (Binary line op e d) hidden size ups → size ≤ t → t + held (Binary line op e d) ≤ 250
-      → ((x y : ℕ) → x ≤ 249 → y ≤ 249 → HasRoom stack (by_registers x y) (max (x + 1) (y + 1) ≤ stack)) → ((x n : ℕ) → x ≤ 249 → HasRoom stack (by_number x n) (x + 1 ≤ stack))
-      → HasRoom stack (operands_code (second_of op d) (first_of (second_of op d) e) (exp_code cs e t j 2) (exp_code cs d (t + 1) (j + made_by e) 2) t by_registers by_number)
-      (t + operands_room 0 (second_of op d) (first_of (second_of op d) e) (room_of cs e 2) (room_of cs d 2) ≤ max t stack)
-  compare_room line op e d by_registers by_number size t j known above few registers_room number_room =
-      compare_by line op e d by_registers by_number size t j known.0 known.1 above (omega (arith, few)) (omega (arith, few)) registers_room number_room (second_of op d) (first_of (second_of op d) e) refl refl
+  constant_room : (x n : ℕ) (field : Bool) (ahead line : ℕ) → x ≤ 249 → HasRoom stack (jump_if EqK x n field ahead line) (x + 1 ≤ stack)
+  constant_room x n field ahead line x_few =
+      room_as (room_more (abc EqK x n 0 field, line) (x + 1) _ (one_a EqK x n 0 field refl (omega (arith, x_few))) (omega (arith, x_few)) (leap_room ahead line [] room_end)) (λ all. all.0)
+
+  compare_room : (line : ℕ) (op : BinOp) (e d : Exp) (by_constant by_registers by_number : (x y : ℕ) → List Coded) (size t j : ℕ) → ExpFinds (Binary line op e d) hidden size ups → size ≤ t → t + held (Binary line op e d) ≤ 250
+      → ((x n : ℕ) → x ≤ 249 → HasRoom stack (by_constant x n) (x + 1 ≤ stack)) → ((x y : ℕ) → x ≤ 249 → y ≤ 249 → HasRoom stack (by_registers x y) (max (x + 1) (y + 1) ≤ stack)) → ((x n : ℕ) → x ≤ 249 → HasRoom stack (by_number x n) (x + 1 ≤ stack))
+      → HasRoom stack (operation_by (constant_in cs op d) op e d (exp_code cs e t j 2) (exp_code cs d (t + 1) (j + made_by e) 2) t by_constant by_registers by_number)
+      (t + operation_room 0 (constant_in cs op d) op e d (room_of cs e 2) (room_of cs d 2) ≤ max t stack)
+  compare_room line op e d by_constant by_registers by_number size t j known above few constants_room registers_room number_room =
+      compare_operation line op e d by_constant by_registers by_number size t j known.0 known.1 above (omega (arith, few)) (omega (arith, few)) constants_room registers_room number_room (constant_in cs op d)
 
   binary_room : (line : ℕ) (op : BinOp) (e d : Exp) → Room (Binary line op e d)
-  binary_room line Equal e d k ahead size t j known above few = compare_room line Equal e d _ _ size t j known above few
+  binary_room line Equal e d k ahead size t j known above few = compare_room line Equal e d _ _ _ size t j known above few (λ x n xf. constant_room x n (not k) ahead line xf)
       (λ x y xf yf. pair_room Eq x y (not k) ahead line (one_ab Eq x y 0 (not k) refl (omega (arith, xf)) (omega (arith, yf))) xf yf) (λ x n xf. single_room EqI x n (not k) ahead line (one_a EqI x (n + 127) 0 (not k) refl (omega (arith, xf))) xf)
-  binary_room line Ne e d k ahead size t j known above few = compare_room line Ne e d _ _ size t j known above few
+  binary_room line Ne e d k ahead size t j known above few = compare_room line Ne e d _ _ _ size t j known above few (λ x n xf. constant_room x n k ahead line xf)
       (λ x y xf yf. pair_room Eq x y k ahead line (one_ab Eq x y 0 k refl (omega (arith, xf)) (omega (arith, yf))) xf yf) (λ x n xf. single_room EqI x n k ahead line (one_a EqI x (n + 127) 0 k refl (omega (arith, xf))) xf)
-  binary_room line Less e d k ahead size t j known above few = compare_room line Less e d _ _ size t j known above few
+  binary_room line Less e d k ahead size t j known above few = compare_room line Less e d _ _ _ size t j known above few (λ x n xf. constant_room x n (not k) ahead line xf)
       (λ x y xf yf. pair_room Lt x y (not k) ahead line (one_ab Lt x y 0 (not k) refl (omega (arith, xf)) (omega (arith, yf))) xf yf) (λ x n xf. single_room LtI x n (not k) ahead line (one_a LtI x (n + 127) 0 (not k) refl (omega (arith, xf))) xf)
-  binary_room line AtMost e d k ahead size t j known above few = compare_room line AtMost e d _ _ size t j known above few
+  binary_room line AtMost e d k ahead size t j known above few = compare_room line AtMost e d _ _ _ size t j known above few (λ x n xf. constant_room x n (not k) ahead line xf)
       (λ x y xf yf. pair_room Le x y (not k) ahead line (one_ab Le x y 0 (not k) refl (omega (arith, xf)) (omega (arith, yf))) xf yf) (λ x n xf. single_room LeI x n (not k) ahead line (one_a LeI x (n + 127) 0 (not k) refl (omega (arith, xf))) xf)
-  binary_room line Gt e d k ahead size t j known above few = compare_room line Gt e d _ _ size t j known above few
+  binary_room line Gt e d k ahead size t j known above few = compare_room line Gt e d _ _ _ size t j known above few (λ x n xf. constant_room x n (not k) ahead line xf)
       (λ x y xf yf. turned_room Lt x y (not k) ahead line (one_ab Lt y x 0 (not k) refl (omega (arith, yf)) (omega (arith, xf))) xf yf) (λ x n xf. single_room GtI x n (not k) ahead line (one_a GtI x (n + 127) 0 (not k) refl (omega (arith, xf))) xf)
-  binary_room line Ge e d k ahead size t j known above few = compare_room line Ge e d _ _ size t j known above few
+  binary_room line Ge e d k ahead size t j known above few = compare_room line Ge e d _ _ _ size t j known above few (λ x n xf. constant_room x n (not k) ahead line xf)
       (λ x y xf yf. turned_room Le x y (not k) ahead line (one_ab Le y x 0 (not k) refl (omega (arith, yf)) (omega (arith, xf))) xf yf) (λ x n xf. single_room GeI x n (not k) ahead line (one_a GeI x (n + 127) 0 (not k) refl (omega (arith, xf))) xf)
   binary_room line Plus e d k ahead size t j known above few = value_room (Binary line Plus e d) k ahead size t j known above few
   binary_room line Minus e d k ahead size t j known above few = value_room (Binary line Minus e d) k ahead size t j known above few

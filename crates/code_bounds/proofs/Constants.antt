@@ -1,12 +1,13 @@
 -- Constants that are collected stay at their numbers, whatever is collected later.
-use Rattle.std.proofs.Common.{◌≡◌, ℕ, ◌≤◌, ◌^◌, suc, Bool, true, false, cond, ℤ, List, [], ◌∷◌, length, Some, slice_get, refl, sym, ap, subst, arith}
+use Rattle.std.proofs.Common.{◌≡◌, ℕ, ◌≤◌, ◌^◌, suc, Bool, true, false, cond, ℤ, List, [], ◌∷◌, length, Option, Some, None, slice_get, refl, sym, ap, subst, arith}
 use Rattle.std.proofs.lemmas.Option.{slice_get_within}
 use Rattle.tree_core.specs.declared.name.Place.{Place}
 use Rattle.tree_core.specs.declared.name.Place.TheVariants.{Unset, Upvalue, GlobalIn, GlobalOf, Local as LocalPlace}
 use Rattle.tree_core.specs.Tree.{Block, Falls, Returns, Stats, EndStats, MoreStats, Stat, Empty, Local, LocalFunction, Assign, CallStat, Do, While, Repeat, If, IfElse, NumFor, NumForStep, GenFor, Label, Goto, Break, Arms, EndArms, MoreArms, Exp, Nil, True, False, Int, Str, Vararg, Function, Var, Index, Call, Method, Unary, Binary, And, Or, Paren, Table, Exps, EndExps, MoreExps, Fields, EndFields, MoreFields, Field, Item, Keyed}
 use Rattle.code_core.specs.declared.proto.Const.{Const}
 use Rattle.code_core.specs.declared.proto.Const.TheVariants.{Int as IntConst, Str as StrConst}
-use Rattle.code_of.specs.Constants.{same_constant, number_in, with_constant, is_small, of_name, of_exp, of_exps, of_fields, of_field, of_stat, of_arms, of_stats, of_block, Found}
+use Rattle.code_of.specs.Constants.{same_constant, number_in, with_constant, is_small, with_any, of_name, of_exp, of_exps, of_fields, of_field, of_stat, of_arms, of_stats, of_block, Found}
+use Rattle.code_of.specs.ConstantOperands.{constant_of}
 use Rattle.code_bounds.specs.Constants.{Has, NameHas, ExpHas, ExpsHave, FieldsHave, FieldHas, StatHas, ArmsHave, StatsHave, BlockHas, ConstantsAreNumbered}
 use Rattle.code_of.proofs.Constants.{same_int, same_text, same_is}
 
@@ -58,6 +59,10 @@ with_keeps y (c ∷ cs) x h = by (with_keeps y cs x) (same_constant c y)
     by kept true = h
     by kept false = behind kept (same_constant c x) refl
 
+any_keeps : (o : Option Const) (cs : List Const) → Keeps cs (with_any o cs)
+any_keeps None cs x h = h
+any_keeps (Some y) cs x h = with_keeps y cs x h
+
 -- a constant that is there is found, where the list has no more than numbers of 25 bits
 pub found : (cs : List Const) (x : Const) → length cs ≤ 2 ^ 25 → Has cs x → Found cs x
 found cs x short h = let within = slice_get_within cs (number_in cs x) x h in record { near = omega arith; there = h }
@@ -91,7 +96,8 @@ mutual
   keeps_exp (Method line object name es) cs x h =
       keeps_exps es _ x (with_keeps (StrConst name.text) (of_exp object cs) x (keeps_exp object cs x h))
   keeps_exp (Unary line op e) cs x h = keeps_exp e cs x h
-  keeps_exp (Binary line op e d) cs x h = keeps_exp d (of_exp e cs) x (keeps_exp e cs x h)
+  keeps_exp (Binary line op e d) cs x h =
+      keeps_exp d (with_any (constant_of op d) (of_exp e cs)) x (any_keeps (constant_of op d) (of_exp e cs) x (keeps_exp e cs x h))
   keeps_exp (And line e d) cs x h = keeps_exp d (of_exp e cs) x (keeps_exp e cs x h)
   keeps_exp (Or line e d) cs x h = keeps_exp d (of_exp e cs) x (keeps_exp e cs x h)
   keeps_exp (Paren line e) cs x h = keeps_exp e cs x h
@@ -178,7 +184,10 @@ mutual
         (kept (StrConst name.text) (text_there name.text (of_exp object cs)), exps_have es named ds k),
       )
   exp_has (Unary line op e) cs ds k = exp_has e cs ds k
-  exp_has (Binary line op e d) cs ds k = (exp_has e cs ds (λ x h. k x (keeps_exp d (of_exp e cs) x h)), exp_has d (of_exp e cs) ds k)
+  exp_has (Binary line op e d) cs ds k =
+      let operand = with_any (constant_of op d) (of_exp e cs) in
+      let kept : Keeps operand ds = λ x h. k x (keeps_exp d operand x h) in
+      (exp_has e cs ds (λ x h. kept x (any_keeps (constant_of op d) (of_exp e cs) x h)), exp_has d operand ds k)
   exp_has (And line e d) cs ds k = (exp_has e cs ds (λ x h. k x (keeps_exp d (of_exp e cs) x h)), exp_has d (of_exp e cs) ds k)
   exp_has (Or line e d) cs ds k = (exp_has e cs ds (λ x h. k x (keeps_exp d (of_exp e cs) x h)), exp_has d (of_exp e cs) ds k)
   exp_has (Paren line e) cs ds k = exp_has e cs ds k

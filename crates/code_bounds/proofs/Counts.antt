@@ -1,11 +1,12 @@
 -- Constants and inner functions are at most as many as their tree weighs.
-use Rattle.std.proofs.Common.{ℕ, ◌+◌, ◌≤◌, Bool, true, false, cond, List, [], ◌∷◌, length, arith}
+use Rattle.std.proofs.Common.{ℕ, ◌+◌, ◌≤◌, Bool, true, false, cond, List, [], ◌∷◌, length, Option, Some, None, arith}
 use Rattle.tree_core.specs.declared.name.Place.{Place}
 use Rattle.tree_core.specs.declared.name.Place.TheVariants.{Unset, Upvalue, GlobalIn, GlobalOf, Local as LocalPlace}
 use Rattle.tree_core.specs.Tree.{Block, Falls, Returns, Body, BodyOf, Stats, EndStats, MoreStats, Stat, Empty, Local, LocalFunction, Assign, CallStat, Do, While, Repeat, If, IfElse, NumFor, NumForStep, GenFor, Label, Goto, Break, Arms, EndArms, MoreArms, Exp, Nil, True, False, Int, Str, Vararg, Var, Function, Index, Call, Method, Unary, Binary, And, Or, Paren, Table, Exps, EndExps, MoreExps, Fields, EndFields, MoreFields, Field, Item, Keyed}
 use Rattle.code_core.specs.declared.proto.Const.{Const}
 use Rattle.code_core.specs.declared.proto.Const.TheVariants.{Int as IntConst, Str as StrConst}
-use Rattle.code_of.specs.Constants.{same_constant, with_constant, is_small, of_name, of_exp, of_exps, of_fields, of_field, of_stat, of_arms, of_stats, of_block}
+use Rattle.code_of.specs.Constants.{same_constant, with_constant, with_any, is_small, of_name, of_exp, of_exps, of_fields, of_field, of_stat, of_arms, of_stats, of_block}
+use Rattle.code_of.specs.ConstantOperands.{constant_of}
 use Rattle.code_of.specs.Expressions.{made_by, made_in, made_in_fields, made_by_field}
 use Rattle.code_of.specs.Levels.{made_by_stat, made_in_arms, made_in_stats, made_in_block}
 use Rattle.tree_terms.specs.FunctionCount.{functions, functions_in_exps, functions_in_fields, functions_in_field, functions_in_stat, functions_in_arms, functions_in_stats, functions_in_block, functions_in_body}
@@ -155,6 +156,10 @@ one_more x (c ∷ cs) = by (one_more x cs) (same_constant c x)
     by rest true = omega arith
     by rest false = omega (arith, rest)
 
+any_more : (o : Option Const) (cs : List Const) → length (with_any o cs) ≤ length cs + 1
+any_more None cs = omega arith
+any_more (Some x) cs = one_more x cs
+
 named : (place : Place) (text : List ℕ) (cs : List Const) → length (of_name place text cs) ≤ length cs + 1
 named Unset text cs = omega arith
 named (LocalPlace n) text cs = omega arith
@@ -184,7 +189,8 @@ mutual
       let c = few_exps es (with_constant (StrConst name.text) (of_exp object cs)) in
       omega (arith, a, b, c, arguments_weigh es)
   few_exp (Unary line op e) cs = omega (arith, few_exp e cs)
-  few_exp (Binary line op e d) cs = omega (arith, few_exp e cs, few_exp d (of_exp e cs))
+  few_exp (Binary line op e d) cs =
+      omega (arith, few_exp e cs, any_more (constant_of op d) (of_exp e cs), few_exp d (with_any (constant_of op d) (of_exp e cs)))
   few_exp (And line e d) cs = omega (arith, few_exp e cs, few_exp d (of_exp e cs))
   few_exp (Or line e d) cs = omega (arith, few_exp e cs, few_exp d (of_exp e cs))
   few_exp (Paren line e) cs = omega (arith, few_exp e cs)

@@ -39,7 +39,7 @@ its_limits = (
 it_has_room : BodyHasRoom (code_of None chooses) chooses
 it_has_room = (enough None chooses its_names its_limits).1
 
-its_registers : (code_of None chooses).own.stack ≡ 5
+its_registers : (code_of None chooses).own.stack ≡ 4
 unfolding opcodes number_of
 its_registers = refl
 

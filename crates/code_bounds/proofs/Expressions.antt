@@ -2,29 +2,35 @@
 use Rattle.std.proofs.Common.{◌≡◌, ℕ, zero, suc, ◌+◌, ◌-◌, ◌<◌, ◌≤◌, ◌^◌, ◌⊎◌, inl, inr, max, Bool, true, false, cond, List, [], ◌∷◌, ◌++◌, Option, Some, None, refl, sym, ap, ◌∙◌, lit<, arith}
 use Rattle.tree_core.specs.declared.name.Place.{Place}
 use Rattle.tree_core.specs.declared.name.Place.TheVariants.{Unset, Upvalue, GlobalIn, GlobalOf, Local as LocalPlace}
+use Rattle.tree_core.specs.declared.operator.UnOp.{UnOp}
 use Rattle.tree_core.specs.declared.operator.BinOp.{BinOp}
 use Rattle.tree_core.specs.Tree.{Exp, Nil, True, False, Int, Str, Vararg, Function, Var, Index, Call, Method, Unary, Binary, And, Or, Paren, Table, Exps, EndExps, MoreExps, Fields, EndFields, MoreFields, Item, Keyed}
 use Rattle.tree_terms.specs.Bodies.{line_of_body}
-use Rattle.code_core.specs.declared.opcode.Opcode.TheVariants.{LoadFalse, LoadTrue, GetTable, GetI, GetField, NewTable, SetTable, Closure, ExtraArg, Call as CallCode}
+use Rattle.code_core.specs.declared.opcode.Opcode.TheVariants.{LoadFalse, LoadTrue, GetTable, GetI, GetField, NewTable, Closure, ExtraArg, Call as CallCode}
 use Rattle.code_core.specs.declared.proto.Const.{Const}
 use Rattle.code_core.specs.declared.proto.Const.TheVariants.{Int as IntConst, Str as StrConst}
 use Rattle.code_core.specs.Instruction.{op_ax}
 use Rattle.code_of.specs.Coded.{Coded, with_abc}
 use Rattle.code_of.specs.Constants.{is_small, small_field}
-use Rattle.code_of.specs.Operands.{local_at, local_of, is_direct, Second, a_number, a_local, made, second_of, key_operand, first_of, seat, unless, operands_code, operands_room}
-use Rattle.code_of.specs.Stores.{name_in}
+use Rattle.code_of.specs.Operands.{local_at, local_of, is_direct, Second, a_number, a_local, made, second_of, key_operand, first_of, seat, unless, operands_code, operands_room, joins}
+use Rattle.code_of.specs.Stores.{name_in, is_quiet, field_key}
+use Rattle.code_of.proofs.Stores.{field_key_stands}
 use Rattle.code_of.specs.FieldReads.{read_code, object_room, read_room}
 use Rattle.code_of.proofs.FieldReads.{some_read, read_less}
 use Rattle.code_of.specs.Operators.{prefix_code, operator_code, number_code}
-use Rattle.code_of.proofs.Operands.{some_is, Stands, second_number, joins_made, operator_stands, key_stands, local_not_made, first_local, some_operands, operands_less, computes_no_join}
+use Rattle.code_of.specs.Operations.{constant_in, constant_code, operation_code, operation_room}
+use Rattle.code_of.proofs.Operations.{constant_is, operand_form, some_operation, operation_less}
+use Rattle.code_of.proofs.Operands.{some_is, Stands, second_number, joins_made, operator_stands, key_stands, local_not_made, first_local, computes_no_join}
 use Rattle.code_of.specs.Expressions.{made_by, count, is_open, is_last_open, ends_open, list_field, Wanted, results_field, one_less, field_of, wanted_after, is_last_item, set_list, exp_code, exps_code, fields_code}
 use Rattle.code_of.specs.Parts.{direct_code}
 use Rattle.code_of.specs.Rooms.{room_of_values, room_of_nils, room_of_direct, room_of, room_of_list, room_of_fields, room_of_self}
-use Rattle.code_of.proofs.Rooms.{name_room, self_room}
+use Rattle.code_of.proofs.Rooms.{name_room, self_room, local_room, name_less}
 use Rattle.code_of.specs.Operators.{self_code}
 use Rattle.scope_laws.specs.Finding.{PlaceIsThere, ExpFinds, ExpsFind, FieldsFind}
-use Rattle.code_bounds.proofs.Tops.{top, top_more, top_append, ax_is, one_a, one_ab, one_abc, one_ax, one_nil, one_store, one_call, rest_below, rest_above}
-use Rattle.code_bounds.proofs.Pieces.{self_top, Takes, ListTakes, takes_one, loads_top, integer_top, name_takes, prefix_top, operator_top, operator_above, operator_here, number_top, number_here, two_take, one_takes, either_takes, nils_take, more_take, call_takes, method_takes, set_top}
+use Rattle.code_bounds.proofs.Tops.{top, top_more, top_append, ax_is, one_a, one_ab, one_abc, one_ax, one_nil, one_call, rest_below, rest_above}
+use Rattle.code_bounds.proofs.KeyedFields.{keyed_take}
+use Rattle.code_bounds.proofs.Pieces.{self_top, Takes, ListTakes, takes_one, loads_top, integer_top, name_takes, prefix_top, operator_top, operator_above, operator_here, number_top, number_here, two_take, one_takes, either_takes, nils_take, more_take, call_takes, method_takes, set_top, name_below}
+use Rattle.code_bounds.proofs.ConstantPieces.{constant_top, constant_here}
 
 -- fields of calls and `...`
 
@@ -107,7 +113,7 @@ module _ (cs : List Const) where
   some_room (Call line f es) field some = omega arith
   some_room (Method line object name es) field some = omega arith
   some_room (Unary line op e) field some = some_room e 2 (omega arith)
-  some_room (Binary line op e d) field some = some_operands (second_of op d) (first_of (second_of op d) e) (room_of cs e 2) (room_of cs d 2) (some_room e 2 (omega arith))
+  some_room (Binary line op e d) field some = some_operation (constant_in cs op d) op e d (room_of cs e 2) (room_of cs d 2) (some_room e 2 (omega arith))
   some_room (And line e d) field some = let left = some_room e 2 (omega arith) in omega (arith, left)
   some_room (Or line e d) field some = let left = some_room e 2 (omega arith) in omega (arith, left)
   some_room (Paren line e) field some = some_room e 2 (omega arith)
@@ -146,10 +152,6 @@ module _ (cs : List Const) where
   item_join : (t x r b m n all : ℕ) → all ≡ max m (max (t + b + 1) n) → 1 ≤ x → b ≤ 1 → m ≤ t + 1 + x → t + 1 + x ≤ max (t + 1) m → n ≤ t + (1 + r) → t + (1 + r) ≤ max (t + 1) n →
       (all ≤ t + (1 + max x r)) × (t + (1 + max x r) ≤ max (t + 1) all)
   item_join t x r b m n all is some few p q u v = (omega arith, omega arith)
-
-  keyed_join : (t x y r m o n all : ℕ) → all ≡ max m (max o (max (t + 3) n)) → 1 ≤ y → m ≤ t + 1 + x → t + 1 + x ≤ max (t + 1) m → o ≤ t + 2 + y → t + 2 + y ≤ max (t + 2) o →
-      n ≤ t + (1 + r) → t + (1 + r) ≤ max (t + 1) n → (all ≤ t + (1 + max (max x (1 + y)) r)) × (t + (1 + max (max x (1 + y)) r) ≤ max (t + 1) all)
-  keyed_join t x y r m o n all is some p q u v g h = (omega arith, omega arith)
 
   module _ (hidden : List ℕ) (ups : ℕ) where
     abbrev ExpTakes : Exp → Type 0
@@ -212,12 +214,22 @@ module _ (cs : List Const) where
 
     binary_takes : (line : ℕ) (op : BinOp) (e d : Exp) → ExpTakes e → ExpTakes d → (size t j : ℕ) → ExpFinds (Binary line op e d) hidden size ups → size ≤ t → t + room_of cs (Binary line op e d) 2 ≤ 255
         → Takes t (room_of cs (Binary line op e d) 2) (exp_code cs (Binary line op e d) t j 2)
-    binary_takes line op e d law_e law_d size t j known in_scope small =
-        operands_take 1 (second_of op d) 128 e d (operator_stands op d) (λ x y. operator_code op x y t line) (λ x n. number_code op x n t line) law_e law_d size t j known.0 known.1 in_scope (λ fits. operator_above op t line fits)
-        (λ x y other x_below y_below fits. let o = operator_here op x y t line (λ joined. other (joins_made op d joined)) x_below y_below fits in omega (arith, o))
-        (λ x n is x_below fits. let o = number_here op d x n t line (second_number op d n is) x_below fits in omega (arith, o))
-        (λ x y other x_below y_below fits. let o = operator_here op x y t line (λ joined. other (joins_made op d joined)) (omega (arith, x_below)) (omega (arith, y_below)) fits in (omega (arith, o), omega (arith, o)))
-        (λ x n is x_below fits. let o = number_here op d x n t line (second_number op d n is) (omega (arith, x_below)) fits in (omega (arith, o), omega (arith, o))) small
+    binary_takes line op e d law_e law_d size t j known in_scope small = by (constant_in cs op d) refl small
+      where
+        by : (o : Option ℕ) → constant_in cs op d ≡ o → t + operation_room 1 o op e d (room_of cs e 2) (room_of cs d 2) ≤ 255
+            → Takes t (operation_room 1 o op e d (room_of cs e 2) (room_of cs d 2)) (operation_code o op e d (exp_code cs e t j 2) (exp_code cs d (t + 1) (j + made_by e) 2) t t line)
+        by (Some number) found small =
+            let f = constant_is cs op d number found in
+            let form = operand_form op d f.value f.is in
+            named_take 1 e (λ x. constant_code op x number t line) law_e size t j known.0 in_scope
+            (λ fits. let o = constant_here op d f.value t number t line form (omega arith) fits in omega (arith, o))
+            (λ x x_below fits. let o = constant_here op d f.value x number t line form (omega (arith, x_below)) fits in (omega (arith, o), omega (arith, o))) small
+        by None found small =
+            operands_take 1 (second_of op d) 128 e d (operator_stands op d) (λ x y. operator_code op x y t line) (λ x n. number_code op x n t line) law_e law_d size t j known.0 known.1 in_scope (λ fits. operator_above op t line fits)
+            (λ x y other x_below y_below fits. let o = operator_here op x y t line (λ joined. other (joins_made op d joined)) x_below y_below fits in omega (arith, o))
+            (λ x n is x_below fits. let o = number_here op d x n t line (second_number op d n is) x_below fits in omega (arith, o))
+            (λ x y other x_below y_below fits. let o = operator_here op x y t line (λ joined. other (joins_made op d joined)) (omega (arith, x_below)) (omega (arith, y_below)) fits in (omega (arith, o), omega (arith, o)))
+            (λ x n is x_below fits. let o = number_here op d x n t line (second_number op d n is) (omega (arith, x_below)) fits in (omega (arith, o), omega (arith, o))) small
 
     index_takes : (line : ℕ) (object key : Exp) → ExpTakes object → ExpTakes key → (size t j : ℕ) → ExpFinds (Index line object key) hidden size ups → size ≤ t → t + room_of cs (Index line object key) 2 ≤ 255
         → Takes t (room_of cs (Index line object key) 2) (exp_code cs (Index line object key) t j 2)
@@ -235,6 +247,40 @@ module _ (cs : List Const) where
             (λ x n is x_below fits. let e = one_ab GetI t x n false refl fits (omega arith) in omega (arith, e))
             (λ x y other x_below y_below fits. let e = one_abc GetTable t x y false refl fits (omega arith) (omega arith) in (omega (arith, e, x_below, y_below), omega (arith, e, x_below, y_below)))
             (λ x n is x_below fits. let e = one_ab GetI t x n false refl fits (omega arith) in (omega (arith, e, x_below), omega (arith, e, x_below))) small
+
+    -- an operand that is alone
+
+    pub seat_low : (e : Exp) (size t : ℕ) → ExpFinds e hidden size ups → size ≤ t → seat (local_of e) t ≤ t
+    seat_low e size t known in_scope = by (local_of e) refl
+      where
+        by : (at : Option ℕ) → local_of e ≡ at → seat at t ≤ t
+        by None is = omega arith
+        by (Some x) is = let found = local_found hidden ups e x size is known in omega (arith, found, in_scope)
+
+    unary_takes : (line : ℕ) (op : UnOp) (e : Exp) → ExpTakes e → (size t j : ℕ) → ExpFinds e hidden size ups → size ≤ t → t + room_of cs e 2 ≤ 255 → Takes t (room_of cs e 2) (exp_code cs (Unary line op e) t j 2)
+    unary_takes line op e law size t j known in_scope small = by (local_of e) refl
+      where
+        some : 1 ≤ room_of cs e 2
+        some = own_room e
+
+        by : (at : Option ℕ) → local_of e ≡ at → Takes t (room_of cs e 2) (unless at (exp_code cs e t j 2) ++ prefix_code op (seat at t) t line)
+        by None is =
+            one_takes t (room_of cs e 2) (exp_code cs e t j 2) (prefix_code op t t line) some (law size t j 2 known in_scope (lit< tt) small)
+            (let p = prefix_top op t t line (omega (arith, some, small)) (omega (arith, some, small)) in omega (arith, p))
+        by (Some x) is =
+            let found = local_found hidden ups e x size is known in
+            let one = local_room cs e x is in
+            let p = prefix_top op x t line (omega (arith, found, in_scope, some, small)) (omega (arith, some, small)) in
+            (omega (arith, p, one, found, in_scope), omega (arith, p, one))
+
+    -- a method's object, behind which the method takes two registers
+    pub object_takes : (e : Exp) → ExpTakes e → (size t j : ℕ) → ExpFinds e hidden size ups → size ≤ t → t + room_of cs e 2 ≤ 255
+        → (top (unless (local_of e) (exp_code cs e t j 2)) ≤ t + room_of cs e 2) × (t + room_of cs e 2 ≤ max (t + 2) (top (unless (local_of e) (exp_code cs e t j 2))))
+    object_takes e law size t j known in_scope small = by (local_of e) refl
+      where
+        by : (at : Option ℕ) → local_of e ≡ at → (top (unless at (exp_code cs e t j 2)) ≤ t + room_of cs e 2) × (t + room_of cs e 2 ≤ max (t + 2) (top (unless at (exp_code cs e t j 2))))
+        by None is = let h = law size t j 2 known in_scope (lit< tt) small in let high = h.1 in (h.0, omega (arith, high))
+        by (Some x) is = let one = local_room cs e x is in (omega (arith, one), omega (arith, one))
 
     mutual
       pub exp_takes : (e : Exp) → ExpTakes e
@@ -268,16 +314,15 @@ module _ (cs : List Const) where
           let few = field_room es 1 in
           let counted = count_room es 2 in
           let two = (self_room cs name.text).0 in
-          method_takes t (room_of cs object 2) (room_of_self cs name.text) l b field (room_of_values field) (exp_code cs object t j 2) (self_code cs name.text t line)
+          let x = seat (local_of object) t in
+          method_takes t (room_of cs object 2) (room_of_self cs name.text) l b field (room_of_values field) (unless (local_of object) (exp_code cs object t j 2)) (self_code cs name.text x t line)
           (exps_code cs es None (t + 2) (j + made_by object) line) (with_abc CallCode t b field line ∷ []) some two
-          (exp_takes object size t j 2 known.0 above (lit< tt) (omega arith))
-          (self_top cs name.text t line (omega arith))
+          (object_takes object (exp_takes object) size t j known.0 above (omega arith))
+          (self_top cs name.text x t line (seat_low object size t known.0 above) (omega arith))
           (exps_take es None 2 t (t + 2) size (j + made_by object) line refl known.1 (omega arith) (lit< tt) (omega arith))
           (one_call t b field (omega (arith, small, two)) (omega (arith, small, few, counted, some)) fits) (omega (arith, few, counted, some)) (values_low field) (values_high field)
       exp_takes (Unary line op e) size t j field known above fits small =
-          let some = own_room e in
-          one_takes t (room_of cs e 2) (exp_code cs e t j 2) (prefix_code op t line) some (exp_takes e size t j 2 known above (lit< tt) small)
-          (let p = prefix_top op t line (omega (arith, some)) in omega (arith, p))
+          unary_takes line op e (exp_takes e) size t j known above small
       exp_takes (Binary line op e d) size t j field known above fits small = binary_takes line op e d (exp_takes e) (exp_takes d) size t j known above small
       exp_takes (And line e d) size t j field known above fits small =
           let some = own_room e in
@@ -326,30 +371,52 @@ module _ (cs : List Const) where
           let d = set_top t b items line (omega arith) (omega (arith, few)) in
           item_join t x r b (top first) (top rest) (top (first ++ (set_list t b items line ++ rest))) (omega (arith, a, c, d)) some few h.0 h.1 k.0 k.1
       fields_take (MoreFields (Keyed field_line e g) fs) items t size j line known above small =
-          let first = exp_code cs e (t + 1) j 2 in
-          let second = exp_code cs g (t + 2) (j + made_by e) 2 in
-          let store = with_abc SetTable t (t + 1) (t + 2) field_line in
-          let rest = fields_code cs fs items t (j + made_by e + made_by g) line in
-          let some = own_room g in
-          let h = exp_takes e size (t + 1) j 2 known.0.0 (omega arith) (lit< tt) (omega arith) in
-          let i = exp_takes g size (t + 2) (j + made_by e) 2 known.0.1 (omega arith) (lit< tt) (omega arith) in
-          let k = fields_take fs items t size (j + made_by e + made_by g) line known.1 above (omega arith) in
-          let a = top_append first (second ++ (store ∷ rest)) in
-          let b = top_append second (store ∷ rest) in
-          let c = top_more store rest in
-          let d = one_store t (t + 1) (t + 2) (omega arith) (omega arith) (omega (arith, some)) in
-          keyed_join t (room_of cs e 2) (room_of cs g 2) (room_of_fields cs fs) (top first) (top second) (top rest) (top (first ++ (second ++ (store ∷ rest)))) (omega (arith, a, b, c, d)) some h.0 h.1 i.0 i.1 k.0 k.1
+          let key = field_key cs (is_quiet g) e in
+          let stands = field_key_stands cs (is_quiet g) e in
+          keyed_take cs (is_quiet g) e key (local_of g) t (room_of cs e 2) (room_of cs g 2) (room_of_fields cs fs) field_line (exp_code cs e (t + 1) j 2) (exp_code cs g (t + 2) (j + made_by e) 2)
+          (fields_code cs fs items t (j + made_by e + made_by g) line) stands (own_room e) (own_room g)
+          (λ q is. let below = local_found hidden ups e q size (stands.local q is) known.0.0 in omega (arith, below, above)) (λ q is. let below = local_found hidden ups g q size is known.0.1 in omega (arith, below, above))
+          (λ few. exp_takes e size (t + 1) j 2 known.0.0 (omega (arith, above)) (lit< tt) few) (λ few. exp_takes g size (t + 2) (j + made_by e) 2 known.0.1 (omega (arith, above)) (lit< tt) few) small
+          (fields_take fs items t size (j + made_by e + made_by g) line known.1 above (omega (arith, small)))
 
     -- a value that goes straight to the register r of a local
     pub direct_takes : (e : Exp) → is_direct e ≡ true → (r size t j : ℕ) → ExpFinds e hidden size ups → size ≤ t → r < t → t + room_of_direct cs e ≤ 255 → Takes t (room_of_direct cs e) (direct_code cs e r t j)
+    direct_takes (Nil line) is r size t j known in_scope low small = let e = one_nil r 0 line (omega (arith, low, small)) (lit< tt) in (omega (arith, e, low), omega arith)
+    direct_takes (True line) is r size t j known in_scope low small = let e = one_a LoadTrue r 0 0 false refl (omega (arith, low, small)) in (omega (arith, e, low), omega arith)
+    direct_takes (False line) is r size t j known in_scope low small = let e = one_a LoadFalse r 0 0 false refl (omega (arith, low, small)) in (omega (arith, e, low), omega arith)
+    direct_takes (Int line z) is r size t j known in_scope low small =
+        let e = integer_top cs r line (is_small z) (small_field z) (IntConst z) (omega (arith, low, small)) in
+        (omega (arith, e, low), omega arith)
+    direct_takes (Str line bytes) is r size t j known in_scope low small =
+        let e = loads_top cs (StrConst bytes) r line (omega (arith, low, small)) in
+        (omega (arith, e, low), omega arith)
+    direct_takes (Var line name) is r size t j known in_scope low small = name_below cs name.text name.place hidden ups size r t line known in_scope low (omega (arith, small)) small
+    direct_takes (Paren line e) is r size t j known in_scope low small = direct_takes e is r size t j known in_scope low small
+    direct_takes (Unary line op e) is r size t j known in_scope low small =
+        named_take 0 e (λ x. prefix_code op x r line) (exp_takes e) size t j known in_scope
+        (λ fits. let p = prefix_top op t r line fits (omega (arith, low, fits)) in omega (arith, p, low))
+        (λ x x_below fits. let p = prefix_top op x r line (omega (arith, x_below, fits)) (omega (arith, low, fits)) in (omega (arith, p, low, x_below), omega arith)) small
     direct_takes (Binary line op e d) is r size t j known in_scope low small =
-        let none = computes_no_join op is in
-        operands_take 0 (second_of op d) 128 e d (operator_stands op d) (λ x y. operator_code op x y r line) (λ x n. number_code op x n r line) (exp_takes e) (exp_takes d) size t j known.0 known.1 in_scope
-        (λ fits. let o = operator_top op t (t + 1) r line none (omega arith) fits (omega arith) in omega (arith, o, low))
-        (λ x y other x_below y_below fits. let o = operator_top op x y r line none (omega arith) (omega arith) (omega arith) in omega (arith, o, low, x_below, y_below))
-        (λ x n numeral x_below fits. let o = number_top op d x n r line is (second_number op d n numeral) (omega arith) (omega arith) in omega (arith, o, low, x_below))
-        (λ x y other x_below y_below fits. let o = operator_top op x y r line none (omega arith) (omega arith) (omega arith) in (omega (arith, o, low, x_below, y_below), omega arith))
-        (λ x n numeral x_below fits. let o = number_top op d x n r line is (second_number op d n numeral) (omega arith) (omega arith) in (omega (arith, o, low, x_below), omega arith)) small
+        by (constant_in cs op d) refl small
+      where
+        none : joins op ≡ false
+        none = computes_no_join op is
+
+        by : (o : Option ℕ) → constant_in cs op d ≡ o → t + operation_room 0 o op e d (room_of cs e 2) (room_of cs d 2) ≤ 255
+            → Takes t (operation_room 0 o op e d (room_of cs e 2) (room_of cs d 2)) (operation_code o op e d (exp_code cs e t j 2) (exp_code cs d (t + 1) (j + made_by e) 2) r t line)
+        by (Some number) found small =
+            let f = constant_is cs op d number found in
+            let form = operand_form op d f.value f.is in
+            named_take 0 e (λ x. constant_code op x number r line) (exp_takes e) size t j known.0 in_scope
+            (λ fits. let o = constant_top op d f.value t number r line is form (omega arith) (omega arith) in omega (arith, o, low))
+            (λ x x_below fits. let o = constant_top op d f.value x number r line is form (omega arith) (omega arith) in (omega (arith, o, low, x_below), omega arith)) small
+        by None found small =
+            operands_take 0 (second_of op d) 128 e d (operator_stands op d) (λ x y. operator_code op x y r line) (λ x n. number_code op x n r line) (exp_takes e) (exp_takes d) size t j known.0 known.1 in_scope
+            (λ fits. let o = operator_top op t (t + 1) r line none (omega arith) fits (omega arith) in omega (arith, o, low))
+            (λ x y other x_below y_below fits. let o = operator_top op x y r line none (omega arith) (omega arith) (omega arith) in omega (arith, o, low, x_below, y_below))
+            (λ x n numeral x_below fits. let o = number_top op d x n r line is (second_number op d n numeral) (omega arith) (omega arith) in omega (arith, o, low, x_below))
+            (λ x y other x_below y_below fits. let o = operator_top op x y r line none (omega arith) (omega arith) (omega arith) in (omega (arith, o, low, x_below, y_below), omega arith))
+            (λ x n numeral x_below fits. let o = number_top op d x n r line is (second_number op d n numeral) (omega arith) (omega arith) in (omega (arith, o, low, x_below), omega arith)) small
     direct_takes (Index line object key) is r size t j known in_scope low small = by (name_in cs key) small
       where
         by : (name : Option ℕ) → t + read_room 0 name object key (room_of cs object 2) (room_of cs key 2) ≤ 255
@@ -368,6 +435,13 @@ module _ (cs : List Const) where
 
   -- it takes no more registers than in one of its own
   pub direct_less : (e : Exp) → room_of_direct cs e ≤ room_of cs e 2
-  direct_less (Binary line op e d) = operands_less (second_of op d) (first_of (second_of op d) e) (room_of cs e 2) (room_of cs d 2)
+  direct_less (Var line name) = name_less cs name.place name.text
+  direct_less (Paren line e) = direct_less e
+  direct_less (Unary line op e) = by (local_of e)
+    where
+      by : (at : Option ℕ) → object_room 0 at (room_of cs e 2) ≤ room_of cs e 2
+      by None = omega arith
+      by (Some x) = omega arith
+  direct_less (Binary line op e d) = operation_less (constant_in cs op d) op e d (room_of cs e 2) (room_of cs d 2)
   direct_less (Index line object key) = read_less (name_in cs key) object key (room_of cs object 2) (room_of cs key 2)
   direct_less _ = omega arith

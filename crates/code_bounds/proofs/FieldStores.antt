@@ -1,12 +1,12 @@
 -- The code of a value that is stored in a field takes the registers that are counted for it, and is short.
-use Rattle.std.proofs.Common.{◌≡◌, ℕ, ◌+◌, ◌<◌, ◌≤◌, max, List, [], ◌∷◌, ◌++◌, Option, Some, None, refl, lit≤, arith}
+use Rattle.std.proofs.Common.{◌≡◌, ℕ, ◌+◌, ◌<◌, ◌≤◌, max, Bool, List, [], ◌∷◌, ◌++◌, Option, Some, None, refl, lit≤, arith}
 use Rattle.tree_core.specs.Tree.{Exp, Index}
 use Rattle.code_core.specs.declared.proto.Const.{Const}
 use Rattle.code_of.specs.Expressions.{made_by, exp_code}
 use Rattle.code_of.specs.Operands.{local_of, seat, unless}
 use Rattle.code_of.specs.Parts.{field_code}
 use Rattle.code_of.specs.Rooms.{room_of, room_of_field}
-use Rattle.code_of.specs.Stores.{FieldKey, a_name, an_index, a_register, evaluated, field_key, object_of, key_code, field_store, fields_store, room_unless, room_of_key, fields_room}
+use Rattle.code_of.specs.Stores.{FieldKey, a_name, an_index, a_register, evaluated, is_quiet, field_key, object_of, key_code, field_store, fields_store, room_unless, room_of_key, fields_room}
 use Rattle.code_of.proofs.Stores.{FieldKeyStands, field_key_stands, object_stays}
 use Rattle.scope_core.specs.Held.{held}
 use Rattle.scope_laws.specs.Finding.{ExpFinds}
@@ -17,14 +17,14 @@ use Rattle.code_bounds.proofs.Simple.{exp_room}
 
 module _ (cs : List Const) (hidden : List ℕ) (ups : ℕ) where
   -- the store names registers below the limit
-  store_top : (s : FieldKey) (value : Option ℕ) (key : Exp) (x t v size line : ℕ) → FieldKeyStands cs value key s → ExpFinds key hidden size ups → size ≤ t → x ≤ t → t + 3 ≤ 250 → v < 250 → top (field_store s x t v line ∷ []) ≤ 250
-  store_top (a_name number) value key x t v size line stands known above low few v_few = let short = (stands.name number refl).short in let e = one_store_name x number v (omega arith) (omega arith) (omega arith) in omega (arith, e)
-  store_top (an_index n) value key x t v size line stands known above low few v_few = let small = (stands.index n refl).small in let e = one_store_index x n v (omega arith) (omega arith) (omega arith) in omega (arith, e)
-  store_top (a_register r) value key x t v size line stands known above low few v_few =
+  store_top : (s : FieldKey) (quiet : Bool) (key : Exp) (x t v size line : ℕ) → FieldKeyStands cs quiet key s → ExpFinds key hidden size ups → size ≤ t → x ≤ t → t + 3 ≤ 250 → v < 250 → top (field_store s x t v line ∷ []) ≤ 250
+  store_top (a_name number) quiet key x t v size line stands known above low few v_few = let short = (stands.name number refl).short in let e = one_store_name x number v (omega arith) (omega arith) (omega arith) in omega (arith, e)
+  store_top (an_index n) quiet key x t v size line stands known above low few v_few = let small = (stands.index n refl).small in let e = one_store_index x n v (omega arith) (omega arith) (omega arith) in omega (arith, e)
+  store_top (a_register r) quiet key x t v size line stands known above low few v_few =
       let below = local_found hidden ups key r size (stands.local r refl) known in
       let e = one_store x r v (omega arith) (omega (arith, below)) (omega arith) in
       omega (arith, e, below)
-  store_top evaluated value key x t v size line stands known above low few v_few = let e = one_store x (t + 1) v (omega arith) (omega arith) (omega arith) in omega (arith, e)
+  store_top evaluated quiet key x t v size line stands known above low few v_few = let e = one_store x (t + 1) v (omega arith) (omega arith) (omega arith) in omega (arith, e)
 
   module _ (stack : ℕ) where
     -- an operand that stays has no code
@@ -46,22 +46,25 @@ module _ (cs : List Const) (hidden : List ℕ) (ups : ℕ) where
 
     pub field_room : (line : ℕ) (object key e : Exp) (t j after : ℕ) → ExpFinds object hidden t ups → ExpFinds key hidden t ups → ExpFinds e hidden t ups → t + held object ≤ 250 → t + 1 + held key ≤ 250 → t + 2 + held e ≤ 250 → t + 3 ≤ 250 →
         HasRoom stack (field_code cs (Index line object key) e t j after) (t ≤ stack → t + room_of_field cs (Index line object key) e ≤ stack)
-    field_room line object key e t j after known_object known_key known few_object few_key few fits = by (object_of s value object) refl
+    field_room line object key e t j after known_object known_key known few_object few_key few fits = by (object_of s quiet object) refl
       where
         value : Option ℕ
         value = local_of e
 
-        s : FieldKey
-        s = field_key cs (local_of e) key
+        quiet : Bool
+        quiet = is_quiet e
 
-        stands : FieldKeyStands cs (local_of e) key (field_key cs (local_of e) key)
-        stands = field_key_stands cs (local_of e) key
+        s : FieldKey
+        s = field_key cs (is_quiet e) key
+
+        stands : FieldKeyStands cs (is_quiet e) key (field_key cs (is_quiet e) key)
+        stands = field_key_stands cs (is_quiet e) key
 
         seat_few : (at : Option ℕ) → local_of e ≡ at → seat at (t + 2) < 250
         seat_few None is = omega (arith, fits)
         seat_few (Some r) is = let below = local_found hidden ups e r t is known in omega (arith, below, fits)
 
-        by : (at : Option ℕ) → object_of s value object ≡ at → HasRoom stack (fields_store s at value (exp_code cs object t j 2) (exp_code cs key (t + 1) (j + made_by object) 2) (exp_code cs e (t + 2) after 2) t line)
+        by : (at : Option ℕ) → object_of s quiet object ≡ at → HasRoom stack (fields_store s at value (exp_code cs object t j 2) (exp_code cs key (t + 1) (j + made_by object) 2) (exp_code cs e (t + 2) after 2) t line)
             (t ≤ stack → t + fields_room s at value (room_of cs object 2) (room_of cs key 2) (room_of cs e 2) ≤ stack)
         by at is =
             let second = key_code s (exp_code cs key (t + 1) (j + made_by object) 2) in
@@ -70,16 +73,16 @@ module _ (cs : List Const) (hidden : List ℕ) (ups : ℕ) where
             let a = object_room at in
             let b = key_room s key t t (j + made_by object) known_key (omega arith) few_key (omega (arith, fits)) in
             let c = unless_room value e t t 2 after known (omega arith) few (omega (arith, fits)) in
-            let d = store_top s value key (seat at t) t (seat value (t + 2)) t line stands known_key (omega arith) (seat_low at is) (omega (arith, fits)) (seat_few value refl) in
+            let d = store_top s quiet key (seat at t) t (seat value (t + 2)) t line stands known_key (omega arith) (seat_low at is) (omega (arith, fits)) (seat_few value refl) in
             room_as (room_append (unless at (exp_code cs object t j 2)) (second ++ (third ++ last)) a (room_append second (third ++ last) b (room_append third last c (room_of_top {stack = stack} last d))))
             (λ all small. together (room_unless at (room_of cs object 2)) (room_of_key s (room_of cs key 2)) (room_unless value (2 + room_of cs e 2)) (all.0 small) (all.1.0 small) (all.1.1.0 small))
           where
             together : (a b c : ℕ) → t + a ≤ stack → t + b ≤ stack → t + c ≤ stack → t + max a (max b c) ≤ stack
             together a b c h k l = omega arith
 
-            seat_low : (at : Option ℕ) → object_of s value object ≡ at → seat at t ≤ t
+            seat_low : (at : Option ℕ) → object_of s quiet object ≡ at → seat at t ≤ t
             seat_low None is = omega arith
-            seat_low (Some r) is = let below = local_found hidden ups object r t (object_stays s value object r is).local known_object in omega (arith, below)
+            seat_low (Some r) is = let below = local_found hidden ups object r t (object_stays s quiet object r is).local known_object in omega (arith, below)
 
             object_room : (at : Option ℕ) → HasRoom stack (unless at (exp_code cs object t j 2)) (t ≤ stack → t + room_unless at (room_of cs object 2) ≤ stack)
             object_room None =

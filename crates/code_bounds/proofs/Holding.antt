@@ -9,9 +9,11 @@ use Rattle.code_of.specs.Constants.{number_in}
 use Rattle.code_of.specs.Expressions.{count, is_open, is_last_item, Wanted, results_field, one_less}
 use Rattle.scope_core.specs.Held.{positional, held_name, held, held_behind, held_fields, held_field}
 use Rattle.scope_core.specs.Held as held_specs
-use Rattle.code_of.specs.Operands.{second_of, first_of}
-use Rattle.code_of.proofs.Operands.{few_operands}
-use Rattle.code_of.specs.Stores.{name_in}
+use Rattle.code_of.specs.Operands.{local_of}
+use Rattle.code_of.specs.Stores.{name_in, is_quiet, field_key}
+use Rattle.code_of.proofs.Stores.{keyed_room_few}
+use Rattle.code_of.specs.Operations.{constant_in}
+use Rattle.code_of.proofs.Operations.{few_operation}
 use Rattle.code_of.proofs.FieldReads.{few_read}
 use Rattle.code_of.proofs.Rooms.{self_room}
 use Rattle.code_of.specs.Rooms.{room_of_values, room_of_nils, room_of_name, room_of, room_of_list, room_of_fields}
@@ -70,19 +72,23 @@ either_two : (b : Bool) → cond b 1 2 ≤ 2
 either_two true = omega arith
 either_two false = omega arith
 
+either_one : (b : Bool) → cond b 1 1 ≤ 1
+either_one true = omega arith
+either_one false = omega arith
+
 module _ (cs : List Const) where
   pub name_held : (p : Place) (text : List ℕ) → room_of_name cs p text ≤ held_name p
   name_held Unset text = omega arith
   name_held (LocalPlace n) text = omega arith
   name_held (Upvalue u) text = omega arith
-  name_held (GlobalIn n) text = omega arith
+  name_held (GlobalIn n) text = let one = either_one (nat_lt (number_in cs (StrConst text)) 256) in omega (arith, one)
   name_held (GlobalOf u) text = either_two (nat_lt (number_in cs (StrConst text)) 256)
 
   pub name_two : (p : Place) (text : List ℕ) → room_of_name cs p text ≤ 2
   name_two Unset text = omega arith
   name_two (LocalPlace n) text = omega arith
   name_two (Upvalue u) text = omega arith
-  name_two (GlobalIn n) text = omega arith
+  name_two (GlobalIn n) text = let one = either_one (nat_lt (number_in cs (StrConst text)) 256) in omega (arith, one)
   name_two (GlobalOf u) text = either_two (nat_lt (number_in cs (StrConst text)) 256)
 
   -- where one value or all are wanted
@@ -144,7 +150,7 @@ module _ (cs : List Const) where
     exp_held (Binary line op e d) field =
         let a = item_by e false (exp_held e) in
         let b = item_by d false (exp_held d) in
-        let h = few_operands 1 (second_of op d) (first_of (second_of op d) e) (room_of cs e 2) (room_of cs d 2) (omega arith) in
+        let h = few_operation 1 (constant_in cs op d) op e d (room_of cs e 2) (room_of cs d 2) (omega arith) in
         omega (arith, a, b, h)
     exp_held (And line e d) field = let a = item_by e false (exp_held e) in let b = item_by d false (exp_held d) in omega (arith, a, b)
     exp_held (Or line e d) field = let a = item_by e false (exp_held e) in let b = item_by d false (exp_held d) in omega (arith, a, b)
@@ -171,7 +177,8 @@ module _ (cs : List Const) where
         let a = item_by e false (exp_held e) in
         let b = item_by d false (exp_held d) in
         let c = fields_held fs (items + 0) in
-        omega (arith, a, b, c)
+        let few = keyed_room_few (field_key cs (is_quiet d) e) (local_of d) (room_of cs e 2) (room_of cs d 2) in
+        omega (arith, a, b, c, few)
 
   pub one_held : (e : Exp) → room_of cs e 2 ≤ held e
   one_held e = item_by e false (exp_held e)

@@ -7,11 +7,14 @@ pub mod Constants
 pub mod Functions
 mod Tops
 mod Pieces
+mod KeyedFields
+mod ConstantPieces
 mod Expressions
 pub mod Holding
 mod Room
 mod Simple
 mod FieldStores
+mod Targets
 mod Assigning
 mod Jumping
 mod Statements

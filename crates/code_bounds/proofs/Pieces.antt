@@ -1,5 +1,5 @@
 -- The registers that pieces of code take together. A piece takes n registers from t on if it names none behind them, and the last of them where there are some.
-use Rattle.std.proofs.Common.{◌≡◌, ℕ, zero, suc, ◌+◌, ◌-◌, ◌%◌, ◌/◌, ◌<◌, ◌≤◌, ◌^◌, ◌⊎◌, inl, inr, max, Bool, true, false, cond, List, [], ◌∷◌, ◌++◌, length, Some, None, refl, arith, nat_lt}
+use Rattle.std.proofs.Common.{◌≡◌, ℕ, zero, suc, ◌+◌, ◌-◌, ◌%◌, ◌/◌, ◌<◌, ◌≤◌, ◌^◌, ◌⊎◌, inl, inr, max, Bool, true, false, cond, List, [], ◌∷◌, ◌++◌, length, Some, None, refl, ap, ap₂, ◌∙◌, arith, nat_lt}
 use Rattle.tree_core.specs.declared.name.Place.{Place}
 use Rattle.tree_core.specs.declared.name.Place.TheVariants.{Unset, Upvalue, GlobalIn, GlobalOf, Local as LocalPlace}
 use Rattle.tree_core.specs.declared.operator.UnOp.{UnOp}
@@ -8,7 +8,7 @@ use Rattle.tree_core.specs.declared.operator.BinOp.{BinOp}
 use Rattle.tree_core.specs.declared.operator.BinOp.TheVariants.{Add as Plus, Sub as Minus, Mul as Times, Mod as Modulo, Idiv, Band, Bor, Bxor, Shl as ShiftLeft, Shr as ShiftRight, Concat as Join, Eq as Equal, Ne, Lt as Less, Le as AtMost, Gt, Ge}
 use Rattle.tree_core.specs.Tree.{Exp}
 use Rattle.code_core.specs.declared.opcode.Opcode.{Opcode}
-use Rattle.code_core.specs.declared.opcode.Opcode.TheVariants.{OpSelf, Move, LoadI, LoadK, LoadKx, LFalseSkip, LoadTrue, GetUpval, GetTabUp, GetTable, Add, Sub, Mul, Mod, IDiv, BAnd, BOr, BXor, Shl, Shr, AddI, ShrI, MmBin, MmBinI, EqI, LtI, LeI, GtI, GeI, Unm, BNot, Not, Len, Eq, Lt, Le, Test, SetList, ExtraArg, Jmp}
+use Rattle.code_core.specs.declared.opcode.Opcode.TheVariants.{OpSelf, Move, LoadI, LoadK, LoadKx, LFalseSkip, LoadTrue, GetUpval, GetTabUp, GetTable, GetField, Add, Sub, Mul, Mod, IDiv, BAnd, BOr, BXor, Shl, Shr, AddI, ShrI, MmBin, MmBinI, EqI, LtI, LeI, GtI, GeI, Unm, BNot, Not, Len, Eq, Lt, Le, Test, SetList, ExtraArg, Jmp}
 use Rattle.code_core.specs.declared.instruction.Instruction.{Instruction}
 use Rattle.code_core.specs.declared.proto.Const.{Const}
 use Rattle.code_core.specs.declared.proto.Const.TheVariants.{Str as StrConst}
@@ -18,9 +18,10 @@ use Rattle.code_of.specs.Coded.{Coded, with_abc, with_abx, jump_over}
 use Rattle.code_of.specs.Constants.{number_in, loads}
 use Rattle.code_of.specs.Operands.{greatest, numeral_of, joins, computes}
 use Rattle.code_of.proofs.Operands.{numeral_none}
-use Rattle.code_of.specs.Operators.{name_code, prefix_code, arithmetic_code, truth_code, operator_code, sum_code, number_code, self_code}
+use Rattle.code_of.specs.Operators.{name_into, name_code, prefix_code, arithmetic_code, truth_code, operator_code, sum_code, number_code, self_code}
 use Rattle.code_of.specs.Expressions.{Wanted, nils_code, either_code, set_list}
-use Rattle.code_of.specs.Rooms.{room_of_name, room_of_self, room_of_nils}
+use Rattle.code_of.specs.Rooms.{room_of_name_by, room_of_name, room_of_self, room_of_nils}
+use Rattle.code_of.proofs.Rooms.{name_room}
 use Rattle.scope_laws.specs.Finding.{PlaceIsThere}
 use Rattle.code_bounds.proofs.Tops.{one_self, one_self_key, top, one, top_more, top_append, ax_is, one_a, one_ab, one_abc, one_ax, one_sum, one_nil, one_join}
 
@@ -55,53 +56,79 @@ integer_top cs t line false field x fits = loads_top cs x t line fits
 -- names
 
 module _ (cs : List Const) (text : List ℕ) where
-  global_takes : (u number t line : ℕ) (b : Bool) → t + cond b 1 2 ≤ 255 →
-      Takes t (cond b 1 2) (cond b (with_abc GetTabUp t u number line ∷ []) (with_abc GetUpval t u 0 line ∷ (loads cs (StrConst text) (t + 1) line ++ with_abc GetTable t t (t + 1) line ∷ [])))
-  global_takes u number t line true small = takes_one t _ line (one_a GetTabUp t u number false refl (omega arith))
-  global_takes u number t line false small =
+  -- the value goes to register r, which is t or below
+  global_takes : (u number r t line own : ℕ) (b : Bool) → r < 2 ^ 8 → r ≤ t → r + 1 ≤ t + own → t + own ≤ max t (r + 1) → t + cond b own 2 ≤ 255 →
+      Takes t (cond b own 2) (cond b (with_abc GetTabUp r u number line ∷ []) (with_abc GetUpval t u 0 line ∷ (loads cs (StrConst text) (t + 1) line ++ with_abc GetTable r t (t + 1) line ∷ [])))
+  global_takes u number r t line own true fits low most least small = let e = one_a GetTabUp r u number false refl fits in (omega (arith, e, most), omega (arith, e, least))
+  global_takes u number r t line own false fits low most least small =
       let key = loads cs (StrConst text) (t + 1) line in
-      let read = with_abc GetTable t t (t + 1) line ∷ [] in
+      let read = with_abc GetTable r t (t + 1) line ∷ [] in
       let a = top_more (with_abc GetUpval t u 0 line) (key ++ read) in
       let b = top_append key read in
-      let c = one_a GetUpval t u 0 false refl (omega arith) in
-      let d = loads_top cs (StrConst text) (t + 1) line (omega arith) in
-      let e = one_abc GetTable t t (t + 1) false refl (omega arith) (omega arith) (omega arith) in
-      (omega (arith, a, b, c, d, e), omega (arith, a, b, c, d, e))
+      let c = one_a GetUpval t u 0 false refl (omega (arith, small)) in
+      let d = loads_top cs (StrConst text) (t + 1) line (omega (arith, small)) in
+      let e = one_abc GetTable r t (t + 1) false refl fits (omega (arith, small)) (omega (arith, small)) in
+      (omega (arith, a, b, c, d, e, low), omega (arith, a, b, c, d, e, low))
+
+  local_global_takes : (n number r t line own : ℕ) (b : Bool) → r < 2 ^ 8 → n < t → r ≤ t → r + 1 ≤ t + own → t + own ≤ max t (r + 1) → t + cond b own 1 ≤ 255 →
+      Takes t (cond b own 1) (cond b (with_abc GetField r n number line ∷ []) (loads cs (StrConst text) t line ++ with_abc GetTable r n t line ∷ []))
+  local_global_takes n number r t line own true fits below low most least small =
+      let e = one_ab GetField r n number false refl fits (omega (arith, below, small)) in
+      (omega (arith, e, most, below), omega (arith, e, least))
+  local_global_takes n number r t line own false fits below low most least small =
+      let read = with_abc GetTable r n t line ∷ [] in
+      let a = top_append (loads cs (StrConst text) t line) read in
+      let b = loads_top cs (StrConst text) t line (omega (arith, small)) in
+      let c = one_abc GetTable r n t false refl fits (omega (arith, below, small)) (omega (arith, small)) in
+      (omega (arith, a, b, c, low, below), omega (arith, a, b, c, low, below))
+
+  named_takes : (own : ℕ) (p : Place) (hidden : List ℕ) (ups size r t line : ℕ) → PlaceIsThere hidden size ups p → size ≤ t → r < 2 ^ 8 → r ≤ t → r + 1 ≤ t + own → t + own ≤ max t (r + 1) → t + room_of_name_by cs own p text ≤ 255
+      → Takes t (room_of_name_by cs own p text) (name_into cs p text r t line)
+  named_takes own Unset hidden ups size r t line known above fits low most least small = absurd known
+  named_takes own (LocalPlace n) hidden ups size r t line known above fits low most least small =
+      let below = known.0 in
+      let e = one_ab Move r n 0 false refl fits (omega (arith, below, above, small)) in
+      (omega (arith, e, most, below, above), omega (arith, e, least))
+  named_takes own (Upvalue u) hidden ups size r t line known above fits low most least small =
+      let e = one_a GetUpval r u 0 false refl fits in
+      (omega (arith, e, most), omega (arith, e, least))
+  named_takes own (GlobalIn n) hidden ups size r t line known above fits low most least small =
+      let below = known.0 in
+      local_global_takes n (number_in cs (StrConst text)) r t line own (nat_lt (number_in cs (StrConst text)) 256) fits (omega (arith, below, above)) low most least small
+  named_takes own (GlobalOf u) hidden ups size r t line known above fits low most least small =
+      global_takes u (number_in cs (StrConst text)) r t line own (nat_lt (number_in cs (StrConst text)) 256) fits low most least small
 
   pub name_takes : (p : Place) (hidden : List ℕ) (ups size t line : ℕ) → PlaceIsThere hidden size ups p → size ≤ t → t + room_of_name cs p text ≤ 255 → Takes t (room_of_name cs p text) (name_code cs p text t line)
-  name_takes Unset hidden ups size t line known above small = absurd known
-  name_takes (LocalPlace n) hidden ups size t line known above small =
-      let e = one_ab Move t n 0 false refl (omega arith) (omega (arith, known.0)) in
-      (omega (arith, e), omega (arith, e))
-  name_takes (Upvalue u) hidden ups size t line known above small = takes_one t _ line (one_a GetUpval t u 0 false refl (omega arith))
-  name_takes (GlobalIn n) hidden ups size t line known above small =
-      let read = with_abc GetTable t n t line ∷ [] in
-      let a = top_append (loads cs (StrConst text) t line) read in
-      let b = loads_top cs (StrConst text) t line (omega arith) in
-      let c = one_abc GetTable t n t false refl (omega arith) (omega (arith, known.0)) (omega arith) in
-      (omega (arith, a, b, c), omega (arith, a, b, c))
-  name_takes (GlobalOf u) hidden ups size t line known above small = global_takes u (number_in cs (StrConst text)) t line (nat_lt (number_in cs (StrConst text)) 256) small
+  name_takes p hidden ups size t line known above small =
+      let some = name_room cs p text in
+      named_takes 1 p hidden ups size t t line known above (omega (arith, small, some)) (omega arith) (omega arith) (omega arith) small
 
--- a method by its name
+  -- where it goes to the register of a local
+  pub name_below : (p : Place) (hidden : List ℕ) (ups size r t line : ℕ) → PlaceIsThere hidden size ups p → size ≤ t → r < t → t ≤ 255 → t + room_of_name_by cs 0 p text ≤ 255
+      → Takes t (room_of_name_by cs 0 p text) (name_into cs p text r t line)
+  name_below p hidden ups size r t line known above low fits small =
+      named_takes 0 p hidden ups size r t line known above (omega (arith, low, fits)) (omega (arith, low)) (omega (arith, low)) (omega (arith, low)) small
 
-pub self_top : (cs : List Const) (text : List ℕ) (t line : ℕ) → t + room_of_self cs text ≤ 255 → top (self_code cs text t line) ≡ t + room_of_self cs text
-self_top cs text t line small = by (nat_lt (number_in cs (StrConst text)) 256) small
+-- a method by its name, whose object does not stand above it
+
+pub self_top : (cs : List Const) (text : List ℕ) (x t line : ℕ) → x ≤ t → t + room_of_self cs text ≤ 255 → top (self_code cs text x t line) ≡ t + room_of_self cs text
+self_top cs text x t line low small = by (nat_lt (number_in cs (StrConst text)) 256) small
   where
-    by : (b : Bool) → t + cond b 2 3 ≤ 255 → top (cond b ((abc OpSelf t t (number_in cs (StrConst text)) true, line) ∷ []) (loads cs (StrConst text) (t + 2) line ++ with_abc OpSelf t t (t + 2) line ∷ [])) ≡ t + cond b 2 3
-    by true small = let e = one_self_key t (number_in cs (StrConst text)) (omega (arith, small)) in omega (arith, e)
+    by : (b : Bool) → t + cond b 2 3 ≤ 255 → top (cond b ((abc OpSelf t x (number_in cs (StrConst text)) true, line) ∷ []) (loads cs (StrConst text) (t + 2) line ++ with_abc OpSelf t x (t + 2) line ∷ [])) ≡ t + cond b 2 3
+    by true small = let e = one_self_key t x (number_in cs (StrConst text)) (omega (arith, small)) (omega (arith, low, small)) in omega (arith, e, low)
     by false small =
-        let a = top_append (loads cs (StrConst text) (t + 2) line) (with_abc OpSelf t t (t + 2) line ∷ []) in
+        let a = top_append (loads cs (StrConst text) (t + 2) line) (with_abc OpSelf t x (t + 2) line ∷ []) in
         let b = loads_top cs (StrConst text) (t + 2) line (omega (arith, small)) in
-        let c = one_self t (t + 2) (omega (arith, small)) (omega (arith, small)) in
-        omega (arith, a, b, c)
+        let c = one_self t x (t + 2) (omega (arith, small)) (omega (arith, low, small)) (omega (arith, small)) in
+        omega (arith, a, b, c, low)
 
 -- operators
 
-pub prefix_top : (op : UnOp) (t line : ℕ) → t < 2 ^ 8 → top (prefix_code op t line) ≡ t + 1
-prefix_top Neg t line fits = let e = one_ab Unm t t 0 false refl fits fits in omega (arith, e)
-prefix_top BitNot t line fits = let e = one_ab BNot t t 0 false refl fits fits in omega (arith, e)
-prefix_top Negation t line fits = let e = one_ab Not t t 0 false refl fits fits in omega (arith, e)
-prefix_top Length t line fits = let e = one_ab Len t t 0 false refl fits fits in omega (arith, e)
+pub prefix_top : (op : UnOp) (x t line : ℕ) → x < 2 ^ 8 → t < 2 ^ 8 → top (prefix_code op x t line) ≡ max (t + 1) (x + 1)
+prefix_top Neg x t line x_fits fits = let e = one_ab Unm t x 0 false refl fits x_fits in omega (arith, e)
+prefix_top BitNot x t line x_fits fits = let e = one_ab BNot t x 0 false refl fits x_fits in omega (arith, e)
+prefix_top Negation x t line x_fits fits = let e = one_ab Not t x 0 false refl fits x_fits in omega (arith, e)
+prefix_top Length x t line x_fits fits = let e = one_ab Len t x 0 false refl fits x_fits in omega (arith, e)
 
 arithmetic_top : (op : Opcode) (event x y t line : ℕ) → registers op (abc op t x y false) ≡ a_of (abc op t x y false) ∷ b_of (abc op t x y false) ∷ c_of (abc op t x y false) ∷ [] →
     x < 2 ^ 8 → y < 2 ^ 8 → t < 2 ^ 8 → top (arithmetic_code op event x y t line) ≡ max (t + 1) (max (x + 1) (y + 1))
@@ -113,7 +140,7 @@ arithmetic_top op event x y t line shape x_fits y_fits t_fits =
     omega (arith, a, b, c)
 
 -- a test that names registers below m, and then t
-truth_top : (op : Opcode) (x y m : ℕ) (k : Bool) (t line : ℕ) → one (abc op x y 0 k) ≡ m → t < 2 ^ 8 → top (truth_code op x y k t line) ≡ max (t + 1) m
+pub truth_top : (op : Opcode) (x y m : ℕ) (k : Bool) (t line : ℕ) → one (abc op x y 0 k) ≡ m → t < 2 ^ 8 → top (truth_code op x y k t line) ≡ max (t + 1) m
 truth_top op x y m k t line named t_fits =
     let third = with_abc LoadTrue t 0 0 line in
     let second = with_abc LFalseSkip t 0 0 line in
@@ -295,17 +322,70 @@ call_takes t x l b c v first list call some h k e few low high =
         (all ≤ t + max x (max l v)) × (t + max x (max l v) ≤ max t all)
     by m n o i all is p q r s o_is i_low i_high = (omega arith, omega arith)
 
-pub method_takes : (t x z l b c v : ℕ) (first named list call : List Coded) → 1 ≤ x → 2 ≤ z → Takes t x first → top named ≡ t + z → ListTakes t (t + 2) l list →
+-- the parts of a method's call, each below the whole. These are lemmas of their own, since the cases of `max` multiply
+
+wide : (x z l v : ℕ) → (x ≤ max x (max (max z l) v)) × ((z ≤ max x (max (max z l) v)) × ((l ≤ max x (max (max z l) v)) × (v ≤ max x (max (max z l) v))))
+wide x z l v = (omega arith, (omega arith, (omega arith, omega arith)))
+
+method_parts : (m z n o all : ℕ) → all ≡ max m (max z (max n o)) → (m ≤ all) × ((z ≤ all) × ((n ≤ all) × (o ≤ all)))
+method_parts m z n o all is = (omega arith, (omega arith, (omega arith, omega arith)))
+
+call_parts : (t b i o : ℕ) → o ≡ max (t + 1) (max (t + b) (t + i)) → (t + 1 ≤ o) × ((t + b ≤ o) × (t + i ≤ o))
+call_parts t b i o is = (omega arith, (omega arith, omega arith))
+
+call_below : (t b i o w : ℕ) → o ≡ max (t + 1) (max (t + b) (t + i)) → 1 ≤ w → b ≤ w → i ≤ w → o ≤ t + w
+call_below t b i o w is one left right = omega arith
+
+parts_below : (m z n o all w : ℕ) → all ≡ max m (max z (max n o)) → m ≤ w → z ≤ w → n ≤ w → o ≤ w → all ≤ w
+parts_below m z n o all w is a b c d = omega arith
+
+all_below : (t x z l v w : ℕ) → t + x ≤ w → t + z ≤ w → t + l ≤ w → t + v ≤ w → t + max x (max (max z l) v) ≤ w
+all_below t x z l v w a b c d = omega arith
+
+up : (m t x w : ℕ) → m ≤ t + x → x ≤ w → m ≤ t + w
+up m t x w h le = omega arith
+
+through : (a b c : ℕ) → a ≤ b → b ≤ c → a ≤ c
+through a b c h le = omega arith
+
+under_either : (b l z w : ℕ) → b ≤ max 2 l → 2 ≤ z → z ≤ w → l ≤ w → b ≤ w
+under_either b l z w h two le less = omega arith
+
+reaches : (t x z m all : ℕ) → t + x ≤ max (t + 2) m → m ≤ all → t + z ≤ all → 2 ≤ z → t + x ≤ all
+reaches t x z m all h le less two = omega arith
+
+value_reaches : (t v i o all : ℕ) → v ≤ max 1 i → t + 1 ≤ o → t + i ≤ o → o ≤ all → t + v ≤ all
+value_reaches t v i o all h one le less = omega arith
+
+same_le : (n : ℕ) → n ≤ n
+same_le n = omega arith
+
+below_either : (y t all : ℕ) → y ≤ all → y ≤ max t all
+below_either y t all h = omega arith
+
+method_top : (m y n o one two all z : ℕ) → y ≡ z → all ≡ max m two → two ≡ max y one → one ≡ max n o → all ≡ max m (max z (max n o))
+method_top m y n o one two all z e a b c = a ∙ ap (max m) (b ∙ ap₂ max e c)
+
+method_whole : (t x z l b v m n o i all : ℕ) → 1 ≤ x → 2 ≤ z → all ≡ max m (max (t + z) (max n o)) → m ≤ t + x → t + x ≤ max (t + 2) m → n ≤ t + l → t + l ≤ max (t + 2) n
+    → o ≡ max (t + 1) (max (t + b) (t + i)) → b ≤ max 2 l → i ≤ v → v ≤ max 1 i → (all ≤ t + max x (max (max z l) v)) × (t + max x (max (max z l) v) ≤ max t all)
+method_whole t x z l b v m n o i all some two is m_low m_high n_low n_high o_is few low high =
+    let w = max x (max (max z l) v) in
+    let h = wide x z l v in
+    let k = method_parts m (t + z) n o all is in
+    let c = call_parts t b i o o_is in
+    let call = call_below t b i o w o_is (through 1 x w some h.0) (under_either b l z w few two h.1.0 h.1.1.0) (through i v w low h.1.1.1) in (
+      parts_below m (t + z) n o all (t + w) is (up m t x w m_low h.0) (up (t + z) t z w (same_le (t + z)) h.1.0) (up n t l w n_low h.1.1.0) call,
+      below_either (t + w) t all (all_below t x z l v all (reaches t x z m all m_high k.0 k.1.0 two) k.1.0 (reaches t l z n all n_high k.1.1.0 k.1.0 two) (value_reaches t v i o all high c.0 c.1.1 k.1.1.1)),
+    )
+
+-- where the object stays in its register, its code is empty
+pub method_takes : (t x z l b c v : ℕ) (first named list call : List Coded) → 1 ≤ x → 2 ≤ z → (top first ≤ t + x) × (t + x ≤ max (t + 2) (top first)) → top named ≡ t + z → ListTakes t (t + 2) l list →
     top call ≡ max (t + 1) (max (t + b) (t + (c - 1))) → b ≤ max 2 l → c - 1 ≤ v → v ≤ max 1 (c - 1) → Takes t (max x (max (max z l) v)) (first ++ (named ++ (list ++ call)))
 method_takes t x z l b c v first named list call some two h named_is k e few low high =
     let a = top_append first (named ++ (list ++ call)) in
     let d = top_append named (list ++ call) in
     let g = top_append list call in
-    by (top first) (top list) (top call) (c - 1) (top (first ++ (named ++ (list ++ call)))) (omega (arith, a, d, g, named_is)) h.0 h.1 k.0 k.1 e low high
-  where
-    by : (m n o i all : ℕ) → all ≡ max m (max (t + z) (max n o)) → m ≤ t + x → t + x ≤ max t m → n ≤ t + l → t + l ≤ max (t + 2) n → o ≡ max (t + 1) (max (t + b) (t + i)) → i ≤ v → v ≤ max 1 i →
-        (all ≤ t + max x (max (max z l) v)) × (t + max x (max (max z l) v) ≤ max t all)
-    by m n o i all is p q r s o_is i_low i_high = (omega arith, omega arith)
+    method_whole t x z l b v (top first) (top list) (top call) (c - 1) (top (first ++ (named ++ (list ++ call)))) some two (method_top (top first) (top named) (top list) (top call) _ _ _ (t + z) named_is a d g) h.0 h.1 k.0 k.1 e few low high
 
 -- a constructor's item is stored
 

@@ -6,17 +6,20 @@ use Rattle.tree_core.specs.declared.name.Place.TheVariants.{Unset, Upvalue, Glob
 use Rattle.tree_core.specs.declared.operator.BinOp.{BinOp}
 use Rattle.tree_core.specs.declared.operator.BinOp.TheVariants.{Add as Plus, Sub as Minus, Mul as Times, Mod as Modulo, Idiv, Band, Bor, Bxor, Shl as ShiftLeft, Shr as ShiftRight, Concat as Join, Eq as Equal, Ne, Lt as Less, Le as AtMost, Gt, Ge}
 use Rattle.tree_core.specs.Tree.{Exp, Nil, True, False, Int, Str, Vararg, Var, Function, Index, Call, Method, Unary, Binary, And, Or, Paren, Table, BodyOf, Exps, EndExps, MoreExps, Fields, EndFields, MoreFields, Item, Keyed}
-use Rattle.code_core.specs.declared.opcode.Opcode.TheVariants.{GetTabUp, GetUpval, GetTable, SetTable, OpSelf, Test, LoadI, LoadK, LoadKx, ExtraArg, SetList, Call as CallCode}
+use Rattle.code_core.specs.declared.opcode.Opcode.TheVariants.{GetTabUp, GetUpval, GetTable, OpSelf, Test, LoadI, LoadK, LoadKx, ExtraArg, SetList, Call as CallCode, GetField}
 use Rattle.code_core.specs.declared.proto.Const.{Const}
 use Rattle.code_core.specs.declared.proto.Const.TheVariants.{Int as IntConst, Str as StrConst}
 use Rattle.code_core.specs.Instruction.{abc, op_ax}
 use Rattle.code_of.specs.Coded.{Coded, with_abc, with_abx, jump_over}
 use Rattle.code_of.specs.Constants.{is_small, small_field, number_in, loads, loads_numbered, loads_integer}
-use Rattle.code_of.specs.Operands.{second_of, first_of}
-use Rattle.code_of.proofs.Operands.{operands_short}
-use Rattle.code_of.specs.Stores.{name_in}
+use Rattle.code_of.specs.Operands.{local_of, seat, unless}
+use Rattle.code_of.proofs.Operands.{unless_short, operand_short}
+use Rattle.code_of.specs.Stores.{name_in, is_quiet, field_key, keyed_store}
+use Rattle.code_of.proofs.Stores.{keyed_store_short}
+use Rattle.code_of.specs.Operations.{constant_in, constant_code}
+use Rattle.code_of.proofs.Operations.{constant_short, operation_short}
 use Rattle.code_of.proofs.FieldReads.{read_short}
-use Rattle.code_of.specs.Operators.{name_code, global_code, prefix_code, operator_code, number_code, self_code}
+use Rattle.code_of.specs.Operators.{name_into, global_code, local_global_code, prefix_code, operator_code, number_code, self_code}
 use Rattle.code_of.specs.Expressions.{made_by, list_field, is_last_open, is_last_item, Wanted, one_less, field_of, wanted_after, nils_code, either_code, set_list, exp_code, exps_code, fields_code}
 use Rattle.code_of.specs.Parts.{direct_code}
 use Rattle.tree_terms.specs.Weight.{weight, weight_of_arguments, weight_of_exps, weight_of_fields}
@@ -40,27 +43,33 @@ integer_short cs n t line = by (is_small n)
     by true = omega arith
     by false = loads_short cs (IntConst n) t line
 
-global_short : (number u : ℕ) (key : List Coded) (t line : ℕ) → length key ≤ 2 → length (global_code number u key t line) ≤ 4
-global_short number u key t line few = by (nat_lt number 256)
+global_short : (number u : ℕ) (key : List Coded) (r t line : ℕ) → length key ≤ 2 → length (global_code number u key r t line) ≤ 4
+global_short number u key r t line few = by (nat_lt number 256)
   where
-    by : (b : Bool) → length (cond b (with_abc GetTabUp t u number line ∷ []) (with_abc GetUpval t u 0 line ∷ (key ++ with_abc GetTable t t (t + 1) line ∷ []))) ≤ 4
+    by : (b : Bool) → length (cond b (with_abc GetTabUp r u number line ∷ []) (with_abc GetUpval t u 0 line ∷ (key ++ with_abc GetTable r t (t + 1) line ∷ []))) ≤ 4
     by true = omega arith
-    by false = omega (arith, few, length-append key (with_abc GetTable t t (t + 1) line ∷ []))
+    by false = omega (arith, few, length-append key (with_abc GetTable r t (t + 1) line ∷ []))
 
-name_short : (cs : List Const) (place : Place) (text : List ℕ) (t line : ℕ) → length (name_code cs place text t line) ≤ 4
-name_short cs Unset text t line = omega arith
-name_short cs (LocalPlace n) text t line = omega arith
-name_short cs (Upvalue u) text t line = omega arith
-name_short cs (GlobalIn n) text t line =
-    omega (arith, loads_short cs (StrConst text) t line, length-append (loads cs (StrConst text) t line) (with_abc GetTable t n t line ∷ []))
-name_short cs (GlobalOf u) text t line = global_short (number_in cs (StrConst text)) u (loads cs (StrConst text) (t + 1) line) t line (loads_short cs (StrConst text) (t + 1) line)
-
-pub self_short : (cs : List Const) (text : List ℕ) (t line : ℕ) → length (self_code cs text t line) ≤ 3
-self_short cs text t line = by (nat_lt (number_in cs (StrConst text)) 256)
+local_global_short : (number n : ℕ) (key : List Coded) (r t line : ℕ) → length key ≤ 2 → length (local_global_code number n key r t line) ≤ 4
+local_global_short number n key r t line few = by (nat_lt number 256)
   where
-    by : (b : Bool) → length (cond b ((abc OpSelf t t (number_in cs (StrConst text)) true, line) ∷ []) (loads cs (StrConst text) (t + 2) line ++ with_abc OpSelf t t (t + 2) line ∷ [])) ≤ 3
+    by : (b : Bool) → length (cond b (with_abc GetField r n number line ∷ []) (key ++ with_abc GetTable r n t line ∷ [])) ≤ 4
     by true = omega arith
-    by false = omega (arith, loads_short cs (StrConst text) (t + 2) line, length-append (loads cs (StrConst text) (t + 2) line) (with_abc OpSelf t t (t + 2) line ∷ []))
+    by false = omega (arith, few, length-append key (with_abc GetTable r n t line ∷ []))
+
+name_short : (cs : List Const) (place : Place) (text : List ℕ) (r t line : ℕ) → length (name_into cs place text r t line) ≤ 4
+name_short cs Unset text r t line = omega arith
+name_short cs (LocalPlace n) text r t line = omega arith
+name_short cs (Upvalue u) text r t line = omega arith
+name_short cs (GlobalIn n) text r t line = local_global_short (number_in cs (StrConst text)) n (loads cs (StrConst text) t line) r t line (loads_short cs (StrConst text) t line)
+name_short cs (GlobalOf u) text r t line = global_short (number_in cs (StrConst text)) u (loads cs (StrConst text) (t + 1) line) r t line (loads_short cs (StrConst text) (t + 1) line)
+
+pub self_short : (cs : List Const) (text : List ℕ) (x t line : ℕ) → length (self_code cs text x t line) ≤ 3
+self_short cs text x t line = by (nat_lt (number_in cs (StrConst text)) 256)
+  where
+    by : (b : Bool) → length (cond b ((abc OpSelf t x (number_in cs (StrConst text)) true, line) ∷ []) (loads cs (StrConst text) (t + 2) line ++ with_abc OpSelf t x (t + 2) line ∷ [])) ≤ 3
+    by true = omega arith
+    by false = omega (arith, loads_short cs (StrConst text) (t + 2) line, length-append (loads cs (StrConst text) (t + 2) line) (with_abc OpSelf t x (t + 2) line ∷ []))
 
 operator_short : (op : BinOp) (x y t line : ℕ) → length (operator_code op x y t line) ≤ 4
 operator_short Plus x y t line = omega arith
@@ -144,7 +153,7 @@ module _ (cs : List Const) where
     exp_short (Str line bytes) t j c = omega (arith, loads_short cs (StrConst bytes) t line)
     exp_short (Vararg line) t j c = omega arith
     exp_short (Function line (BodyOf params vararg inner ups own)) t j c = omega arith
-    exp_short (Var line name) t j c = omega (arith, name_short cs name.place name.text t line)
+    exp_short (Var line name) t j c = omega (arith, name_short cs name.place name.text t t line)
     exp_short (Index line object key) t j c =
         omega (
           arith,
@@ -157,27 +166,30 @@ module _ (cs : List Const) where
         let call = with_abc CallCode t (list_field 0 es) c line ∷ [] in
         omega (arith, exp_short f t j 2, arguments_short es (t + 1) (j + made_by f) line, length-append (exp_code cs f t j 2) (arguments ++ call), length-append arguments call)
     exp_short (Method line object name es) t j c =
-        let key = self_code cs name.text t line in
+        let x = seat (local_of object) t in
+        let first = unless (local_of object) (exp_code cs object t j 2) in
+        let key = self_code cs name.text x t line in
         let arguments = exps_code cs es None (t + 2) (j + made_by object) line in
         let call = with_abc CallCode t (list_field 1 es) c line ∷ [] in
         let after = arguments ++ call in
         omega (
           arith,
           exp_short object t j 2,
-          self_short cs name.text t line,
+          unless_short (local_of object) (exp_code cs object t j 2),
+          self_short cs name.text x t line,
           arguments_short es (t + 2) (j + made_by object) line,
-          length-append (exp_code cs object t j 2) (key ++ after),
+          length-append first (key ++ after),
           length-append key after,
           length-append arguments call,
         )
-    exp_short (Unary line op e) t j c = omega (arith, exp_short e t j 2, length-append (exp_code cs e t j 2) (prefix_code op t line))
+    exp_short (Unary line op e) t j c = omega (arith, exp_short e t j 2, operand_short (local_of e) (exp_code cs e t j 2) t (λ x. prefix_code op x t line) 1 (λ x. omega arith))
     exp_short (Binary line op e d) t j c =
         omega (
           arith,
           exp_short e t j 2,
           exp_short d (t + 1) (j + made_by e) 2,
-          operands_short (second_of op d) (first_of (second_of op d) e) (exp_code cs e t j 2) (exp_code cs d (t + 1) (j + made_by e) 2) t (λ x y. operator_code op x y t line) (λ x n. number_code op x n t line) 4
-              (λ x y. operator_short op x y t line) (λ x n. number_short op x n t line),
+          operation_short (constant_in cs op d) op e d (exp_code cs e t j 2) (exp_code cs d (t + 1) (j + made_by e) 2) t (λ x n. constant_code op x n t line) (λ x y. operator_code op x y t line) (λ x n. number_code op x n t line) 4
+              (λ x n. constant_short op x n t line) (λ x y. operator_short op x y t line) (λ x n. number_short op x n t line),
         )
     exp_short (And line e d) t j c =
         omega (arith, exp_short e t j 2, exp_short d t (j + made_by e) 2, either_short false (exp_code cs e t j 2) (exp_code cs d t (j + made_by e) 2) t line)
@@ -217,27 +229,35 @@ module _ (cs : List Const) where
           length-append store rest,
         )
     fields_short (MoreFields (Keyed own e d) fs) items t j line =
+        let s = field_key cs (is_quiet d) e in
         let key = exp_code cs e (t + 1) j 2 in
         let value = exp_code cs d (t + 2) (j + made_by e) 2 in
-        let rest = with_abc SetTable t (t + 1) (t + 2) own ∷ fields_code cs fs items t (j + made_by e + made_by d) line in
         omega (
           arith,
+          keyed_store_short s (local_of d) key value t own,
           exp_short e (t + 1) j 2,
           exp_short d (t + 2) (j + made_by e) 2,
           fields_short fs items t (j + made_by e + made_by d) line,
-          length-append key (value ++ rest),
-          length-append value rest,
+          length-append (keyed_store s (local_of d) key value t own) (fields_code cs fs items t (j + made_by e + made_by d) line),
         )
 
   -- a value that goes straight to a local's register
   pub direct_short : (e : Exp) (r t j : ℕ) → length (direct_code cs e r t j) ≤ 6 * weight e
+  direct_short (Nil line) r t j = omega arith
+  direct_short (True line) r t j = omega arith
+  direct_short (False line) r t j = omega arith
+  direct_short (Int line n) r t j = omega (arith, integer_short cs n r line)
+  direct_short (Str line bytes) r t j = omega (arith, loads_short cs (StrConst bytes) r line)
+  direct_short (Var line name) r t j = omega (arith, name_short cs name.place name.text r t line)
+  direct_short (Paren line e) r t j = omega (arith, direct_short e r t j)
+  direct_short (Unary line op e) r t j = omega (arith, exp_short e t j 2, operand_short (local_of e) (exp_code cs e t j 2) t (λ x. prefix_code op x r line) 1 (λ x. omega arith))
   direct_short (Binary line op e d) r t j =
       omega (
         arith,
         exp_short e t j 2,
         exp_short d (t + 1) (j + made_by e) 2,
-        operands_short (second_of op d) (first_of (second_of op d) e) (exp_code cs e t j 2) (exp_code cs d (t + 1) (j + made_by e) 2) t (λ x y. operator_code op x y r line) (λ x n. number_code op x n r line) 4
-            (λ x y. operator_short op x y r line) (λ x n. number_short op x n r line),
+        operation_short (constant_in cs op d) op e d (exp_code cs e t j 2) (exp_code cs d (t + 1) (j + made_by e) 2) t (λ x n. constant_code op x n r line) (λ x y. operator_code op x y r line) (λ x n. number_code op x n r line) 4
+            (λ x n. constant_short op x n r line) (λ x y. operator_short op x y r line) (λ x n. number_short op x n r line),
       )
   direct_short (Index line object key) r t j =
       omega (

@@ -8,20 +8,24 @@ use Rattle.tree_activation.specs.Statements.{is_closed}
 use Rattle.code_core.specs.declared.opcode.Opcode.TheVariants.{Tbc, TailCall, Return}
 use Rattle.code_core.specs.declared.proto.Const.{Const}
 use Rattle.code_core.specs.declared.proto.Const.TheVariants.{Str as StrConst}
-use Rattle.code_of.specs.Coded.{with_abc, leaving_by}
-use Rattle.code_of.specs.Operands.{local_of, assigned}
-use Rattle.code_of.specs.Stores.{field_key, object_of, stores_field}
+use Rattle.code_of.specs.Coded.{with_abc, leaving_by, Coded}
+use Rattle.code_of.specs.Operands.{local_of, seat, unless, assigned}
+use Rattle.code_of.specs.Stores.{field_key, object_of, stores_field, is_quiet, key_code}
 use Rattle.code_of.proofs.Stores.{fields_store_short}
+use Rattle.code_of.specs.Targets.{waiting_key, text_key, single_store}
+use Rattle.code_of.proofs.Targets.{key_code_short}
+use Rattle.code_of.specs.Constants.{loads}
+use Rattle.code_of.proofs.Operands.{unless_short}
 use Rattle.code_of.specs.Operators.{self_code}
 use Rattle.code_of.specs.Expressions.{made_by, made_in, count, list_field, exp_code, exps_code}
-use Rattle.code_of.specs.Levels.{made_by_stat, made_in_arms, made_in_stats, made_in_block, closing_after, closings_after, closed_below}
+use Rattle.code_of.specs.Levels.{made_by_stat, made_in_arms, made_in_stats, made_in_block, closing_after, closings_after, closed_below, closed_until}
 use Rattle.tree_terms.specs.Levels.{level_after, levels_after, levels_in}
-use Rattle.code_of.specs.Parts.{marks_code, past_size, default_step, name_target, target_code, targets_code, name_store, store_code, stores_code, stored_code, first_direct, field_code, first_field, store_by, assign_by, assign_code, call_last, method_last, values_last, return_code, pair_code, bounds_code, steps_code}
+use Rattle.code_of.specs.Parts.{marks_code, past_size, default_step, name_target, target_code, targets_code, name_store, store_code, stores_code, stored_code, first_direct, field_code, first_field, kept_code, store_by, assign_by, assign_code, call_last, method_last, values_last, return_code, pair_code, bounds_code, steps_code}
 use Rattle.code_of.specs.Sizes.{stat_size, arms_size, stats_size, block_size, open_size}
 use Rattle.tree_terms.specs.Weight.{weight, weight_of_arguments, weight_of_exps, weight_of_stat, weight_of_arms, weight_of_stats, weight_of_block}
 use Rattle.code_bounds.proofs.Conditions.{test_short}
 use Rattle.code_bounds.proofs.ShortExpressions.{loads_short, self_short, exp_short, direct_short, arguments_short, exps_short}
-use Rattle.code_of.proofs.Sizes.{close_short}
+use Rattle.code_of.proofs.Sizes.{close_short, function_short}
 
 marks_short : (names : List Declared) (t : ℕ) → length (marks_code names t) ≤ length names
 marks_short [] t = omega arith
@@ -42,21 +46,22 @@ module _ (cs : List Const) where
   name_target_short Unset text r line = omega arith
   name_target_short (LocalPlace n) text r line = omega arith
   name_target_short (Upvalue u) text r line = omega arith
-  name_target_short (GlobalIn n) text r line = omega (arith, loads_short cs (StrConst text) (r + 1) line)
-  name_target_short (GlobalOf u) text r line = omega (arith, loads_short cs (StrConst text) (r + 1) line)
+  name_target_short (GlobalIn n) text r line = omega (arith, loads_short cs (StrConst text) (r + 1) line, key_code_short (text_key cs text) (loads cs (StrConst text) (r + 1) line))
+  name_target_short (GlobalOf u) text r line = omega (arith, loads_short cs (StrConst text) (r + 1) line, key_code_short (text_key cs text) (loads cs (StrConst text) (r + 1) line))
 
-  name_store_short : (place : Place) (r v line : ℕ) → length (name_store cs place r v line) ≤ 1
-  name_store_short Unset r v line = omega arith
-  name_store_short (LocalPlace n) r v line = omega arith
-  name_store_short (Upvalue u) r v line = omega arith
-  name_store_short (GlobalIn n) r v line = omega arith
-  name_store_short (GlobalOf u) r v line = omega arith
+  name_store_short : (place : Place) (text : List ℕ) (r v line : ℕ) → length (name_store cs place text r v line) ≤ 1
+  name_store_short Unset text r v line = omega arith
+  name_store_short (LocalPlace n) text r v line = omega arith
+  name_store_short (Upvalue u) text r v line = omega arith
+  name_store_short (GlobalIn n) text r v line = omega arith
+  name_store_short (GlobalOf u) text r v line = omega arith
 
   target_short : (e : Exp) (r j s v : ℕ) → length (target_code cs e r j) + length (store_code cs e s v) ≤ 6 * weight e
-  target_short (Var line name) r j s v = omega (arith, name_target_short name.place name.text r line, name_store_short name.place s v line)
+  target_short (Var line name) r j s v = omega (arith, name_target_short name.place name.text r line, name_store_short name.place name.text s v line)
   target_short (Index line object key) r j s v =
       let second = exp_code cs key (r + 1) (j + made_by object) 2 in
-      omega (arith, exp_short cs object r j 2, exp_short cs key (r + 1) (j + made_by object) 2, length-append (exp_code cs object r j 2) second)
+      let s = waiting_key cs key in
+      omega (arith, exp_short cs object r j 2, exp_short cs key (r + 1) (j + made_by object) 2, key_code_short s second, length-append (exp_code cs object r j 2) (key_code s second))
   target_short _ r j s v = omega arith
 
   targets_short : (es : Exps) (r j s v : ℕ) → length (targets_code cs es r j) + length (stores_code cs es s v) ≤ 6 * weight_of_exps es
@@ -89,13 +94,13 @@ module _ (cs : List Const) where
 
   field_short : (x e : Exp) (t j after : ℕ) → length (field_code cs x e t j after) ≤ 6 * weight x + 6 * weight e
   field_short (Index line object key) e t j after =
-      let s = field_key cs (local_of e) key in
+      let s = field_key cs (is_quiet e) key in
       let first_code = exp_code cs object t j 2 in
       let second = exp_code cs key (t + 1) (j + made_by object) 2 in
       let third = exp_code cs e (t + 2) after 2 in
       omega (
         arith,
-        fields_store_short s (object_of s (local_of e) object) (local_of e) first_code second third t line,
+        fields_store_short s (object_of s (is_quiet e) object) (local_of e) first_code second third t line,
         exp_short cs object t j 2,
         exp_short cs key (t + 1) (j + made_by object) 2,
         exp_short cs e (t + 2) after 2,
@@ -115,7 +120,11 @@ module _ (cs : List Const) where
         where
           by_field : (b : Bool) → length (store_by cs b targets es t j line) ≤ 6 * weight_of_exps targets + 6 * weight_of_exps es + 1
           by_field true = first_field_short targets es t j (j + made_in targets)
-          by_field false = stored_short targets es t j line
+          by_field false = by_store (single_store cs targets es)
+            where
+              by_store : (o : Option Coded) → length (kept_code cs o targets es t j line) ≤ 6 * weight_of_exps targets + 6 * weight_of_exps es + 1
+              by_store None = stored_short targets es t j line
+              by_store (Some x) = omega arith
       by (Some r) = let h = first_short es r t (j + made_in targets) in omega (arith, h)
 
   -- returns, where a call in its caller's place has one instruction more
@@ -132,16 +141,19 @@ module _ (cs : List Const) where
 
   method_last_short : (object : Exp) (name : List ℕ) (es : Exps) (t j line back : ℕ) → length (method_last cs object name es t j line back) ≤ 6 * weight object + 6 * weight_of_arguments es + 6
   method_last_short object name es t j line back =
-      let key = self_code cs name t line in
+      let x = seat (local_of object) t in
+      let first = unless (local_of object) (exp_code cs object t j 2) in
+      let key = self_code cs name x t line in
       let arguments = exps_code cs es None (t + 2) (j + made_by object) line in
       let last = leaving_by TailCall t (list_field 1 es) back line ∷ leaving_by Return t 0 back line ∷ [] in
       let after = arguments ++ last in
       omega (
         arith,
         exp_short cs object t j 2,
-        self_short cs name t line,
+        unless_short (local_of object) (exp_code cs object t j 2),
+        self_short cs name x t line,
         arguments_short cs es (t + 2) (j + made_by object) line,
-        length-append (exp_code cs object t j 2) (key ++ after),
+        length-append first (key ++ after),
         length-append key after,
         length-append arguments last,
       )
@@ -171,14 +183,14 @@ module _ (cs : List Const) (back : ℕ) where
     pub stat_short : (s : Stat) (closing : Bool) (t j : ℕ) → stat_size cs back s closing t j ≤ 6 * weight_of_stat s
     stat_short (Empty line) closing t j = omega arith
     stat_short (Local line names es) closing t j = omega (arith, exps_short cs es (Some (length names)) t j line, marks_short names t)
-    stat_short (LocalFunction line name body) closing t j = omega arith
+    stat_short (LocalFunction line name body) closing t j = omega (arith, function_short body t j)
     stat_short (Assign line targets es) closing t j = omega (arith, assign_short cs targets es t j line)
     stat_short (CallStat line e) closing t j = omega (arith, exp_short cs e t j 1)
     stat_short (Do line block) closing t j = omega (arith, block_short block closing t t j)
     stat_short (While line e block) closing t j = omega (arith, test_short cs e true 0 t j, block_short block closing t t (j + made_by e))
     stat_short (Repeat line block e) closing t j =
         let inner = levels_in block t in
-        omega (arith, open_short block closing t j, test_short cs e false 0 inner (j + made_in_block block), close_short t inner line)
+        omega (arith, open_short block closing t j, test_short cs e false 0 inner (j + made_in_block block), close_short t (closed_until block e t) line)
     stat_short (If line arms) closing t j = omega (arith, arms_short arms 0 closing t j)
     stat_short (IfElse line arms block) closing t j =
         let otherwise = block_size cs back block closing t t (j + made_in_arms arms) in

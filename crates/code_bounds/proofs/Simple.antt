@@ -17,7 +17,8 @@ use Rattle.code_of.specs.Operators.{self_code}
 use Rattle.scope_laws.specs.Finding.{ExpFinds, ExpsFind}
 use Rattle.code_bounds.proofs.Tops.{top, one, top_more, top_append, one_a, one_tail, one_return}
 use Rattle.code_bounds.proofs.Pieces.{self_top, Takes, ListTakes, call_takes, method_takes}
-use Rattle.code_bounds.proofs.Expressions.{own_room, count_room, field_room, exp_takes, exps_take}
+use Rattle.code_of.specs.Operands.{local_of, seat, unless}
+use Rattle.code_bounds.proofs.Expressions.{own_room, count_room, field_room, seat_low, object_takes, exp_takes, exps_take}
 use Rattle.code_bounds.proofs.Holding.{wanted_count, exp_held, exps_held, all_held}
 use Rattle.code_bounds.proofs.Room.{HasRoom}
 
@@ -118,10 +119,11 @@ module _ (cs : List Const) where
       let few = field_room cs es 1 in
       let counted = count_room cs es 2 in
       let two = (self_room cs name).0 in
-      method_takes t (room_of cs object 2) (room_of_self cs name) l b 0 1 (exp_code cs object t j 2) (self_code cs name t line) (exps_code cs es None (t + 2) (j + made_by object) line)
+      let x = seat (local_of object) t in
+      method_takes t (room_of cs object 2) (room_of_self cs name) l b 0 1 (unless (local_of object) (exp_code cs object t j 2)) (self_code cs name x t line) (exps_code cs es None (t + 2) (j + made_by object) line)
       (leaving_by TailCall t b back line ∷ leaving_by Return t 0 back line ∷ []) some two
-      (exp_takes cs hidden ups object size t j 2 known above (lit< tt) (omega arith))
-      (self_top cs name t line (omega arith))
+      (object_takes cs hidden ups object (exp_takes cs hidden ups object) size t j known above (omega arith))
+      (self_top cs name x t line (seat_low cs hidden ups object size t known above) (omega arith))
       (exps_take cs hidden ups es None 2 t (t + 2) size (j + made_by object) line refl all_known (omega arith) (lit< tt) (omega arith))
       (ends_call t b line back (omega (arith, small, two)) (omega (arith, small, few, counted, some))) (omega (arith, few, counted, some)) (omega arith) (omega arith)
 

@@ -3,7 +3,7 @@ use Rattle.std.proofs.Common.{ℕ, ◌+◌, ◌-◌, ◌*◌, ◌≤◌, max, Bo
 use Rattle.tree_core.specs.declared.name.Declared.{Declared}
 use Rattle.tree_core.specs.Tree.{Block, Falls, Returns, Body, Stats, EndStats, MoreStats, Stat, Empty, Local, LocalFunction, Assign, CallStat, Do, While, Repeat, If, IfElse, NumFor, NumForStep, GenFor, Label, Goto, Break, Arms, EndArms, MoreArms, Exp, Exps}
 use Rattle.tree_activation.specs.Activation.{line_of_end}
-use Rattle.tree_terms.specs.Bodies.{line_of_body}
+use Rattle.tree_terms.specs.Bodies.{line_of_body, upvalues_of}
 use Rattle.code_core.specs.declared.opcode.Opcode.TheVariants.{LoadI, LoadNil, Close, Jmp, ForLoop, ForPrep, TForPrep, TForCall, TForLoop, Return, Closure}
 use Rattle.code_core.specs.declared.proto.Const.{Const}
 use Rattle.code_of.specs.Coded.{Coded, with_abc, with_abx, jump_over, jump_back, leaving_by}
@@ -11,9 +11,9 @@ use Rattle.code_of.specs.Expressions.{made_by, made_in, exp_code, exps_code}
 use Rattle.code_of.specs.Conditions.{test_code}
 use Rattle.code_bounds.proofs.Conditions.{test_room}
 use Rattle.code_of.specs.Jumps.{Reach, Visible, label_in, leads}
-use Rattle.code_of.specs.Levels.{made_by_stat, made_in_arms, made_in_stats, made_in_block, closing_after, closings_after, closed_below}
+use Rattle.code_of.specs.Levels.{made_by_stat, made_in_arms, made_in_stats, made_in_block, closing_after, closings_after, closed_below, closed_until}
 use Rattle.tree_terms.specs.Levels.{level_after, levels_after, levels_in}
-use Rattle.code_of.specs.Parts.{marks_code, close_code, function_code, while_code, repeat_code, past_size, past, arm_code, default_step, counting_code, iterating_code, assign_code, return_code, pair_code, bounds_code, steps_code}
+use Rattle.code_of.specs.Parts.{marks_code, close_code, captures_local, closure_code, function_code, while_code, repeat_code, past_size, past, arm_code, default_step, counting_code, iterating_code, assign_code, return_code, pair_code, bounds_code, steps_code}
 use Rattle.code_of.specs.Sizes.{stat_size, arms_size, block_size}
 use Rattle.code_of.specs.Statements.{in_loop, passed_after, labels_ahead, stat_code, arms_code, stats_code, block_code, open_code, whole_code}
 use Rattle.scope_core.specs.Held.{held, held_behind, held_stat, held_tests}
@@ -84,12 +84,18 @@ module _ {stack : ℕ} where
       room_as (room_append start _ h (room_more (with_abx TForPrep t (length block) line) (t + 3 + 1) _ prepares (omega arith) (room_append block _ k call)))
       (λ all. let e = all.1.1.1.0 in (all.0, (omega (arith, e), (omega (arith, e), all.1.1.0))))
 
-  function_room : (body : Body) (t j : ℕ) → t + 1 ≤ 250 → HasRoom stack (function_code body t j) (t + 1 ≤ stack)
-  function_room body t j few =
+  closure_room : (own : Bool) (t j line : ℕ) → t + 1 ≤ 250 → HasRoom stack (closure_code own t j line) (t + 1 ≤ stack)
+  closure_room false t j line few =
       let makes = one_ax Closure t j refl (omega arith) in
-      let clears = one_nil t 0 (line_of_body body) (omega arith) (lit< tt) in
-      let last = room_more (with_abx Closure t j (line_of_body body)) (t + 1) [] makes few room_end in
-      room_as (room_more (with_abc LoadNil t 0 0 (line_of_body body)) (t + 0 + 1) _ clears (omega arith) last) (λ all. all.1.0)
+      room_as (room_more (with_abx Closure t j line) (t + 1) [] makes few room_end) (λ all. all.0)
+  closure_room true t j line few =
+      let makes = one_ax Closure t j refl (omega arith) in
+      let clears = one_nil t 0 line (omega arith) (lit< tt) in
+      let last = room_more (with_abx Closure t j line) (t + 1) [] makes few room_end in
+      room_as (room_more (with_abc LoadNil t 0 0 line) (t + 0 + 1) _ clears (omega arith) last) (λ all. all.1.0)
+
+  function_room : (body : Body) (t j : ℕ) → t + 1 ≤ 250 → HasRoom stack (function_code body t j) (t + 1 ≤ stack)
+  function_room body t j few = closure_room (captures_local t (upvalues_of body)) t j (line_of_body body) few
 
 -- the locals of a block have registers
 
@@ -148,14 +154,14 @@ module _ (cs : List Const) (stack : ℕ) where
       (room_of_top (marks_code names t) (marks_top names t many)))
       (λ all within. let e = all.0 in (omega (arith, e, within), omega (arith, e, within, full)))
 
-  assigned_room : (hidden : List ℕ) (ups : ℕ) (targets es : Exps) (t j line : ℕ) → ExpsFind targets hidden t ups → ExpsFind es hidden t ups → t + held_stat (Assign line targets es) ≤ 250 →
+  assigned_room : (hidden : List ℕ) (ups : ℕ) (targets es : Exps) (t j line : ℕ) → ups ≤ 255 → ExpsFind targets hidden t ups → ExpsFind es hidden t ups → t + held_stat (Assign line targets es) ≤ 250 →
       HasRoom stack (assign_code cs targets es t j line) (t ≤ stack → StatHasRoom cs stack (Assign line targets es) t)
-  assigned_room hidden ups targets es t j line known_targets known few =
+  assigned_room hidden ups targets es t j line few_ups known_targets known few =
       let same = same_count targets in
       let values = ap (λ n. held_behind (2 * n) es) same in
-      assign_room cs hidden ups stack targets es t j line known_targets known (omega arith) (omega (arith, values)) (omega (arith, same))
+      assign_room cs hidden ups stack targets es t j line few_ups known_targets known (omega arith) (omega (arith, values)) (omega (arith, same))
 
-  module _ (back ups : ℕ) (vararg : Bool) where
+  module _ (back ups : ℕ) (few_ups : ups ≤ 255) (vararg : Bool) where
     abbrev StatRoom : Stat → Type 0
     StatRoom s = (hidden : List ℕ) (named : List Named) (loops closing : Bool) (t j pc : ℕ) (reach : Reach) → StatFinds s hidden t ups → t ≤ 200 → t + held_stat s ≤ 250 → level_after s t ≤ 200 → StatKeeps s vararg t named loops → ReachLow reach →
         HasRoom stack (stat_code cs back s closing t j pc reach) (t ≤ stack → StatHasRoom cs stack s t)
@@ -192,7 +198,7 @@ module _ (cs : List Const) (stack : ℕ) where
       stat_room (Empty line) hidden named loops closing t j pc reach known few holds level keeps low = room_as room_end (λ h within. tt)
       stat_room (Local line names es) hidden named loops closing t j pc reach known few holds level keeps low = local_room hidden ups names es t j line known holds level
       stat_room (LocalFunction line name body) hidden named loops closing t j pc reach known few holds level keeps low = room_as (function_room body t j (omega arith)) (λ h within. h)
-      stat_room (Assign line targets es) hidden named loops closing t j pc reach known few holds level keeps low = assigned_room hidden ups targets es t j line known.0 known.1 holds
+      stat_room (Assign line targets es) hidden named loops closing t j pc reach known few holds level keeps low = assigned_room hidden ups targets es t j line few_ups known.0 known.1 holds
       stat_room (CallStat line e) hidden named loops closing t j pc reach known few holds level keeps low =
           room_as (exp_room cs hidden ups stack e t t j 1 known (omega arith) holds (omega arith) (lit≤ tt)) (λ room within. omega (arith, room, within))
       stat_room (Do line block) hidden named loops closing t j pc reach known few holds level keeps low = block_room block hidden named loops closing t t j pc reach known few few keeps low
@@ -207,13 +213,14 @@ module _ (cs : List Const) (stack : ℕ) where
           (λ all within. let room = all.0 in (omega (arith, room, within), all.1 within))
       stat_room (Repeat line block e) hidden named loops closing t j pc reach known few holds level keeps low =
           let inner = levels_in block t in
-          let close = close_code t inner (line_of_end block) in
+          let highest = closed_until block e t in
+          let close = close_code t highest (line_of_end block) in
           let after = in_loop reach (pc + stat_size cs back (Repeat line block e) closing t j) t in
           room_as
           (repeat_room (λ ahead. test_code cs e false ahead inner (j + made_in_block block)) (open_code cs back block closing t j pc after) close line
           (open_room block hidden named true closing t j pc after known.0 few keeps.0 (loop_low reach _ t few low))
           (test_room cs hidden ups stack e false (length close + 1) inner inner (j + made_in_block block) known.1 (omega arith) keeps.1.0)
-          (close_top t inner (line_of_end block) few))
+          (close_top t highest (line_of_end block) few))
           (λ all within. let room = all.1 in let block_fits = all.0 within in let there = levels_fit cs stack block t block_fits in (block_fits, omega (arith, room, there)))
       stat_room (If line arms) hidden named loops closing t j pc reach known few holds level keeps low =
           room_as (arms_room arms hidden named loops [] closing t j pc line reach known few holds keeps low (omega arith)) (λ all within. all.0 within)

@@ -2,7 +2,7 @@
 use Rattle.std.proofs.Common.{◌≡◌, ℕ, zero, suc, ◌+◌, ◌-◌, ◌<◌, ◌≤◌, ◌^◌, max, Bool, true, false, if◌then◌else◌, ◌==◌, List, [], ◌∷◌, ◌++◌, Option, Some, None, refl, ap, ◌∙◌, sym, subst, lit<, arith}
 use Rattle.std.specs.Prelude.{nat_lt}
 use Rattle.code_core.specs.declared.opcode.Opcode.{Opcode}
-use Rattle.code_core.specs.declared.opcode.Opcode.TheVariants.{LoadNil, SetTable, SetI, SetField, OpSelf, Concat, Call, TailCall, Return, TForCall, VarArg}
+use Rattle.code_core.specs.declared.opcode.Opcode.TheVariants.{LoadNil, SetTabUp, SetTable, SetI, SetField, OpSelf, Concat, Call, TailCall, Return, TForCall, VarArg}
 use Rattle.code_core.specs.declared.instruction.Instruction.{Instruction}
 use Rattle.code_core.specs.Instruction.{abc, abx, op_ax, opcode_of, a_of, b_of, c_of, bits_from}
 use Rattle.code_core.specs.Fields.{registers, last_of, register_or_constant}
@@ -145,6 +145,15 @@ one_ac op a b c shape a_fits b_fits c_fits =
     by : (x z : ℕ) → one (abc op a b c false) ≡ room_for (x ∷ z ∷ []) 0 → x ≡ a → z ≡ c → one (abc op a b c false) ≡ max (a + 1) (c + 1)
     by x z e f g = omega arith
 
+-- one that names C alone
+pub one_store_global : (u b c : ℕ) → u < 2 ^ 8 → b < 2 ^ 8 → c < 2 ^ 8 → one (abc SetTabUp u b c false) ≡ c + 1
+one_store_global u b c u_fits b_fits c_fits =
+    let w = abc SetTabUp u b c false in
+    by (c_of w) (abc_is SetTabUp u b c false (c_of w ∷ []) (third_is SetTabUp u b c u_fits)) (c_of-abc SetTabUp u b c false u_fits b_fits c_fits)
+  where
+    by : (z : ℕ) → one (abc SetTabUp u b c false) ≡ room_for (z ∷ []) 0 → z ≡ c → one (abc SetTabUp u b c false) ≡ c + 1
+    by z e f = omega arith
+
 pub one_store_index : (a b c : ℕ) → a < 2 ^ 8 → b < 2 ^ 8 → c < 2 ^ 8 → one (abc SetI a b c false) ≡ max (a + 1) (c + 1)
 one_store_index a b c a_fits b_fits c_fits = one_ac SetI a b c refl a_fits b_fits c_fits
 
@@ -156,13 +165,13 @@ one_store a b c a_fits b_fits c_fits =
     let w = abc SetTable a b c false in
     one_abc SetTable a b c false (ap (λ l. a_of w ∷ b_of w ∷ l) (third_is SetTable a b c a_fits)) a_fits b_fits c_fits
 
-pub one_self : (t y : ℕ) → t < 2 ^ 8 → y < 2 ^ 8 → one (abc OpSelf t t y false) ≡ max (t + 2) (y + 1)
-one_self t y small fits =
-    let w = abc OpSelf t t y false in
-    let e = abc_is OpSelf t t y false ((a_of w + 1) ∷ b_of w ∷ c_of w ∷ []) (ap (λ l. (a_of w + 1) ∷ b_of w ∷ l) (third_is OpSelf t t y small)) in
-    by (a_of w) (b_of w) (c_of w) e (a_of-abc OpSelf t t y false small) (b_of-abc OpSelf t t y false small small) (c_of-abc OpSelf t t y false small small fits)
+pub one_self : (t x y : ℕ) → t < 2 ^ 8 → x < 2 ^ 8 → y < 2 ^ 8 → one (abc OpSelf t x y false) ≡ max (max (t + 2) (x + 1)) (y + 1)
+one_self t x y small x_fits fits =
+    let w = abc OpSelf t x y false in
+    let e = abc_is OpSelf t x y false ((a_of w + 1) ∷ b_of w ∷ c_of w ∷ []) (ap (λ l. (a_of w + 1) ∷ b_of w ∷ l) (third_is OpSelf t x y small)) in
+    by (a_of w) (b_of w) (c_of w) e (a_of-abc OpSelf t x y false small) (b_of-abc OpSelf t x y false small x_fits) (c_of-abc OpSelf t x y false small x_fits fits)
   where
-    by : (a b c : ℕ) → one (abc OpSelf t t y false) ≡ room_for ((a + 1) ∷ b ∷ c ∷ []) 0 → a ≡ t → b ≡ t → c ≡ y → one (abc OpSelf t t y false) ≡ max (t + 2) (y + 1)
+    by : (a b c : ℕ) → one (abc OpSelf t x y false) ≡ room_for ((a + 1) ∷ b ∷ c ∷ []) 0 → a ≡ t → b ≡ x → c ≡ y → one (abc OpSelf t x y false) ≡ max (max (t + 2) (x + 1)) (y + 1)
     by a b c e f g h = omega arith
 
 -- where the third operand is a constant
@@ -172,13 +181,13 @@ flag_set op a b c a_fits = let small = number_below op in omega arith
 no_third : (op : Opcode) (a b c : ℕ) → a < 2 ^ 8 → register_or_constant (abc op a b c true) ≡ []
 no_third op a b c a_fits = ap (λ n. if n == 1 then [] else c_of (abc op a b c true) ∷ []) (flag_set op a b c a_fits)
 
-pub one_self_key : (t n : ℕ) → t < 2 ^ 8 → one (abc OpSelf t t n true) ≡ t + 2
-one_self_key t n small =
-    let w = abc OpSelf t t n true in
-    let e = abc_is OpSelf t t n true ((a_of w + 1) ∷ b_of w ∷ []) (ap (λ l. (a_of w + 1) ∷ b_of w ∷ l) (no_third OpSelf t t n small)) in
-    by (a_of w) (b_of w) e (a_of-abc OpSelf t t n true small) (b_of-abc OpSelf t t n true small small)
+pub one_self_key : (t x n : ℕ) → t < 2 ^ 8 → x < 2 ^ 8 → one (abc OpSelf t x n true) ≡ max (t + 2) (x + 1)
+one_self_key t x n small x_fits =
+    let w = abc OpSelf t x n true in
+    let e = abc_is OpSelf t x n true ((a_of w + 1) ∷ b_of w ∷ []) (ap (λ l. (a_of w + 1) ∷ b_of w ∷ l) (no_third OpSelf t x n small)) in
+    by (a_of w) (b_of w) e (a_of-abc OpSelf t x n true small) (b_of-abc OpSelf t x n true small x_fits)
   where
-    by : (a b : ℕ) → one (abc OpSelf t t n true) ≡ room_for ((a + 1) ∷ b ∷ []) 0 → a ≡ t → b ≡ t → one (abc OpSelf t t n true) ≡ t + 2
+    by : (a b : ℕ) → one (abc OpSelf t x n true) ≡ room_for ((a + 1) ∷ b ∷ []) 0 → a ≡ t → b ≡ x → one (abc OpSelf t x n true) ≡ max (t + 2) (x + 1)
     by a b e f g = omega arith
 
 -- lists of registers whose number is a field

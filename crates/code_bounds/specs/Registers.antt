@@ -9,8 +9,10 @@ use Rattle.code_core.specs.Prototype.{Prototype}
 use Rattle.code_of.specs.Expressions.{count}
 use Rattle.tree_terms.specs.Levels.{level_after, levels_after, levels_in}
 use Rattle.code_of.specs.CodeOf.{named_by, code_of}
+use Rattle.code_of.specs.Coded.{Coded}
 use Rattle.code_of.specs.Operands.{assigned}
 use Rattle.code_of.specs.Stores.{stores_field}
+use Rattle.code_of.specs.Targets.{single_store}
 use Rattle.code_of.specs.Rooms.{room_of, room_of_target, room_of_assigned, room_of_first, room_of_test, room_of_list}
 use Rattle.scope_laws.specs.Finding.{BodyFinds}
 use Rattle.scope_laws.specs.Keeping.{BodyKeeps}
@@ -26,11 +28,16 @@ module _ (constants : List Const) (stack : ℕ) where
   TargetsHaveRoom EndExps r = Unit {0}
   TargetsHaveRoom (MoreExps e targets) r = TargetHasRoom e r × TargetsHaveRoom targets (r + 2)
 
-  abbrev pub StoreHasRoom : (field : Bool) → (targets es : Exps) → (t : ℕ) → Type 0
-  StoreHasRoom true targets es t = t + room_of_first constants targets es ≤ stack
-  StoreHasRoom false targets es t =
+  -- a store that is one instruction takes no register
+  abbrev pub KeptHasRoom : (store : Option Coded) → (targets es : Exps) → (t : ℕ) → Type 0
+  KeptHasRoom None targets es t =
       TargetsHaveRoom targets t
       × ((t + 2 * count targets + room_of_list constants 0 es (Some (count targets)) ≤ stack) × (t + 2 * count targets + count targets ≤ stack))
+  KeptHasRoom (Some x) targets es t = Unit {0}
+
+  abbrev pub StoreHasRoom : (field : Bool) → (targets es : Exps) → (t : ℕ) → Type 0
+  StoreHasRoom true targets es t = t + room_of_first constants targets es ≤ stack
+  StoreHasRoom false targets es t = KeptHasRoom (single_store constants targets es) targets es t
 
   abbrev pub AssignHasRoom : Option ℕ → (targets es : Exps) → (t : ℕ) → Type 0
   AssignHasRoom None targets es t = StoreHasRoom (stores_field targets es) targets es t

@@ -9,7 +9,7 @@ use std::test::Fail;
 use tree_core::{Block, Body, Exp};
 
 // Sources that return an expression, the register for its value, and the words of its code.
-static WORDS: [(&[u8], u8, &[u32]); 22] = [
+static WORDS: [(&[u8], u8, &[u32]); 26] = [
     (b"return nil", 3, &[0x188]),
     (b"return 5", 0, &[0x8002_0001]),
     (b"return 65537", 1, &[0x83]),
@@ -47,15 +47,23 @@ static WORDS: [(&[u8], u8, &[u32]); 22] = [
     // a numeral of at most 128 stands in the instruction, or 127 behind a minus, and a local in its own register
     (b"local x return x - 1", 1, &[0x7e00_0095, 0x0780_002f]),
     (b"local x return (x) >> 128", 1, &[0xff00_00a0, 0x11ff_002f]),
+    // other integers, strings, nil, false and true are constants in it
+    (b"local x return x + 129", 1, &[0x96, 0x0600_0030]),
+    (b"local x return (x) & 7", 1, &[0x9d, 0x0d00_0030]),
     (
-        b"local x return x + 129",
+        b"local x return x == 'a'",
         1,
-        &[0x80, 0x8040_0101, 0x0201_00a2, 0x0602_00ae],
+        &[0x803c, 0x8000_0038, 0x86, 0x87],
+    ),
+    (
+        b"local x return x ~= nil",
+        1,
+        &[0x3c, 0x8000_0038, 0x86, 0x87],
     ),
     (
         b"local x, y return -x * y",
         2,
-        &[0x0100, 0x0002_0131, 0x0102_0124, 0x0801_012e],
+        &[0x0131, 0x0102_0124, 0x0801_012e],
     ),
     (
         b"local x return 1 >= x",
@@ -70,9 +78,15 @@ static WORDS: [(&[u8], u8, &[u32]); 22] = [
     (
         b"local x, y return #x:m(y)",
         2,
-        &[0x0100, 0x0002_8114, 0x0001_0200, 0x0203_0144, 0x0002_0134],
+        &[0x8114, 0x0001_0200, 0x0203_0144, 0x0002_0134],
     ),
     (b"return {...}", 0, &[0x13, 0x52, 0xd0, 0x4e]),
+    // a string and a numeral are keys in the instruction, and locals stay in their registers
+    (
+        b"local x return {a = x, [x] = x, [2] = 1}",
+        1,
+        &[0x93, 0x52, 0x92, 0x90, 0x8000_0181, 0x0302_0091],
+    ),
 ];
 
 // The expressions behind the `return` of a source.

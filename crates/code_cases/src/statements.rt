@@ -9,7 +9,7 @@ use std::alloc::{AllocError, Global};
 use std::test::Fail;
 
 // Sources without constants, and the words of their code.
-static WORDS: [(&[u8], &[u32]); 15] = [
+static WORDS: [(&[u8], &[u32]); 18] = [
     (
         b"local t, i = {}, 1 t[1] = i t[i] = i",
         &[
@@ -19,6 +19,24 @@ static WORDS: [(&[u8], &[u32]); 15] = [
             0x8000_0081,
             0x0101_0011,
             0x0101_0010,
+            0x0101_8146,
+        ],
+    ),
+    // the store names a numeral, and a local is copied, since another store may write it
+    (
+        b"local t, i = {}, 1 t[1], t[i] = i, t",
+        &[
+            0x51,
+            0x13,
+            0x52,
+            0x8000_0081,
+            0x0100,
+            0x0200,
+            0x0001_0280,
+            0x0001_0300,
+            0x0380,
+            0x0705_0210,
+            0x0601_0111,
             0x0101_8146,
         ],
     ),
@@ -46,57 +64,40 @@ static WORDS: [(&[u8], &[u32]); 15] = [
             0x8000_0001,
             0x8000_8081,
             0x8000_0101,
-            0x0001_804a,
-            0x0208,
+            0x0001_004a,
             0x024f,
             0x01b6,
-            0x0002_0049,
+            0x0001_8049,
             0x0101_0046,
         ],
     ),
     (b"goto a ::a::", &[0x51, 0x36, 0x7fff_ffb8, 0x0101_0046]),
     (
         b"repeat local x until x",
-        &[
-            0x51,
-            0x08,
-            0x80,
-            0x80c2,
-            0x8000_00b8,
-            0x36,
-            0x7fff_fcb8,
-            0x36,
-            0x0101_0046,
-        ],
+        &[0x51, 0x08, 0x8042, 0x8000_0038, 0x7fff_fdb8, 0x0101_0046],
+    ),
+    // a register is nil before CLOSURE only where the function has it as an upvalue
+    (b"local function f() end", &[0x51, 0x4f, 0x0101_80c6]),
+    (
+        b"local function f() return f end",
+        &[0x51, 0x08, 0x4f, 0x0101_80c6],
     ),
     (
         b"local x if x then x = nil else x = 1 end",
         &[
             0x51,
             0x08,
-            0x80,
-            0xc2,
-            0x8000_0138,
-            0x0188,
-            0x0003_0000,
+            0x42,
             0x8000_00b8,
-            0x8000_0181,
-            0x0003_0000,
+            0x08,
+            0x8000_0038,
+            0x8000_0001,
             0x0101_80c6,
         ],
     ),
     (
         b"local x if x then x = nil else ; end",
-        &[
-            0x51,
-            0x08,
-            0x80,
-            0xc2,
-            0x8000_00b8,
-            0x0188,
-            0x0003_0000,
-            0x0101_80c6,
-        ],
+        &[0x51, 0x08, 0x42, 0x8000_0038, 0x08, 0x0101_80c6],
     ),
     // no instruction tests what is always true, and none stands for an arm without code
     (b"if true then end", &[0x51, 0x0101_0046]),
@@ -125,9 +126,8 @@ static WORDS: [(&[u8], &[u32]); 15] = [
             0x0001_8039,
             0x8000_00b8,
             0xba,
-            0x8000_00b8,
-            0x0200,
-            0x0004_0080,
+            0x8000_0038,
+            0x0080,
             0x0101_8146,
         ],
     ),
@@ -136,14 +136,11 @@ static WORDS: [(&[u8], &[u32]); 15] = [
         &[
             0x51,
             0x0001_0008,
-            0x0100,
-            0x0142,
-            0x8000_0138,
-            0x0001_0100,
-            0x8142,
+            0x42,
             0x8000_00b8,
-            0x0200,
-            0x0004_0080,
+            0x80c2,
+            0x8000_0038,
+            0x0080,
             0x0101_8146,
         ],
     ),
@@ -178,7 +175,7 @@ static VARIABLES: [(&[u8], &[u32]); 7] = [
     // and where a function is made behind its CLOSE
     (
         b"local a do local b local function g() end end",
-        &[0x61, 2, 7, 0x62, 3, 6, 0x67, 4, 6],
+        &[0x61, 2, 6, 0x62, 3, 5, 0x67, 4, 5],
     ),
     // from FORPREP to the end of the loop, and in the block
     (
@@ -189,10 +186,10 @@ static VARIABLES: [(&[u8], &[u32]); 7] = [
         b"for k in nil do end",
         &[0x20, 3, 7, 0x20, 3, 7, 0x20, 3, 7, 0x20, 3, 7, 0x6b, 4, 4],
     ),
-    // the test and both CLOSEs are in the scope
-    (b"repeat local a until a", &[0x61, 2, 8]),
-    // a function is in its own scope, from CLOSURE on
-    (b"local function f() end", &[0x66, 2, 4]),
+    // the test is in the scope
+    (b"repeat local a until a", &[0x61, 2, 5]),
+    // from CLOSURE on where there is a LOADNIL, and else from behind it
+    (b"local function f() end", &[0x66, 2, 3]),
     // the first arm has a jump behind it
     (
         b"if true then local a else local b end",

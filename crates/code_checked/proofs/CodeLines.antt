@@ -1,5 +1,5 @@
 -- The lines of a tree's code fit, where those of the tree do.
-use Rattle.std.proofs.Common.{◌≡◌, ℕ, zero, suc, ◌+◌, ◌*◌, Bool, true, false, cond, ◌&&◌, List, [], ◌∷◌, ◌++◌, length, Option, Some, None, refl, ap₂}
+use Rattle.std.proofs.Common.{◌≡◌, ℕ, zero, suc, ◌+◌, ◌*◌, Bool, true, false, cond, ◌&&◌, List, [], ◌∷◌, ◌++◌, length, Option, Some, None, refl, ap₂, subst}
 use Rattle.std.specs.Prelude.{ℤ, not, nat_lt, nat_le, nat_eq, ◌-◌}
 use Rattle.std.specs.List.{list_all}
 use Rattle.tree_core.specs.declared.name.Declared.{Declared}
@@ -9,7 +9,7 @@ use Rattle.tree_core.specs.declared.operator.BinOp.{BinOp}
 use Rattle.tree_core.specs.declared.operator.BinOp.TheVariants.{Add as Plus, Sub as Minus, Mul as Times, Mod as Modulo, Idiv, Band, Bor, Bxor, Shl as ShiftLeft, Shr as ShiftRight, Concat as Join, Eq as Equal, Ne, Lt as Less, Le as AtMost, Gt, Ge}
 use Rattle.tree_core.specs.Tree.{Block, Falls, Returns, Body, BodyOf, Stats, EndStats, MoreStats, Stat, Empty, Local, LocalFunction, Assign, CallStat, Do, While, Repeat, If, IfElse, NumFor, NumForStep, GenFor, Label, Goto, Break, Arms, EndArms, MoreArms, Exp, Nil, True, False, Int, Str, Vararg, Function, Var, Index, Call, Method, Unary, Binary, And, Or, Paren, Table, Exps, EndExps, MoreExps, Fields, EndFields, MoreFields, Item, Keyed}
 use Rattle.tree_activation.specs.Activation.{line_of_end}
-use Rattle.tree_terms.specs.Bodies.{line_of_body}
+use Rattle.tree_terms.specs.Bodies.{line_of_body, upvalues_of}
 use Rattle.tree_activation.specs.Statements.{is_closed}
 use Rattle.code_core.specs.declared.proto.Const.{Const}
 use Rattle.code_core.specs.declared.proto.Const.TheVariants.{Int as IntConst, Str as StrConst}
@@ -17,17 +17,20 @@ use Rattle.code_core.specs.Writable.{number_fits}
 use Rattle.code_of.specs.Coded.{Coded, lines, with_abc, jump_over, jump_back}
 use Rattle.code_of.specs.Constants.{is_small, number_in, loads, loads_integer, of_block}
 use Rattle.code_of.specs.FieldReads.{read_code}
-use Rattle.code_of.specs.Stores.{FieldKey, a_name, an_index, a_register, evaluated, name_in, field_key, object_of, key_code, field_store, stores_field}
+use Rattle.code_of.specs.Stores.{FieldKey, a_name, an_index, a_register, evaluated, name_in, is_quiet, field_key, object_of, key_code, field_store, keyed_store, stores_field}
+use Rattle.code_of.specs.Targets.{waiting_key, text_key, global_store, single_store}
+use Rattle.code_of.proofs.Targets.{single_store_is, some_store}
 use Rattle.code_of.specs.Operands.{local_of, seat, unless, Second, a_number, a_local, made, second_of, key_operand, first_of, assigned, second_code, operands_code}
-use Rattle.code_of.specs.Operators.{name_code, self_code, operator_code, number_opcode, number_code}
+use Rattle.code_of.specs.Operators.{name_into, self_code, operator_code, number_opcode, number_code, name_code}
 use Rattle.code_of.specs.Expressions.{made_by, made_in, count, Wanted, is_last_item, field_of, wanted_after, nils_code, set_list, exp_code, exps_code, fields_code}
 use Rattle.code_of.specs.Conditions.{jump_if, pick, line_of, is_not, compared, value_test, test_code}
 use Rattle.code_core.specs.declared.opcode.Opcode.{Opcode}
-use Rattle.code_core.specs.declared.opcode.Opcode.TheVariants.{GetTable, GetI, Eq, Lt, Le}
+use Rattle.code_core.specs.declared.opcode.Opcode.TheVariants.{GetTable, GetI, SetTabUp, SetField, Eq, Lt, Le, EqK}
+use Rattle.code_of.specs.Operations.{constant_in, constant_code, operation_by}
 use Rattle.code_of.specs.Jumps.{Landing, Visible, Reach, label_in, leads}
-use Rattle.code_of.specs.Levels.{made_by_stat, made_in_arms, made_in_stats, made_in_block, closing_after, closings_after, closed_below}
+use Rattle.code_of.specs.Levels.{made_by_stat, made_in_arms, made_in_stats, made_in_block, closing_after, closings_after, closed_below, closed_until}
 use Rattle.tree_terms.specs.Levels.{level_after, levels_after, levels_in}
-use Rattle.code_of.specs.Parts.{marks_code, close_code, past, past_size, name_target, target_code, targets_code, name_store, store_code, stores_code, direct_code, first_direct, field_code, first_field, stored_code, store_by, assign_by, assign_code, values_last, return_code, bounds_code, steps_code}
+use Rattle.code_of.specs.Parts.{marks_code, close_code, captures_local, closure_code, past, past_size, name_target, target_code, targets_code, name_store, store_code, stores_code, direct_code, first_direct, field_code, first_field, stored_code, store_by, assign_by, assign_code, values_last, return_code, bounds_code, steps_code, kept_code}
 use Rattle.code_of.specs.Sizes.{stat_size, arms_size, block_size}
 use Rattle.code_of.specs.Statements.{in_loop, passed_after, labels_ahead, stat_code, arms_code, stats_code, block_code, open_code, whole_code}
 use Rattle.code_of.specs.CodeOf.{back_field, first_line, body_code}
@@ -54,19 +57,20 @@ either false xs ys h k = k
 loads_lines : (cs : List Const) (x : Const) (t line : ℕ) → LineFits line → LinesFit (loads cs x t line)
 loads_lines cs x t line h = either (nat_lt (number_in cs x) 131072) _ _ (h, tt) (h, (h, tt))
 
-method_lines : (cs : List Const) (text : List ℕ) (t line : ℕ) → LineFits line → LinesFit (self_code cs text t line)
-method_lines cs text t line h =
+method_lines : (cs : List Const) (text : List ℕ) (x t line : ℕ) → LineFits line → LinesFit (self_code cs text x t line)
+method_lines cs text x t line h =
     either (nat_lt (number_in cs (StrConst text)) 256) _ _ (h, tt) (lines_both (loads cs (StrConst text) (t + 2) line) _ (loads_lines cs (StrConst text) (t + 2) line h) (h, tt))
 
 integer_lines : (cs : List Const) (z : ℤ) (t line : ℕ) → LineFits line → LinesFit (loads_integer cs z t line)
 integer_lines cs z t line h = either (is_small z) _ _ (h, tt) (loads_lines cs (IntConst z) t line h)
 
-name_lines : (cs : List Const) (place : Place) (text : List ℕ) (t line : ℕ) → LineFits line → LinesFit (name_code cs place text t line)
-name_lines cs Unset text t line h = (h, tt)
-name_lines cs (LocalPlace n) text t line h = (h, tt)
-name_lines cs (Upvalue u) text t line h = (h, tt)
-name_lines cs (GlobalIn n) text t line h = lines_both (loads cs (StrConst text) t line) _ (loads_lines cs (StrConst text) t line h) (h, tt)
-name_lines cs (GlobalOf u) text t line h =
+name_lines : (cs : List Const) (place : Place) (text : List ℕ) (r t line : ℕ) → LineFits line → LinesFit (name_into cs place text r t line)
+name_lines cs Unset text r t line h = (h, tt)
+name_lines cs (LocalPlace n) text r t line h = (h, tt)
+name_lines cs (Upvalue u) text r t line h = (h, tt)
+name_lines cs (GlobalIn n) text r t line h =
+    either (nat_lt (number_in cs (StrConst text)) 256) _ _ (h, tt) (lines_both (loads cs (StrConst text) t line) _ (loads_lines cs (StrConst text) t line h) (h, tt))
+name_lines cs (GlobalOf u) text r t line h =
     either (nat_lt (number_in cs (StrConst text)) 256) _ _ (h, tt) (h, lines_both (loads cs (StrConst text) (t + 1) line) _ (loads_lines cs (StrConst text) (t + 1) line h) (h, tt))
 
 operator_lines : (op : BinOp) (x y t line : ℕ) → LineFits line → LinesFit (operator_code op x y t line)
@@ -111,6 +115,18 @@ unless_lines : (at : Option ℕ) (xs ys : List Coded) → LinesFit xs → LinesF
 unless_lines None xs ys h k = lines_both xs ys h k
 unless_lines (Some r) xs ys h k = k
 
+key_lines : (s : FieldKey) (code rest : List Coded) → LinesFit code → LinesFit rest → LinesFit (key_code s code ++ rest)
+key_lines evaluated code rest h k = lines_both code rest h k
+key_lines (a_name number) code rest h k = k
+key_lines (an_index n) code rest h k = k
+key_lines (a_register r) code rest h k = k
+
+last_lines : (s : FieldKey) (x t v line : ℕ) → LineFits line → LinesFit (field_store s x t v line ∷ [])
+last_lines evaluated x t v line h = (h, tt)
+last_lines (a_name number) x t v line h = (h, tt)
+last_lines (an_index n) x t v line h = (h, tt)
+last_lines (a_register r) x t v line h = (h, tt)
+
 operands_lines : (s : Second) (at : Option ℕ) (first code : List Coded) (t : ℕ) (by num : (x y : ℕ) → List Coded) → LinesFit first → LinesFit code → ((x y : ℕ) → LinesFit (by x y)) → ((x n : ℕ) → LinesFit (num x n))
     → LinesFit (operands_code s at first code t by num)
 operands_lines s at first code t by num h k g f = unless_lines at first _ h (second s)
@@ -119,6 +135,30 @@ operands_lines s at first code t by num h k g f = unless_lines at first _ h (sec
     second made = lines_both code _ k (g (seat at t) (t + 1))
     second (a_local r) = g (seat at t) r
     second (a_number n) = f (seat at t) n
+
+constant_lines : (op : BinOp) (x n t line : ℕ) → LineFits line → LinesFit (constant_code op x n t line)
+constant_lines Plus x n t line h = (h, (h, tt))
+constant_lines Minus x n t line h = (h, (h, tt))
+constant_lines Times x n t line h = (h, (h, tt))
+constant_lines Modulo x n t line h = (h, (h, tt))
+constant_lines Idiv x n t line h = (h, (h, tt))
+constant_lines Band x n t line h = (h, (h, tt))
+constant_lines Bor x n t line h = (h, (h, tt))
+constant_lines Bxor x n t line h = (h, (h, tt))
+constant_lines Equal x n t line h = (h, (h, (h, (h, tt))))
+constant_lines Ne x n t line h = (h, (h, (h, (h, tt))))
+constant_lines ShiftLeft x n t line h = tt
+constant_lines ShiftRight x n t line h = tt
+constant_lines Join x n t line h = tt
+constant_lines Less x n t line h = tt
+constant_lines AtMost x n t line h = tt
+constant_lines Gt x n t line h = tt
+constant_lines Ge x n t line h = tt
+
+operation_lines : (o : Option ℕ) (op : BinOp) (e d : Exp) (first second : List Coded) (t : ℕ) (con by num : (x y : ℕ) → List Coded) → LinesFit first → LinesFit second → ((x n : ℕ) → LinesFit (con x n)) → ((x y : ℕ) → LinesFit (by x y)) → ((x n : ℕ) → LinesFit (num x n))
+    → LinesFit (operation_by o op e d first second t con by num)
+operation_lines (Some n) op e d first second t con by num h k c g f = unless_lines (local_of e) first _ h (c (seat (local_of e) t) n)
+operation_lines None op e d first second t con by num h k c g f = operands_lines (second_of op d) (first_of (second_of op d) e) first second t by num h k g f
 
 read_lines : (named : Option ℕ) (object key : Exp) (first second : List Coded) (r t line : ℕ) → LinesFit first → LinesFit second → LineFits line → LinesFit (read_code named object key first second r t line)
 read_lines (Some number) object key first second r t line h k fits = unless_lines (local_of object) first _ h (fits, tt)
@@ -162,17 +202,18 @@ module _ (cs : List Const) where
     exp_lines (Str line bytes) t j c w = loads_lines cs (StrConst bytes) t line w.0
     exp_lines (Vararg line) t j c w = (w, tt)
     exp_lines (Function line body) t j c w = (body_line body w.1, tt)
-    exp_lines (Var line name) t j c w = name_lines cs name.place name.text t line w.0
+    exp_lines (Var line name) t j c w = name_lines cs name.place name.text t t line w.0
     exp_lines (Index line o k) t j c w =
         read_lines (name_in cs k) o k (exp_code cs o t j 2) (exp_code cs k (t + 1) (j + made_by o) 2) t t line (exp_lines o t j 2 w.1.0) (exp_lines k (t + 1) (j + made_by o) 2 w.1.1) w.0
     exp_lines (Call line f es) t j c w = lines_both (exp_code cs f t j 2) _ (exp_lines f t j 2 w.1.0) (lines_both (exps_code cs es None (t + 1) (j + made_by f) line) _ (exps_lines es None (t + 1) (j + made_by f) line w.0 w.1.1) (w.0, tt))
     exp_lines (Method line o name es) t j c w =
-        lines_both (exp_code cs o t j 2) _ (exp_lines o t j 2 w.1.0) (lines_both (self_code cs name.text t line) _ (method_lines cs name.text t line w.0)
+        let x = seat (local_of o) t in
+        unless_lines (local_of o) (exp_code cs o t j 2) _ (exp_lines o t j 2 w.1.0) (lines_both (self_code cs name.text x t line) _ (method_lines cs name.text x t line w.0)
         (lines_both (exps_code cs es None (t + 2) (j + made_by o) line) _ (exps_lines es None (t + 2) (j + made_by o) line w.0 w.1.1.1) (w.0, tt)))
-    exp_lines (Unary line op e) t j c w = lines_both (exp_code cs e t j 2) _ (exp_lines e t j 2 w.1) (w.0, tt)
+    exp_lines (Unary line op e) t j c w = unless_lines (local_of e) (exp_code cs e t j 2) _ (exp_lines e t j 2 w.1) (w.0, tt)
     exp_lines (Binary line op e d) t j c w =
-        operands_lines (second_of op d) (first_of (second_of op d) e) (exp_code cs e t j 2) (exp_code cs d (t + 1) (j + made_by e) 2) t (λ x y. operator_code op x y t line) (λ x n. number_code op x n t line)
-        (exp_lines e t j 2 w.1.0) (exp_lines d (t + 1) (j + made_by e) 2 w.1.1) (λ x y. operator_lines op x y t line w.0) (λ x n. number_lines op x n t line w.0)
+        operation_lines (constant_in cs op d) op e d (exp_code cs e t j 2) (exp_code cs d (t + 1) (j + made_by e) 2) t (λ x n. constant_code op x n t line) (λ x y. operator_code op x y t line) (λ x n. number_code op x n t line)
+        (exp_lines e t j 2 w.1.0) (exp_lines d (t + 1) (j + made_by e) 2 w.1.1) (λ x n. constant_lines op x n t line w.0) (λ x y. operator_lines op x y t line w.0) (λ x n. number_lines op x n t line w.0)
     exp_lines (And line e d) t j c w = lines_both (exp_code cs e t j 2) _ (exp_lines e t j 2 w.1.0) (w.0, (w.0, exp_lines d t (j + made_by e) 2 w.1.1))
     exp_lines (Or line e d) t j c w = lines_both (exp_code cs e t j 2) _ (exp_lines e t j 2 w.1.0) (w.0, (w.0, exp_lines d t (j + made_by e) 2 w.1.1))
     exp_lines (Paren line e) t j c w = exp_lines e t j 2 w.1
@@ -189,8 +230,11 @@ module _ (cs : List Const) where
         lines_both (exp_code cs e (t + 1) j (cond (is_last_item e fs) 0 2)) _ (exp_lines e (t + 1) j (cond (is_last_item e fs) 0 2) w.0)
         (lines_both (set_list t (cond (is_last_item e fs) 0 1) items line) _ (set_list_lines t (cond (is_last_item e fs) 0 1) items line h) (fields_lines fs (items + 1) t (j + made_by e) line h w.1))
     fields_lines (MoreFields (Keyed at_line e d) fs) items t j line h w =
-        lines_both (exp_code cs e (t + 1) j 2) _ (exp_lines e (t + 1) j 2 w.1.0) (lines_both (exp_code cs d (t + 2) (j + made_by e) 2) _ (exp_lines d (t + 2) (j + made_by e) 2 w.1.1.0)
-        (w.0, fields_lines fs items t (j + made_by e + made_by d) line h w.1.1.1))
+        let s = field_key cs (is_quiet d) e in
+        lines_both (keyed_store s (local_of d) (exp_code cs e (t + 1) j 2) (exp_code cs d (t + 2) (j + made_by e) 2) t at_line) _
+        (key_lines s (exp_code cs e (t + 1) j 2) _ (exp_lines e (t + 1) j 2 w.1.0)
+        (unless_lines (local_of d) (exp_code cs d (t + 2) (j + made_by e) 2) _ (exp_lines d (t + 2) (j + made_by e) 2 w.1.1.0) (last_lines s t t (seat (local_of d) (t + 2)) at_line w.0)))
+        (fields_lines fs items t (j + made_by e + made_by d) line h w.1.1.1)
 
   -- statements without blocks
 
@@ -216,7 +260,7 @@ module _ (cs : List Const) where
   line_fits (Table line fs) w = w.0
 
   value_lines : (e : Exp) (k : Bool) (ahead t j : ℕ) → ExpIsWritten e → LinesFit (value_test cs e k ahead t j)
-  value_lines e k ahead t j w = lines_both (exp_code cs e t j 2) _ (exp_lines e t j 2 w) (line_fits e w, (line_fits e w, tt))
+  value_lines e k ahead t j w = unless_lines (local_of e) (exp_code cs e t j 2) _ (exp_lines e t j 2 w) (line_fits e w, (line_fits e w, tt))
 
   compared_lines : (op : BinOp) (other : List Coded) (by : Opcode → (swapped wanted : Bool) → List Coded) → LinesFit other → ((o : Opcode) (s w : Bool) → LinesFit (by o s w)) → LinesFit (compared op other by)
   compared_lines Equal other by h g = g Eq false true
@@ -249,9 +293,9 @@ module _ (cs : List Const) where
   test_lines (Binary line op e d) k ahead t j w =
       compared_lines op _ _ (value_lines (Binary line op e d) k ahead t j w)
       (λ o s q. let field = cond q (not k) k in
-      operands_lines (second_of op d) (first_of (second_of op d) e) (exp_code cs e t j 2) (exp_code cs d (t + 1) (j + made_by e) 2) t
-      (λ x y. jump_if o (pick s x y) (pick s y x) field ahead line) (λ x n. jump_if (number_opcode op) x (n + 127) field ahead line)
-      (exp_lines e t j 2 w.1.0) (exp_lines d (t + 1) (j + made_by e) 2 w.1.1) (λ x y. (w.0, (w.0, tt))) (λ x n. (w.0, (w.0, tt))))
+      operation_lines (constant_in cs op d) op e d (exp_code cs e t j 2) (exp_code cs d (t + 1) (j + made_by e) 2) t
+      (λ x n. jump_if EqK x n field ahead line) (λ x y. jump_if o (pick s x y) (pick s y x) field ahead line) (λ x n. jump_if (number_opcode op) x (n + 127) field ahead line)
+      (exp_lines e t j 2 w.1.0) (exp_lines d (t + 1) (j + made_by e) 2 w.1.1) (λ x n. (w.0, (w.0, tt))) (λ x y. (w.0, (w.0, tt))) (λ x n. (w.0, (w.0, tt))))
   test_lines (True line) k ahead t j w = either k _ _ tt (w, tt)
   test_lines (Nil line) k ahead t j w = value_lines (Nil line) k ahead t j w
   test_lines (False line) k ahead t j w = value_lines (False line) k ahead t j w
@@ -272,14 +316,24 @@ module _ (cs : List Const) where
   close_lines : (before after line : ℕ) → LineFits line → LinesFit (close_code before after line)
   close_lines before after line h = either (nat_eq before after) _ _ tt (h, tt)
 
+  closure_lines : (own : Bool) (t j line : ℕ) → LineFits line → LinesFit (closure_code own t j line)
+  closure_lines true t j line h = (h, (h, tt))
+  closure_lines false t j line h = (h, tt)
+
+  waiting_lines : (s : FieldKey) (code : List Coded) → LinesFit code → LinesFit (key_code s code)
+  waiting_lines evaluated code h = h
+  waiting_lines (a_name number) code h = tt
+  waiting_lines (an_index n) code h = tt
+  waiting_lines (a_register r) code h = tt
+
   target_lines : (e : Exp) (r j : ℕ) → ExpIsWritten e → LinesFit (target_code cs e r j)
   target_lines (Var line name) r j w = by name.place
     where
       by : (place : Place) → LinesFit (name_target cs place name.text r line)
-      by (GlobalIn n) = (w.0, loads_lines cs (StrConst name.text) (r + 1) line w.0)
-      by (GlobalOf u) = (w.0, loads_lines cs (StrConst name.text) (r + 1) line w.0)
+      by (GlobalIn n) = (w.0, waiting_lines (text_key cs name.text) _ (loads_lines cs (StrConst name.text) (r + 1) line w.0))
+      by (GlobalOf u) = (w.0, waiting_lines (text_key cs name.text) _ (loads_lines cs (StrConst name.text) (r + 1) line w.0))
       by _ = tt
-  target_lines (Index line o k) r j w = lines_both (exp_code cs o r j 2) _ (exp_lines o r j 2 w.1.0) (exp_lines k (r + 1) (j + made_by o) 2 w.1.1)
+  target_lines (Index line o k) r j w = lines_both (exp_code cs o r j 2) _ (exp_lines o r j 2 w.1.0) (waiting_lines (waiting_key cs k) _ (exp_lines k (r + 1) (j + made_by o) 2 w.1.1))
   target_lines _ r j w = tt
 
   targets_lines : (es : Exps) (r j : ℕ) → ExpsAreWritten es → LinesFit (targets_code cs es r j)
@@ -289,13 +343,13 @@ module _ (cs : List Const) where
   store_lines : (e : Exp) (r v : ℕ) → ExpIsWritten e → LinesFit (store_code cs e r v)
   store_lines (Var line name) r v w = by name.place
     where
-      by : (place : Place) → LinesFit (name_store cs place r v line)
+      by : (place : Place) → LinesFit (name_store cs place name.text r v line)
       by Unset = tt
       by (LocalPlace n) = (w.0, tt)
       by (Upvalue u) = (w.0, tt)
-      by (GlobalIn n) = (w.0, tt)
-      by (GlobalOf u) = (w.0, tt)
-  store_lines (Index line o k) r v w = (w.0, tt)
+      by (GlobalIn n) = last_lines (text_key cs name.text) r r v line w.0
+      by (GlobalOf u) = last_lines (text_key cs name.text) r r v line w.0
+  store_lines (Index line o k) r v w = last_lines (waiting_key cs k) r r v line w.0
   store_lines _ r v w = tt
 
   stores_lines : (es : Exps) (r v : ℕ) → ExpsAreWritten es → LinesFit (stores_code cs es r v)
@@ -303,11 +357,19 @@ module _ (cs : List Const) where
   stores_lines (MoreExps e es) r v w = lines_both (stores_code cs es (r + 2) (v + 1)) _ (stores_lines es (r + 2) (v + 1) w.1) (store_lines e r v w.0)
 
   direct_lines : (e : Exp) (r t j : ℕ) → ExpIsWritten e → LinesFit (direct_code cs e r t j)
+  direct_lines (Nil line) r t j w = (w, tt)
+  direct_lines (True line) r t j w = (w, tt)
+  direct_lines (False line) r t j w = (w, tt)
+  direct_lines (Int line z) r t j w = integer_lines cs z r line w.0
+  direct_lines (Str line bytes) r t j w = loads_lines cs (StrConst bytes) r line w.0
+  direct_lines (Var line name) r t j w = name_lines cs name.place name.text r t line w.0
+  direct_lines (Paren line e) r t j w = direct_lines e r t j w.1
+  direct_lines (Unary line op e) r t j w = unless_lines (local_of e) (exp_code cs e t j 2) _ (exp_lines e t j 2 w.1) (w.0, tt)
   direct_lines (Index line o k) r t j w =
       read_lines (name_in cs k) o k (exp_code cs o t j 2) (exp_code cs k (t + 1) (j + made_by o) 2) r t line (exp_lines o t j 2 w.1.0) (exp_lines k (t + 1) (j + made_by o) 2 w.1.1) w.0
   direct_lines (Binary line op e d) r t j w =
-      operands_lines (second_of op d) (first_of (second_of op d) e) (exp_code cs e t j 2) (exp_code cs d (t + 1) (j + made_by e) 2) t (λ x y. operator_code op x y r line) (λ x n. number_code op x n r line)
-      (exp_lines e t j 2 w.1.0) (exp_lines d (t + 1) (j + made_by e) 2 w.1.1) (λ x y. operator_lines op x y r line w.0) (λ x n. number_lines op x n r line w.0)
+      operation_lines (constant_in cs op d) op e d (exp_code cs e t j 2) (exp_code cs d (t + 1) (j + made_by e) 2) t (λ x n. constant_code op x n r line) (λ x y. operator_code op x y r line) (λ x n. number_code op x n r line)
+      (exp_lines e t j 2 w.1.0) (exp_lines d (t + 1) (j + made_by e) 2 w.1.1) (λ x n. constant_lines op x n r line w.0) (λ x y. operator_lines op x y r line w.0) (λ x n. number_lines op x n r line w.0)
   direct_lines _ r t j w = tt
 
   first_lines : (es : Exps) (r t j : ℕ) → ExpsAreWritten es → LinesFit (first_direct cs es r t j)
@@ -321,25 +383,19 @@ module _ (cs : List Const) where
 
   field_lines : (x e : Exp) (t j after : ℕ) → ExpIsWritten x → ExpIsWritten e → LinesFit (field_code cs x e t j after)
   field_lines (Index line o k) e t j after w we =
-      unless_lines (object_of s (local_of e) o) (exp_code cs o t j 2) _ (exp_lines o t j 2 w.1.0)
+      unless_lines (object_of s (is_quiet e) o) (exp_code cs o t j 2) _ (exp_lines o t j 2 w.1.0)
       (key_lines s (exp_code cs k (t + 1) (j + made_by o) 2) _ (exp_lines k (t + 1) (j + made_by o) 2 w.1.1)
-      (unless_lines (local_of e) (exp_code cs e (t + 2) after 2) _ (exp_lines e (t + 2) after 2 we) (last_lines s (seat (object_of s (local_of e) o) t) (seat (local_of e) (t + 2)))))
+      (unless_lines (local_of e) (exp_code cs e (t + 2) after 2) _ (exp_lines e (t + 2) after 2 we) (last_lines s (seat (object_of s (is_quiet e) o) t) t (seat (local_of e) (t + 2)) line w.0)))
     where
       s : FieldKey
-      s = field_key cs (local_of e) k
-
-      key_lines : (s : FieldKey) (code rest : List Coded) → LinesFit code → LinesFit rest → LinesFit (key_code s code ++ rest)
-      key_lines evaluated code rest h k = lines_both code rest h k
-      key_lines (a_name number) code rest h k = k
-      key_lines (an_index n) code rest h k = k
-      key_lines (a_register r) code rest h k = k
-
-      last_lines : (s : FieldKey) (y v : ℕ) → LinesFit (field_store s y t v line ∷ [])
-      last_lines evaluated y v = (w.0, tt)
-      last_lines (a_name number) y v = (w.0, tt)
-      last_lines (an_index n) y v = (w.0, tt)
-      last_lines (a_register r) y v = (w.0, tt)
+      s = field_key cs (is_quiet e) k
   field_lines _ e t j after w we = tt
+
+  -- a local that goes to a global name
+  local_line : (place : Place) (number v line : ℕ) (x : Coded) → global_store place number v line ≡ Some x → LineFits line → LineFits x.1
+  local_line (GlobalIn n) number v line x h fits = subst (λ z. LineFits z.1) (some_store (with_abc SetField n number v line) x h) fits
+  local_line (GlobalOf u) number v line x h fits = subst (λ z. LineFits z.1) (some_store (with_abc SetTabUp u number v line) x h) fits
+  local_line _ number v line x h fits = absurd (cc)
 
   first_field_lines : (ts es : Exps) (t j after : ℕ) → ExpsAreWritten ts → ExpsAreWritten es → LinesFit (first_field cs ts es t j after)
   first_field_lines EndExps es t j after wt we = tt
@@ -354,7 +410,14 @@ module _ (cs : List Const) where
         where
           by_field : (b : Bool) → LinesFit (store_by cs b ts es t j line)
           by_field true = first_field_lines ts es t j (j + made_in ts) wt we
-          by_field false = stored_lines ts es t j line h wt we
+          by_field false = by_store (single_store cs ts es) refl
+            where
+              by_store : (o : Option Coded) → single_store cs ts es ≡ o → LinesFit (kept_code cs o ts es t j line)
+              by_store None is = stored_lines ts es t j line h wt we
+              by_store (Some x) is =
+                  let form = single_store_is cs ts es x is in
+                  let written = subst ExpsAreWritten form.target wt in
+                  (local_line form.name.place (number_in cs (StrConst form.name.text)) form.local form.line x form.store written.0.0, tt)
       by (Some r) = first_lines es r t (j + made_in ts) we
 
   values_lines : (es : Exps) (t j line back : ℕ) → LineFits line → ExpsAreWritten es → LinesFit (values_last cs es t j line back)
@@ -366,7 +429,8 @@ module _ (cs : List Const) where
       lines_both (exp_code cs f t j 2) _ (exp_lines f t j 2 c.1.0) (lines_both (exps_code cs es None (t + 1) (j + made_by f) at_line) _ (exps_lines es None (t + 1) (j + made_by f) at_line c.0 c.1.1) (c.0, (c.0, tt)))
   return_lines false (MoreExps (Method at_line o name es) EndExps) t j line back h w =
       let c = w.0 in
-      lines_both (exp_code cs o t j 2) _ (exp_lines o t j 2 c.1.0) (lines_both (self_code cs name.text t at_line) _ (method_lines cs name.text t at_line c.0)
+      let x = seat (local_of o) t in
+      unless_lines (local_of o) (exp_code cs o t j 2) _ (exp_lines o t j 2 c.1.0) (lines_both (self_code cs name.text x t at_line) _ (method_lines cs name.text x t at_line c.0)
       (lines_both (exps_code cs es None (t + 2) (j + made_by o) at_line) _ (exps_lines es None (t + 2) (j + made_by o) at_line c.0 c.1.1.1) (c.0, (c.0, tt))))
   return_lines closing es t j line back h w = values_lines es t j line back h w
 
@@ -375,7 +439,7 @@ module _ (cs : List Const) where
       pub stat_lines : (s : Stat) (closing : Bool) (t j pc : ℕ) (reach : Reach) → StatIsWritten s → LinesFit (stat_code cs back s closing t j pc reach)
       stat_lines (Empty line) closing t j pc reach w = tt
       stat_lines (Local line names es) closing t j pc reach w = lines_both (exps_code cs es (Some (length names)) t j line) _ (exps_lines es (Some (length names)) t j line w.0 w.1.1) (marks_lines names t w.1.0)
-      stat_lines (LocalFunction line name body) closing t j pc reach w = (body_line body w.1.1, (body_line body w.1.1, tt))
+      stat_lines (LocalFunction line name body) closing t j pc reach w = closure_lines (captures_local t (upvalues_of body)) t j (line_of_body body) (body_line body w.1.1)
       stat_lines (Assign line ts es) closing t j pc reach w = assign_lines ts es t j line w.0 w.1.0 w.1.1
       stat_lines (CallStat line e) closing t j pc reach w = exp_lines e t j 1 w.1
       stat_lines (Do line block) closing t j pc reach w = block_lines block closing t t j pc reach w.1
@@ -387,8 +451,9 @@ module _ (cs : List Const) where
       stat_lines (Repeat line block e) closing t j pc reach w =
           let within = levels_in block t in
           let inner = in_loop reach (pc + stat_size cs back (Repeat line block e) closing t j) t in
-          let close = close_code t within (line_of_end block) in
-          let closes = close_lines t within (line_of_end block) (block_line block w.1.0) in
+          let low = closed_until block e t in
+          let close = close_code t low (line_of_end block) in
+          let closes = close_lines t low (line_of_end block) (block_line block w.1.0) in
           lines_both (open_code cs back block closing t j pc inner) _ (open_lines block closing t j pc inner w.1.0)
           (lines_both (test_code cs e false (length close + 1) within (j + made_in_block block)) _ (test_lines e false (length close + 1) within (j + made_in_block block) w.1.1) (lines_both close _ closes (w.0, closes)))
       stat_lines (If line arms) closing t j pc reach w = arms_lines arms [] closing t j pc line reach w.0 w.1 tt

@@ -1,31 +1,35 @@
 -- The code of each condition is a piece, where its jumps lead to a place that may be landed on.
-use Rattle.std.proofs.Common.{◌≡◌, ℕ, ◌+◌, ◌<◌, ◌≤◌, ◌^◌, lit<, Bool, true, false, not, List, ◌++◌, length, Option, Some, None, refl, arith, length-append}
+use Rattle.std.proofs.Common.{◌≡◌, ℕ, ◌+◌, ◌<◌, ◌≤◌, ◌^◌, lit<, Bool, true, false, not, List, ◌++◌, slice_get, length, Option, Some, None, refl, arith, length-append}
 use Rattle.tree_core.specs.declared.operator.UnOp.{UnOp}
 use Rattle.tree_core.specs.declared.operator.UnOp.TheVariants.{Neg, BitNot, Not as Negation, Len as Length}
 use Rattle.tree_core.specs.declared.operator.BinOp.{BinOp}
 use Rattle.tree_core.specs.declared.operator.BinOp.TheVariants.{Add as Plus, Sub as Minus, Mul as Times, Mod as Modulo, Idiv, Band, Bor, Bxor, Shl as ShiftLeft, Shr as ShiftRight, Concat as Join, Eq as Equal, Ne, Lt as Less, Le as AtMost, Gt, Ge}
 use Rattle.tree_core.specs.Tree.{Exp, Nil, True, False, Int, Str, Vararg, Function, Var, Index, Call, Method, Unary, Binary, And, Or, Paren, Table}
 use Rattle.code_core.specs.declared.opcode.Opcode.{Opcode}
-use Rattle.code_core.specs.declared.opcode.Opcode.TheVariants.{Jmp, Test, Eq, Lt, Le}
+use Rattle.code_core.specs.declared.opcode.Opcode.TheVariants.{Jmp, Test, Eq, Lt, Le, EqK}
 use Rattle.code_core.specs.declared.proto.Const.{Const}
 use Rattle.code_core.specs.Prototype.{Prototype, Prototypes}
 use Rattle.code_of.specs.Coded.{Coded}
-use Rattle.code_of.specs.Constants.{of_exp}
+use Rattle.code_of.specs.Constants.{with_any, of_exp}
+use Rattle.code_of.specs.ConstantOperands.{constant_of}
+use Rattle.code_of.specs.Operations.{constant_in, operation_by}
+use Rattle.code_of.proofs.Operations.{constant_is}
 use Rattle.code_of.specs.Expressions.{made_by, exp_code}
 use Rattle.code_of.specs.Conditions.{jump_if, pick, line_of, value_test, test_code}
-use Rattle.code_of.specs.Operands.{greatest, numeral_of, Second, a_number, a_local, made, second_of, first_of, operands_code}
+use Rattle.code_of.specs.Operands.{local_of, greatest, numeral_of, Second, a_number, a_local, made, second_of, first_of, seat, unless, operands_code}
 use Rattle.code_of.specs.Operators.{number_opcode}
 use Rattle.code_of.proofs.Operands.{numeral_form, second_number, second_local, first_local}
 use Rattle.code_of.specs.CodeOf.{from_exp}
 use Rattle.code_checked.specs.Near.{ExpIsNear}
 use Rattle.code_checked.proofs.Pieces.{closed, Land, Piece, both, nothing}
 use Rattle.code_checked.proofs.Words.{IsFirst, first_test, first_eq, first_lt, first_le, first_eq_i, first_lt_i, first_le_i, first_gt_i, first_ge_i}
-use Rattle.code_checked.proofs.Found.{Grows, grows_then}
+use Rattle.code_checked.proofs.Found.{Grows, grows_then, grows_any}
+use Rattle.code_checked.proofs.ConstantOperators.{equal_over}
 use Rattle.code_checked.proofs.Loads.{Whole, Functions}
 use Rattle.code_checked.proofs.Seams.{ending}
 use Rattle.code_checked.proofs.Jumping.{over_piece, test_over}
 use Rattle.code_checked.proofs.Growing.{grows_exp, after_exp}
-use Rattle.code_checked.proofs.ExpForms.{exp_register, local_near}
+use Rattle.code_checked.proofs.ExpForms.{exp_register, local_near, seat_near, standing_piece}
 use Rattle.code_checked.proofs.Exps.{one_law}
 
 picked : (second : Bool) (x y : ℕ) → x < 2 ^ 8 → y < 2 ^ 8 → pick second x y < 2 ^ 8
@@ -44,11 +48,12 @@ module _ (p : Prototype) (W : Whole p) (source : Option (List ℕ)) where
 
   value_law : (e : Exp) (H : Type 0) (k : Bool) (ahead t j pc : ℕ) → Leads (λ ahead. value_test p.own.constants e k ahead t j) e H ahead t j pc
   value_law e H k ahead t j pc size q cs rest near le g fs short place to =
-      let value = exp_code p.own.constants e t j 2 in
-      let sum = length-append value (jump_if Test t 0 (not k) ahead (line_of e)) in
+      let value = unless (local_of e) (exp_code p.own.constants e t j 2) in
+      let x = seat (local_of e) t in
+      let sum = length-append value (jump_if Test x 0 (not k) ahead (line_of e)) in
       let r = exp_register source p e size t near in
-      both p (one_law p W source e H t j pc size cs rest near le g fs)
-      (test_over p Test (first_test p) t 0 (not k) ahead (pc + length value) q (line_of e) (omega (arith, r)) (lit< tt) (λ h. let f = short h in omega (arith, f)) (omega (arith, place, sum)) to)
+      both p (standing_piece p W source H e (one_law p W source e H) t j pc size cs rest near le g fs)
+      (test_over p Test (first_test p) x 0 (not k) ahead (pc + length value) q (line_of e) (seat_near source p e size t (omega (arith, r)) near) (lit< tt) (λ h. let f = short h in omega (arith, f)) (omega (arith, place, sum)) to)
 
   not_law : (line : ℕ) (op : UnOp) (e : Exp) → TestLaw e → TestLaw (Unary line op e)
   not_law line Negation e law H k ahead t j pc size q cs rest near le g fs short place to = law H (not k) ahead t j pc size q cs rest near.1 le g fs short place to
@@ -103,13 +108,20 @@ module _ (p : Prototype) (W : Whole p) (source : Option (List ℕ)) where
     abbrev by_number : (field : Bool) → (ahead x n : ℕ) → List Coded
     by_number field ahead x n = jump_if (number_opcode op) x (n + 127) field ahead line
 
+    abbrev by_constant : (field : Bool) → (ahead x n : ℕ) → List Coded
+    by_constant field ahead x n = jump_if EqK x n field ahead line
+
+    abbrev operation_test : Option ℕ → Opcode → (swapped field : Bool) → (ahead t j : ℕ) → List Coded
+    operation_test o opcode swapped field ahead t j =
+        operation_by o op e d (exp_code p.own.constants e t j 2) (exp_code p.own.constants d (t + 1) (j + made_by e) 2) t (by_constant field ahead) (by_registers opcode swapped field ahead) (by_number field ahead)
+
     abbrev compared_code : Second → Option ℕ → Opcode → (swapped field : Bool) → (ahead t j : ℕ) → List Coded
     compared_code s at opcode swapped field ahead t j =
         operands_code s at (exp_code p.own.constants e t j 2) (exp_code p.own.constants d (t + 1) (j + made_by e) 2) t (by_registers opcode swapped field ahead) (by_number field ahead)
 
     compare_law : (opcode : Opcode) → IsFirst p opcode Jmp → IsFirst p (number_opcode op) Jmp → (swapped field : Bool) → (H : Type 0) (ahead t j pc : ℕ)
-        → Leads (λ ahead. compared_code (second_of op d) (first_of (second_of op d) e) opcode swapped field ahead t j) (Binary line op e d) H ahead t j pc
-    compare_law opcode is_first number_first swapped field H ahead t j pc size q cs rest near le g fs short place to = by (second_of op d) (first_of (second_of op d) e) refl refl short place
+        → Leads (λ ahead. operation_test (constant_in p.own.constants op d) opcode swapped field ahead t j) (Binary line op e d) H ahead t j pc
+    compare_law opcode is_first number_first swapped field H ahead t j pc size q cs rest near le g fs short place to = operation (constant_in p.own.constants op d) refl short place
       where
         first : List Coded
         first = exp_code p.own.constants e t j 2
@@ -120,8 +132,13 @@ module _ (p : Prototype) (W : Whole p) (source : Option (List ℕ)) where
         tf : t + 1 < 2 ^ 8
         tf = let r = near.0 in omega (arith, r)
 
+        made_so_far : List Const
+        made_so_far = with_any (constant_of op d) (of_exp e cs)
+
         first_piece : Piece p H closed closed pc first
-        first_piece = one_law p W source e H t j pc size cs (from_exp source d rest) near.1.0 le (grows_then (of_exp e cs) (of_exp d (of_exp e cs)) p.own.constants (grows_exp d (of_exp e cs)) g) fs
+        first_piece =
+            one_law p W source e H t j pc size cs (from_exp source d rest) near.1.0 le
+            (grows_then (of_exp e cs) made_so_far p.own.constants (grows_any (constant_of op d) (of_exp e cs)) (grows_then made_so_far (of_exp d made_so_far) p.own.constants (grows_exp d made_so_far) g)) fs
 
         compared : (x y at : ℕ) → x < 2 ^ 8 → y < 2 ^ 8 → (H → ahead < 2 ^ 24) → q ≡ at + 2 + ahead → Piece p H closed closed at (by_registers opcode swapped field ahead x y)
         compared x y at xf yf few is = test_over p opcode is_first (pick swapped x y) (pick swapped y x) field ahead at q line (picked swapped x y xf yf) (picked swapped y x yf xf) few is to
@@ -137,7 +154,7 @@ module _ (p : Prototype) (W : Whole p) (source : Option (List ℕ)) where
             let a = length-append first (second ++ last) in
             let b = length-append second last in
             both p first_piece
-            (both p (one_law p W source d H (t + 1) (j + made_by e) (pc + length first) size (of_exp e cs) rest near.1.1 (omega (arith, le)) g (after_exp source p e j (from_exp source d rest) fs))
+            (both p (one_law p W source d H (t + 1) (j + made_by e) (pc + length first) size made_so_far rest near.1.1 (omega (arith, le)) g (after_exp source p e j (from_exp source d rest) fs))
             (compared t (t + 1) (pc + length first + length second) (omega (arith, tf)) tf (λ h. let f = short h in omega (arith, f)) (omega (arith, place, a, b))))
         by (a_local r) None is at_is short place =
             let a = length-append first (by_registers opcode swapped field ahead t r) in
@@ -149,6 +166,24 @@ module _ (p : Prototype) (W : Whole p) (source : Option (List ℕ)) where
             both p first_piece (numbered t n (pc + length first) (second_number op d n is) (omega (arith, tf)) (λ h. let f = short h in omega (arith, f)) (omega (arith, place, a)))
         by (a_number n) (Some x) is at_is short place =
             numbered x n pc (second_number op d n is) (local_near source p e size t x (first_local (a_number n) e x at_is) near.1.0) (λ h. let f = short h in omega (arith, f)) (omega (arith, place))
+
+        equalled : (x n at : ℕ) → constant_in p.own.constants op d ≡ Some n → x < 2 ^ 8 → (H → ahead < 2 ^ 24) → q ≡ at + 2 + ahead → Piece p H closed closed at (by_constant field ahead x n)
+        equalled x n at is xf few place_is =
+            let f = constant_is p.own.constants op d n is in
+            let below = f.short in
+            equal_over p x n field ahead at q line f.value xf (omega (arith, below)) few f.there place_is to
+
+        beside : (n : ℕ) (at : Option ℕ) → constant_in p.own.constants op d ≡ Some n → local_of e ≡ at → (H → length (unless at first ++ by_constant field ahead (seat at t) n) + ahead < 2 ^ 24)
+            → q ≡ pc + length (unless at first ++ by_constant field ahead (seat at t) n) + ahead → Piece p H closed closed pc (unless at first ++ by_constant field ahead (seat at t) n)
+        beside n None is at_is short place =
+            let a = length-append first (by_constant field ahead t n) in
+            both p first_piece (equalled t n (pc + length first) is (omega (arith, tf)) (λ h. let f = short h in omega (arith, f)) (omega (arith, place, a)))
+        beside n (Some x) is at_is short place = equalled x n pc is (local_near source p e size t x at_is near.1.0) (λ h. let f = short h in omega (arith, f)) (omega (arith, place))
+
+        operation : (o : Option ℕ) → constant_in p.own.constants op d ≡ o → (H → length (operation_test o opcode swapped field ahead t j) + ahead < 2 ^ 24) → q ≡ pc + length (operation_test o opcode swapped field ahead t j) + ahead
+            → Piece p H closed closed pc (operation_test o opcode swapped field ahead t j)
+        operation (Some n) is short place = beside n (local_of e) is refl short place
+        operation None is short place = by (second_of op d) (first_of (second_of op d) e) refl refl short place
 
   binary_law : (line : ℕ) (op : BinOp) (e d : Exp) → TestLaw (Binary line op e d)
   binary_law line Equal e d H k ahead t j pc = compare_law line Equal e d Eq (first_eq p) (first_eq_i p) false (not k) H ahead t j pc

@@ -1,15 +1,18 @@
 -- The constants of a tree fit, where what it writes does.
-use Rattle.std.proofs.Common.{◌≡◌, ℕ, Bool, true, false, cond, ◌&&◌, List, [], ◌∷◌, refl, ap₂}
+use Rattle.std.proofs.Common.{◌≡◌, ℕ, Bool, true, false, cond, ◌&&◌, List, [], ◌∷◌, Option, Some, None, refl, sym, ap, ap₂, subst}
 use Rattle.std.specs.Prelude.{ℤ}
 use Rattle.std.specs.List.{list_all}
 use Rattle.tree_core.specs.declared.name.Place.{Place}
 use Rattle.tree_core.specs.declared.name.Place.TheVariants.{Unset, Upvalue, GlobalIn, GlobalOf}
 use Rattle.tree_core.specs.declared.name.Place.TheVariants.{Local as LocalPlace}
+use Rattle.tree_core.specs.declared.operator.BinOp.{BinOp}
 use Rattle.tree_core.specs.Tree.{Block, Falls, Returns, Stats, EndStats, MoreStats, Stat, Empty, Local, LocalFunction, Assign, CallStat, Do, While, Repeat, If, IfElse, NumFor, NumForStep, GenFor, Label, Goto, Break, Arms, EndArms, MoreArms, Exp, Nil, True, False, Int, Str, Vararg, Function, Var, Index, Call, Method, Unary, Binary, And, Or, Paren, Table, Exps, EndExps, MoreExps, Fields, EndFields, MoreFields, Item, Keyed}
 use Rattle.code_core.specs.declared.proto.Const.{Const}
-use Rattle.code_core.specs.declared.proto.Const.TheVariants.{Int as IntConst, Str as StrConst}
+use Rattle.code_core.specs.declared.proto.Const.TheVariants.{Nil as NilConst, False as FalseConst, True as TrueConst, Int as IntConst, Str as StrConst}
+use Rattle.code_of.specs.ConstantOperands.{any_constant, constant_of}
+use Rattle.code_of.proofs.Operations.{operand_form, operand_literal}
 use Rattle.code_core.specs.Writable.{constant_fits, signed_fits}
-use Rattle.code_of.specs.Constants.{is_small, same_constant, with_constant, of_name, of_exp, of_exps, of_fields, of_stat, of_arms, of_stats, of_block}
+use Rattle.code_of.specs.Constants.{is_small, same_constant, with_constant, with_any, of_name, of_exp, of_exps, of_fields, of_stat, of_arms, of_stats, of_block}
 use Rattle.code_checked.specs.Written.{TextFits, ExpIsWritten, ExpsAreWritten, FieldsAreWritten, StatIsWritten, ArmsAreWritten, StatsAreWritten, BlockIsWritten}
 
 abbrev pub AllFit : List Const → Type 0
@@ -39,6 +42,26 @@ name_fits_in (Upvalue u) text cs fits h = h
 name_fits_in (GlobalIn n) text cs fits h = with_fits (StrConst text) cs fits h
 name_fits_in (GlobalOf u) text cs fits h = with_fits (StrConst text) cs fits h
 
+-- a constant that is an operand is written out
+
+written_fits : (x y : Const) → Some x ≡ Some y → constant_fits x ≡ true → constant_fits y ≡ true
+written_fits x y e h = subst (λ c. constant_fits c ≡ true) (ap (λ o. elim o as (λ _. Const) [ None ↦ x | Some k ↦ k ]) e) h
+
+literal_fits : (d : Exp) (x : Const) → any_constant d ≡ Some x → ExpIsWritten d → constant_fits x ≡ true
+literal_fits (Nil line) x h w = written_fits NilConst x h refl
+literal_fits (True line) x h w = written_fits TrueConst x h refl
+literal_fits (False line) x h w = written_fits FalseConst x h refl
+literal_fits (Int line z) x h w = written_fits (IntConst z) x h w.1
+literal_fits (Str line bytes) x h w = written_fits (StrConst bytes) x h w.1
+literal_fits _ x h w = absurd (cc)
+
+operand_fits : (op : BinOp) (d : Exp) (cs : List Const) → ExpIsWritten d → AllFit cs → AllFit (with_any (constant_of op d) cs)
+operand_fits op d cs w h = by (constant_of op d) refl
+  where
+    by : (o : Option Const) → constant_of op d ≡ o → AllFit (with_any o cs)
+    by None is = h
+    by (Some x) is = with_fits x cs (literal_fits d x (operand_literal op d x (operand_form op d x is)) w) h
+
 mutual
   pub exp_fits : (x : Exp) (cs : List Const) → ExpIsWritten x → AllFit cs → AllFit (of_exp x cs)
   exp_fits (Nil line) cs w h = h
@@ -53,7 +76,7 @@ mutual
   exp_fits (Call line f es) cs w h = exps_fits es (of_exp f cs) w.1.1 (exp_fits f cs w.1.0 h)
   exp_fits (Method line object name es) cs w h = exps_fits es (with_constant (StrConst name.text) (of_exp object cs)) w.1.1.1 (with_fits (StrConst name.text) (of_exp object cs) w.1.1.0 (exp_fits object cs w.1.0 h))
   exp_fits (Unary line op e) cs w h = exp_fits e cs w.1 h
-  exp_fits (Binary line op e d) cs w h = exp_fits d (of_exp e cs) w.1.1 (exp_fits e cs w.1.0 h)
+  exp_fits (Binary line op e d) cs w h = exp_fits d (with_any (constant_of op d) (of_exp e cs)) w.1.1 (operand_fits op d (of_exp e cs) w.1.1 (exp_fits e cs w.1.0 h))
   exp_fits (And line e d) cs w h = exp_fits d (of_exp e cs) w.1.1 (exp_fits e cs w.1.0 h)
   exp_fits (Or line e d) cs w h = exp_fits d (of_exp e cs) w.1.1 (exp_fits e cs w.1.0 h)
   exp_fits (Paren line e) cs w h = exp_fits e cs w.1 h

@@ -8,30 +8,34 @@ use Rattle.tree_core.specs.declared.name.Place.TheVariants.{Unset, Upvalue, Glob
 use Rattle.tree_core.specs.Tree.{Body, BodyOf, Exp, Nil, True, False, Int, Str, Vararg, Function, Var, Index, Call, Method, Unary, Binary, And, Or, Paren, Table, Exps, EndExps, MoreExps, Fields, EndFields, MoreFields, Field, Item, Keyed}
 use Rattle.tree_core.specs.declared.operator.UnOp.{UnOp}
 use Rattle.tree_core.specs.declared.operator.BinOp.{BinOp}
-use Rattle.code_core.specs.declared.opcode.Opcode.TheVariants.{GetTable, GetI, GetField, SetList, SetTable, ExtraArg}
+use Rattle.code_core.specs.declared.opcode.Opcode.TheVariants.{GetTable, GetI, GetField, SetList, ExtraArg}
 use Rattle.code_core.specs.declared.proto.Const.{Const}
 use Rattle.code_core.specs.declared.proto.Const.TheVariants.{Str as StrConst}
 use Rattle.code_core.specs.Prototype.{Prototype, Prototypes}
 use Rattle.code_of.specs.Coded.{Coded, with_abc}
-use Rattle.code_of.specs.Constants.{with_constant, of_exp, of_exps, of_fields}
+use Rattle.code_of.specs.Constants.{with_constant, with_any, of_exp, of_exps, of_fields}
 use Rattle.code_of.specs.Expressions.{made_by, count, is_open, ends_open, list_field, one_less, nils_code, set_list, exp_code, exps_code, fields_code, is_last_item}
 use Rattle.code_of.specs.Parts.{direct_code}
 use Rattle.code_of.specs.CodeOf.{parts_of, from_exp, from_exps, from_fields, from_body}
 use Rattle.code_of.specs.Operands.{local_at, local_of, Second, a_number, a_local, made, second_of, key_operand, first_of, seat, unless, operands_code}
-use Rattle.code_of.specs.Stores.{name_in}
+use Rattle.code_of.specs.Stores.{name_in, is_quiet, field_key, keyed_store}
 use Rattle.code_of.specs.FieldReads.{read_code}
 use Rattle.code_of.proofs.Stores.{IsName, name_is}
 use Rattle.code_of.specs.Operators.{operator_code, number_code}
+use Rattle.code_of.specs.ConstantOperands.{constant_of}
+use Rattle.code_of.specs.Operations.{constant_in, constant_code, operation_code}
+use Rattle.code_of.proofs.Operations.{IsOperand, constant_is, operand_form}
 use Rattle.code_of.proofs.Operands.{some_is, Stands, second_number, operator_stands, key_stands, first_local}
 use Rattle.code_checked.specs.Near.{IsRegister, NameIsNear, ExpIsNear, ExpsAreNear, FieldsAreNear}
 use Rattle.code_checked.proofs.Pieces.{closed, listed, Piece, both, nothing}
 use Rattle.code_checked.proofs.Words.{simple, simple_get_table, simple_get_i}
-use Rattle.code_checked.proofs.Found.{Grows, grows_then, grows_with, is_in}
+use Rattle.code_checked.proofs.Found.{Grows, grows_none, grows_then, grows_with, grows_any, is_in}
 use Rattle.code_of.proofs.Constants.{same_text}
-use Rattle.code_checked.proofs.Loads.{Whole, Functions, closure_piece, set_table_piece, method_piece, get_name_piece}
+use Rattle.code_checked.proofs.Loads.{Whole, Functions, closure_piece, method_piece, get_name_piece}
 use Rattle.code_checked.proofs.Seams.{alike}
 use Rattle.code_checked.proofs.Calls.{call_piece, list_piece}
 use Rattle.code_checked.proofs.Operators.{prefix_piece, operator_piece, number_piece}
+use Rattle.code_checked.proofs.ConstantOperators.{constant_piece}
 use Rattle.code_checked.proofs.Lists.{list_at, mark_of, open_mark, gives_at, same_either, list_at_some, takes_list_field, field_below, HaveRoom, room_next, room_field, nils_piece}
 use Rattle.code_checked.proofs.Growing.{grows_exp, grows_exps, grows_fields, after_exp}
 
@@ -87,6 +91,14 @@ local_near source p (And line left right) size t r e h = absurd (cc)
 local_near source p (Or line left right) size t r e h = absurd (cc)
 local_near source p (Table line fs) size t r e h = absurd (cc)
 
+-- the register in which an operand stands that is alone
+pub seat_near : (source : Option (List ℕ)) (p : Prototype) (e : Exp) (size t : ℕ) → t < 2 ^ 8 → ExpIsNear source p e size t → seat (local_of e) t < 2 ^ 8
+seat_near source p e size t fits near = by (local_of e) refl
+  where
+    by : (at : Option ℕ) → local_of e ≡ at → seat at t < 2 ^ 8
+    by None is = fits
+    by (Some x) is = local_near source p e size t x is near
+
 -- the items of a constructor that are stored by their number
 abbrev pub positional : Fields → ℕ
 positional EndFields = 0
@@ -113,13 +125,11 @@ positional_below cs (MoreFields (Item e) fs) items t j line =
     let d = positional_below cs fs (items + 1) t (j + made_by e) line in
     omega (arith, a, b, c, d)
 positional_below cs (MoreFields (Keyed at_line e d) fs) items t j line =
-    let first = exp_code cs e (t + 1) j 2 in
-    let second = exp_code cs d (t + 2) (j + made_by e) 2 in
+    let store = keyed_store (field_key cs (is_quiet d) e) (local_of d) (exp_code cs e (t + 1) j 2) (exp_code cs d (t + 2) (j + made_by e) 2) t at_line in
     let rest = fields_code cs fs items t (j + made_by e + made_by d) line in
-    let a = length-append first (second ++ (with_abc SetTable t (t + 1) (t + 2) at_line ∷ rest)) in
-    let b = length-append second (with_abc SetTable t (t + 1) (t + 2) at_line ∷ rest) in
+    let a = length-append store rest in
     let c = positional_below cs fs items t (j + made_by e + made_by d) line in
-    omega (arith, a, b, c)
+    omega (arith, a, c)
 
 module _ (p : Prototype) (W : Whole p) (source : Option (List ℕ)) (H : Type 0) where
   abbrev pub C : List Const
@@ -211,14 +221,23 @@ module _ (p : Prototype) (W : Whole p) (source : Option (List ℕ)) (H : Type 0)
       (call_piece p (open_mark es (t + 1)) (list_at c t) t (list_field 0 es) c line (omega (arith, r)) (field_below (ends_open es) (0 + count es + 1) (omega (arith, r))) cf
       (takes_list_field es (0 + count es + 1) t (t + 1) (omega arith) (omega arith)) (gives_at c t)))
 
+  -- an operand that is alone
+  pub standing_piece : (e : Exp) → OneLaw e → (t j pc size : ℕ) (cs : List Const) (rest : Prototypes) → ExpIsNear source p e size t → size ≤ t → Grows (of_exp e cs) p.own.constants → Functions p j (from_exp source e rest)
+      → Piece p H closed closed pc (unless (local_of e) (exp_code p.own.constants e t j 2))
+  standing_piece e one_e t j pc size cs rest near le g fs = by (local_of e)
+    where
+      by : (at : Option ℕ) → Piece p H closed closed pc (unless at (exp_code p.own.constants e t j 2))
+      by None = one_e t j pc size cs rest near le g fs
+      by (Some x) = nothing p
+
   pub method_form : (line : ℕ) (o : Exp) (name : Name) (es : Exps) → OneLaw o → ListLaw es → ExpLaw (Method line o name es)
   method_form line o name es one_o list t j c pc size cs rest near le cf g fs =
       let r = near.0 in
       let made = of_exp o cs in
       let named = with_constant (StrConst name.text) made in
       let known = grows_then named (of_exps es named) p.own.constants (grows_exps es named) g in
-      both p (one_o t j pc size cs (from_exps source es rest) near.1.0 le (grows_then made named p.own.constants (grows_with (StrConst name.text) made) known) fs)
-      (both p (method_piece p W t line name.text (omega (arith, r)) (is_in (StrConst name.text) (same_text name.text) made p.own.constants known))
+      both p (standing_piece o one_o t j pc size cs (from_exps source es rest) near.1.0 le (grows_then made named p.own.constants (grows_with (StrConst name.text) made) known) fs)
+      (both p (method_piece p W (seat (local_of o) t) t line name.text (seat_near source p o size t (omega (arith, r)) near.1.0) (omega (arith, r)) (is_in (StrConst name.text) (same_text name.text) made p.own.constants known))
       (both p (list (t + 2) (j + made_by o) line _ size named rest near.1.1 (omega (arith, le)) g (after_exp source p o j (from_exps source es rest) fs))
       (call_piece p (open_mark es (t + 2)) (list_at c t) t (list_field 1 es) c line (omega (arith, r)) (field_below (ends_open es) (1 + count es + 1) (omega (arith, r))) cf
       (takes_list_field es (1 + count es + 1) t (t + 2) (omega arith) (omega arith)) (gives_at c t))))
@@ -226,11 +245,11 @@ module _ (p : Prototype) (W : Whole p) (source : Option (List ℕ)) (H : Type 0)
   pub unary_form : (line : ℕ) (op : UnOp) (e : Exp) → OneLaw e → ExpLaw (Unary line op e)
   unary_form line op e one_e t j c pc size cs rest near le cf g fs =
       let r = near.0 in
-      both p (one_e t j pc size cs rest near.1 le g fs) (prefix_piece p op t line (omega (arith, r)))
+      both p (standing_piece e one_e t j pc size cs rest near.1 le g fs) (prefix_piece p op (seat (local_of e) t) t line (seat_near source p e size t (omega (arith, r)) near.1) (omega (arith, r)))
 
   -- two operands and what is done with them
   module _ (s : Second) (most : ℕ) (e d : Exp) (stands : Stands s d most) (by_registers by_number : (x y : ℕ) → List Coded) (one_e : OneLaw e) (one_d : OneLaw d) (t j pc size : ℕ) (cs : List Const) (rest : Prototypes)
-      (r : IsRegister t) (near_e : ExpIsNear source p e size t) (near_d : ExpIsNear source p d size (t + 1)) (le : size ≤ t) (g : Grows (of_exp d (of_exp e cs)) p.own.constants) (fs : Functions p j (from_exp source e (from_exp source d rest)))
+      (r : IsRegister t) (near_e : ExpIsNear source p e size t) (near_d : ExpIsNear source p d size (t + 1)) (le : size ≤ t) (known : List Const) (grown : Grows (of_exp e cs) known) (g : Grows (of_exp d known) p.own.constants) (fs : Functions p j (from_exp source e (from_exp source d rest)))
       (registers_piece : (x y at : ℕ) → x < 2 ^ 8 → y < 2 ^ 8 → Piece p H closed closed at (by_registers x y)) (number_piece : (x n at : ℕ) → s ≡ a_number n → x < 2 ^ 8 → Piece p H closed closed at (by_number x n)) where
     abbrev first_code : List Coded
     first_code = exp_code C e t j 2
@@ -239,13 +258,13 @@ module _ (p : Prototype) (W : Whole p) (source : Option (List ℕ)) (H : Type 0)
     code = exp_code C d (t + 1) (j + made_by e) 2
 
     first_piece : Piece p H closed closed pc first_code
-    first_piece = one_e t j pc size cs (from_exp source d rest) near_e le (grows_then (of_exp e cs) (of_exp d (of_exp e cs)) p.own.constants (grows_exp d (of_exp e cs)) g) fs
+    first_piece = one_e t j pc size cs (from_exp source d rest) near_e le (grows_then (of_exp e cs) known p.own.constants grown (grows_then known (of_exp d known) p.own.constants (grows_exp d known) g)) fs
 
     piece_by : (z : Second) (at : Option ℕ) → s ≡ z → first_of z e ≡ at → Piece p H closed closed pc (operands_code z at first_code code t by_registers by_number)
     piece_by made (Some x) is at_is = absurd (cc)
     piece_by made None is at_is =
         both p first_piece
-        (both p (one_d (t + 1) (j + made_by e) (pc + length first_code) size (of_exp e cs) rest near_d (omega (arith, le)) g (after_exp source p e j (from_exp source d rest) fs))
+        (both p (one_d (t + 1) (j + made_by e) (pc + length first_code) size known rest near_d (omega (arith, le)) g (after_exp source p e j (from_exp source d rest) fs))
         (registers_piece t (t + 1) _ (omega (arith, r)) (omega (arith, r))))
     piece_by (a_local q) None is at_is = both p first_piece (registers_piece t q _ (omega (arith, r)) (local_near source p d size (t + 1) q (stands.local q is) near_d))
     piece_by (a_local q) (Some x) is at_is = registers_piece x q _ (local_near source p e size t x (first_local (a_local q) e x at_is) near_e) (local_near source p d size (t + 1) q (stands.local q is) near_d)
@@ -260,6 +279,11 @@ module _ (p : Prototype) (W : Whole p) (source : Option (List ℕ)) (H : Type 0)
   DirectLaw e =
       (r t j pc size : ℕ) (cs : List Const) (rest : Prototypes) → r < 2 ^ 8 → ExpIsNear source p e size t → size ≤ t → Grows (of_exp e cs) p.own.constants → Functions p j (from_exp source e rest)
       → Piece p H closed closed pc (direct_code C e r t j)
+
+  pub unary_direct : (line : ℕ) (op : UnOp) (e : Exp) → OneLaw e → DirectLaw (Unary line op e)
+  unary_direct line op e one_e r t j pc size cs rest rf near le g fs =
+      let room = near.0 in
+      both p (standing_piece e one_e t j pc size cs rest near.1 le g fs) (prefix_piece p op (seat (local_of e) t) r line (seat_near source p e size t (omega (arith, room)) near.1) rf)
 
   pub index_direct : (line : ℕ) (o k : Exp) → OneLaw o → OneLaw k → DirectLaw (Index line o k)
   index_direct line o k one_o one_k r t j pc size cs rest rf near le g fs = by (name_in C k) refl
@@ -283,14 +307,36 @@ module _ (p : Prototype) (W : Whole p) (source : Option (List ℕ)) (H : Type 0)
           named_piece None at_is = let register = near.0 in both p (one_o t j pc size cs (from_exp source k rest) near.1.0 le first_known fs) (read_piece t (omega (arith, register)))
           named_piece (Some x) at_is = read_piece x (local_near source p o size t x at_is near.1.0)
       by None is =
-          operands_piece (key_operand k) 255 o k (key_stands k) (λ x y. with_abc GetTable r x y line ∷ []) (λ x n. with_abc GetI r x n line ∷ []) one_o one_k t j pc size cs rest near.0 near.1.0 near.1.1 le g fs
+          operands_piece (key_operand k) 255 o k (key_stands k) (λ x y. with_abc GetTable r x y line ∷ []) (λ x n. with_abc GetI r x n line ∷ []) one_o one_k t j pc size cs rest near.0 near.1.0 near.1.1 le (of_exp o cs) (grows_none (of_exp o cs)) g fs
           (λ x y at xf yf. simple p GetTable (simple_get_table p) r x y line rf xf yf)
           (λ x n at is xf. let small = ((key_stands k).number n is).small in simple p GetI (simple_get_i p) r x n line rf xf (omega (arith, small)))
 
   pub binary_direct : (line : ℕ) (op : BinOp) (e d : Exp) → OneLaw e → OneLaw d → DirectLaw (Binary line op e d)
-  binary_direct line op e d one_e one_d r t j pc size cs rest rf near le g fs =
-      operands_piece (second_of op d) 128 e d (operator_stands op d) (λ x y. operator_code op x y r line) (λ x n. number_code op x n r line) one_e one_d t j pc size cs rest near.0 near.1.0 near.1.1 le g fs
-      (λ x y at xf yf. operator_piece p op x y r line xf yf rf) (λ x n at is xf. number_piece p op d x n r line (second_number op d n is) xf rf)
+  binary_direct line op e d one_e one_d r t j pc size cs rest rf near le g fs = by (constant_in C op d) refl
+    where
+      known : List Const
+      known = with_any (constant_of op d) (of_exp e cs)
+
+      grown : Grows (of_exp e cs) known
+      grown = grows_any (constant_of op d) (of_exp e cs)
+
+      by : (o : Option ℕ) → constant_in C op d ≡ o → Piece p H closed closed pc (operation_code o op e d (exp_code C e t j 2) (exp_code C d (t + 1) (j + made_by e) 2) r t line)
+      by (Some number) is = beside_constant (local_of e) refl
+        where
+          operand : IsOperand C op d number
+          operand = constant_is C op d number is
+
+          last_piece : {pc : ℕ} (x : ℕ) → x < 2 ^ 8 → Piece p H closed closed pc (constant_code op x number r line)
+          last_piece x xf = let short = operand.short in constant_piece p op d operand.value x number r line (operand_form op d operand.value operand.is) operand.there xf (omega (arith, short)) rf
+
+          beside_constant : (at : Option ℕ) → local_of e ≡ at → Piece p H closed closed pc (unless at (exp_code C e t j 2) ++ constant_code op (seat at t) number r line)
+          beside_constant None at_is =
+              let register = near.0 in
+              both p (one_e t j pc size cs (from_exp source d rest) near.1.0 le (grows_then (of_exp e cs) known C grown (grows_then known (of_exp d known) C (grows_exp d known) g)) fs) (last_piece t (omega (arith, register)))
+          beside_constant (Some x) at_is = last_piece x (local_near source p e size t x at_is near.1.0)
+      by None is =
+          operands_piece (second_of op d) 128 e d (operator_stands op d) (λ x y. operator_code op x y r line) (λ x n. number_code op x n r line) one_e one_d t j pc size cs rest near.0 near.1.0 near.1.1 le known grown g fs
+          (λ x y at xf yf. operator_piece p op x y r line xf yf rf) (λ x n at is xf. number_piece p op d x n r line (second_number op d n is) xf rf)
 
   pub index_form : (line : ℕ) (o k : Exp) → OneLaw o → OneLaw k → ExpLaw (Index line o k)
   index_form line o k one_o one_k t j c pc size cs rest near le cf g fs =
@@ -332,14 +378,3 @@ module _ (p : Prototype) (W : Whole p) (source : Option (List ℕ)) (H : Type 0)
       both p (one_of_any e law (t + 1) j pc size cs (from_fields source (MoreFields f more_fields) rest) near.0 (omega (arith, le)) (grows_then first (of_fields (MoreFields f more_fields) first) p.own.constants (grows_fields (MoreFields f more_fields) first) g) fs)
       (both p (list_piece p closed t 1 items line (omega (arith, r)) (lit< tt) (λ h. let all = few h in omega (arith, all)) (omega arith))
       (laws (items + 1) t (j + made_by e) line _ size first rest (λ h. let all = few h in omega (arith, all)) near.1 le r g (after_exp source p e j (from_fields source (MoreFields f more_fields) rest) fs)))
-
-  pub more_keyed : (line : ℕ) (e d : Exp) (more_fields : Fields) → OneLaw e → OneLaw d → FieldsLaw more_fields → FieldsLaw (MoreFields (Keyed line e d) more_fields)
-  more_keyed at_line e d more_fields one_e one_d laws items t j line pc size cs rest few near le r g fs =
-      let first = of_exp e cs in
-      let second = of_exp d first in
-      let known = grows_then second (of_fields more_fields second) p.own.constants (grows_fields more_fields second) g in
-      let after_e = after_exp source p e j (from_exp source d (from_fields source more_fields rest)) fs in
-      both p (one_e (t + 1) j pc size cs (from_exp source d (from_fields source more_fields rest)) near.0 (omega (arith, le)) (grows_then first second p.own.constants (grows_exp d first) known) fs)
-      (both p (one_d (t + 2) (j + made_by e) _ size first (from_fields source more_fields rest) near.1.0 (omega (arith, le)) known after_e)
-      (both p (set_table_piece p t (t + 1) (t + 2) at_line (omega (arith, r)) (omega (arith, r)) (omega (arith, r)))
-      (laws items t (j + made_by e + made_by d) line _ size second rest (λ h. few h) near.1.1 le r g (after_exp source p d (j + made_by e) (from_fields source more_fields rest) after_e))))

@@ -22,7 +22,8 @@ use Rattle.code_checked.proofs.Calls.{vararg_piece, table_piece}
 use Rattle.code_checked.proofs.Jumping.{shortly, either_piece}
 use Rattle.code_checked.proofs.Lists.{list_at, gives_at}
 use Rattle.code_checked.proofs.Growing.{grows_exp, after_exp}
-use Rattle.code_checked.proofs.ExpForms.{ExpLaw, OneLaw, ListLaw, ExactLaw, FieldsLaw, one_of_any, no_list, no_values, last_list, last_values, more_list, more_values, function_form, index_form, call_form, method_form, unary_form, binary_form, paren_form, no_fields, last_item, more_item, more_keyed, positional_below}
+use Rattle.code_checked.proofs.ExpForms.{ExpLaw, OneLaw, ListLaw, ExactLaw, FieldsLaw, one_of_any, no_list, no_values, last_list, last_values, more_list, more_values, function_form, index_form, call_form, method_form, unary_form, binary_form, paren_form, no_fields, last_item, more_item, positional_below}
+use Rattle.code_checked.proofs.KeyedFields.{more_keyed}
 
 module _ (p : Prototype) (W : Whole p) (source : Option (List ℕ)) where
   abbrev pub AllExp : Exp → Type 1

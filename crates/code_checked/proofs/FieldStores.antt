@@ -1,74 +1,54 @@
 -- The code of a value that is stored in a field is a piece.
-use Rattle.std.proofs.Common.{◌≡◌, ℕ, ◌+◌, ◌<◌, ◌≤◌, ◌^◌, List, [], ◌∷◌, Option, Some, None, refl, subst, arith}
+use Rattle.std.proofs.Common.{◌≡◌, ℕ, ◌+◌, ◌<◌, ◌≤◌, ◌^◌, Bool, List, Option, Some, None, refl, arith}
 use Rattle.tree_core.specs.Tree.{Exp, Index}
 use Rattle.code_core.specs.declared.proto.Const.{Const}
-use Rattle.code_core.specs.declared.proto.Const.TheVariants.{Str as StrConst}
 use Rattle.code_core.specs.Prototype.{Prototype, Prototypes}
-use Rattle.code_of.specs.Coded.{Coded}
 use Rattle.code_of.specs.Constants.{of_exp}
 use Rattle.code_of.specs.Expressions.{made_by, exp_code}
-use Rattle.code_of.specs.Operands.{local_of, seat, unless}
+use Rattle.code_of.specs.Operands.{local_of, seat}
 use Rattle.code_of.specs.Parts.{field_code}
 use Rattle.code_of.specs.CodeOf.{from_exp}
-use Rattle.code_of.specs.Stores.{FieldKey, a_name, an_index, a_register, evaluated, field_key, object_of, key_code, field_store}
+use Rattle.code_of.specs.Stores.{FieldKey, is_quiet, field_key, object_of}
 use Rattle.code_of.proofs.Stores.{FieldKeyStands, field_key_stands, object_stays}
-use Rattle.code_of.proofs.Constants.{same_text}
 use Rattle.code_checked.specs.Near.{ExpIsNear}
-use Rattle.code_checked.proofs.Pieces.{closed, Piece, both, nothing}
-use Rattle.code_checked.proofs.Found.{Grows, grows_then, is_in}
-use Rattle.code_checked.proofs.Loads.{Whole, Functions, set_table_piece, set_index_piece, set_name_piece}
+use Rattle.code_checked.proofs.Pieces.{closed, Piece, both}
+use Rattle.code_checked.proofs.Found.{Grows, grows_then}
+use Rattle.code_checked.proofs.Loads.{Whole, Functions}
 use Rattle.code_checked.proofs.Growing.{grows_exp, after_exp}
 use Rattle.code_checked.proofs.ExpForms.{exp_register, local_near}
+use Rattle.code_checked.proofs.KeyedFields.{unless_piece, key_piece, store_piece}
 use Rattle.code_checked.proofs.Exps.{one_law}
 
 module _ (p : Prototype) (W : Whole p) (source : Option (List ℕ)) (H : Type 0) where
-  unless_piece : {pc : ℕ} (at : Option ℕ) (code : List Coded) → Piece p H closed closed pc code → Piece p H closed closed pc (unless at code)
-  unless_piece None code h = h
-  unless_piece (Some r) code h = nothing p
-
-  key_piece : {pc : ℕ} (s : FieldKey) (code : List Coded) → Piece p H closed closed pc code → Piece p H closed closed pc (key_code s code)
-  key_piece evaluated code h = h
-  key_piece (a_name number) code h = nothing p
-  key_piece (an_index n) code h = nothing p
-  key_piece (a_register r) code h = nothing p
-
-  store_piece : {pc : ℕ} (s : FieldKey) (value : Option ℕ) (key : Exp) (x t v size line : ℕ) (cs : List Const) → FieldKeyStands p.own.constants value key s → ExpIsNear source p key size (t + 1) → x < 2 ^ 8 → t + 1 < 2 ^ 8 → v < 2 ^ 8
-      → Grows (of_exp key cs) p.own.constants → Piece p H closed closed pc (field_store s x t v line ∷ [])
-  store_piece (a_name number) value key x t v size line cs stands near xf tf vf g =
-      let name = stands.name number refl in
-      let known = subst (λ q. Grows (of_exp q cs) p.own.constants) name.is g in
-      let short = name.short in
-      set_name_piece p x number v line name.bytes xf (omega (arith, short)) vf name.same (is_in (StrConst name.bytes) (same_text name.bytes) cs p.own.constants known)
-  store_piece (an_index n) value key x t v size line cs stands near xf tf vf g = let small = (stands.index n refl).small in set_index_piece p x n v line xf (omega (arith, small)) vf
-  store_piece (a_register r) value key x t v size line cs stands near xf tf vf g = set_table_piece p x r v line xf (local_near source p key size (t + 1) r (stands.local r refl) near) vf
-  store_piece evaluated value key x t v size line cs stands near xf tf vf g = set_table_piece p x (t + 1) v line xf tf vf
-
   pub field_piece : (line : ℕ) (o k e : Exp) (t j after pc size : ℕ) (cs : List Const) (rest : Prototypes) → ExpIsNear source p o size t → ExpIsNear source p k size (t + 1) → ExpIsNear source p e size (t + 2) → size ≤ t
       → Grows (of_exp e (of_exp k (of_exp o cs))) p.own.constants → Functions p j (from_exp source o (from_exp source k (from_exp source e rest))) → Functions p after (from_exp source e rest)
       → Piece p H closed closed pc (field_code p.own.constants (Index line o k) e t j after)
   field_piece line o k e t j after pc size cs rest near_o near_k near_e le g fs after_fs =
-      let at = object_of s value o in
+      let at = object_of s quiet o in
       let made = of_exp k (of_exp o cs) in
       let known = grows_then made (of_exp e made) p.own.constants (grows_exp e made) g in
       let register = exp_register source p k size (t + 1) near_k in
-      both p (unless_piece at (exp_code p.own.constants o t j 2) (one_law p W source o H t j pc size cs (from_exp source k (from_exp source e rest)) near_o le (grows_then (of_exp o cs) made p.own.constants (grows_exp k (of_exp o cs)) known) fs))
-      (both p (key_piece s (exp_code p.own.constants k (t + 1) (j + made_by o) 2)
+      both p (unless_piece p H at (exp_code p.own.constants o t j 2) (one_law p W source o H t j pc size cs (from_exp source k (from_exp source e rest)) near_o le (grows_then (of_exp o cs) made p.own.constants (grows_exp k (of_exp o cs)) known) fs))
+      (both p (key_piece p H s (exp_code p.own.constants k (t + 1) (j + made_by o) 2)
       (one_law p W source k H (t + 1) (j + made_by o) _ size (of_exp o cs) (from_exp source e rest) near_k (omega (arith, le)) known (after_exp source p o j (from_exp source k (from_exp source e rest)) fs)))
-      (both p (unless_piece value (exp_code p.own.constants e (t + 2) after 2) (one_law p W source e H (t + 2) after _ size made rest near_e (omega (arith, le)) g after_fs))
-      (store_piece s value k (seat at t) t (seat value (t + 2)) size line (of_exp o cs) stands near_k (object_seat at refl) (omega (arith, register)) (value_seat value refl) known)))
+      (both p (unless_piece p H value (exp_code p.own.constants e (t + 2) after 2) (one_law p W source e H (t + 2) after _ size made rest near_e (omega (arith, le)) g after_fs))
+      (store_piece p source H s quiet k (seat at t) t (seat value (t + 2)) size line (of_exp o cs) stands near_k (object_seat at refl) (omega (arith, register)) (value_seat value refl) known)))
     where
       value : Option ℕ
       value = local_of e
 
+      quiet : Bool
+      quiet = is_quiet e
+
       s : FieldKey
-      s = field_key p.own.constants (local_of e) k
+      s = field_key p.own.constants (is_quiet e) k
 
-      stands : FieldKeyStands p.own.constants (local_of e) k (field_key p.own.constants (local_of e) k)
-      stands = field_key_stands p.own.constants (local_of e) k
+      stands : FieldKeyStands p.own.constants (is_quiet e) k (field_key p.own.constants (is_quiet e) k)
+      stands = field_key_stands p.own.constants (is_quiet e) k
 
-      object_seat : (at : Option ℕ) → object_of s value o ≡ at → seat at t < 2 ^ 8
+      object_seat : (at : Option ℕ) → object_of s quiet o ≡ at → seat at t < 2 ^ 8
       object_seat None is = let register = exp_register source p o size t near_o in omega (arith, register)
-      object_seat (Some r) is = local_near source p o size t r (object_stays s value o r is).local near_o
+      object_seat (Some r) is = local_near source p o size t r (object_stays s quiet o r is).local near_o
 
       value_seat : (at : Option ℕ) → local_of e ≡ at → seat at (t + 2) < 2 ^ 8
       value_seat None is = let register = exp_register source p e size (t + 2) near_e in omega (arith, register)

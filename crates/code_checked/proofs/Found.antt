@@ -1,10 +1,10 @@
 -- The constants of a tree are in the table of its function, each at its number.
-use Rattle.std.proofs.Common.{◌≡◌, ℕ, suc, ◌<◌, Bool, true, false, cond, List, [], ◌∷◌, ◌++◌, length, Some, slice_get, refl, sym, ap, subst, ◌∙◌, arith, append_assoc}
+use Rattle.std.proofs.Common.{◌≡◌, ℕ, suc, ◌<◌, Bool, true, false, cond, List, [], ◌∷◌, ◌++◌, length, Option, Some, None, slice_get, refl, sym, ap, subst, ◌∙◌, arith, append_assoc}
 use Rattle.code_core.specs.declared.proto.Const.{Const}
 use Rattle.code_core.specs.declared.proto.Const.TheVariants.{Int as IntConst, Str as StrConst}
 use Rattle.code_core.specs.Fields.{name}
 use Rattle.code_core.specs.Check.{constant_is}
-use Rattle.code_of.specs.Constants.{same_constant, number_in, with_constant}
+use Rattle.code_of.specs.Constants.{same_constant, number_in, with_constant, with_any}
 
 -- a table that goes on
 pub record Grows (cs ds : List Const) : Type 0 where
@@ -28,6 +28,10 @@ grows_with x (c ∷ cs) = by (same_constant c x) (grows_with x cs)
     by : (b : Bool) → Grows cs (with_constant x cs) → Grows (c ∷ cs) (cond b (c ∷ cs) (c ∷ with_constant x cs))
     by true rest = grows_none (c ∷ cs)
     by false rest = record { others = rest.others; is = ap (λ l. c ∷ l) rest.is }
+
+pub grows_any : (o : Option Const) (cs : List Const) → Grows cs (with_any o cs)
+grows_any None cs = grows_none cs
+grows_any (Some x) cs = grows_with x cs
 
 below_with : (x : Const) → same_constant x x ≡ true → (cs : List Const) → number_in (with_constant x cs) x < length (with_constant x cs)
 below_with x same [] = let e : number_in (x ∷ []) x ≡ 0 = ap (λ b. cond b 0 (suc (number_in [] x))) same in omega (arith, e)

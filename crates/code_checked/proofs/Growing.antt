@@ -8,11 +8,12 @@ use Rattle.tree_core.specs.Tree.{Block, Falls, Returns, Stats, EndStats, MoreSta
 use Rattle.code_core.specs.declared.proto.Const.{Const}
 use Rattle.code_core.specs.declared.proto.Const.TheVariants.{Int as IntConst, Str as StrConst}
 use Rattle.code_core.specs.Prototype.{Prototype, Prototypes}
-use Rattle.code_of.specs.Constants.{is_small, with_constant, of_name, of_exp, of_exps, of_fields, of_field, of_stat, of_arms, of_stats, of_block}
+use Rattle.code_of.specs.ConstantOperands.{constant_of}
+use Rattle.code_of.specs.Constants.{is_small, with_constant, with_any, of_name, of_exp, of_exps, of_fields, of_field, of_stat, of_arms, of_stats, of_block}
 use Rattle.code_of.specs.Expressions.{made_by, made_in, made_in_fields, made_by_field}
 use Rattle.code_of.specs.Levels.{made_by_stat, made_in_arms, made_in_stats, made_in_block}
 use Rattle.code_of.specs.CodeOf.{parts_of, from_exp, from_exps, from_fields, from_field, from_stat, from_arms, from_stats, from_block, from_body}
-use Rattle.code_checked.proofs.Found.{Grows, grows_none, grows_then, grows_with}
+use Rattle.code_checked.proofs.Found.{Grows, grows_none, grows_then, grows_with, grows_any}
 use Rattle.code_checked.proofs.Loads.{Functions, functions_next}
 
 grows_name : (place : Place) (text : List ℕ) (cs : List Const) → Grows cs (of_name place text cs)
@@ -40,7 +41,9 @@ mutual
   grows_exp (Call line f es) cs = grows_then cs (of_exp f cs) (of_exps es (of_exp f cs)) (grows_exp f cs) (grows_exps es (of_exp f cs))
   grows_exp (Method line o name es) cs = let named = with_constant (StrConst name.text) (of_exp o cs) in grows_then cs named (of_exps es named) (grows_then cs (of_exp o cs) named (grows_exp o cs) (grows_with (StrConst name.text) (of_exp o cs))) (grows_exps es named)
   grows_exp (Unary line op e) cs = grows_exp e cs
-  grows_exp (Binary line op e d) cs = grows_then cs (of_exp e cs) (of_exp d (of_exp e cs)) (grows_exp e cs) (grows_exp d (of_exp e cs))
+  grows_exp (Binary line op e d) cs =
+      let made = with_any (constant_of op d) (of_exp e cs) in
+      grows_then cs made (of_exp d made) (grows_then cs (of_exp e cs) made (grows_exp e cs) (grows_any (constant_of op d) (of_exp e cs))) (grows_exp d made)
   grows_exp (And line e d) cs = grows_then cs (of_exp e cs) (of_exp d (of_exp e cs)) (grows_exp e cs) (grows_exp d (of_exp e cs))
   grows_exp (Or line e d) cs = grows_then cs (of_exp e cs) (of_exp d (of_exp e cs)) (grows_exp e cs) (grows_exp d (of_exp e cs))
   grows_exp (Paren line e) cs = grows_exp e cs

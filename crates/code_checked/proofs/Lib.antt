@@ -6,9 +6,11 @@ mod Loads
 mod Seams
 mod Calls
 mod Operators
+mod ConstantOperators
 mod Growing
 mod Lists
 mod ExpForms
+mod KeyedFields
 mod Jumping
 mod Exps
 mod Lowering
@@ -16,6 +18,7 @@ mod Conditions
 mod Forms
 mod Reaching
 mod FieldStores
+mod Targets
 mod StatForms
 mod Stats
 mod Sequences

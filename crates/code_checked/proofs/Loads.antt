@@ -3,7 +3,7 @@ use Rattle.std.proofs.Common.{◌≡◌, ℕ, zero, suc, ◌+◌, ◌<◌, ◌�
 use Rattle.std.specs.Prelude.{nat_lt, ℤ}
 use Rattle.std.specs.List.{list_all}
 use Rattle.code_core.specs.declared.opcode.Opcode.{Opcode}
-use Rattle.code_core.specs.declared.opcode.Opcode.TheVariants.{LoadI, LoadK, LoadKx, GetUpval, SetUpval, GetTabUp, GetTable, GetField, SetTable, SetI, SetField, OpSelf, Closure, ExtraArg, Move, LoadNil}
+use Rattle.code_core.specs.declared.opcode.Opcode.TheVariants.{LoadI, LoadK, LoadKx, GetUpval, SetUpval, GetTabUp, GetTable, GetField, SetTabUp, SetTable, SetI, SetField, OpSelf, Closure, ExtraArg, Move, LoadNil}
 use Rattle.code_core.specs.declared.instruction.Instruction.{Instruction}
 use Rattle.code_core.specs.declared.proto.Const.{Const}
 use Rattle.code_core.specs.declared.proto.Const.TheVariants.{Int as IntConst, Str as StrConst}
@@ -11,13 +11,13 @@ use Rattle.code_core.specs.Instruction.{abc, abx, op_ax, opcode_of, c_of, ax_of}
 use Rattle.code_core.specs.Fields.{anything, name, registers, Wanted}
 use Rattle.code_core.specs.Prototype.{Prototype, Prototypes, Parts, more, list_of}
 use Rattle.code_core.specs.Check.{at, there, is_same, constant_is, upvalue_there}
-use Rattle.code_core.proofs.FieldLemmas.{opcode_of-abc, b_of-abc, c_of-abc, opcode_of-abx, a_of-abx, bx_of-abx, opcode_of-ax, ax_of-ax}
+use Rattle.code_core.proofs.FieldLemmas.{opcode_of-abc, a_of-abc, b_of-abc, c_of-abc, opcode_of-abx, a_of-abx, bx_of-abx, opcode_of-ax, ax_of-ax}
 use Rattle.tree_core.specs.declared.name.UpName.{UpName}
 use Rattle.tree_core.specs.declared.name.Place.{Place}
 use Rattle.tree_core.specs.declared.name.Place.TheVariants.{Unset, Upvalue, GlobalIn, GlobalOf, Local as LocalPlace}
 use Rattle.code_of.specs.Coded.{with_abc, with_abx}
 use Rattle.code_of.specs.Constants.{is_small, small_field, number_in, loads, loads_integer, of_name}
-use Rattle.code_of.specs.Operators.{global_code, name_code, self_code}
+use Rattle.code_of.specs.Operators.{global_code, local_global_code, name_into, name_code, self_code}
 use Rattle.code_of.specs.CodeOf.{back_field, upvalue}
 use Rattle.code_checked.specs.Near.{IsRegister, NameIsNear, AreCaptured}
 use Rattle.code_checked.proofs.Pieces.{closed, Piece, both}
@@ -67,7 +67,7 @@ functions_next p j own inner rest h =
     subst (λ k. Functions p k rest) e (rest_of (list_of p.inner) j (record { own = own; inner = inner }) (list_of rest) h)
 
 -- a constant that is used is there, and of the wanted kind
-abbrev is_used : Prototype → Wanted × ℕ → Bool
+abbrev pub is_used : Prototype → Wanted × ℕ → Bool
 is_used p used = there (constant_is used.0) (slice_get p.own.constants used.1)
 
 module _ (p : Prototype) where
@@ -112,7 +112,7 @@ module _ (p : Prototype) where
     still = λ pc. refl;
   }
 
-  constant_test : (wanted : Wanted) (n : ℕ) (entry : Const) → slice_get p.own.constants n ≡ Some entry → constant_is wanted entry ≡ true
+  pub constant_test : (wanted : Wanted) (n : ℕ) (entry : Const) → slice_get p.own.constants n ≡ Some entry → constant_is wanted entry ≡ true
       → list_all (is_used p) ((wanted, n) ∷ []) ≡ true
   constant_test wanted n entry is h = one_of (there (constant_is wanted) (slice_get p.own.constants n)) (ap (there (constant_is wanted)) is ∙ h)
 
@@ -253,6 +253,27 @@ module _ (p : Prototype) where
     still = λ pc. refl;
   }
 
+  set_global : (u n v : ℕ) (text : List ℕ) → u < 2 ^ 8 → n < 2 ^ 8 → v < 2 ^ 8 → u < length p.own.upvalues → n ≡ number_in p.own.constants (StrConst text) → IsIn p.own.constants (StrConst text)
+      → Plain p closed closed (abc SetTabUp u n v false)
+  set_global u n v text uf nf vf h e i = record {
+    single = record {
+      opcode = SetTabUp;
+      is = opcode_of-abc SetTabUp u n v false;
+      whole = refl;
+      fits = abc_fits SetTabUp u n v false uf nf vf;
+      alone = refl;
+      constant = λ extra. ap₂ (λ b k. list_all (is_used p) ((name, b) ∷ (if k then (anything, c_of (abc SetTabUp u n v false)) ∷ [] else []))) (b_of-abc SetTabUp u n v false uf nf) (k_of-abc SetTabUp u n v false uf)
+          ∙ constant_test name n i.entry (ap (slice_get p.own.constants) e ∙ i.there) (is_name text i.entry i.alike);
+      upvalue = ap (λ a. list_all (λ u. nat_lt u (length p.own.upvalues)) (a ∷ [])) (a_of-abc SetTabUp u n v false uf) ∙ upvalue_test u h;
+      inner = λ pc here. refl;
+      half = refl;
+      gives = refl;
+      takes = refl;
+      varargs = λ pc h. h;
+    };
+    still = λ pc. refl;
+  }
+
   set_table : (r k v : ℕ) → r < 2 ^ 8 → k < 2 ^ 8 → v < 2 ^ 8 → Plain p closed closed (abc SetTable r k v false)
   set_table r k v rf kf vf = record {
     single = record {
@@ -291,16 +312,16 @@ module _ (p : Prototype) where
     still = λ pc. refl;
   }
 
-  self_key : (r n : ℕ) (text : List ℕ) → r < 2 ^ 8 → n < 2 ^ 8 → number_in p.own.constants (StrConst text) ≡ n → IsIn p.own.constants (StrConst text) → Plain p closed closed (abc OpSelf r r n true)
-  self_key r n text rf nf e i = record {
+  self_key : (r o n : ℕ) (text : List ℕ) → r < 2 ^ 8 → o < 2 ^ 8 → n < 2 ^ 8 → number_in p.own.constants (StrConst text) ≡ n → IsIn p.own.constants (StrConst text) → Plain p closed closed (abc OpSelf r o n true)
+  self_key r o n text rf of nf e i = record {
     single = record {
       opcode = OpSelf;
-      is = opcode_of-abc OpSelf r r n true;
+      is = opcode_of-abc OpSelf r o n true;
       whole = refl;
-      fits = abc_fits OpSelf r r n true rf rf nf;
+      fits = abc_fits OpSelf r o n true rf of nf;
       alone = refl;
-      constant = λ extra. ap (λ b. list_all (is_used p) (if b then (name, c_of (abc OpSelf r r n true)) ∷ [] else [])) (k_of-abc OpSelf r r n true rf)
-          ∙ ap (λ c. list_all (is_used p) ((name, c) ∷ [])) (c_of-abc OpSelf r r n true rf rf nf)
+      constant = λ extra. ap (λ b. list_all (is_used p) (if b then (name, c_of (abc OpSelf r o n true)) ∷ [] else [])) (k_of-abc OpSelf r o n true rf)
+          ∙ ap (λ c. list_all (is_used p) ((name, c) ∷ [])) (c_of-abc OpSelf r o n true rf of nf)
           ∙ constant_test name n i.entry (ap (slice_get p.own.constants) (sym e) ∙ i.there) (is_name text i.entry i.alike);
       upvalue = refl;
       inner = λ pc here. refl;
@@ -323,6 +344,10 @@ module _ (p : Prototype) where
   pub set_name_piece : {H : Type 0} {pc : ℕ} (r n v line : ℕ) (text : List ℕ) → r < 2 ^ 8 → n < 2 ^ 8 → v < 2 ^ 8 → n ≡ number_in p.own.constants (StrConst text) → IsIn p.own.constants (StrConst text)
       → Piece p H closed closed pc (with_abc SetField r n v line ∷ [])
   set_name_piece {H} {pc} r n v line text rf nf vf e i = one p closed closed (abc SetField r n v false) line (set_name r n v text rf nf vf e i)
+
+  pub set_global_piece : {H : Type 0} {pc : ℕ} (u n v line : ℕ) (text : List ℕ) → u < 2 ^ 8 → n < 2 ^ 8 → v < 2 ^ 8 → u < length p.own.upvalues → n ≡ number_in p.own.constants (StrConst text) → IsIn p.own.constants (StrConst text)
+      → Piece p H closed closed pc (with_abc SetTabUp u n v line ∷ [])
+  set_global_piece {H} {pc} u n v line text uf nf vf h e i = one p closed closed (abc SetTabUp u n v false) line (set_global u n v text uf nf vf h e i)
 
   pub get_name_piece : {H : Type 0} {pc : ℕ} (t x n line : ℕ) (text : List ℕ) → t < 2 ^ 8 → x < 2 ^ 8 → n < 2 ^ 8 → n ≡ number_in p.own.constants (StrConst text) → IsIn p.own.constants (StrConst text)
       → Piece p H closed closed pc (with_abc GetField t x n line ∷ [])
@@ -356,41 +381,56 @@ module _ (p : Prototype) where
     pub upvalue_piece : {H : Type 0} {pc : ℕ} (t u line : ℕ) → t < 2 ^ 8 → u < length p.own.upvalues → Piece p H closed closed pc (with_abc GetUpval t u 0 line ∷ [])
     upvalue_piece {H} {pc} t u line tf h = let most = W.upvalues in one p closed closed (abc GetUpval t u 0 false) line (get_upvalue t u tf (omega (arith, h, most)) h)
 
-    -- a method by its name
-    pub method_piece : {H : Type 0} {pc : ℕ} (t line : ℕ) (text : List ℕ) → IsRegister t → IsIn p.own.constants (StrConst text) → Piece p H closed closed pc (self_code p.own.constants text t line)
-    method_piece {H} {pc} t line text r i = by (nat_lt (number_in p.own.constants (StrConst text)) 256) refl
+    -- a method by its name, whose object stands in register x
+    pub method_piece : {H : Type 0} {pc : ℕ} (x t line : ℕ) (text : List ℕ) → x < 2 ^ 8 → IsRegister t → IsIn p.own.constants (StrConst text) → Piece p H closed closed pc (self_code p.own.constants text x t line)
+    method_piece {H} {pc} x t line text xf r i = by (nat_lt (number_in p.own.constants (StrConst text)) 256) refl
       where
         n : ℕ
         n = number_in p.own.constants (StrConst text)
 
         by : (b : Bool) → nat_lt (number_in p.own.constants (StrConst text)) 256 ≡ b
-            → Piece p H closed closed pc (cond b ((abc OpSelf t t (number_in p.own.constants (StrConst text)) true, line) ∷ [])
-            (loads p.own.constants (StrConst text) (t + 2) line ++ with_abc OpSelf t t (t + 2) line ∷ []))
-        by true e = one p closed closed (abc OpSelf t t n true) line (self_key t n text (omega (arith, r)) (ltb-true n 256 e) refl i)
-        by false e = both p (loads_piece (StrConst text) (t + 2) line r i) (self_piece t t (t + 2) line (omega (arith, r)) (omega (arith, r)) r)
+            → Piece p H closed closed pc (cond b ((abc OpSelf t x (number_in p.own.constants (StrConst text)) true, line) ∷ [])
+            (loads p.own.constants (StrConst text) (t + 2) line ++ with_abc OpSelf t x (t + 2) line ∷ []))
+        by true e = one p closed closed (abc OpSelf t x n true) line (self_key t x n text (omega (arith, r)) xf (ltb-true n 256 e) refl i)
+        by false e = both p (loads_piece (StrConst text) (t + 2) line r i) (self_piece t x (t + 2) line (omega (arith, r)) xf r)
 
-    global_piece : {H : Type 0} {pc : ℕ} (u t line : ℕ) (text : List ℕ) → IsRegister t → u < length p.own.upvalues → IsIn p.own.constants (StrConst text)
-        → Piece p H closed closed pc (global_code (number_in p.own.constants (StrConst text)) u (loads p.own.constants (StrConst text) (t + 1) line) t line)
-    global_piece {H} {pc} u t line text r h i = by (nat_lt (number_in p.own.constants (StrConst text)) 256) refl
+    global_piece : {H : Type 0} {pc : ℕ} (u r t line : ℕ) (text : List ℕ) → r < 2 ^ 8 → IsRegister t → u < length p.own.upvalues → IsIn p.own.constants (StrConst text)
+        → Piece p H closed closed pc (global_code (number_in p.own.constants (StrConst text)) u (loads p.own.constants (StrConst text) (t + 1) line) r t line)
+    global_piece {H} {pc} u r t line text rf room h i = by (nat_lt (number_in p.own.constants (StrConst text)) 256) refl
       where
         n : ℕ
         n = number_in p.own.constants (StrConst text)
 
         by : (b : Bool) → nat_lt (number_in p.own.constants (StrConst text)) 256 ≡ b
-            → Piece p H closed closed pc (cond b (with_abc GetTabUp t u (number_in p.own.constants (StrConst text)) line ∷ [])
-            (with_abc GetUpval t u 0 line ∷ (loads p.own.constants (StrConst text) (t + 1) line ++ with_abc GetTable t t (t + 1) line ∷ [])))
-        by true e = let most = W.upvalues in let f : n < 2 ^ 8 = ltb-true n 256 e in one p closed closed (abc GetTabUp t u n false) line (get_global t u n text (omega (arith, r)) (omega (arith, h, most)) f h refl i)
-        by false e = both p (upvalue_piece t u line (omega (arith, r)) h) (both p (loads_piece (StrConst text) (t + 1) line (omega (arith, r)) i) (simple p GetTable (simple_get_table p) t t (t + 1) line (omega (arith, r)) (omega (arith, r)) (omega (arith, r))))
+            → Piece p H closed closed pc (cond b (with_abc GetTabUp r u (number_in p.own.constants (StrConst text)) line ∷ [])
+            (with_abc GetUpval t u 0 line ∷ (loads p.own.constants (StrConst text) (t + 1) line ++ with_abc GetTable r t (t + 1) line ∷ [])))
+        by true e = let most = W.upvalues in let f : n < 2 ^ 8 = ltb-true n 256 e in one p closed closed (abc GetTabUp r u n false) line (get_global r u n text rf (omega (arith, h, most)) f h refl i)
+        by false e = both p (upvalue_piece t u line (omega (arith, room)) h) (both p (loads_piece (StrConst text) (t + 1) line (omega (arith, room)) i) (simple p GetTable (simple_get_table p) r t (t + 1) line rf (omega (arith, room)) (omega (arith, room))))
+
+    local_global_piece : {H : Type 0} {pc : ℕ} (m r t line : ℕ) (text : List ℕ) → r < 2 ^ 8 → IsRegister t → m < 2 ^ 8 → IsIn p.own.constants (StrConst text)
+        → Piece p H closed closed pc (local_global_code (number_in p.own.constants (StrConst text)) m (loads p.own.constants (StrConst text) t line) r t line)
+    local_global_piece {H} {pc} m r t line text rf room mf i = by (nat_lt (number_in p.own.constants (StrConst text)) 256) refl
+      where
+        n : ℕ
+        n = number_in p.own.constants (StrConst text)
+
+        by : (b : Bool) → nat_lt (number_in p.own.constants (StrConst text)) 256 ≡ b
+            → Piece p H closed closed pc (cond b (with_abc GetField r m (number_in p.own.constants (StrConst text)) line ∷ []) (loads p.own.constants (StrConst text) t line ++ with_abc GetTable r m t line ∷ []))
+        by true e = get_name_piece r m n line text rf mf (ltb-true n 256 e) refl i
+        by false e = both p (loads_piece (StrConst text) t line (omega (arith, room)) i) (simple p GetTable (simple_get_table p) r m t line rf mf (omega (arith, room)))
+
+    -- the value goes to register r
+    pub named_piece : {H : Type 0} {pc : ℕ} (place : Place) (text : List ℕ) (r t line : ℕ) (cs : List Const) → r < 2 ^ 8 → IsRegister t → NameIsNear (length p.own.upvalues) place → Grows (of_name place text cs) p.own.constants
+        → Piece p H closed closed pc (name_into p.own.constants place text r t line)
+    named_piece Unset text r t line cs rf room h g = simple p LoadNil (simple_load_nil p) r 0 0 line rf (lit< tt) (lit< tt)
+    named_piece (LocalPlace n) text r t line cs rf room h g = simple p Move (simple_move p) r n 0 line rf h (lit< tt)
+    named_piece (Upvalue u) text r t line cs rf room h g = upvalue_piece r u line rf h
+    named_piece (GlobalIn n) text r t line cs rf room h g = local_global_piece n r t line text rf room h (is_in (StrConst text) (same_text text) cs p.own.constants g)
+    named_piece (GlobalOf u) text r t line cs rf room h g = global_piece u r t line text rf room h (is_in (StrConst text) (same_text text) cs p.own.constants g)
 
     pub name_piece : {H : Type 0} {pc : ℕ} (place : Place) (text : List ℕ) (t line : ℕ) (cs : List Const) → IsRegister t → NameIsNear (length p.own.upvalues) place → Grows (of_name place text cs) p.own.constants
         → Piece p H closed closed pc (name_code p.own.constants place text t line)
-    name_piece Unset text t line cs r h g = simple p LoadNil (simple_load_nil p) t 0 0 line (omega (arith, r)) (lit< tt) (lit< tt)
-    name_piece (LocalPlace n) text t line cs r h g = simple p Move (simple_move p) t n 0 line (omega (arith, r)) h (lit< tt)
-    name_piece (Upvalue u) text t line cs r h g = upvalue_piece t u line (omega (arith, r)) h
-    name_piece (GlobalIn n) text t line cs r h g =
-        both p (loads_piece (StrConst text) t line (omega (arith, r)) (is_in (StrConst text) (same_text text) cs p.own.constants g))
-        (simple p GetTable (simple_get_table p) t n t line (omega (arith, r)) h (omega (arith, r)))
-    name_piece (GlobalOf u) text t line cs r h g = global_piece u t line text r h (is_in (StrConst text) (same_text text) cs p.own.constants g)
+    name_piece place text t line cs room h g = named_piece place text t t line cs (omega (arith, room)) room h g
 
     -- a closure of the function of number j, in a register above what it captures
 

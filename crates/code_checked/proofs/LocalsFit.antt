@@ -17,7 +17,7 @@ use Rattle.code_of.specs.Sizes.{stat_size, arms_size, stats_size, block_size, op
 use Rattle.code_of.specs.Variables.{variables, names_of, hidden, declared_by, looped, within_stat, within_arms, within_stats, within_block, within_open, within_whole}
 use Rattle.code_of.specs.CodeOf.{back_field, body_code, variables_of}
 use Rattle.code_checked.specs.Written.{NamesFit, DeclaredFit, StatIsWritten, ArmsAreWritten, StatsAreWritten, BlockIsWritten, BodyIsWritten}
-use Rattle.code_of.proofs.Sizes.{whole_sized}
+use Rattle.code_of.proofs.Sizes.{whole_sized, function_some}
 
 -- variables that are in scope at no place behind n
 abbrev pub LocalsFit : ℕ → List LocVar → Type 0
@@ -55,7 +55,7 @@ module _ (cs : List Const) (back n : ℕ) where
   declared_fit : (s : Stat) (closing : Bool) (t j pc end : ℕ) → StatIsWritten s → pc + stat_size cs back s closing t j ≤ n → end ≤ n → LocalsFit n (declared_by cs back s t j pc end)
   declared_fit (Local line names es) closing t j pc end w le few =
       variables_fit n (names_of names) (pc + length (exps_code cs es (Some (length names)) t j line)) end (declared_names names w.1.0) (omega (arith, le)) few
-  declared_fit (LocalFunction line name body) closing t j pc end w le few = (w.1.0, omega (arith, le), few, tt)
+  declared_fit (LocalFunction line name body) closing t j pc end w le few = let some = function_some body t j in (w.1.0, omega (arith, le, some), few, tt)
   declared_fit _ closing t j pc end w le few = tt
 
   mutual

@@ -22,11 +22,11 @@ use Rattle.code_checked.proofs.Words.{abc_fits, ax_fits, pair, simple, IsFirst, 
 use Rattle.code_checked.proofs.Seams.{lands_over, ending, three}
 
 module _ (p : Prototype) where
-  pub prefix_piece : {H : Type 0} {pc : ℕ} (op : UnOp) (t line : ℕ) → t < 2 ^ 8 → Piece p H closed closed pc (prefix_code op t line)
-  prefix_piece Neg t line tf = simple p Unm (simple_unm p) t t 0 line tf tf (lit< tt)
-  prefix_piece BitNot t line tf = simple p BNot (simple_b_not p) t t 0 line tf tf (lit< tt)
-  prefix_piece Negation t line tf = simple p Not (simple_not p) t t 0 line tf tf (lit< tt)
-  prefix_piece Length t line tf = simple p Len (simple_len p) t t 0 line tf tf (lit< tt)
+  pub prefix_piece : {H : Type 0} {pc : ℕ} (op : UnOp) (x t line : ℕ) → x < 2 ^ 8 → t < 2 ^ 8 → Piece p H closed closed pc (prefix_code op x t line)
+  prefix_piece Neg x t line xf tf = simple p Unm (simple_unm p) t x 0 line tf xf (lit< tt)
+  prefix_piece BitNot x t line xf tf = simple p BNot (simple_b_not p) t x 0 line tf xf (lit< tt)
+  prefix_piece Negation x t line xf tf = simple p Not (simple_not p) t x 0 line tf xf (lit< tt)
+  prefix_piece Length x t line xf tf = simple p Len (simple_len p) t x 0 line tf xf (lit< tt)
 
   -- an operation and its event
   arithmetic_piece : {H : Type 0} {pc : ℕ} (op : Opcode) → IsFirst p op MmBin → (event x y t line : ℕ) → list_any (λ e. event == e) events ≡ true → event < 2 ^ 8 → x < 2 ^ 8 → y < 2 ^ 8 → t < 2 ^ 8
@@ -75,7 +75,7 @@ module _ (p : Prototype) where
     varargs = λ pc h. h;
   }
 
-  skip_piece : {H : Type 0} {pc : ℕ} (t line : ℕ) → t < 2 ^ 8 → (H → Land p (pc + 2)) → Piece p H closed closed pc (with_abc LFalseSkip t 0 0 line ∷ [])
+  pub skip_piece : {H : Type 0} {pc : ℕ} (t line : ℕ) → t < 2 ^ 8 → (H → Land p (pc + 2)) → Piece p H closed closed pc (with_abc LFalseSkip t 0 0 line ∷ [])
   skip_piece {H} {pc} t line tf to = one_jump p closed (abc LFalseSkip t 0 0 false) line (skip t tf) to
 
   truth_piece : {H : Type 0} {pc : ℕ} (op : Opcode) → IsFirst p op Jmp → (x y : ℕ) (k : Bool) (t line : ℕ) → x < 2 ^ 8 → y < 2 ^ 8 → t < 2 ^ 8 → Piece p H closed closed pc (truth_code op x y k t line)

@@ -5,34 +5,38 @@ use Rattle.tree_core.specs.declared.name.Name.{Name}
 use Rattle.tree_core.specs.declared.name.Declared.{Declared}
 use Rattle.tree_core.specs.declared.name.Place.{Place}
 use Rattle.tree_core.specs.declared.name.Place.TheVariants.{Unset, Upvalue, GlobalIn, GlobalOf, Local as LocalPlace}
-use Rattle.tree_core.specs.Tree.{Body, BodyOf, Exp, Var, Index, Binary, Call, Method, Exps, EndExps, MoreExps}
+use Rattle.tree_core.specs.Tree.{Body, BodyOf, Exp, Nil, True, False, Int, Str, Var, Index, Unary, Binary, Paren, Call, Method, Exps, EndExps, MoreExps}
 use Rattle.tree_terms.specs.Bodies.{upvalues_of}
 use Rattle.tree_activation.specs.Statements.{is_closed}
-use Rattle.code_core.specs.declared.opcode.Opcode.TheVariants.{Move, LoadNil, Close, Tbc}
+use Rattle.code_core.specs.declared.opcode.Opcode.TheVariants.{Move, LoadNil, Close, Tbc, Closure, LoadTrue, LoadFalse}
 use Rattle.code_core.specs.declared.proto.Const.{Const}
-use Rattle.code_core.specs.declared.proto.Const.TheVariants.{Str as StrConst}
+use Rattle.code_core.specs.declared.proto.Const.TheVariants.{Int as IntConst, Str as StrConst}
 use Rattle.code_core.specs.Prototype.{Prototype, Prototypes, more}
-use Rattle.code_of.specs.Coded.{Coded, with_abc}
-use Rattle.code_of.specs.Constants.{with_constant, of_name, of_exp, of_exps}
-use Rattle.code_of.specs.Expressions.{made_by, made_in, count, ends_open, list_field, exps_code}
-use Rattle.code_of.specs.Operands.{assigned}
+use Rattle.code_of.specs.Coded.{Coded, with_abc, with_abx}
+use Rattle.code_of.specs.Constants.{with_constant, of_name, of_exp, of_exps, loads}
+use Rattle.code_of.specs.Expressions.{made_by, made_in, count, ends_open, list_field, exps_code, exp_code}
+use Rattle.code_of.specs.Operands.{local_of, seat, assigned}
 use Rattle.code_of.proofs.Operands.{assigned_is}
 use Rattle.code_of.specs.Stores.{stores_field}
 use Rattle.code_of.proofs.Stores.{stores_field_is}
-use Rattle.code_of.specs.Parts.{marks_code, close_code, function_code, name_target, target_code, targets_code, name_store, store_code, stores_code, first_direct, first_field, stored_code, store_by, assign_by, assign_code, values_last, call_last, method_last, return_code}
+use Rattle.code_of.specs.Parts.{marks_code, close_code, captures_local, closure_code, function_code, name_target, target_code, targets_code, name_store, store_code, stores_code, first_direct, first_field, stored_code, store_by, assign_by, assign_code, values_last, call_last, method_last, return_code, kept_code}
+use Rattle.code_of.specs.Targets.{waiting_key, text_key, single_store}
+use Rattle.code_of.proofs.Targets.{key_waits, single_store_is}
 use Rattle.code_of.specs.CodeOf.{parts_of, from_exp, from_exps, from_body}
 use Rattle.code_checked.specs.Near.{IsRegister, NameIsNear, AreCaptured, ExpsAreNear, TargetIsNear, TargetsAreNear, ResultIsNear}
 use Rattle.code_checked.proofs.Pieces.{closed, listed, returned, Ends, Piece, both, nothing}
-use Rattle.code_checked.proofs.Words.{simple, simple_move, simple_load_nil, simple_close, simple_tbc}
+use Rattle.code_checked.proofs.Words.{simple, simple_move, simple_load_nil, simple_load_true, simple_load_false, simple_close, simple_tbc}
 use Rattle.code_checked.proofs.Found.{Grows, grows_then, grows_with, is_in}
-use Rattle.code_of.proofs.Constants.{same_text}
-use Rattle.code_checked.proofs.Loads.{Whole, Functions, loads_piece, upvalue_piece, set_upvalue_piece, set_table_piece, closure_piece, method_piece}
+use Rattle.code_of.proofs.Constants.{same_text, same_int}
+use Rattle.code_checked.proofs.Loads.{Whole, Functions, loads_piece, integer_piece, named_piece, upvalue_piece, set_upvalue_piece, closure_piece, method_piece}
 use Rattle.code_checked.proofs.Calls.{return_piece, tail_piece}
 use Rattle.code_checked.proofs.Lists.{open_mark, takes_list_field, field_below, HaveRoom}
 use Rattle.code_checked.proofs.Growing.{grows_exp, grows_exps, after_exp, after_exps}
 use Rattle.code_checked.proofs.Exps.{one_law, list_law, values_law}
 use Rattle.code_checked.proofs.FieldStores.{field_piece}
-use Rattle.code_checked.proofs.ExpForms.{DirectLaw, index_direct, binary_direct}
+use Rattle.code_checked.proofs.ExpForms.{seat_near, standing_piece, DirectLaw, unary_direct, index_direct, binary_direct, local_near}
+use Rattle.code_checked.proofs.Targets.{waiting_store, local_piece}
+use Rattle.code_checked.proofs.KeyedFields.{key_piece}
 use Rattle.code_checked.proofs.Lowering.{exps_lower}
 
 module _ (p : Prototype) where
@@ -62,29 +66,39 @@ module _ (p : Prototype) where
 
   -- stores
 
-  name_store_piece : {H : Type 0} {pc : ℕ} (place : Place) (r v line : ℕ) → Whole p → NameIsNear (length p.own.upvalues) place → r + 1 < 2 ^ 8 → v < 2 ^ 8 → Piece p H closed closed pc (name_store p.own.constants place r v line)
-  name_store_piece Unset r v line W h rf vf = nothing p
-  name_store_piece (LocalPlace n) r v line W h rf vf = simple p Move (simple_move p) n v 0 line h vf (lit< tt)
-  name_store_piece (Upvalue u) r v line W h rf vf = let most = W.upvalues in set_upvalue_piece p v u line vf (omega (arith, h, most)) h
-  name_store_piece (GlobalIn n) r v line W h rf vf = set_table_piece p r (r + 1) v line (omega (arith, rf)) rf vf
-  name_store_piece (GlobalOf u) r v line W h rf vf = set_table_piece p r (r + 1) v line (omega (arith, rf)) rf vf
+  name_store_piece : {H : Type 0} {pc : ℕ} (place : Place) (text : List ℕ) (r v line : ℕ) (cs : List Const) → Whole p → NameIsNear (length p.own.upvalues) place → r + 1 < 2 ^ 8 → v < 2 ^ 8 → Grows (of_name place text cs) p.own.constants
+      → Piece p H closed closed pc (name_store p.own.constants place text r v line)
+  name_store_piece Unset text r v line cs W h rf vf g = nothing p
+  name_store_piece (LocalPlace n) text r v line cs W h rf vf g = simple p Move (simple_move p) n v 0 line h vf (lit< tt)
+  name_store_piece (Upvalue u) text r v line cs W h rf vf g = let most = W.upvalues in set_upvalue_piece p v u line vf (omega (arith, h, most)) h
+  name_store_piece (GlobalIn n) text r v line cs W h rf vf g = waiting_store p (text_key p.own.constants text) (Str line text) r v line cs (key_waits p.own.constants (Str line text)) rf vf g
+  name_store_piece (GlobalOf u) text r v line cs W h rf vf g = waiting_store p (text_key p.own.constants text) (Str line text) r v line cs (key_waits p.own.constants (Str line text)) rf vf g
 
-  store_piece : {H : Type 0} {pc : ℕ} (source : Option (List ℕ)) (e : Exp) (size r v : ℕ) → Whole p → TargetIsNear source p e size r → r + 1 < 2 ^ 8 → v < 2 ^ 8 → Piece p H closed closed pc (store_code p.own.constants e r v)
-  store_piece source (Var line name) size r v W h rf vf = name_store_piece name.place r v line W h rf vf
-  store_piece source (Index line o k) size r v W h rf vf = set_table_piece p r (r + 1) v line (omega (arith, rf)) rf vf
-  store_piece source _ size r v W h rf vf = nothing p
+  store_piece : {H : Type 0} {pc : ℕ} (source : Option (List ℕ)) (e : Exp) (size r v : ℕ) (cs : List Const) → Whole p → TargetIsNear source p e size r → r + 1 < 2 ^ 8 → v < 2 ^ 8 → Grows (of_exp e cs) p.own.constants
+      → Piece p H closed closed pc (store_code p.own.constants e r v)
+  store_piece source (Var line name) size r v cs W h rf vf g = name_store_piece name.place name.text r v line cs W h rf vf g
+  store_piece source (Index line o k) size r v cs W h rf vf g = waiting_store p (waiting_key p.own.constants k) k r v line (of_exp o cs) (key_waits p.own.constants k) rf vf g
+  store_piece source _ size r v cs W h rf vf g = nothing p
 
-  pub stores_piece : {H : Type 0} (source : Option (List ℕ)) (es : Exps) (size r v pc : ℕ) → Whole p → TargetsAreNear source p es size r → r + 2 * count es < 2 ^ 8 → v + count es < 2 ^ 8 → Piece p H closed closed pc (stores_code p.own.constants es r v)
-  stores_piece source EndExps size r v pc W h rf vf = nothing p
-  stores_piece source (MoreExps e es) size r v pc W h rf vf =
-      both p (stores_piece source es size (r + 2) (v + 1) pc W h.1 (omega (arith, rf)) (omega (arith, vf))) (store_piece source e size r v W h.0 (omega (arith, rf)) (omega (arith, vf)))
+  pub stores_piece : {H : Type 0} (source : Option (List ℕ)) (es : Exps) (size r v pc : ℕ) (cs : List Const) → Whole p → TargetsAreNear source p es size r → r + 2 * count es < 2 ^ 8 → v + count es < 2 ^ 8 → Grows (of_exps es cs) p.own.constants
+      → Piece p H closed closed pc (stores_code p.own.constants es r v)
+  stores_piece source EndExps size r v pc cs W h rf vf g = nothing p
+  stores_piece source (MoreExps e es) size r v pc cs W h rf vf g =
+      let first = of_exp e cs in
+      both p (stores_piece source es size (r + 2) (v + 1) pc first W h.1 (omega (arith, rf)) (omega (arith, vf)) g)
+      (store_piece source e size r v cs W h.0 (omega (arith, rf)) (omega (arith, vf)) (grows_then first (of_exps es first) p.own.constants (grows_exps es first) g))
 
   module _ (W : Whole p) (source : Option (List ℕ)) (H : Type 0) where
     pub function_piece : (body : Body) (t j pc : ℕ) (rest : Prototypes) → t < 2 ^ 8 → AreCaptured (upvalues_of body) (t + 1) (length p.own.upvalues) → Functions p j (more (parts_of source body) (from_body source body) rest)
         → Piece p H closed closed pc (function_code body t j)
-    function_piece (BodyOf params vararg inner ups line) t j pc rest tf captured fs =
-        both p (simple p LoadNil (simple_load_nil p) t 0 0 line tf (lit< tt) (lit< tt))
-        (closure_piece p W t j line (t + 1) ups (parts_of source (BodyOf params vararg inner ups line)) (from_body source (BodyOf params vararg inner ups line)) rest tf refl captured (omega arith) fs)
+    function_piece (BodyOf params vararg inner ups line) t j pc rest tf captured fs = by (captures_local t ups) pc
+      where
+        made : (pc : ℕ) → Piece p H closed closed pc (with_abx Closure t j line ∷ [])
+        made pc = closure_piece p W t j line (t + 1) ups (parts_of source (BodyOf params vararg inner ups line)) (from_body source (BodyOf params vararg inner ups line)) rest tf refl captured (omega arith) fs
+
+        by : (own : Bool) (pc : ℕ) → Piece p H closed closed pc (closure_code own t j line)
+        by false pc = made pc
+        by true pc = both p (simple p LoadNil (simple_load_nil p) t 0 0 line tf (lit< tt) (lit< tt)) (made (pc + 1))
 
     -- targets
 
@@ -94,16 +108,19 @@ module _ (p : Prototype) where
     name_target_piece (LocalPlace n) text r line cs h rf g = nothing p
     name_target_piece (Upvalue u) text r line cs h rf g = nothing p
     name_target_piece (GlobalIn n) text r line cs h rf g =
-        both p (simple p Move (simple_move p) r n 0 line (omega (arith, rf)) h (lit< tt)) (loads_piece p W (StrConst text) (r + 1) line rf (is_in (StrConst text) (same_text text) cs p.own.constants g))
+        both p (simple p Move (simple_move p) r n 0 line (omega (arith, rf)) h (lit< tt))
+        (key_piece p H (text_key p.own.constants text) (loads p.own.constants (StrConst text) (r + 1) line) (loads_piece p W (StrConst text) (r + 1) line rf (is_in (StrConst text) (same_text text) cs p.own.constants g)))
     name_target_piece (GlobalOf u) text r line cs h rf g =
-        both p (upvalue_piece p W r u line (omega (arith, rf)) h) (loads_piece p W (StrConst text) (r + 1) line rf (is_in (StrConst text) (same_text text) cs p.own.constants g))
+        both p (upvalue_piece p W r u line (omega (arith, rf)) h)
+        (key_piece p H (text_key p.own.constants text) (loads p.own.constants (StrConst text) (r + 1) line) (loads_piece p W (StrConst text) (r + 1) line rf (is_in (StrConst text) (same_text text) cs p.own.constants g)))
 
     target_piece : (e : Exp) (r j pc size : ℕ) (cs : List Const) (rest : Prototypes) → TargetIsNear source p e size r → size ≤ r → r + 1 < 2 ^ 8 → Grows (of_exp e cs) p.own.constants → Functions p j (from_exp source e rest)
         → Piece p H closed closed pc (target_code p.own.constants e r j)
     target_piece (Var line name) r j pc size cs rest h le rf g fs = name_target_piece name.place name.text r line cs h rf g
     target_piece (Index line o k) r j pc size cs rest h le rf g fs =
         both p (one_law p W source o H r j pc size cs (from_exp source k rest) h.0 le (grows_then (of_exp o cs) (of_exp k (of_exp o cs)) p.own.constants (grows_exp k (of_exp o cs)) g) fs)
-        (one_law p W source k H (r + 1) (j + made_by o) _ size (of_exp o cs) rest h.1 (omega (arith, le)) g (after_exp source p o j (from_exp source k rest) fs))
+        (key_piece p H (waiting_key p.own.constants k) (exp_code p.own.constants k (r + 1) (j + made_by o) 2)
+        (one_law p W source k H (r + 1) (j + made_by o) _ size (of_exp o cs) rest h.1 (omega (arith, le)) g (after_exp source p o j (from_exp source k rest) fs)))
     target_piece _ r j pc size cs rest h le rf g fs = nothing p
 
     targets_piece : (es : Exps) (r j pc size : ℕ) (cs : List Const) (rest : Prototypes) → TargetsAreNear source p es size r → size ≤ r → r + 2 * count es < 2 ^ 8 → Grows (of_exps es cs) p.own.constants → Functions p j (from_exps source es rest)
@@ -128,11 +145,19 @@ module _ (p : Prototype) where
         let first = of_exps ts cs in
         both p (targets_piece ts t j pc t cs (from_exps source es rest) near_ts (omega arith) (omega (arith, r)) (grows_then first (of_exps es first) p.own.constants (grows_exps es first) g) fs)
         (both p (values_piece es (count ts) (t + 2 * count ts) (j + made_in ts) line _ t first rest near_es (omega arith) (omega (arith, r)) g (after_exps source p ts j (from_exps source es rest) fs))
-        (stores_piece source ts t t (t + 2 * count ts) _ W near_ts (omega (arith, r)) (omega (arith, r))))
+        (stores_piece source ts t t (t + 2 * count ts) _ cs W near_ts (omega (arith, r)) (omega (arith, r)) (grows_then first (of_exps es first) p.own.constants (grows_exps es first) g)))
 
     -- a value that goes straight to a local's register
 
     direct_piece : (e : Exp) → DirectLaw p W source H e
+    direct_piece (Nil line) = λ r t j pc size cs rest rf near le g fs. simple p LoadNil (simple_load_nil p) r 0 0 line rf (lit< tt) (lit< tt)
+    direct_piece (True line) = λ r t j pc size cs rest rf near le g fs. simple p LoadTrue (simple_load_true p) r 0 0 line rf (lit< tt) (lit< tt)
+    direct_piece (False line) = λ r t j pc size cs rest rf near le g fs. simple p LoadFalse (simple_load_false p) r 0 0 line rf (lit< tt) (lit< tt)
+    direct_piece (Int line z) = λ r t j pc size cs rest rf near le g fs. integer_piece p W z r line rf (λ e. is_in (IntConst z) (same_int z) cs p.own.constants (subst (λ b. Grows (cond b cs (with_constant (IntConst z) cs)) p.own.constants) e g))
+    direct_piece (Str line bytes) = λ r t j pc size cs rest rf near le g fs. loads_piece p W (StrConst bytes) r line rf (is_in (StrConst bytes) (same_text bytes) cs p.own.constants g)
+    direct_piece (Var line name) = λ r t j pc size cs rest rf near le g fs. named_piece p W name.place name.text r t line cs rf near.0 near.1 g
+    direct_piece (Paren line e) = λ r t j pc size cs rest rf near le g fs. direct_piece e r t j pc size cs rest rf near.1 le g fs
+    direct_piece (Unary line op e) = unary_direct p W source H line op e (one_law p W source e H)
     direct_piece (Index line o k) = index_direct p W source H line o k (one_law p W source o H) (one_law p W source k H)
     direct_piece (Binary line op e d) = binary_direct p W source H line op e d (one_law p W source e H) (one_law p W source d H)
     direct_piece _ = λ r t j pc size cs rest rf near le g fs. nothing p
@@ -152,7 +177,17 @@ module _ (p : Prototype) where
         by None is = by_field (stores_field ts es) refl
           where
             by_field : (b : Bool) → stores_field ts es ≡ b → Piece p H closed closed pc (store_by p.own.constants b ts es t j line)
-            by_field false is = stored_piece ts es t j line pc cs rest r near_ts near_es g fs
+            by_field false is = by_store (single_store p.own.constants ts es) refl
+              where
+                by_store : (o : Option Coded) → single_store p.own.constants ts es ≡ o → Piece p H closed closed pc (kept_code p.own.constants o ts es t j line)
+                by_store None is = stored_piece ts es t j line pc cs rest r near_ts near_es g fs
+                by_store (Some x) is =
+                    let form = single_store_is p.own.constants ts es x is in
+                    let near_target = subst (λ z. TargetsAreNear source p z t t) form.target near_ts in
+                    let near_value = subst (λ z. ExpsAreNear source p z t (t + 2 * count ts)) form.values near_es in
+                    let first = of_exps ts cs in
+                    let grows = subst (λ z. Grows (of_exps z cs) p.own.constants) form.target (grows_then first (of_exps es first) p.own.constants (grows_exps es first) g) in
+                    local_piece p form.name.place form.name.text form.local form.line x cs W form.store form.short near_target.0 (local_near source p form.value t (t + 2 * count ts) form.local form.is near_value.0) grows
             by_field true is =
                 let form = stores_field_is ts es is in
                 let after = j + made_in ts in
@@ -202,8 +237,8 @@ module _ (p : Prototype) where
         let made = of_exp o cs in
         let named = with_constant (StrConst name.text) made in
         let known = grows_then named (of_exps es named) p.own.constants (grows_exps es named) g in
-        both p (one_law p W source o H t j pc t cs (from_exps source es rest) n.1.0 (omega arith) (grows_then made named p.own.constants (grows_with (StrConst name.text) made) known) fs)
-        (both p (method_piece p W t call_line name.text (omega (arith, r)) (is_in (StrConst name.text) (same_text name.text) made p.own.constants known))
+        both p (standing_piece p W source H o (one_law p W source o H) t j pc t cs (from_exps source es rest) n.1.0 (omega arith) (grows_then made named p.own.constants (grows_with (StrConst name.text) made) known) fs)
+        (both p (method_piece p W (seat (local_of o) t) t call_line name.text (seat_near source p o t t (omega (arith, r)) n.1.0) (omega (arith, r)) (is_in (StrConst name.text) (same_text name.text) made p.own.constants known))
         (both p (list_law p W source es H (t + 2) (j + made_by o) call_line _ t named rest n.1.1 (omega arith) g (after_exp source p o j (from_exps source es rest) fs))
         (both p (tail_piece p (open_mark es (t + 2)) t (list_field 1 es) back call_line (omega (arith, r)) (field_below (ends_open es) (1 + count es + 1) (omega (arith, r))) bf (takes_list_field es (1 + count es + 1) t (t + 2) (omega arith) (omega arith)))
         (return_piece p (listed t) t 0 back call_line (omega (arith, r)) (lit< tt) bf (refl, omega arith)))))

@@ -13,7 +13,7 @@ use Rattle.code_of.specs.Constants.{small_field, of_exp, of_exps, of_stat, of_ar
 use Rattle.code_of.specs.Expressions.{made_by, made_in, exp_code, exps_code}
 use Rattle.code_of.specs.Conditions.{test_code}
 use Rattle.code_of.specs.Jumps.{Visible, Reach, label_in}
-use Rattle.code_of.specs.Levels.{made_in_arms, made_in_stats, made_in_block, closings_after, closed_below}
+use Rattle.code_of.specs.Levels.{made_in_arms, made_in_stats, made_in_block, closings_after, closed_below, closed_until}
 use Rattle.tree_terms.specs.Levels.{levels_after, levels_in}
 use Rattle.code_of.specs.Parts.{close_code, past_size, past, return_code, bounds_code, steps_code, pair_code}
 use Rattle.code_of.specs.Sizes.{stat_size, arms_size, block_size}
@@ -118,15 +118,16 @@ module _ (p : Prototype) (W : Whole p) (source : Option (List ℕ)) where
   pub repeat_law : (line : ℕ) (block : Block) (e : Exp) → OpenLaw block → StatLaw (Repeat line block e)
   repeat_law line block e law G closing t j pc reach cs rest to near r g fs =
       let q : ℕ = pc + stat_size p.own.constants back (Repeat line block e) closing t j in
+      let low = closed_until block e t in
       let inner = levels_in block t in
       let k = j + made_in_block block in
       let first = of_block block cs in
       let code = open_code p.own.constants back block closing t j pc (in_loop reach q t) in
-      repeat_piece p W (λ ahead. test_code p.own.constants e false ahead inner k) code (close_code t inner (line_of_end block)) line pc q
+      repeat_piece p W (λ ahead. test_code p.own.constants e false ahead inner k) code (close_code t low (line_of_end block)) line pc q
       (ap (λ n. pc + n) (stat_sized p.own.constants back (Repeat line block e) closing t j pc reach))
       (λ H h. law H closing t j pc (in_loop reach q t) cs (from_exp source e rest) (λ x. let y = h x in in_loop_reaches reach q t (omega (arith, r)) (to y.0, y.1)) near.0 r (grows_then first (of_exp e first) p.own.constants (grows_exp e first) g) fs)
-      (λ H end short place h. test_law p W source e H false (length (close_code t inner (line_of_end block)) + 1) inner k (pc + length code) inner end first rest near.1 (omega arith) g (after_block source p block j (from_exp source e rest) fs) short place h)
-      (λ H place. close_piece p t inner (line_of_end block) place (omega (arith, r)))
+      (λ H end short place h. test_law p W source e H false (length (close_code t low (line_of_end block)) + 1) inner k (pc + length code) inner end first rest near.1 (omega arith) g (after_block source p block j (from_exp source e rest) fs) short place h)
+      (λ H place. close_piece p t low (line_of_end block) place (omega (arith, r)))
 
   pub if_law : (line : ℕ) (arms : Arms) → ArmsLaw arms → StatLaw (If line arms)
   if_law line arms law G closing t j pc reach cs rest to near r g fs = law G [] closing t j pc line reach cs rest to near r g fs (λ H h. nothing p)

@@ -18,11 +18,11 @@ use Rattle.code_examples.proofs.Hand.{hand, Compiles}
 use Rattle.code_means.proofs.Pairs.{one, repeats, breaks_out, continues}
 
 abbrev pub repeats_code : Prototype
-repeats_code = hand 1 false 5 [] [] (variable "f" 0 15 ∷ variable "x" 2 14 ∷ variable "g" 3 14 ∷ [])
+repeats_code = hand 1 false 5 [] [] (variable "f" 0 14 ∷ variable "x" 2 13 ∷ variable "g" 3 13 ∷ [])
     (hand 0 false 1 [] (("x", 1) ∷ []) [] [] (abc GetUpval 0 0 0 false ∷ abc Return 0 2 0 false ∷ []) ∷ [])
     (abc Move 1 0 0 false ∷ abc Call 1 1 2 false ∷ abx Closure 2 0
-    ∷ abc Move 3 1 0 false ∷ abc Test 3 0 0 false ∷ jump 5 ∷ abc Move 3 0 0 false ∷ abc Move 4 2 0 false ∷ abc Call 3 2 2 false
-    ∷ abc Test 3 0 0 false ∷ jump 2 ∷ abc Close 1 0 0 false ∷ jump_back 13 ∷ abc Close 1 0 0 false ∷ abc Return 1 1 0 true ∷ [])
+    ∷ abc Test 1 0 0 false ∷ jump 5 ∷ abc Move 3 0 0 false ∷ abc Move 4 2 0 false ∷ abc Call 3 2 2 false
+    ∷ abc Test 3 0 0 false ∷ jump 2 ∷ abc Close 1 0 0 false ∷ jump_back 12 ∷ abc Close 1 0 0 false ∷ abc Return 1 1 0 true ∷ [])
 
 repeat_code : Compiles repeats repeats_code
 unfolding opcodes number_of
@@ -118,10 +118,10 @@ leaves_scopes = fun ("f" ∷ "v" ∷ []) [] (block (
     ∷ Label 1 (no_variable "done") ∷ [])) ∷ []))
 
 abbrev pub leaves_scopes_code : Prototype
-leaves_scopes_code = hand 2 false 5 [] [] (variable "f" 0 17 ∷ variable "v" 0 17 ∷ variable "x" 1 16 ∷ variable "y" 4 15 ∷ []) []
+leaves_scopes_code = hand 2 false 4 [] [] (variable "f" 0 14 ∷ variable "v" 0 14 ∷ variable "x" 1 13 ∷ variable "y" 4 12 ∷ []) []
     (abc Move 2 1 0 false ∷ abc Tbc 2 0 0 false ∷ abc Move 3 0 0 false ∷ abc Call 3 1 2 false
-    ∷ abc Move 4 3 0 false ∷ abc Test 4 0 0 false ∷ jump 2 ∷ abc Close 2 0 0 false ∷ jump_back 9 ∷ abc Close 2 0 0 false ∷ jump 4
-    ∷ jump 2 ∷ abc Close 3 0 0 false ∷ jump_back 12 ∷ abc Close 3 0 0 false
+    ∷ abc Test 3 0 0 false ∷ jump 2 ∷ abc Close 2 0 0 false ∷ jump_back 8 ∷ abc Close 2 0 0 false ∷ jump 2
+    ∷ jump 1 ∷ jump_back 10
     ∷ abc Close 2 0 0 false ∷ abc Return 2 1 0 true ∷ [])
 
 leaving_code : Compiles leaves_scopes leaves_scopes_code
@@ -139,9 +139,9 @@ tests_at_once = fun ("f" ∷ []) [] (block (
     Repeat 1 (block (loc_is "x" 1 (call (loc "f" 0) []) ∷ Goto 1 (no_variable "test") ∷ does (call (loc "f" 0) []) ∷ Label 1 (no_variable "test") ∷ [])) (loc "x" 1) ∷ []))
 
 abbrev pub tests_at_once_code : Prototype
-tests_at_once_code = hand 1 false 3 [] [] (variable "f" 0 13 ∷ variable "x" 2 12 ∷ []) []
+tests_at_once_code = hand 1 false 3 [] [] (variable "f" 0 10 ∷ variable "x" 2 9 ∷ []) []
     (abc Move 1 0 0 false ∷ abc Call 1 1 2 false ∷ abc Close 2 0 0 false ∷ jump 2 ∷ abc Move 2 0 0 false ∷ abc Call 2 1 1 false
-    ∷ abc Move 2 1 0 false ∷ abc Test 2 0 0 true ∷ jump 2 ∷ abc Close 1 0 0 false ∷ jump_back 11 ∷ abc Close 1 0 0 false ∷ abc Return 1 1 0 true ∷ [])
+    ∷ abc Test 1 0 0 true ∷ jump 1 ∷ jump_back 9 ∷ abc Return 1 1 0 true ∷ [])
 
 label_code : Compiles tests_at_once tests_at_once_code
 unfolding opcodes number_of

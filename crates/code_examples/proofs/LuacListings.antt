@@ -2,13 +2,14 @@
 use Rattle.std.proofs.Common.{◌≡◌, ℕ, true, false, List, [], ◌∷◌, length, take, Some, refl}
 use Prim.Native.String.{String}
 use Rattle.code_core.specs.Opcode.{opcodes, number_of}
-use Rattle.code_core.specs.declared.opcode.Opcode.TheVariants.{Move, LoadFalse, LFalseSkip, LoadTrue, GetTabUp, GetTable, GetI, GetField, SetTable, SetI, SetField, Add, Mod, AddI, ShrI, MmBin, MmBinI, Eq, Lt, Le, EqI, LeI, GtI, GeI, Test, Call, Return, VarArg, VarArgPrep}
+use Rattle.code_core.specs.declared.opcode.Opcode.TheVariants.{Move, LoadFalse, LFalseSkip, LoadTrue, GetTabUp, GetTable, GetI, GetField, SetTable, SetI, SetField, Add, Mod, AddI, ShrI, MmBin, MmBinI, MulK, ModK, BOrK, MmBinK, EqK, Eq, Lt, Le, EqI, LeI, GtI, GeI, Test, OpSelf, Unm, BNot, Not, Len, Call, Return, VarArg, VarArgPrep, LoadK, LoadNil, SetTabUp}
 use Rattle.code_core.specs.declared.instruction.Instruction.{Instruction}
-use Rattle.code_core.specs.Instruction.{abc}
-use Rattle.tree_core.specs.declared.operator.BinOp.TheVariants.{Add as Plus, Sub as Minus, Mod as Modulo, Shr as ShiftRight, Eq as Equal, Ne, Lt as Less, Le as AtMost, Gt, Ge}
-use Rattle.tree_core.specs.declared.operator.UnOp.TheVariants.{Not as Negation}
-use Rattle.tree_core.specs.Tree.{Body, Stat, Exp, True, False, Vararg, Index, Unary, And, Or, Paren, While, If, IfElse, arms}
-use Rattle.tree_terms.proofs.Forms.{declared, of_local, loc, global, int, field, call, bin, block, returning, locals, loc_is, assign, does, when, vararg_fun}
+use Rattle.code_core.specs.Instruction.{abc, abx}
+use Rattle.tree_core.specs.declared.operator.BinOp.TheVariants.{Add as Plus, Sub as Minus, Mul as Times, Mod as Modulo, Bor, Shr as ShiftRight, Eq as Equal, Ne, Lt as Less, Le as AtMost, Gt, Ge}
+use Rattle.tree_core.specs.declared.operator.UnOp.TheVariants.{Neg, BitNot, Not as Negation, Len as Length}
+use Rattle.tree_core.specs.Tree.{Body, Stat, Exp, True, False, Vararg, Index, Method, Unary, And, Or, Paren, While, If, IfElse, arms, exps, Nil, Var}
+use Rattle.tree_terms.proofs.Forms.{declared, no_variable, of_local, loc, global, int, field, call, bin, block, returning, locals, loc_is, assign, does, when, vararg_fun, str, name}
+use Rattle.tree_core.specs.declared.name.Place.TheVariants.{GlobalIn}
 use Rattle.code_means.proofs.Forms.{load_int, jump, jump_back}
 use Rattle.code_of.specs.CodeOf.{code_of}
 use Rattle.code_examples.proofs.Hand.{source, Lists}
@@ -149,6 +150,15 @@ truths : Begins (chunk (two 1 2
 unfolding opcodes number_of
 truths = refl
 
+-- local o = f() o:m(-o,#(o),~o) if o then g(not o) end
+stays : Begins (chunk (loc_is "o" 0 (calls "f")
+    ∷ does (Method 1 (loc "o" 0) (no_variable "m") (exps (Unary 1 Neg (loc "o" 0) ∷ Unary 1 Length (Paren 1 (loc "o" 0)) ∷ Unary 1 BitNot (loc "o" 0) ∷ [])))
+    ∷ when (loc "o" 0) (does (call (global "g") (Unary 1 Negation (loc "o" 0) ∷ [])) ∷ []) ∷ []))
+    (abc VarArgPrep 0 0 0 false ∷ abc GetTabUp 0 0 0 false ∷ abc Call 0 1 2 false ∷ abc OpSelf 1 0 1 true ∷ abc Unm 3 0 0 false ∷ abc Len 4 0 0 false ∷ abc BNot 5 0 0 false
+    ∷ abc Call 1 5 1 false ∷ abc Test 0 0 0 false ∷ jump 3 ∷ abc GetTabUp 1 0 2 false ∷ abc Not 2 0 0 false ∷ abc Call 1 2 1 false ∷ [])
+unfolding opcodes number_of
+stays = refl
+
 -- local t,i = f() local a,b,c = t[i],t[1],(t)[255]
 fields : Begins (chunk (locals (declared "t" 0 ∷ declared "i" 1 ∷ []) (calls "f" ∷ [])
     ∷ locals (declared "a" 2 ∷ declared "b" 3 ∷ declared "c" 4 ∷ []) (Index 1 (loc "t" 0) (loc "i" 1) ∷ Index 1 (loc "t" 0) (int 1) ∷ Index 1 (Paren 1 (loc "t" 0)) (int 255) ∷ []) ∷ []))
@@ -170,6 +180,16 @@ straight : Begins (chunk (locals (declared "a" 0 ∷ declared "t" 1 ∷ []) (int
 unfolding opcodes number_of
 straight = refl
 
+-- local a,b = f() a = b * 3 b = a % 1000 if a == "x" or b ~= nil then g(a | 7,b == 200) end
+constants : Begins (chunk (locals (declared "a" 0 ∷ declared "b" 1 ∷ []) (calls "f" ∷ [])
+    ∷ assign (loc "a" 0) (bin Times (loc "b" 1) (int 3)) ∷ assign (loc "b" 1) (bin Modulo (loc "a" 0) (int 1000))
+    ∷ when (Or 1 (bin Equal (loc "a" 0) (str "x")) (bin Ne (loc "b" 1) (Nil 1))) (does (call (global "g") (bin Bor (loc "a" 0) (int 7) ∷ bin Equal (loc "b" 1) (int 200) ∷ [])) ∷ []) ∷ []))
+    (abc VarArgPrep 0 0 0 false ∷ abc GetTabUp 0 0 0 false ∷ abc Call 0 1 3 false ∷ abc MulK 0 1 1 false ∷ abc MmBinK 1 1 8 false ∷ abc ModK 1 0 2 false ∷ abc MmBinK 0 2 9 false
+    ∷ abc EqK 0 3 0 true ∷ jump 2 ∷ abc EqK 1 4 0 true ∷ jump 8 ∷ abc GetTabUp 2 0 5 false ∷ abc BOrK 3 0 6 false ∷ abc MmBinK 0 6 14 false
+    ∷ abc EqK 1 7 0 true ∷ jump 1 ∷ abc LFalseSkip 4 0 0 false ∷ abc LoadTrue 4 0 0 false ∷ abc Call 2 3 1 false ∷ [])
+unfolding opcodes number_of
+constants = refl
+
 -- local t,i = f() t.x = i t[1] = t t[i] = i g.x = i
 stores : Begins (chunk (locals (declared "t" 0 ∷ declared "i" 1 ∷ []) (calls "f" ∷ [])
     ∷ assign (field (loc "t" 0) "x") (loc "i" 1) ∷ assign (Index 1 (loc "t" 0) (int 1)) (loc "t" 0) ∷ assign (Index 1 (loc "t" 0) (loc "i" 1)) (loc "i" 1) ∷ assign (field (global "g") "x") (loc "i" 1) ∷ []))
@@ -186,3 +206,38 @@ names : Begins (chunk (loc_is "t" 0 (calls "f")
     ∷ abc GetTabUp 3 0 4 false ∷ abc GetTabUp 4 0 4 false ∷ abc GetField 4 4 1 false ∷ abc GetField 5 0 2 false ∷ abc Call 3 3 1 false ∷ [])
 unfolding opcodes number_of
 names = refl
+
+-- local t,i = f() t = i i = 5 t = "x" i = g t = true i = nil t = (i)
+stands : Begins (chunk (locals (declared "t" 0 ∷ declared "i" 1 ∷ []) (calls "f" ∷ [])
+    ∷ assign (loc "t" 0) (loc "i" 1) ∷ assign (loc "i" 1) (int 5) ∷ assign (loc "t" 0) (str "x") ∷ assign (loc "i" 1) (global "g") ∷ assign (loc "t" 0) (True 1)
+    ∷ assign (loc "i" 1) (Nil 1) ∷ assign (loc "t" 0) (Paren 1 (loc "i" 1)) ∷ []))
+    (abc VarArgPrep 0 0 0 false ∷ abc GetTabUp 0 0 0 false ∷ abc Call 0 1 3 false ∷ abc Move 0 1 0 false ∷ load_int 1 5 ∷ abx LoadK 0 1 ∷ abc GetTabUp 1 0 2 false
+    ∷ abc LoadTrue 0 0 0 false ∷ abc LoadNil 1 0 0 false ∷ abc Move 0 1 0 false ∷ [])
+unfolding opcodes number_of
+stands = refl
+
+-- local t,i = f() t = -i i = #t t = not t i = ~(i)
+prefixed : Begins (chunk (locals (declared "t" 0 ∷ declared "i" 1 ∷ []) (calls "f" ∷ [])
+    ∷ assign (loc "t" 0) (Unary 1 Neg (loc "i" 1)) ∷ assign (loc "i" 1) (Unary 1 Length (loc "t" 0)) ∷ assign (loc "t" 0) (Unary 1 Negation (loc "t" 0))
+    ∷ assign (loc "i" 1) (Unary 1 BitNot (Paren 1 (loc "i" 1))) ∷ []))
+    (abc VarArgPrep 0 0 0 false ∷ abc GetTabUp 0 0 0 false ∷ abc Call 0 1 3 false ∷ abc Unm 0 1 0 false ∷ abc Len 1 0 0 false ∷ abc Not 0 0 0 false ∷ abc BNot 1 1 0 false ∷ [])
+unfolding opcodes number_of
+prefixed = refl
+
+-- local _ENV = f() g(x)
+environment : Begins (chunk (loc_is "_ENV" 0 (calls "f") ∷ does (call (Var 1 (name "g" (GlobalIn 0))) (Var 1 (name "x" (GlobalIn 0)) ∷ [])) ∷ []))
+    (abc VarArgPrep 0 0 0 false ∷ abc GetTabUp 0 0 0 false ∷ abc Call 0 1 2 false ∷ abc GetField 1 0 1 false ∷ abc GetField 2 0 2 false ∷ abc Call 1 2 1 false ∷ [])
+unfolding opcodes number_of
+environment = refl
+
+-- local t = f() g = t
+sets : Begins (chunk (loc_is "t" 0 (calls "f") ∷ assign (global "g") (loc "t" 0) ∷ []))
+    (abc VarArgPrep 0 0 0 false ∷ abc GetTabUp 0 0 0 false ∷ abc Call 0 1 2 false ∷ abc SetTabUp 0 1 0 false ∷ [])
+unfolding opcodes number_of
+sets = refl
+
+-- local _ENV = f() g = _ENV
+environment_sets : Begins (chunk (loc_is "_ENV" 0 (calls "f") ∷ assign (Var 1 (name "g" (GlobalIn 0))) (loc "_ENV" 0) ∷ []))
+    (abc VarArgPrep 0 0 0 false ∷ abc GetTabUp 0 0 0 false ∷ abc Call 0 1 2 false ∷ abc SetField 0 1 0 false ∷ [])
+unfolding opcodes number_of
+environment_sets = refl

@@ -3,7 +3,7 @@ use Rattle.std.proofs.Common.{true, false, [], ◌∷◌, refl}
 use Rattle.std.specs.Prelude.{pos, negsuc}
 use Rattle.std.specs.Int.{int_wrap}
 use Rattle.code_core.specs.Opcode.{opcodes, number_of}
-use Rattle.code_core.specs.declared.opcode.Opcode.TheVariants.{EqI, GtI, Move, LoadI, LoadK, LFalseSkip, LoadTrue, GetUpval, GetTabUp, GetField, SetTable, NewTable, OpSelf, Sub, MmBin, Unm, Not, Len, Concat, Lt, Le, Test, Call, TailCall, Return, SetList, VarArg, VarArgPrep, ExtraArg}
+use Rattle.code_core.specs.declared.opcode.Opcode.TheVariants.{EqI, GtI, Move, LoadI, LoadK, LFalseSkip, LoadTrue, GetUpval, GetTabUp, GetField, SetTable, SetField, NewTable, OpSelf, Sub, MmBin, Unm, Not, Len, Concat, Lt, Le, Test, Call, TailCall, Return, SetList, VarArg, VarArgPrep, ExtraArg, SetI}
 use Rattle.code_core.specs.declared.proto.Const.TheVariants.{Int as IntConst}
 use Rattle.code_core.specs.Instruction.{abc, abx, op_ax}
 use Rattle.code_core.specs.Prototype.{Prototype}
@@ -11,9 +11,9 @@ use Rattle.int_core.specs.Value.{known, boolean, object, a_table}
 use Rattle.int_core.specs.Ask.{values}
 use Rattle.tree_core.specs.declared.operator.BinOp.TheVariants.{Sub as Minus, Concat as Join, Le as AtMost, Lt as Less, Ne, Gt}
 use Rattle.tree_core.specs.declared.operator.UnOp.TheVariants.{Not as Negation, Neg, Len as Length}
-use Rattle.tree_core.specs.Tree.{Body, If, Int, Vararg, Unary, And, Or, Method, IfElse, arms, exps}
+use Rattle.tree_core.specs.Tree.{Body, If, Int, Vararg, Unary, And, Or, Method, IfElse, arms, exps, Index}
 use Rattle.code_means.proofs.Traces.{number}
-use Rattle.tree_terms.proofs.Forms.{no_variable, of_local, loc, global, int, call, bin, block, returning, assigns, assign, fun, vararg_fun}
+use Rattle.tree_terms.proofs.Forms.{no_variable, of_local, loc, global, int, call, bin, block, returning, assigns, assign, fun, vararg_fun, field}
 use Rattle.code_means.proofs.Forms.{text, variable, load_int, jump, AskAlike, tree_asks, code_asks}
 use Rattle.code_examples.proofs.Hand.{hand, Compiles}
 use Rattle.code_means.proofs.Pairs.{one, makes_tables}
@@ -24,7 +24,7 @@ globals = vararg_fun [] (of_local "_ENV" 0 ∷ []) (returning (assign (global "x
 
 abbrev pub globals_code : Prototype
 globals_code = hand 0 true 3 (text "x" ∷ text "y" ∷ text "print" ∷ []) (("_ENV", 0) ∷ []) [] []
-    (abc VarArgPrep 0 0 0 false ∷ abc GetUpval 0 0 0 false ∷ abx LoadK 1 0 ∷ abc GetTabUp 2 0 1 false ∷ abc SetTable 0 1 2 false
+    (abc VarArgPrep 0 0 0 false ∷ abc GetUpval 0 0 0 false ∷ abc GetTabUp 2 0 1 false ∷ abc SetField 0 0 2 false
     ∷ abc GetTabUp 0 0 2 false ∷ abc GetTabUp 1 0 0 false ∷ abc TailCall 0 2 1 false ∷ abc Return 0 0 1 false ∷ [])
 
 global_names_code : Compiles globals globals_code
@@ -41,8 +41,8 @@ abbrev decides : Body
 decides = fun ("a" ∷ "b" ∷ []) [] (returning [] (Or 1 (And 1 (loc "a" 0) (Unary 1 Negation (loc "b" 1))) (bin AtMost (loc "a" 0) (loc "b" 1)) ∷ []))
 
 abbrev pub decides_code : Prototype
-decides_code = hand 2 false 3 [] [] (variable "a" 0 12 ∷ variable "b" 0 12 ∷ []) []
-    (abc Move 2 0 0 false ∷ abc Test 2 0 0 false ∷ jump 2 ∷ abc Move 2 1 0 false ∷ abc Not 2 2 0 false ∷ abc Test 2 0 0 true ∷ jump 4
+decides_code = hand 2 false 3 [] [] (variable "a" 0 11 ∷ variable "b" 0 11 ∷ []) []
+    (abc Move 2 0 0 false ∷ abc Test 2 0 0 false ∷ jump 1 ∷ abc Not 2 1 0 false ∷ abc Test 2 0 0 true ∷ jump 4
     ∷ abc Le 0 1 0 true ∷ jump 1 ∷ abc LFalseSkip 2 0 0 false ∷ abc LoadTrue 2 0 0 false ∷ abc Return 2 2 0 true ∷ [])
 
 truth_code : Compiles decides decides_code
@@ -65,10 +65,10 @@ chooses = fun ("a" ∷ []) [] (returning (
     (loc "a" 0 ∷ []))
 
 abbrev pub chooses_code : Prototype
-chooses_code = hand 1 false 4 [] [] (variable "a" 0 15 ∷ []) []
+chooses_code = hand 1 false 2 [] [] (variable "a" 0 12 ∷ []) []
     (abc GtI 0 128 0 false ∷ jump 3
-    ∷ load_int 1 1 ∷ abc Return 1 2 0 true ∷ jump 8 ∷ abc Move 1 0 0 false ∷ abc Test 1 0 0 false ∷ jump 3 ∷ load_int 3 2 ∷ abc Move 0 3 0 false ∷ jump 2
-    ∷ load_int 3 3 ∷ abc Move 0 3 0 false ∷ abc Move 1 0 0 false ∷ abc Return 1 2 0 true ∷ [])
+    ∷ load_int 1 1 ∷ abc Return 1 2 0 true ∷ jump 5 ∷ abc Test 0 0 0 false ∷ jump 2 ∷ load_int 0 2 ∷ jump 1
+    ∷ load_int 0 3 ∷ abc Move 1 0 0 false ∷ abc Return 1 2 0 true ∷ [])
 
 arms_code : Compiles chooses chooses_code
 unfolding opcodes number_of
@@ -92,8 +92,8 @@ tests = fun ("a" ∷ "b" ∷ []) [] (block (
     If 1 (arms ((Or 1 (Unary 1 Negation (loc "a" 0)) (And 1 (bin Less (loc "a" 0) (loc "b" 1)) (bin Ne (loc "b" 1) (int 1))), returning [] (loc "a" 0 ∷ [])) ∷ [])) ∷ []))
 
 abbrev pub tests_code : Prototype
-tests_code = hand 2 false 3 [] [] (variable "a" 0 10 ∷ variable "b" 0 10 ∷ []) []
-    (abc Move 2 0 0 false ∷ abc Test 2 0 0 false ∷ jump 4 ∷ abc Lt 0 1 0 false ∷ jump 4
+tests_code = hand 2 false 3 [] [] (variable "a" 0 9 ∷ variable "b" 0 9 ∷ []) []
+    (abc Test 0 0 0 false ∷ jump 4 ∷ abc Lt 0 1 0 false ∷ jump 4
     ∷ abc EqI 1 128 0 true ∷ jump 2 ∷ abc Move 2 0 0 false ∷ abc Return 2 2 0 true ∷ abc Return 2 1 0 true ∷ [])
 
 conditions_code : Compiles tests tests_code
@@ -115,9 +115,9 @@ calls_method = vararg_fun ("o" ∷ []) [] (returning []
     (bin Join (Unary 1 Length (loc "o" 0)) (Unary 1 Neg (loc "o" 0)) ∷ Method 1 (loc "o" 0) (no_variable "m") (exps (int 1 ∷ Vararg 1 ∷ [])) ∷ []))
 
 abbrev pub calls_method_code : Prototype
-calls_method_code = hand 1 true 6 (text "m" ∷ []) [] (variable "o" 0 12 ∷ []) []
-    (abc VarArgPrep 1 0 0 false ∷ abc Move 1 0 0 false ∷ abc Len 1 1 0 false ∷ abc Move 2 0 0 false ∷ abc Unm 2 2 0 false ∷ abc Concat 1 2 0 false
-    ∷ abc Move 2 0 0 false ∷ abc OpSelf 2 2 0 true ∷ load_int 4 1 ∷ abc VarArg 5 0 0 false ∷ abc Call 2 0 0 false ∷ abc Return 1 0 2 true ∷ [])
+calls_method_code = hand 1 true 6 (text "m" ∷ []) [] (variable "o" 0 9 ∷ []) []
+    (abc VarArgPrep 1 0 0 false ∷ abc Len 1 0 0 false ∷ abc Unm 2 0 0 false ∷ abc Concat 1 2 0 false
+    ∷ abc OpSelf 2 0 0 true ∷ load_int 4 1 ∷ abc VarArg 5 0 0 false ∷ abc Call 2 0 0 false ∷ abc Return 1 0 2 true ∷ [])
 
 method_code : Compiles calls_method calls_method_code
 unfolding opcodes number_of
@@ -129,15 +129,30 @@ unfolding opcodes number_of int_wrap
 open_lists = (refl, refl)
 
 abbrev pub makes_tables_code : Prototype
-makes_tables_code = hand 1 false 9 (text "a" ∷ text "b" ∷ text "m" ∷ text "x" ∷ text "c" ∷ []) [] (variable "o" 0 21 ∷ []) []
-    (abc Move 1 0 0 false ∷ abx LoadK 2 0 ∷ abc Move 3 0 0 false ∷ abx LoadK 4 1 ∷ load_int 5 1
-    ∷ abc Move 6 0 0 false ∷ abc OpSelf 6 6 2 true ∷ load_int 8 2 ∷ abc Call 6 3 2 false ∷ abc SetTable 3 4 6 false ∷ abc SetTable 1 2 5 false
-    ∷ abc NewTable 1 0 0 false ∷ op_ax ExtraArg 0 ∷ load_int 2 3 ∷ abc SetList 1 1 0 false ∷ abx LoadK 2 3 ∷ load_int 3 4 ∷ abc SetTable 1 2 3 false
+makes_tables_code = hand 1 false 9 (text "a" ∷ text "b" ∷ text "m" ∷ text "x" ∷ text "c" ∷ []) [] (variable "o" 0 17 ∷ []) []
+    (abc Move 1 0 0 false ∷ abc Move 3 0 0 false ∷ load_int 5 1
+    ∷ abc OpSelf 6 0 2 true ∷ load_int 8 2 ∷ abc Call 6 3 2 false ∷ abc SetField 3 1 6 false ∷ abc SetField 1 0 5 false
+    ∷ abc NewTable 1 0 0 false ∷ op_ax ExtraArg 0 ∷ load_int 2 3 ∷ abc SetList 1 1 0 false ∷ load_int 3 4 ∷ abc SetField 1 3 3 false
     ∷ abc GetField 2 0 4 false ∷ abc SetList 1 1 1 false ∷ abc Return 1 2 0 true ∷ [])
 
 tables_code : Compiles makes_tables makes_tables_code
 unfolding opcodes number_of
 tables_code = refl
+
+-- function(t,i) t.x,t[2],t[i]=i,t,i end
+abbrev aims : Body
+aims = fun ("t" ∷ "i" ∷ []) [] (block (
+    assigns (field (loc "t" 0) "x" ∷ Index 1 (loc "t" 0) (int 2) ∷ Index 1 (loc "t" 0) (loc "i" 1) ∷ []) (loc "i" 1 ∷ loc "t" 0 ∷ loc "i" 1 ∷ []) ∷ []))
+
+abbrev aims_code : Prototype
+aims_code = hand 2 false 11 (text "x" ∷ []) [] (variable "t" 0 11 ∷ variable "i" 0 11 ∷ []) []
+    (abc Move 2 0 0 false ∷ abc Move 4 0 0 false ∷ abc Move 6 0 0 false ∷ abc Move 7 1 0 false
+    ∷ abc Move 8 1 0 false ∷ abc Move 9 0 0 false ∷ abc Move 10 1 0 false
+    ∷ abc SetTable 6 7 10 false ∷ abc SetI 4 2 9 false ∷ abc SetField 2 0 8 false ∷ abc Return 2 1 0 true ∷ [])
+
+aimed : Compiles aims aims_code
+unfolding opcodes number_of
+aimed = refl
 
 -- function(a,b) a,b=b,a return a-b end
 abbrev swaps : Body

@@ -1,9 +1,10 @@
 -- Bodies whose code is written by hand, and that the code asks as the body does.
-use Rattle.std.proofs.Common.{true, false, [], ◌∷◌, refl}
+use Rattle.std.proofs.Common.{pos, true, false, [], ◌∷◌, refl}
 use Rattle.std.specs.Int.{int_wrap}
 use Rattle.code_core.specs.Opcode.{opcodes, number_of}
-use Rattle.code_core.specs.declared.opcode.Opcode.TheVariants.{Move, LoadFalse, LoadTrue, LoadNil, SetUpval, GetUpval, IDiv, Add, MmBin, Close, Tbc, Test, Call, TailCall, Return, Closure, VarArg, VarArgPrep}
+use Rattle.code_core.specs.declared.opcode.Opcode.TheVariants.{Move, LoadFalse, LoadTrue, LoadNil, SetUpval, GetUpval, IDivK, MmBinK, Add, MmBin, Close, Tbc, Test, Call, TailCall, Return, Closure, VarArg, VarArgPrep}
 use Rattle.code_core.specs.Instruction.{abc, abx}
+use Rattle.code_core.specs.declared.proto.Const.TheVariants.{Int as IntConst}
 use Rattle.code_core.specs.Prototype.{Prototype}
 use Rattle.int_core.specs.Value.{object, a_table}
 use Rattle.int_core.specs.Ask.{values, left}
@@ -30,9 +31,9 @@ unfolding opcodes number_of int_wrap
 greeting = (refl, refl)
 
 abbrev pub changes_operand_code : Prototype
-changes_operand_code = hand 0 true 4 [] [] (variable "a" 2 10 ∷ variable "f" 3 10 ∷ []) (
+changes_operand_code = hand 0 true 4 [] [] (variable "a" 2 9 ∷ variable "f" 3 9 ∷ []) (
     hand 0 false 3 [] (("a", 0) ∷ []) [] [] (load_int 2 10 ∷ abc SetUpval 2 0 0 false ∷ load_int 0 1 ∷ abc Return 0 2 0 false ∷ []) ∷ [])
-    (abc VarArgPrep 0 0 0 false ∷ load_int 0 1 ∷ abc LoadNil 1 0 0 false ∷ abx Closure 1 0
+    (abc VarArgPrep 0 0 0 false ∷ load_int 0 1 ∷ abx Closure 1 0
     ∷ abc Move 2 0 0 false ∷ abc Move 3 1 0 false ∷ abc Call 3 1 2 false ∷ abc Add 2 2 3 false ∷ abc MmBin 2 3 6 false ∷ abc Return 2 2 1 true ∷ [])
 
 operand_code : Compiles changes_operand changes_operand_code
@@ -40,11 +41,11 @@ unfolding opcodes number_of
 operand_code = refl
 
 abbrev pub last_value_code : Prototype
-last_value_code = hand 0 true 6 [] [] (variable "f" 2 18 ∷ variable "c" 3 18 ∷ variable "x" 7 14 ∷ [])
+last_value_code = hand 0 true 6 [] [] (variable "f" 2 15 ∷ variable "c" 3 15 ∷ variable "x" 6 11 ∷ [])
     (hand 0 false 1 [] (("x", 2) ∷ []) [] [] (abc GetUpval 0 0 0 false ∷ abc Return 0 2 0 false ∷ []) ∷ [])
-    (abc VarArgPrep 0 0 0 false ∷ abc LoadNil 0 0 0 false ∷ abc LoadTrue 1 0 0 false ∷ abc Move 2 1 0 false ∷ abc Test 2 0 0 false ∷ jump 9
-    ∷ load_int 2 0 ∷ abx Closure 5 0 ∷ abc Move 0 5 0 false ∷ load_int 5 5 ∷ abc Move 2 5 0 false ∷ abc LoadFalse 5 0 0 false ∷ abc Move 1 5 0 false
-    ∷ abc Close 2 0 0 false ∷ jump_back 12 ∷ abc Move 2 0 0 false ∷ abc TailCall 2 1 1 true ∷ abc Return 2 0 1 true ∷ [])
+    (abc VarArgPrep 0 0 0 false ∷ abc LoadNil 0 0 0 false ∷ abc LoadTrue 1 0 0 false ∷ abc Test 1 0 0 false ∷ jump 7
+    ∷ load_int 2 0 ∷ abx Closure 5 0 ∷ abc Move 0 5 0 false ∷ load_int 2 5 ∷ abc LoadFalse 1 0 0 false
+    ∷ abc Close 2 0 0 false ∷ jump_back 9 ∷ abc Move 2 0 0 false ∷ abc TailCall 2 1 1 true ∷ abc Return 2 0 1 true ∷ [])
 
 last_code : Compiles last_value last_value_code
 unfolding opcodes number_of
@@ -71,8 +72,8 @@ abbrev faults : Body
 faults = fun ("v" ∷ []) [] (returning (locals (closed "x" 1 ∷ []) (loc "v" 0 ∷ []) ∷ []) (bin Idiv (int 1) (int 0) ∷ []))
 
 abbrev pub faults_code : Prototype
-faults_code = hand 1 false 4 [] [] (variable "v" 0 7 ∷ variable "x" 1 7 ∷ []) []
-    (abc Move 1 0 0 false ∷ abc Tbc 1 0 0 false ∷ load_int 2 1 ∷ load_int 3 0 ∷ abc IDiv 2 2 3 false ∷ abc MmBin 2 3 12 false ∷ abc Return 2 2 0 true ∷ [])
+faults_code = hand 1 false 3 (IntConst (pos 0) ∷ []) [] (variable "v" 0 6 ∷ variable "x" 1 6 ∷ []) []
+    (abc Move 1 0 0 false ∷ abc Tbc 1 0 0 false ∷ load_int 2 1 ∷ abc IDivK 2 2 0 false ∷ abc MmBinK 2 0 12 false ∷ abc Return 2 2 0 true ∷ [])
 
 fault_code : Compiles faults faults_code
 unfolding opcodes number_of

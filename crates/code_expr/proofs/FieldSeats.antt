@@ -7,10 +7,11 @@ use Rattle.code_of.specs.Coded.{Coded}
 use Rattle.code_of.specs.Expressions.{made_by, exp_code}
 use Rattle.code_of.specs.Operands.{local_of, numeral_of, seat, unless}
 use Rattle.code_of.specs.Parts.{field_code}
-use Rattle.code_of.specs.Stores.{FieldKey, a_name, an_index, a_register, evaluated, short_number, name_in, field_key_by, beside_local, field_key, object_of, key_code, field_store}
+use Rattle.code_of.specs.Stores.{FieldKey, a_name, an_index, a_register, evaluated, short_number, name_in, field_key_by, is_quiet, beside_quiet, field_key, object_of, key_code, field_store}
 use Rattle.code_of.proofs.Operands.{local_makes}
 use Rattle.code_of.proofs.Stores.{FieldKeyStands, name_is, field_key_stands, object_stays}
 use Rattle.code_expr.specs.Listing.{Listing, listed, followed}
+use Rattle.code_expr.specs.Parts.{keyed_code}
 use Rattle.code_expr.specs.Stores.{key_seat, object_at, made_unless, seat_code, seat_made, seat_store}
 use Rattle.code_expr.specs.declared.stores.KeySeat.TheVariants.{Name, Index as Numeral, Register, Above}
 use Rattle.code_expr.proofs.Joining.{then_made, then_listed}
@@ -30,19 +31,19 @@ far n h = by (nat_lt n 256) refl
 
 -- where the key stands
 
-pub seat_named : (constants : List Const) (value : Option ℕ) (key : Exp) (number : ℕ) → name_in constants key ≡ Some number → key_seat (field_key constants value key) ≡ Name number
-seat_named constants value key number h = ap (λ o. key_seat (field_key_by o (numeral_of key (Some 255)) (beside_local value (local_of key)))) h
+pub seat_named : (constants : List Const) (quiet : Bool) (key : Exp) (number : ℕ) → name_in constants key ≡ Some number → key_seat (field_key constants quiet key) ≡ Name number
+seat_named constants quiet key number h = ap (λ o. key_seat (field_key_by o (numeral_of key (Some 255)) (beside_quiet quiet (local_of key)))) h
 
-pub seat_indexed : (constants : List Const) (value : Option ℕ) (key : Exp) (n : ℕ) → name_in constants key ≡ None → numeral_of key (Some 255) ≡ Some n → key_seat (field_key constants value key) ≡ Numeral n
-seat_indexed constants value key n h i = ap₂ (λ o m. key_seat (field_key_by o m (beside_local value (local_of key)))) h i
+pub seat_indexed : (constants : List Const) (quiet : Bool) (key : Exp) (n : ℕ) → name_in constants key ≡ None → numeral_of key (Some 255) ≡ Some n → key_seat (field_key constants quiet key) ≡ Numeral n
+seat_indexed constants quiet key n h i = ap₂ (λ o m. key_seat (field_key_by o m (beside_quiet quiet (local_of key)))) h i
 
-pub seat_standing : (constants : List Const) (value : Option ℕ) (key : Exp) (r : ℕ) → name_in constants key ≡ None → numeral_of key (Some 255) ≡ None → beside_local value (local_of key) ≡ Some r
-    → key_seat (field_key constants value key) ≡ Register r
-seat_standing constants value key r h i l = ap₂ (λ o m. key_seat (field_key_by o m (beside_local value (local_of key)))) h i ∙ ap (λ o. key_seat (field_key_by None None o)) l
+pub seat_standing : (constants : List Const) (quiet : Bool) (key : Exp) (r : ℕ) → name_in constants key ≡ None → numeral_of key (Some 255) ≡ None → beside_quiet quiet (local_of key) ≡ Some r
+    → key_seat (field_key constants quiet key) ≡ Register r
+seat_standing constants quiet key r h i l = ap₂ (λ o m. key_seat (field_key_by o m (beside_quiet quiet (local_of key)))) h i ∙ ap (λ o. key_seat (field_key_by None None o)) l
 
-pub seat_above : (constants : List Const) (value : Option ℕ) (key : Exp) → name_in constants key ≡ None → numeral_of key (Some 255) ≡ None → beside_local value (local_of key) ≡ None
-    → key_seat (field_key constants value key) ≡ Above
-seat_above constants value key h i l = ap₂ (λ o m. key_seat (field_key_by o m (beside_local value (local_of key)))) h i ∙ ap (λ o. key_seat (field_key_by None None o)) l
+pub seat_above : (constants : List Const) (quiet : Bool) (key : Exp) → name_in constants key ≡ None → numeral_of key (Some 255) ≡ None → beside_quiet quiet (local_of key) ≡ None
+    → key_seat (field_key constants quiet key) ≡ Above
+seat_above constants quiet key h i l = ap₂ (λ o m. key_seat (field_key_by o m (beside_quiet quiet (local_of key)))) h i ∙ ap (λ o. key_seat (field_key_by None None o)) l
 
 pub stays_written : (s : Listing) (at : Option ℕ) (r : ℕ) (code : List Coded) (n : ℕ) → at ≡ Some r → s ≡ followed s (unless at code) (made_unless at n)
 stays_written s at r code n h = nothing_more s ∙ ap (λ o. followed s (unless o code) (made_unless o n)) (sym h)
@@ -57,41 +58,41 @@ unless_makes (Some r) e h = sym (local_makes e r (h r refl))
 pub name_makes : (constants : List Const) (object key : Exp) (number : ℕ) → name_in constants key ≡ Some number → made_by object ≡ made_by object + made_by key
 name_makes constants object key number h = let none : made_by key ≡ 0 = ap made_by (name_is constants key number h).is in omega (arith, none)
 
-key_makes : (s : FieldKey) (constants : List Const) (value : Option ℕ) (key : Exp) → FieldKeyStands constants value key s → seat_made (key_seat s) (made_by key) ≡ made_by key
-key_makes evaluated constants value key stands = refl
-key_makes (a_name number) constants value key stands = sym (ap made_by (stands.name number refl).is)
-key_makes (an_index n) constants value key stands = sym (ap made_by (stands.index n refl).is)
-key_makes (a_register r) constants value key stands = sym (local_makes key r (stands.local r refl))
+key_makes : (s : FieldKey) (constants : List Const) (quiet : Bool) (key : Exp) → FieldKeyStands constants quiet key s → seat_made (key_seat s) (made_by key) ≡ made_by key
+key_makes evaluated constants quiet key stands = refl
+key_makes (a_name number) constants quiet key stands = sym (ap made_by (stands.name number refl).is)
+key_makes (an_index n) constants quiet key stands = sym (ap made_by (stands.index n refl).is)
+key_makes (a_register r) constants quiet key stands = sym (local_makes key r (stands.local r refl))
 
-seat_code_is : (s : FieldKey) (code : List Coded) → seat_code (key_seat s) code ≡ key_code s code
+pub seat_code_is : (s : FieldKey) (code : List Coded) → seat_code (key_seat s) code ≡ key_code s code
 seat_code_is evaluated code = refl
 seat_code_is (a_name number) code = refl
 seat_code_is (an_index n) code = refl
 seat_code_is (a_register r) code = refl
 
-seat_store_is : (s : FieldKey) (x t v line : ℕ) → seat_store (key_seat s) x (t + 1) v line ≡ field_store s x t v line
+pub seat_store_is : (s : FieldKey) (x t v line : ℕ) → seat_store (key_seat s) x (t + 1) v line ≡ field_store s x t v line
 seat_store_is evaluated x t v line = refl
 seat_store_is (a_name number) x t v line = refl
 seat_store_is (an_index n) x t v line = refl
 seat_store_is (a_register r) x t v line = refl
 
-object_at_is : (s : FieldKey) (value : Option ℕ) (object : Exp) → object_at (key_seat s) value object ≡ object_of s value object
-object_at_is evaluated value object = refl
-object_at_is (a_name number) value object = refl
-object_at_is (an_index n) value object = refl
-object_at_is (a_register r) value object = refl
+object_at_is : (s : FieldKey) (quiet : Bool) (object : Exp) → object_at (key_seat s) quiet object ≡ object_of s quiet object
+object_at_is evaluated quiet object = refl
+object_at_is (a_name number) quiet object = refl
+object_at_is (an_index n) quiet object = refl
+object_at_is (a_register r) quiet object = refl
 
 -- the pieces make the whole together
 pub field_written :
-    (s0 s1 s2 s3 q : Listing) (line : ℕ) (object key e : Exp) (t : ℕ) (at : Option ℕ) → at ≡ object_at (key_seat (field_key s0.constants (local_of e) key)) (local_of e) object
+    (s0 s1 s2 s3 q : Listing) (line : ℕ) (object key e : Exp) (t : ℕ) (at : Option ℕ) → at ≡ object_at (key_seat (field_key s0.constants (is_quiet e) key)) (is_quiet e) object
     → s1 ≡ followed s0 (unless at (exp_code s0.constants object t s0.made 2)) (made_unless at (made_by object))
-    → s2 ≡ followed s1 (seat_code (key_seat (field_key s0.constants (local_of e) key)) (exp_code s1.constants key (t + 1) s1.made 2)) (seat_made (key_seat (field_key s0.constants (local_of e) key)) (made_by key))
+    → s2 ≡ followed s1 (seat_code (key_seat (field_key s0.constants (is_quiet e) key)) (exp_code s1.constants key (t + 1) s1.made 2)) (seat_made (key_seat (field_key s0.constants (is_quiet e) key)) (made_by key))
     → s3 ≡ followed s2 (unless (local_of e) (exp_code s2.constants e (t + 2) s2.made 2)) (made_unless (local_of e) (made_by e))
-    → q ≡ listed s3 (seat_store (key_seat (field_key s0.constants (local_of e) key)) (seat at t) (t + 1) (seat (local_of e) (t + 2)) line ∷ [])
+    → q ≡ listed s3 (seat_store (key_seat (field_key s0.constants (is_quiet e) key)) (seat at t) (t + 1) (seat (local_of e) (t + 2)) line ∷ [])
     → q ≡ followed s0 (field_code s0.constants (Index line object key) e t s0.made (s0.made + (made_by object + made_by key))) (made_by object + made_by key + made_by e)
 field_written s0 s1 s2 s3 q line object key e t at at_is e1 e2 e3 e4 =
     then_made s0 s1 q (first at) m1 (λ k j. key_code s (exp_code k key (t + 1) j 2) ++ (unless value (exp_code k e (t + 2) (j + m2) 2) ++ last)) (m2 + m3) (e1 ∙ ap (followed s0 (first at)) (unless_makes at object at_local))
-    (then_made s1 s2 q (key_code s (exp_code s1.constants key (t + 1) s1.made 2)) m2 (λ k j. unless value (exp_code k e (t + 2) j 2) ++ last) m3 (e2 ∙ ap₂ (followed s1) (seat_code_is s (exp_code s1.constants key (t + 1) s1.made 2)) (key_makes s s0.constants value key stands))
+    (then_made s1 s2 q (key_code s (exp_code s1.constants key (t + 1) s1.made 2)) m2 (λ k j. unless value (exp_code k e (t + 2) j 2) ++ last) m3 (e2 ∙ ap₂ (followed s1) (seat_code_is s (exp_code s1.constants key (t + 1) s1.made 2)) (key_makes s s0.constants (is_quiet e) key stands))
     (then_listed s2 s3 q (unless value (exp_code s2.constants e (t + 2) s2.made 2)) m3 (λ k. last) (e3 ∙ ap (followed s2 (unless value (exp_code s2.constants e (t + 2) s2.made 2))) (unless_makes value e (λ r h. h)))
     (e4 ∙ ap (λ c. listed s3 (c ∷ [])) (seat_store_is s (seat at t) t (seat value (t + 2)) line))))
     ∙ ap₂ (λ j n. followed s0 (first at ++ (second ++ (unless value (exp_code s0.constants e (t + 2) j 2) ++ last))) n) joined counted
@@ -101,10 +102,10 @@ field_written s0 s1 s2 s3 q line object key e t at at_is e1 e2 e3 e4 =
     value = local_of e
 
     s : FieldKey
-    s = field_key s0.constants (local_of e) key
+    s = field_key s0.constants (is_quiet e) key
 
-    stands : FieldKeyStands s0.constants (local_of e) key (field_key s0.constants (local_of e) key)
-    stands = field_key_stands s0.constants (local_of e) key
+    stands : FieldKeyStands s0.constants (is_quiet e) key (field_key s0.constants (is_quiet e) key)
+    stands = field_key_stands s0.constants (is_quiet e) key
 
     m1 : ℕ
     m1 = made_by object
@@ -124,14 +125,31 @@ field_written s0 s1 s2 s3 q line object key e t at at_is e1 e2 e3 e4 =
     last : List Coded
     last = field_store s (seat at t) t (seat value (t + 2)) line ∷ []
 
-    object_is : at ≡ object_of s value object
-    object_is = at_is ∙ object_at_is s value object
+    object_is : at ≡ object_of s (is_quiet e) object
+    object_is = at_is ∙ object_at_is s (is_quiet e) object
 
     at_local : (r : ℕ) → at ≡ Some r → local_of object ≡ Some r
-    at_local r h = (object_stays s value object r (sym object_is ∙ h)).local
+    at_local r h = (object_stays s (is_quiet e) object r (sym object_is ∙ h)).local
 
     joined : s0.made + m1 + m2 ≡ s0.made + (m1 + m2)
     joined = omega arith
 
     counted : m1 + (m2 + m3) ≡ m1 + m2 + m3
     counted = omega arith
+
+-- and so do those of a constructor's field, whose table stands in register t
+pub keyed_written :
+    (s0 s2 s3 q : Listing) (line : ℕ) (key e : Exp) (t : ℕ)
+    → s2 ≡ followed s0 (seat_code (key_seat (field_key s0.constants (is_quiet e) key)) (exp_code s0.constants key (t + 1) s0.made 2)) (seat_made (key_seat (field_key s0.constants (is_quiet e) key)) (made_by key))
+    → s3 ≡ followed s2 (unless (local_of e) (exp_code s2.constants e (t + 2) s2.made 2)) (made_by e)
+    → q ≡ listed s3 (seat_store (key_seat (field_key s0.constants (is_quiet e) key)) t (t + 1) (seat (local_of e) (t + 2)) line ∷ [])
+    → q ≡ followed s0 (keyed_code s0.constants key e t s0.made line) (made_by key + made_by e)
+keyed_written s0 s2 s3 q line key e t e2 e3 e4 =
+    let s = field_key s0.constants (is_quiet e) key in
+    let value = local_of e in
+    let second = exp_code s0.constants key (t + 1) s0.made 2 in
+    let last = field_store s t t (seat value (t + 2)) line ∷ [] in
+    then_made s0 s2 q (key_code s second) (made_by key) (λ k j. unless value (exp_code k e (t + 2) j 2) ++ last) (made_by e)
+    (e2 ∙ ap₂ (followed s0) (seat_code_is s second) (key_makes s s0.constants (is_quiet e) key (field_key_stands s0.constants (is_quiet e) key)))
+    (then_listed s2 s3 q (unless value (exp_code s2.constants e (t + 2) s2.made 2)) (made_by e) (λ k. last) e3
+    (e4 ∙ ap (λ c. listed s3 (c ∷ [])) (seat_store_is s t t (seat value (t + 2)) line)))

@@ -75,9 +75,6 @@ abbrev is_none : tree.Fields → Bool
 is_none tree.EndFields = true
 is_none (tree.MoreFields f fs) = false
 
-within : (a b : List Coded) (x : Coded) (c : List Coded) → a ++ (b ++ (x ∷ c)) ≡ (a ++ (b ++ x ∷ [])) ++ c
-within a b x c = sym (append_assoc a (b ++ x ∷ []) c ∙ ap (λ l. a ++ l) (append_assoc b (x ∷ []) c))
-
 field_code_in :
     (k : List Const) (f : tree.Field) (fs : tree.Fields) (items t j line : ℕ)
     → fields_code k (tree.MoreFields f fs) items t j line ≡ field_code k f (is_none fs) items t j line ++ fields_code k fs (items_after f items) t (j + made_by_field f) line
@@ -86,8 +83,7 @@ field_code_in k (tree.Item e) tree.EndFields items t j line =
 field_code_in k (tree.Item e) (tree.MoreFields f fs) items t j line =
     sym (append_assoc (exp_code k e (t + 1) j 2) (set_list t 1 items line) (fields_code k (tree.MoreFields f fs) (items + 1) t (j + made_by e) line))
 field_code_in k (tree.Keyed field_line e d) fs items t j line =
-    within (exp_code k e (t + 1) j 2) (exp_code k d (t + 2) (j + made_by e) 2) _ (fields_code k fs items t (j + made_by e + made_by d) line)
-    ∙ ap (λ n. field_code k (tree.Keyed field_line e d) (is_none fs) items t j line ++ fields_code k fs items t n line) (omega arith)
+    ap (λ n. field_code k (tree.Keyed field_line e d) (is_none fs) items t j line ++ fields_code k fs items t n line) (omega arith)
 
 field_step :
     (s : Listing) (items t line : ℕ) (f : tree.Field) (fs : tree.Fields)

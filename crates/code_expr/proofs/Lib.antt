@@ -1,7 +1,9 @@
 pub mod Numbers
 pub mod Joining
 pub mod Seats
+pub mod ConstantSeats
 pub mod FieldSeats
+pub mod TargetSeats
 pub mod Rows
 pub mod Ends
 pub mod Going

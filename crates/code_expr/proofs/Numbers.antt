@@ -8,9 +8,9 @@ use Rattle.std.specs.Map.{KeepsOthers}
 use Rattle.std.specs.declared.vec.Vec.{Vec}
 use Rattle.std.proofs.lemmas.Slice.Eq.{bytes_eq-Decides}
 use Rattle.code_core.specs.declared.proto.Const.{Const}
-use Rattle.code_core.specs.declared.proto.Const.TheVariants.{Int, Str}
+use Rattle.code_core.specs.declared.proto.Const.TheVariants.{Nil, False, True, Int, Str}
 use Rattle.code_of.specs.Constants.{number_in, same_constant, with_constant}
-use Rattle.code_of.proofs.Constants.{same_int, same_text, same_is}
+use Rattle.code_of.proofs.Constants.{same_int, same_text, same_self, same_is}
 use Rattle.code_expr.specs.Indexed.{Tells, IsIndexed}
 
 -- a constant that has a number is there already, and another goes last
@@ -112,11 +112,11 @@ module _ {A S : Type 0} where
       up.3 (λ k. pointwise nat_eq u k.items) (λ x y e. ap (λ l. pointwise nat_eq l y.items) ((bytes_eq-Decides u x.items).0 e))
       (λ k e. ap (pointwise nat_eq u) (sym ((bytes_eq-Decides key.items k.items).0 e) ∙ key_is) ∙ other)
 
-  pub text_indexed : (cs all : List Const) (old new : HashMap (Vec ℕ A) ℕ S) (key : Vec ℕ A) (t : List ℕ) (n : ℕ) (integer_number : ℤ → Option ℕ) → key.items ≡ t → n ≡ length cs → length cs ≤ number_in cs (Str t)
-      → all ≡ cs ++ Str t ∷ [] → TextUpdated old new key n → IsIndexed cs (text_number old) integer_number → IsIndexed all (text_number new) integer_number
-  text_indexed cs all old new key t n integer_number key_is n_is absent all_is up before =
-      subst (λ l. IsIndexed l (text_number new) integer_number) (sym all_is)
-      (record { texts = λ u. by u (pointwise nat_eq u t) refl; integers = λ i. tells_still (Str t) (Int i) cs (integer_number i) refl (before.integers i) })
+  pub text_indexed : (cs all : List Const) (old new : HashMap (Vec ℕ A) ℕ S) (key : Vec ℕ A) (t : List ℕ) (n : ℕ) (integer_number : ℤ → Option ℕ) (a b c : Option ℕ) → key.items ≡ t → n ≡ length cs → length cs ≤ number_in cs (Str t)
+      → all ≡ cs ++ Str t ∷ [] → TextUpdated old new key n → IsIndexed cs (text_number old) integer_number a b c → IsIndexed all (text_number new) integer_number a b c
+  text_indexed cs all old new key t n integer_number a b c key_is n_is absent all_is up before =
+      subst (λ l. IsIndexed l (text_number new) integer_number a b c) (sym all_is)
+      (record { texts = λ u. by u (pointwise nat_eq u t) refl; integers = λ i. tells_still (Str t) (Int i) cs (integer_number i) refl (before.integers i); nils = tells_still (Str t) Nil cs a refl before.nils; falses = tells_still (Str t) False cs b refl before.falses; trues = tells_still (Str t) True cs c refl before.trues })
     where
       by : (u : List ℕ) (b : Bool) → pointwise nat_eq u t ≡ b → Tells (cs ++ Str t ∷ []) (Str u) (text_number new u)
       by u true e =
@@ -128,11 +128,11 @@ module _ {A S : Type 0} where
 
 -- the integers of a map
 module _ {S : Type 0} where
-  pub integer_indexed : (cs all : List Const) (old new : HashMap ℤ ℕ S) (m : ℤ) (n : ℕ) (text_number : List ℕ → Option ℕ) → n ≡ length cs → length cs ≤ number_in cs (Int m)
-      → all ≡ cs ++ Int m ∷ [] → Updates int_eq old new m (Some n) → IsIndexed cs text_number (get int_eq old) → IsIndexed all text_number (get int_eq new)
-  integer_indexed cs all old new m n text_number n_is absent all_is up before =
-      subst (λ l. IsIndexed l text_number (get int_eq new)) (sym all_is)
-      (record { texts = λ u. tells_still (Int m) (Str u) cs (text_number u) refl (before.texts u); integers = λ i. by i (int_eq m i) refl })
+  pub integer_indexed : (cs all : List Const) (old new : HashMap ℤ ℕ S) (m : ℤ) (n : ℕ) (text_number : List ℕ → Option ℕ) (a b c : Option ℕ) → n ≡ length cs → length cs ≤ number_in cs (Int m)
+      → all ≡ cs ++ Int m ∷ [] → Updates int_eq old new m (Some n) → IsIndexed cs text_number (get int_eq old) a b c → IsIndexed all text_number (get int_eq new) a b c
+  integer_indexed cs all old new m n text_number a b c n_is absent all_is up before =
+      subst (λ l. IsIndexed l text_number (get int_eq new) a b c) (sym all_is)
+      (record { texts = λ u. tells_still (Int m) (Str u) cs (text_number u) refl (before.texts u); integers = λ i. by i (int_eq m i) refl; nils = tells_still (Int m) Nil cs a refl before.nils; falses = tells_still (Int m) False cs b refl before.falses; trues = tells_still (Int m) True cs c refl before.trues })
     where
       by : (i : ℤ) (b : Bool) → int_eq m i ≡ b → Tells (cs ++ Int m ∷ []) (Int i) (get int_eq new i)
       by i true e =
@@ -141,6 +141,23 @@ module _ {S : Type 0} where
       by i false e =
           subst (Tells (cs ++ Int m ∷ []) (Int i)) (sym (up.0 i ∙ ap (λ b. cond b (Some n) (get int_eq old i)) e))
           (tells_still (Int m) (Int i) cs (get int_eq old i) (apart_from (Int m) (Int i) (int_eq m i) (λ same. (signed_Decides m i).1 (integer_of same)) e) (before.integers i))
+
+-- nil, false and true
+module _ (cs all : List Const) (n : ℕ) (text_number : List ℕ → Option ℕ) (integer_number : ℤ → Option ℕ) (a b c : Option ℕ) (n_is : n ≡ length cs) (before : IsIndexed cs text_number integer_number a b c) where
+  still : (x y : Const) (o : Option ℕ) → same_constant x y ≡ false → Tells cs y o → all ≡ cs ++ x ∷ [] → Tells all y o
+  still x y o apart tells all_is = subst (λ l. Tells l y o) (sym all_is) (tells_still x y cs o apart tells)
+
+  new : (x : Const) → length cs ≤ number_in cs x → all ≡ cs ++ x ∷ [] → Tells all x (Some n)
+  new x absent all_is = subst (λ l. Tells l x (Some n)) (sym all_is) (tells_added x cs (Some n) n (same_self x) absent n_is refl)
+
+  pub nil_indexed : length cs ≤ number_in cs Nil → all ≡ cs ++ Nil ∷ [] → IsIndexed all text_number integer_number (Some n) b c
+  nil_indexed absent is = record { texts = λ u. still Nil (Str u) (text_number u) refl (before.texts u) is; integers = λ i. still Nil (Int i) (integer_number i) refl (before.integers i) is; nils = new Nil absent is; falses = still Nil False b refl before.falses is; trues = still Nil True c refl before.trues is }
+
+  pub false_indexed : length cs ≤ number_in cs False → all ≡ cs ++ False ∷ [] → IsIndexed all text_number integer_number a (Some n) c
+  false_indexed absent is = record { texts = λ u. still False (Str u) (text_number u) refl (before.texts u) is; integers = λ i. still False (Int i) (integer_number i) refl (before.integers i) is; nils = still False Nil a refl before.nils is; falses = new False absent is; trues = still False True c refl before.trues is }
+
+  pub true_indexed : length cs ≤ number_in cs True → all ≡ cs ++ True ∷ [] → IsIndexed all text_number integer_number a b (Some n)
+  true_indexed absent is = record { texts = λ u. still True (Str u) (text_number u) refl (before.texts u) is; integers = λ i. still True (Int i) (integer_number i) refl (before.integers i) is; nils = still True Nil a refl before.nils is; falses = still True False b refl before.falses is; trues = new True absent is }
 
 -- what a look-up told is the number
 pub told : (cs : List Const) (x : Const) (o : Option ℕ) (n : ℕ) → Tells cs x o → o ≡ Some n → n ≡ number_in cs x

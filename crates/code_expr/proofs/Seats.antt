@@ -103,11 +103,11 @@ above most n h = by (nat_le n most) refl
 
 -- what stands first is the operands, and then what is done with them
 
-pub seated : (s : Second) (e : Exp) (first code : List Coded) (t : ℕ) (by num : (x y : ℕ) → List Coded)
-    → operands_code s (first_of s e) first code t by num ≡ seated_code s (first_of s e) first code ++ done_code (standing s t) (seat (first_of s e) t) by num
-seated made e first code t by num = sym (append_assoc first code (by t (t + 1)))
-seated (a_local r) e first code t by num = refl
-seated (a_number n) e first code t by num = refl
+pub seated : (s : Second) (e : Exp) (first code : List Coded) (t : ℕ) (con by num : (x y : ℕ) → List Coded)
+    → operands_code s (first_of s e) first code t by num ≡ seated_code s (first_of s e) first code ++ done_code (standing s t) (seat (first_of s e) t) con by num
+seated made e first code t con by num = sym (append_assoc first code (by t (t + 1)))
+seated (a_local r) e first code t con by num = refl
+seated (a_number n) e first code t con by num = refl
 
 -- an operand that stays
 
@@ -141,7 +141,7 @@ seated_code_is made e first second = refl
 seated_code_is (a_local r) e first second = refl
 seated_code_is (a_number n) e first second = refl
 
-seated_makes : (z : Second) (d : Exp) (most m : ℕ) → operands.Stands z d most → stays_made (staying z) m (made_by d) ≡ m + made_by d
+pub seated_makes : (z : Second) (d : Exp) (most m : ℕ) → operands.Stands z d most → stays_made (staying z) m (made_by d) ≡ m + made_by d
 seated_makes z d most m stands = by z refl
   where
     by : (x : Second) → z ≡ x → stays_made (staying x) m (made_by d) ≡ m + made_by d
@@ -159,13 +159,13 @@ seated_stand (a_local r) e t o p = (ap (λ x. x.first) p, ap (λ x. x.second) p)
 seated_stand (a_number n) e t o p = (ap (λ x. x.first) p, ap (λ x. x.second) p)
 
 -- code that two operands and what is done with them make together
-pub done_written : (s r q : Listing) (z : Second) (e : Exp) (first second : List Coded) (t n : ℕ) (o : Operands) (by num : (x y : ℕ) → List Coded)
-    → r ≡ followed s (seated_code z (first_of z e) first second) n → (o.first ≡ seat (first_of z e) t) × (o.second ≡ standing z t) → q ≡ listed r (done_code o.second o.first by num)
+pub done_written : (s r q : Listing) (z : Second) (e : Exp) (first second : List Coded) (t n : ℕ) (o : Operands) (con by num : (x y : ℕ) → List Coded)
+    → r ≡ followed s (seated_code z (first_of z e) first second) n → (o.first ≡ seat (first_of z e) t) × (o.second ≡ standing z t) → q ≡ listed r (done_code o.second o.first con by num)
     → q ≡ followed s (operands_code z (first_of z e) first second t by num) n
-done_written s r q z e first second t n o by num seated_is places p =
-    then_listed s r q (seated_code z (first_of z e) first second) n (λ k. done_code (standing z t) (seat (first_of z e) t) by num) seated_is
-    (p ∙ ap₂ (λ y x. listed r (done_code y x by num)) places.1 places.0)
-    ∙ ap (λ code. followed s code n) (sym (seated z e first second t by num))
+done_written s r q z e first second t n o con by num seated_is places p =
+    then_listed s r q (seated_code z (first_of z e) first second) n (λ k. done_code (standing z t) (seat (first_of z e) t) con by num) seated_is
+    (p ∙ ap₂ (λ y x. listed r (done_code y x con by num)) places.1 places.0)
+    ∙ ap (λ code. followed s code n) (sym (seated z e first second t con by num))
 
 -- keys
 

@@ -6,20 +6,21 @@ use Rattle.std.proofs.lemmas.Result.{IfOk-weaker}
 use Rattle.tree_core.specs.declared.operator.BinOp.{BinOp}
 use Rattle.tree_core.specs.Tree.{Exp, Nil, True, False, Int, Str, Vararg, Function, Var, Index, Call, Method, Unary, Binary, And, Or, Paren, Table}
 use Rattle.code_core.specs.declared.opcode.Opcode.{Opcode}
-use Rattle.code_core.specs.declared.opcode.Opcode.TheVariants.{Test}
+use Rattle.code_core.specs.declared.opcode.Opcode.TheVariants.{Test, EqK}
 use Rattle.code_core.specs.declared.proto.Const.{Const}
 use Rattle.code_of.specs.Coded.{Coded}
 use Rattle.code_of.specs.Conditions.{jump_if, pick, compared, is_not, line_of, value_test, test_code}
 use Rattle.code_of.specs.Expressions.{exp_code, made_by}
-use Rattle.code_of.specs.Operands.{second_of, first_of, seat, operands_code}
+use Rattle.code_of.specs.Operands.{local_of, second_of, first_of, seat, unless, operands_code}
+use Rattle.code_of.specs.Operations.{constant_in, operation_by}
 use Rattle.code_of.specs.Operators.{number_opcode}
 use Rattle.code_expr.specs.declared.conditions.Comparison.{Comparison}
 use Rattle.code_expr.specs.Leading.{led_on, Opened}
 use Rattle.code_expr.specs.Listing.{Listing, followed}
-use Rattle.code_expr.specs.declared.operands.Second.{Second as Standing}
-use Rattle.code_expr.specs.Operands.{standing, seated_code, done_code}
-use Rattle.code_expr.specs.Testing.{is_valued, compared_by, compared_code, registers_test, number_test, either_test, Tests}
-use Rattle.code_expr.proofs.Seats.{seated}
+use Rattle.code_expr.specs.declared.operands.Operands.{Operands}
+use Rattle.code_expr.specs.Operands.{operation_staying, stays_code, stays_made, stays_at, done_code}
+use Rattle.code_expr.specs.Testing.{is_valued, compared_by, compared_code, constant_test, registers_test, number_test, either_test, Tests}
+use Rattle.code_expr.proofs.ConstantSeats.{operation_apart, operation_makes}
 use Rattle.code_expr.proofs.Leading.{opened_remade, opened_coded, opened_behind, opened_from, decided_here, decided_away}
 
 abbrev Places : Type 0
@@ -41,8 +42,8 @@ module _ (s q : Listing) (w : Bool) (t : ℕ) (r : Places) where
   abbrev by_comparison : (line : ℕ) → (op : BinOp) → (e d : Exp) → (ahead : ℕ) → Opcode → Bool → Bool → List Coded
   by_comparison line op e d ahead opcode swapped wanted =
       let k = cond wanted (not w) w in
-      operands_code (second_of op d) (first_of (second_of op d) e) (exp_code s.constants e t s.made 2) (exp_code s.constants d (t + 1) (s.made + made_by e) 2) t
-      (λ x y. jump_if opcode (pick swapped x y) (pick swapped y x) k ahead line) (λ x n. jump_if (number_opcode op) x (n + 127) k ahead line)
+      operation_by (constant_in s.constants op d) op e d (exp_code s.constants e t s.made 2) (exp_code s.constants d (t + 1) (s.made + made_by e) 2) t
+      (λ x n. jump_if EqK x n k ahead line) (λ x y. jump_if opcode (pick swapped x y) (pick swapped y x) k ahead line) (λ x n. jump_if (number_opcode op) x (n + 127) k ahead line)
 
   pub comparison_tests :
       (op : BinOp) (o : Option Comparison) (c : Comparison) (line : ℕ) (e d : Exp) → Compares o op → o ≡ Some c → c.op ≡ op
@@ -88,33 +89,38 @@ valued_is cs (Paren line e) w t j h ahead = absurd (cc)
 -- a value that is tested, and two that are compared
 
 pub value_opened :
-    (s r q : Listing) (e : Exp) (w : Bool) (t line : ℕ) (places : List ℕ) → line ≡ line_of e → r ≡ followed s (exp_code s.constants e t s.made 2) (made_by e)
-    → Opened r q (λ ahead. jump_if Test t 0 (not w) ahead line) 0 places → Opened s q (λ ahead. value_test s.constants e w ahead t s.made) (made_by e) places
-value_opened s r q e w t line places line_is e1 o =
-    let value = exp_code s.constants e t s.made 2 in
+    (s r q : Listing) (e : Exp) (w : Bool) (t x line : ℕ) (places : List ℕ) → line ≡ line_of e → x ≡ seat (local_of e) t → r ≡ followed s (unless (local_of e) (exp_code s.constants e t s.made 2)) (made_by e)
+    → Opened r q (λ ahead. jump_if Test x 0 (not w) ahead line) 0 places → Opened s q (λ ahead. value_test s.constants e w ahead t s.made) (made_by e) places
+value_opened s r q e w t x line places line_is x_is e1 o =
+    let value = unless (local_of e) (exp_code s.constants e t s.made 2) in
     opened_remade s q (λ ahead. value_test s.constants e w ahead t s.made) (made_by e + 0) (made_by e) places (omega arith)
-    (opened_coded s q (λ ahead. value ++ jump_if Test t 0 (not w) ahead line) (λ ahead. value_test s.constants e w ahead t s.made) (made_by e + 0) places
-    (λ ahead. ap (λ n. value ++ jump_if Test t 0 (not w) ahead n) line_is)
-    (opened_behind s r q value (made_by e) (λ ahead. jump_if Test t 0 (not w) ahead line) 0 places e1 o))
+    (opened_coded s q (λ ahead. value ++ jump_if Test x 0 (not w) ahead line) (λ ahead. value_test s.constants e w ahead t s.made) (made_by e + 0) places
+    (λ ahead. ap₂ (λ y n. value ++ jump_if Test y 0 (not w) ahead n) x_is line_is)
+    (opened_behind s r q value (made_by e) (λ ahead. jump_if Test x 0 (not w) ahead line) 0 places e1 o))
 
 -- the operands of a comparison stand there, and then they are compared
 pub compared_opened :
-    (s r u : Listing) (c : Comparison) (w k : Bool) (t line : ℕ) (e d : Exp) (first : ℕ) (second : Standing) (places : List ℕ)
-    → r ≡ followed s (seated_code (second_of c.op d) (first_of (second_of c.op d) e) (exp_code s.constants e t s.made 2) (exp_code s.constants d (t + 1) (s.made + made_by e) 2)) (made_by e + made_by d)
-    → first ≡ seat (first_of (second_of c.op d) e) t → second ≡ standing (second_of c.op d) t → k ≡ cond c.wanted (not w) w
-    → Opened r u (λ ahead. done_code second first (registers_test c k ahead line) (number_test c k ahead line)) 0 places
+    (s r u : Listing) (c : Comparison) (w k : Bool) (t line : ℕ) (e d : Exp) (o : Operands) (places : List ℕ)
+    → r ≡ followed s (stays_code (operation_staying (constant_in s.constants c.op d) (second_of c.op d)) (local_of e) (exp_code s.constants e t s.made 2) (exp_code s.constants d (t + 1) (s.made + made_by e) 2))
+    (stays_made (operation_staying (constant_in s.constants c.op d) (second_of c.op d)) (made_by e) (made_by d))
+    → o ≡ stays_at (operation_staying (constant_in s.constants c.op d) (second_of c.op d)) (local_of e) t → k ≡ cond c.wanted (not w) w
+    → Opened r u (λ ahead. done_code o.second o.first (constant_test k ahead line) (registers_test c k ahead line) (number_test c k ahead line)) 0 places
     → Opened s u (λ ahead. compared_code s.constants c e d w ahead t s.made line) (made_by e + made_by d) places
-compared_opened s r u c w k t line e d first second places seated_is first_is second_is k_is o =
-    let z = second_of c.op d in
+compared_opened s r u c w k t line e d o places seats_is o_is k_is opened =
+    let stays = operation_staying (constant_in s.constants c.op d) (second_of c.op d) in
+    let at = stays_at stays (local_of e) t in
     let left = exp_code s.constants e t s.made 2 in
     let right = exp_code s.constants d (t + 1) (s.made + made_by e) 2 in
-    let front = seated_code z (first_of z e) left right in
-    opened_remade s u (λ ahead. compared_code s.constants c e d w ahead t s.made line) (made_by e + made_by d + 0) (made_by e + made_by d) places (omega arith)
-    (opened_coded s u (λ ahead. front ++ done_code second first (registers_test c k ahead line) (number_test c k ahead line)) (λ ahead. compared_code s.constants c e d w ahead t s.made line) (made_by e + made_by d + 0) places
-    (λ ahead. ap₂ (λ y x. front ++ done_code y x (registers_test c k ahead line) (number_test c k ahead line)) second_is first_is
-    ∙ ap (λ b. front ++ done_code (standing z t) (seat (first_of z e) t) (registers_test c b ahead line) (number_test c b ahead line)) k_is
-    ∙ sym (seated z e left right t (registers_test c (cond c.wanted (not w) w) ahead line) (number_test c (cond c.wanted (not w) w) ahead line)))
-    (opened_behind s r u front (made_by e + made_by d) (λ ahead. done_code second first (registers_test c k ahead line) (number_test c k ahead line)) 0 places seated_is o))
+    let front = stays_code stays (local_of e) left right in
+    let made = stays_made stays (made_by e) (made_by d) in
+    let q = cond c.wanted (not w) w in
+    let makes = operation_makes s.constants c.op d (made_by e) in
+    opened_remade s u (λ ahead. compared_code s.constants c e d w ahead t s.made line) (made + 0) (made_by e + made_by d) places (omega (arith, makes))
+    (opened_coded s u (λ ahead. front ++ done_code o.second o.first (constant_test k ahead line) (registers_test c k ahead line) (number_test c k ahead line)) (λ ahead. compared_code s.constants c e d w ahead t s.made line) (made + 0) places
+    (λ ahead. ap (λ x. front ++ done_code x.second x.first (constant_test k ahead line) (registers_test c k ahead line) (number_test c k ahead line)) o_is
+    ∙ ap (λ b. front ++ done_code at.second at.first (constant_test b ahead line) (registers_test c b ahead line) (number_test c b ahead line)) k_is
+    ∙ sym (operation_apart e left right t (constant_test q ahead line) (registers_test c q ahead line) (number_test c q ahead line) (constant_in s.constants c.op d) c.op d))
+    (opened_behind s r u front made (λ ahead. done_code o.second o.first (constant_test k ahead line) (registers_test c k ahead line) (number_test c k ahead line)) 0 places seats_is opened))
 
 -- `and` and `or`, of which the second operand is what the first one's place makes it
 

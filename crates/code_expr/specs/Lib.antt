@@ -5,4 +5,5 @@ pub mod Operands
 pub mod Parts
 pub mod Patches
 pub mod Stores
+pub mod Targets
 pub mod Testing

@@ -1,11 +1,11 @@
 -- Where the key of a stored field stands, and what is written of the object, the key and the value.
-use Rattle.std.specs.Prelude.{ℕ, ◌+◌, List, [], Option, Some, None}
+use Rattle.std.specs.Prelude.{ℕ, ◌+◌, Bool, List, [], Option, Some, None}
 use Rattle.tree_core.specs.Tree.{Exp, Index}
 use Rattle.code_core.specs.declared.opcode.Opcode.TheVariants.{SetTable, SetI, SetField}
 use Rattle.code_of.specs.Coded.{Coded, with_abc}
 use Rattle.code_of.specs.Expressions.{made_by}
 use Rattle.code_of.specs.Operands.{local_of}
-use Rattle.code_of.specs.Stores.{FieldKey, a_name, an_index, a_register, evaluated, beside_local}
+use Rattle.code_of.specs.Stores.{FieldKey, a_name, an_index, a_register, evaluated, beside_quiet}
 use Rattle.code_expr.specs.declared.stores.KeySeat.{KeySeat}
 use Rattle.code_expr.specs.declared.stores.KeySeat.TheVariants.{Name, Index as Numeral, Register, Above}
 
@@ -15,9 +15,9 @@ key_seat (an_index n) = Numeral n
 key_seat (a_register r) = Register r
 key_seat evaluated = Above
 
-abbrev pub object_at : KeySeat → (value : Option ℕ) → Exp → Option ℕ
-object_at Above value object = None
-object_at _ value object = beside_local value (local_of object)
+abbrev pub object_at : KeySeat → (quiet : Bool) → Exp → Option ℕ
+object_at Above quiet object = None
+object_at _ quiet object = beside_quiet quiet (local_of object)
 
 -- an operand that stays makes no function
 abbrev pub made_unless : Option ℕ → ℕ → ℕ

@@ -2,11 +2,12 @@
 use Rattle.std.specs.Prelude.{ℕ, ◌+◌, Bool, true, false, cond, not, List, ◌++◌, length, Option, Some, None}
 use Rattle.tree_core.specs.Tree.{Exp, True, Unary, Binary, And, Or, Paren}
 use Rattle.code_core.specs.declared.opcode.Opcode.{Opcode}
+use Rattle.code_core.specs.declared.opcode.Opcode.TheVariants.{EqK}
 use Rattle.code_core.specs.declared.proto.Const.{Const}
 use Rattle.code_of.specs.Coded.{Coded}
 use Rattle.code_of.specs.Conditions.{jump_if, pick, is_not, test_code}
 use Rattle.code_of.specs.Expressions.{made_by, exp_code}
-use Rattle.code_of.specs.Operands.{second_of, first_of, operands_code}
+use Rattle.code_of.specs.Operations.{constant_in, operation_by}
 use Rattle.code_of.specs.Operators.{number_opcode}
 use Rattle.code_expr.specs.declared.conditions.Comparison.{Comparison}
 use Rattle.code_expr.specs.Leading.{Opened}
@@ -35,11 +36,14 @@ registers_test c k ahead line x y = jump_if c.opcode (pick c.swapped x y) (pick 
 abbrev pub number_test : Comparison → (k : Bool) → (ahead line x n : ℕ) → List Coded
 number_test c k ahead line x n = jump_if (number_opcode c.op) x (n + 127) k ahead line
 
+abbrev pub constant_test : (k : Bool) → (ahead line x n : ℕ) → List Coded
+constant_test k ahead line x n = jump_if EqK x n k ahead line
+
 abbrev pub compared_code : List Const → Comparison → (e d : Exp) → (wanted : Bool) → (ahead t j line : ℕ) → List Coded
 compared_code constants c e d wanted ahead t j line =
     let k = cond c.wanted (not wanted) wanted in
-    operands_code (second_of c.op d) (first_of (second_of c.op d) e) (exp_code constants e t j 2) (exp_code constants d (t + 1) (j + made_by e) 2) t
-    (registers_test c k ahead line) (number_test c k ahead line)
+    operation_by (constant_in constants c.op d) c.op e d (exp_code constants e t j 2) (exp_code constants d (t + 1) (j + made_by e) 2) t
+    (constant_test k ahead line) (registers_test c k ahead line) (number_test c k ahead line)
 
 -- how far past the second operand the first one leads, where its truth is `decides`
 abbrev pub far : (decides wanted : Bool) → (ahead : ℕ) → ℕ

@@ -37,10 +37,12 @@ impl Constants {
             ExpNode::Var(name) => self.add_name(alloc, name),
             ExpNode::Unary(_, operand) => self.add_exp(alloc, operand),
             ExpNode::Paren(inner) => self.add_exp(alloc, inner),
-            ExpNode::Index(left, right)
-            | ExpNode::Binary(_, left, right)
-            | ExpNode::And(left, right)
-            | ExpNode::Or(left, right) => {
+            ExpNode::Binary(op, left, right) => {
+                self.add_exp(alloc, left)?;
+                self.add_operand(alloc, *op, right)?;
+                self.add_exp(alloc, right)
+            }
+            ExpNode::Index(left, right) | ExpNode::And(left, right) | ExpNode::Or(left, right) => {
                 self.add_exp(alloc, left)?;
                 self.add_exp(alloc, right)
             }

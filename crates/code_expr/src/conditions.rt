@@ -8,10 +8,10 @@ ghost use Rattle.code_of.specs.Expressions.{made_by};
 ghost use Rattle.code_expr.specs.Leading.{Opened};
 ghost use Rattle.code_expr.specs.Listing.{listed};
 ghost use Rattle.code_expr.specs.Operands.{done_code};
-ghost use Rattle.code_expr.specs.Testing.{compared_by, compared_code, registers_test, number_test, either_test, Tests};
+ghost use Rattle.code_expr.specs.Testing.{compared_by, compared_code, constant_test, registers_test, number_test, either_test, Tests};
 
 use crate::emitter::Emitter;
-use crate::operands::{Operands, Second, staying};
+use crate::operands::{Operands, Second};
 use crate::operators::{field_of, number_opcode};
 use code_core::Opcode;
 use std::alloc::AllocError;
@@ -153,7 +153,8 @@ impl Emitter {
     ) -> Result<Vec<usize>, AllocError>
         ensures { IfOk result (λ places. Opened self.old self.new (λ ahead. compared_code self.old.constants comparison.now (plain_exp left.now) (plain_exp right.now) wanted ahead free self.old.made line) (made_by (plain_exp left.now) + made_by (plain_exp right.now)) places.items) }
     {
-        let operands = self.operands(staying(comparison.op, right), left, right, free)?;
+        let stays = self.standing(comparison.op, right);
+        let operands = self.operands(stays, left, right, free)?;
         let k = flag(comparison, wanted);
         let away = self.test_operands(comparison, operands, k, line)?;
         Ok(away)
@@ -167,15 +168,30 @@ impl Emitter {
         k: bool,
         line: u32,
     ) -> Result<Vec<usize>, AllocError>
-        ensures { IfOk result (λ places. Opened self.old self.new (λ ahead. done_code operands.second operands.first (registers_test comparison.now k ahead line) (number_test comparison.now k ahead line)) 0 places.items) }
+        ensures { IfOk result (λ places. Opened self.old self.new (λ ahead. done_code operands.second operands.first (constant_test k ahead line) (registers_test comparison.now k ahead line) (number_test comparison.now k ahead line)) 0 places.items) }
     {
         let first = operands.first;
         match operands.second {
+            Second::Constant(number) => self.test_constant(first, number, k, line),
             Second::Number(number) => self.test_number(comparison, first, number, k, line),
             Second::Register(register) => {
                 self.test_registers(comparison, first, register, k, line)
             }
         }
+    }
+
+    /// Writes the comparison of a register and a constant, and the jump behind it.
+    fn test_constant(
+        &mut self,
+        first: usize,
+        number: usize,
+        k: bool,
+        line: u32,
+    ) -> Result<Vec<usize>, AllocError>
+        ensures { IfOk result (λ places. Opened self.old self.new (λ ahead. constant_test k ahead line first number) 0 places.items) }
+    {
+        let away = self.test(Opcode::EqK, first, number, k, line)?;
+        Ok(away)
     }
 
     /// Writes the comparison of a register and a numeral, and the jump behind it.
@@ -216,8 +232,8 @@ impl Emitter {
     fn by_value(&mut self, exp: &Exp, wanted: bool, free: usize) -> Result<Vec<usize>, AllocError>
         ensures { IfOk result (λ places. Opened self.old self.new (λ ahead. value_test self.old.constants (plain_exp exp.now) wanted ahead free self.old.made) (made_by (plain_exp exp.now)) places.items) }
     {
-        self.expression(exp, free, 2)?;
-        let away = self.test(Opcode::Test, free, 0, !wanted, exp.line)?;
+        let register = self.operand(exp, free)?;
+        let away = self.test(Opcode::Test, register, 0, !wanted, exp.line)?;
         Ok(away)
     }
 

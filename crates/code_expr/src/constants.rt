@@ -1,8 +1,10 @@
 // The constants of a function.
-ghost use Rattle.std.specs.Prelude.{◌≡◌, [], OnOk};
-ghost use Rattle.code_core.specs.declared.proto.Const.TheVariants.{Int, Str};
+ghost use Rattle.std.specs.Prelude.{◌≡◌, [], OnOk, None, cond, length, nat_lt};
+ghost use Rattle.code_core.specs.declared.proto.Const.TheVariants.{Nil, False, True, Int, Str};
 ghost use Rattle.code_of.specs.Constants.{number_in, with_constant, is_small};
+ghost use Rattle.code_of.specs.Stores.{short_number};
 
+use crate::stores::short;
 use code_core::Const;
 use int_core::Bytes;
 use std::alloc::{AllocError, Global};
@@ -17,6 +19,12 @@ pub struct Constants {
     texts: HashMap<Vec<u8>, usize>,
     /// The numbers of the integers among them.
     integers: HashMap<i64, usize>,
+    /// The number of nil, where it is one of them.
+    nil: Option<usize>,
+    /// The number of false.
+    falsehood: Option<usize>,
+    /// The number of true.
+    truth: Option<usize>,
 }
 
 impl Model for Constants {
@@ -31,7 +39,7 @@ impl Model for Constants {
 
     ghost view = { λ constants. constants.list.items };
 
-    ghost invariant = { λ constants. IsIndexed constants.list.items (λ text. get_by (λ key. pointwise nat_eq text key.items) constants.texts) (get int_eq constants.integers) };
+    ghost invariant = { λ constants. IsIndexed constants.list.items (λ text. get_by (λ key. pointwise nat_eq text key.items) constants.texts) (get int_eq constants.integers) constants.nil constants.falsehood constants.truth };
 }
 
 /// Whether LOADI holds an integer, so that it is no constant.
@@ -50,6 +58,9 @@ impl Constants {
             list: Vec::new(alloc),
             texts: HashMap::new(alloc),
             integers: HashMap::new(alloc),
+            nil: None,
+            falsehood: None,
+            truth: None,
         }
     }
 
@@ -90,6 +101,89 @@ impl Constants {
         self.integers.insert(integer, number)?;
         self.list.push(Const::Int(integer))?;
         Ok(())
+    }
+
+    /// Adds nil, where it is not there yet.
+    #[tactic(auto, using(crate::proofs::Numbers::known, crate::proofs::Numbers::unknown))]
+    pub(crate) fn add_nil(&mut self) -> Result<(), AllocError>
+        ensures { OnOk result (self.new ≡ with_constant Nil self.old) }
+    {
+        let number = self.list.len();
+        if self.number_of_nil() < number {
+            return Ok(());
+        }
+        self.list.push(Const::Nil)?;
+        self.nil = Some(number);
+        Ok(())
+    }
+
+    /// Adds false, where it is not there yet.
+    #[tactic(auto, using(crate::proofs::Numbers::known, crate::proofs::Numbers::unknown))]
+    pub(crate) fn add_false(&mut self) -> Result<(), AllocError>
+        ensures { OnOk result (self.new ≡ with_constant False self.old) }
+    {
+        let number = self.list.len();
+        if self.number_of_false() < number {
+            return Ok(());
+        }
+        self.list.push(Const::False)?;
+        self.falsehood = Some(number);
+        Ok(())
+    }
+
+    /// Adds true, where it is not there yet.
+    #[tactic(auto, using(crate::proofs::Numbers::known, crate::proofs::Numbers::unknown))]
+    pub(crate) fn add_true(&mut self) -> Result<(), AllocError>
+        ensures { OnOk result (self.new ≡ with_constant True self.old) }
+    {
+        let number = self.list.len();
+        if self.number_of_true() < number {
+            return Ok(());
+        }
+        self.list.push(Const::True)?;
+        self.truth = Some(number);
+        Ok(())
+    }
+
+    /// The number of nil, or how many constants there are where it is none of them.
+    pub(crate) fn number_of_nil(&self) -> usize
+        ensures { result ≡ number_in self.now Nil }
+    {
+        match self.nil {
+            Some(number) => number,
+            None => self.list.len(),
+        }
+    }
+
+    /// The number of false, or how many constants there are where it is none of them.
+    pub(crate) fn number_of_false(&self) -> usize
+        ensures { result ≡ number_in self.now False }
+    {
+        match self.falsehood {
+            Some(number) => number,
+            None => self.list.len(),
+        }
+    }
+
+    /// The number of true, or how many constants there are where it is none of them.
+    pub(crate) fn number_of_true(&self) -> usize
+        ensures { result ≡ number_in self.now True }
+    {
+        match self.truth {
+            Some(number) => number,
+            None => self.list.len(),
+        }
+    }
+
+    /// A number, where a constant has it and a field of 8 bits holds it, or none.
+    pub(crate) fn short(&self, number: usize) -> Option<usize>
+        ensures { result ≡ cond (nat_lt number (length self.now)) (short_number number) None }
+    {
+        if number < self.list.len() {
+            short(number)
+        } else {
+            None
+        }
     }
 
     /// The number of a string, or how many constants there are where it is none of them.

@@ -9,7 +9,8 @@ ghost use Rattle.code_expr.specs.Listing.{followed};
 ghost use Rattle.code_expr.specs.Operands.{made_directly};
 
 use crate::emitter::Emitter;
-use crate::operands::{local_at, staying};
+use crate::operands::local_at;
+use code_core::Opcode;
 use std::alloc::AllocError;
 use tree_core::{BinOp, Exp, ExpNode};
 
@@ -39,21 +40,21 @@ fn is_direct(exp: &Exp) -> bool
 {
     match &exp.node {
         ExpNode::Binary(op, _, _) => computes(*op),
-        ExpNode::Index(_, _) => true,
+        ExpNode::Paren(inner) => is_direct(inner),
         ExpNode::Nil
         | ExpNode::True
         | ExpNode::False
         | ExpNode::Int(_)
         | ExpNode::Str(_)
-        | ExpNode::Vararg
-        | ExpNode::Function(_)
         | ExpNode::Var(_)
+        | ExpNode::Unary(_, _)
+        | ExpNode::Index(_, _) => true,
+        ExpNode::Vararg
+        | ExpNode::Function(_)
         | ExpNode::Call(_, _)
         | ExpNode::Method(_, _, _)
-        | ExpNode::Unary(_, _)
         | ExpNode::And(_, _)
         | ExpNode::Or(_, _)
-        | ExpNode::Paren(_)
         | ExpNode::Table(_) => false,
     }
 }
@@ -107,36 +108,38 @@ impl Emitter {
     ) -> Result<(), AllocError>
         ensures { OnOk result (self.new ≡ followed self.old (direct_code self.old.constants (Binary line op (plain_exp left.now) (plain_exp right.now)) target free self.old.made) (made_by (Binary line op (plain_exp left.now) (plain_exp right.now)))) }
     {
-        let operands = self.operands(staying(op, right), left, right, free)?;
+        let stays = self.standing(op, right);
+        let operands = self.operands(stays, left, right, free)?;
         self.apply(op, operands, target, line)?;
         Ok(())
     }
 
     /// Writes a value straight to a register, where the registers from another one on are free. Of an
     /// expression that has no instruction for it nothing is written.
-    #[tactic(auto, using(crate::proofs::Seats::nothing_more))]
+    #[tactic(auto, using(crate::proofs::Seats::nothing_more, crate::proofs::Joining::none_made))]
     pub fn direct(&mut self, exp: &Exp, target: usize, free: usize) -> Result<(), AllocError>
         ensures { OnOk result (self.new ≡ followed self.old (direct_code self.old.constants (plain_exp exp.now) target free self.old.made) (made_directly (plain_exp exp.now))) }
     {
+        let line = exp.line;
         match &exp.node {
+            ExpNode::Nil => self.put_abc(Opcode::LoadNil, target, 0, 0, line),
+            ExpNode::True => self.put_abc(Opcode::LoadTrue, target, 0, 0, line),
+            ExpNode::False => self.put_abc(Opcode::LoadFalse, target, 0, 0, line),
+            ExpNode::Int(integer) => self.load_integer(*integer, target, line),
+            ExpNode::Str(bytes) => self.load_text(bytes, target, line),
+            ExpNode::Var(name) => self.read_name(name, target, free, line),
+            ExpNode::Paren(inner) => self.direct(inner, target, free),
+            ExpNode::Unary(op, operand) => self.unary(*op, operand, target, free, line),
             ExpNode::Binary(op, left, right) => {
-                self.binary_into(*op, left, right, target, free, exp.line)
+                self.binary_into(*op, left, right, target, free, line)
             }
-            ExpNode::Index(object, key) => self.index(object, key, target, free, exp.line),
-            ExpNode::Nil
-            | ExpNode::True
-            | ExpNode::False
-            | ExpNode::Int(_)
-            | ExpNode::Str(_)
-            | ExpNode::Vararg
+            ExpNode::Index(object, key) => self.index(object, key, target, free, line),
+            ExpNode::Vararg
             | ExpNode::Function(_)
-            | ExpNode::Var(_)
             | ExpNode::Call(_, _)
             | ExpNode::Method(_, _, _)
-            | ExpNode::Unary(_, _)
             | ExpNode::And(_, _)
             | ExpNode::Or(_, _)
-            | ExpNode::Paren(_)
             | ExpNode::Table(_) => Ok(()),
         }
     }

@@ -116,6 +116,14 @@ impl Emitter {
         Ok(())
     }
 
+    /// Puts a step last.
+    pub fn put_step(&mut self, step: Step) -> Result<(), AllocError>
+        ensures { OnOk result (self.new ≡ put self.old step) }
+    {
+        self.steps.push(step)?;
+        Ok(())
+    }
+
     /// Puts an instruction with three fields last.
     pub fn put_abc(
         &mut self,

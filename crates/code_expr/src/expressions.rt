@@ -12,7 +12,8 @@ ghost use Rattle.code_expr.specs.Parts.{item_code, keyed_code, field_code, items
 
 use crate::emitter::{Emitter, next};
 use crate::lists::{field_where, fills, item_field, list_field, stored_field, wanted_where};
-use crate::operands::{Operands, Second, key_staying, local_of, staying};
+use crate::operands::{Operands, Second, key_staying, local_of};
+use crate::quiet::is_quiet;
 use code_core::Opcode;
 use std::alloc::AllocError;
 use tree_core::{BinOp, Exp, ExpNode, Field, Name, UnOp};
@@ -34,9 +35,9 @@ impl Emitter {
             ExpNode::Str(bytes) => self.load_text(bytes, target, line),
             ExpNode::Vararg => self.put_abc(Opcode::VarArg, target, 0, results, line),
             ExpNode::Function(body) => self.put_closure(target, body.line),
-            ExpNode::Var(name) => self.read_name(name, target, line),
+            ExpNode::Var(name) => self.read_name(name, target, target, line),
             ExpNode::Paren(inner) => self.expression(inner, target, 2),
-            ExpNode::Unary(op, operand) => self.unary(*op, operand, target, line),
+            ExpNode::Unary(op, operand) => self.unary(*op, operand, target, target, line),
             ExpNode::Binary(op, left, right) => self.binary(*op, left, right, target, line),
             ExpNode::Index(object, key) => self.index(object, key, target, target, line),
             ExpNode::And(left, right) => self.either(false, left, right, target, line),
@@ -49,13 +50,20 @@ impl Emitter {
         }
     }
 
-    /// Writes a prefix operator and its operand.
+    /// Writes a prefix operator and its operand. The value goes to one register, where those from another one on are free.
     #[cycle(expressions)]
-    fn unary(&mut self, op: UnOp, operand: &Exp, target: usize, line: u32) -> Result<(), AllocError>
-        ensures { OnOk result (self.new ≡ followed self.old (exp_code self.old.constants (Unary line op (plain_exp operand.now)) target self.old.made 2) (made_by (Unary line op (plain_exp operand.now)))) }
+    pub(crate) fn unary(
+        &mut self,
+        op: UnOp,
+        operand: &Exp,
+        target: usize,
+        free: usize,
+        line: u32,
+    ) -> Result<(), AllocError>
+        ensures { OnOk result (self.new ≡ followed self.old (direct_code self.old.constants (Unary line op (plain_exp operand.now)) target free self.old.made) (made_by (Unary line op (plain_exp operand.now)))) }
     {
-        self.expression(operand, target, 2)?;
-        self.prefix(op, target, line)?;
+        let register = self.operand(operand, free)?;
+        self.prefix(op, register, target, line)?;
         Ok(())
     }
 
@@ -71,7 +79,8 @@ impl Emitter {
     ) -> Result<(), AllocError>
         ensures { OnOk result (self.new ≡ followed self.old (exp_code self.old.constants (Binary line op (plain_exp left.now) (plain_exp right.now)) target self.old.made 2) (made_by (Binary line op (plain_exp left.now) (plain_exp right.now)))) }
     {
-        let operands = self.operands(staying(op, right), left, right, target)?;
+        let stays = self.standing(op, right);
+        let operands = self.operands(stays, left, right, target)?;
         self.apply(op, operands, target, line)?;
         Ok(())
     }
@@ -121,7 +130,7 @@ impl Emitter {
 
     /// Writes an operand, if it does not stay in its own register, and answers the register in which it stands.
     #[cycle(expressions)]
-    fn operand(&mut self, exp: &Exp, target: usize) -> Result<usize, AllocError>
+    pub fn operand(&mut self, exp: &Exp, target: usize) -> Result<usize, AllocError>
         ensures code { OnOk result (self.new ≡ followed self.old (unless (local_of (plain_exp exp.now)) (exp_code self.old.constants (plain_exp exp.now) target self.old.made 2)) (made_by (plain_exp exp.now))) }
         ensures place { IfOk result (λ register. register ≡ seat (local_of (plain_exp exp.now)) target) }
     {
@@ -214,8 +223,8 @@ impl Emitter {
         ensures { OnOk result (self.new ≡ followed self.old (exp_code self.old.constants (Method line (plain_exp object.now) name.now (exps (plain_exps arguments.now.items))) target self.old.made results) (made_by (Method line (plain_exp object.now) name.now (exps (plain_exps arguments.now.items))))) }
     {
         let above = next(target)?;
-        self.expression(object, target, 2)?;
-        self.look_up_method(&name.text, target, line)?;
+        let register = self.operand(object, target)?;
+        self.look_up_method(&name.text, register, target, line)?;
         self.list(arguments, None, next(above)?, line)?;
         self.put_abc(
             Opcode::Call,
@@ -317,11 +326,13 @@ impl Emitter {
     fn keyed(&mut self, key: &Exp, value: &Exp, target: usize, line: u32) -> Result<(), AllocError>
         ensures { OnOk result (self.new ≡ followed self.old (keyed_code self.old.constants (plain_exp key.now) (plain_exp value.now) target self.old.made line) (made_by (plain_exp key.now) + made_by (plain_exp value.now))) }
     {
-        let first = next(target)?;
-        let second = next(first)?;
-        self.expression(key, first, 2)?;
-        self.expression(value, second, 2)?;
-        self.put_abc(Opcode::SetTable, target, first, second, line)?;
+        let above = next(target)?;
+        let top = next(above)?;
+        let quiet = is_quiet(value);
+        let stands = self.key_seat(quiet, key);
+        self.write_key(stands, key, above)?;
+        let register = self.operand(value, top)?;
+        self.put_store(stands, target, above, register, line)?;
         Ok(())
     }
 }

@@ -3,6 +3,7 @@
 
 mod collecting;
 mod conditions;
+mod constant_operands;
 mod constants;
 mod direct;
 mod emitter;
@@ -11,7 +12,9 @@ mod lists;
 mod names;
 mod operands;
 mod operators;
+mod quiet;
 mod stores;
+mod targets;
 mod word;
 
 pub use constants::Constants;

@@ -2,7 +2,7 @@
 ghost use Rattle.std.specs.Prelude.{◌≡◌, ◌+◌, OnOk};
 ghost use Rattle.code_core.specs.declared.proto.Const.TheVariants.{Str};
 ghost use Rattle.code_of.specs.Constants.{loads, loads_integer, loads_numbered, number_in};
-ghost use Rattle.code_of.specs.Operators.{global_code, name_code, self_code};
+ghost use Rattle.code_of.specs.Operators.{global_code, local_global_code, name_into, self_code};
 ghost use Rattle.code_expr.specs.Listing.{listed};
 
 use crate::constants::is_small;
@@ -52,28 +52,30 @@ impl Emitter {
     pub fn look_up_method(
         &mut self,
         text: &Bytes,
+        object: usize,
         target: usize,
         line: u32,
     ) -> Result<(), AllocError>
-        ensures { OnOk result (self.new ≡ listed self.old (self_code self.old.constants text.now target line)) }
+        ensures { OnOk result (self.new ≡ listed self.old (self_code self.old.constants text.now object target line)) }
     {
         let number = self.constants().number_of_text(text);
         if number > 255 {
             let key = next(next(target)?)?;
             self.load_text(text, key, line)?;
-            return self.put_abc(Opcode::OpSelf, target, target, key, line);
+            return self.put_abc(Opcode::OpSelf, target, object, key, line);
         }
-        self.put_flagged(Opcode::OpSelf, target, target, number, true, line)
+        self.put_flagged(Opcode::OpSelf, target, object, number, true, line)
     }
 
-    /// Reads a variable.
+    /// Reads a variable, whose value goes to one register, where the registers from another one on are free.
     pub(crate) fn read_name(
         &mut self,
         name: &Name,
         target: usize,
+        free: usize,
         line: u32,
     ) -> Result<(), AllocError>
-        ensures { OnOk result (self.new ≡ listed self.old (name_code self.old.constants name.now.place name.now.text target line)) }
+        ensures { OnOk result (self.new ≡ listed self.old (name_into self.old.constants name.now.place name.now.text target free line)) }
     {
         match name.place {
             Place::Unset => self.put_abc(Opcode::LoadNil, target, 0, 0, line),
@@ -83,23 +85,40 @@ impl Emitter {
             Place::Upvalue(number) => {
                 self.put_abc(Opcode::GetUpval, target, usize::from(number), 0, line)
             }
-            Place::GlobalIn(register) => {
-                self.load_text(&name.text, target, line)?;
-                self.put_abc(
-                    Opcode::GetTable,
-                    target,
-                    usize::from(register),
-                    target,
-                    line,
-                )
-            }
+            Place::GlobalIn(register) => self.read_local_global(
+                usize::from(register),
+                &name.text,
+                target,
+                free,
+                line,
+            ),
             Place::GlobalOf(number) => self.read_global(
                 usize::from(number),
                 &name.text,
                 target,
+                free,
                 line,
             ),
         }
+    }
+
+    /// Reads a global variable, whose `_ENV` is a local.
+    fn read_local_global(
+        &mut self,
+        environment: usize,
+        text: &Bytes,
+        target: usize,
+        free: usize,
+        line: u32,
+    ) -> Result<(), AllocError>
+        ensures { OnOk result (self.new ≡ listed self.old (local_global_code (number_in self.old.constants (Str text.now)) environment (loads self.old.constants (Str text.now) free line) target free line)) }
+    {
+        let number = self.constants().number_of_text(text);
+        if number > 255 {
+            self.load_text(text, free, line)?;
+            return self.put_abc(Opcode::GetTable, target, environment, free, line);
+        }
+        self.put_abc(Opcode::GetField, target, environment, number, line)
     }
 
     /// Reads a global variable, whose `_ENV` is an upvalue.
@@ -108,17 +127,18 @@ impl Emitter {
         upvalue: usize,
         text: &Bytes,
         target: usize,
+        free: usize,
         line: u32,
     ) -> Result<(), AllocError>
-        ensures { OnOk result (self.new ≡ listed self.old (global_code (number_in self.old.constants (Str text.now)) upvalue (loads self.old.constants (Str text.now) (target + 1) line) target line)) }
+        ensures { OnOk result (self.new ≡ listed self.old (global_code (number_in self.old.constants (Str text.now)) upvalue (loads self.old.constants (Str text.now) (free + 1) line) target free line)) }
     {
         let number = self.constants().number_of_text(text);
         if number < 256 {
             return self.put_abc(Opcode::GetTabUp, target, upvalue, number, line);
         }
-        let key = next(target)?;
-        self.put_abc(Opcode::GetUpval, target, upvalue, 0, line)?;
+        let key = next(free)?;
+        self.put_abc(Opcode::GetUpval, free, upvalue, 0, line)?;
         self.load_text(text, key, line)?;
-        self.put_abc(Opcode::GetTable, target, target, key, line)
+        self.put_abc(Opcode::GetTable, target, free, key, line)
     }
 }

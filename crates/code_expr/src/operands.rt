@@ -9,6 +9,8 @@ use tree_core::{BinOp, Exp, ExpNode, Name, Place};
 /// Where a second operand stands.
 #[derive(Clone, Copy, Debug, PartialEq, Eq)]
 pub(crate) enum Second {
+    /// It is a constant in the instruction, of this number.
+    Constant(usize),
     /// It is a numeral in the instruction.
     Number(usize),
     /// It is in a register.
@@ -60,7 +62,7 @@ pub(crate) fn local_of(exp: &Exp) -> Option<usize>
 }
 
 /// The greatest numeral that the instruction of an operator may hold, or none.
-fn greatest(op: BinOp) -> Option<usize>
+pub(crate) fn greatest(op: BinOp) -> Option<usize>
     ensures { result ≡ greatest op }
 {
     match op {

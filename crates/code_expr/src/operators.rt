@@ -1,8 +1,9 @@
 // Operators, whose operands stand in registers or are numerals.
 ghost use Rattle.std.specs.Prelude.{◌≡◌, ◌+◌, [], ◌∷◌, OnOk, IfOk};
-ghost use Rattle.code_core.specs.declared.opcode.Opcode.TheVariants.{GetTable, GetI};
+ghost use Rattle.code_core.specs.declared.opcode.Opcode.TheVariants.{GetTable, GetI, GetField};
 ghost use Rattle.code_of.specs.Coded.{with_abc};
 ghost use Rattle.code_of.specs.Operators.{arithmetic_code, sum_code, truth_code, operator_code, number_code, number_opcode, prefix_code, prefix_opcode};
+ghost use Rattle.code_of.specs.Operations.{constant_arithmetic, constant_code};
 ghost use Rattle.code_expr.specs.Listing.{listed};
 ghost use Rattle.code_expr.specs.Operands.{done_code};
 
@@ -58,10 +59,16 @@ pub(crate) fn number_opcode(op: BinOp) -> Opcode
 
 impl Emitter {
     /// Does a prefix operator to the value of a register.
-    pub(crate) fn prefix(&mut self, op: UnOp, target: usize, line: u32) -> Result<(), AllocError>
-        ensures { OnOk result (self.new ≡ listed self.old (prefix_code op target line)) }
+    pub(crate) fn prefix(
+        &mut self,
+        op: UnOp,
+        operand: usize,
+        target: usize,
+        line: u32,
+    ) -> Result<(), AllocError>
+        ensures { OnOk result (self.new ≡ listed self.old (prefix_code op operand target line)) }
     {
-        self.put_abc(prefix_opcode(op), target, target, 0, line)
+        self.put_abc(prefix_opcode(op), target, operand, 0, line)
     }
 
     /// Does an operator to its operands, where they stand.
@@ -72,9 +79,12 @@ impl Emitter {
         target: usize,
         line: u32,
     ) -> Result<(), AllocError>
-        ensures { OnOk result (self.new ≡ listed self.old (done_code operands.second operands.first (λ x y. operator_code op x y target line) (λ x n. number_code op x n target line))) }
+        ensures { OnOk result (self.new ≡ listed self.old (done_code operands.second operands.first (λ x n. constant_code op x n target line) (λ x y. operator_code op x y target line) (λ x n. number_code op x n target line))) }
     {
         match operands.second {
+            Second::Constant(number) => {
+                self.with_constant(op, operands.first, number, target, line)
+            }
             Second::Number(number) => self.with_number(op, operands.first, number, target, line),
             Second::Register(register) => {
                 self.operator(op, operands.first, register, target, line)
@@ -89,9 +99,12 @@ impl Emitter {
         target: usize,
         line: u32,
     ) -> Result<(), AllocError>
-        ensures { OnOk result (self.new ≡ listed self.old (done_code operands.second operands.first (λ x y. with_abc GetTable target x y line ∷ []) (λ x n. with_abc GetI target x n line ∷ []))) }
+        ensures { OnOk result (self.new ≡ listed self.old (done_code operands.second operands.first (λ x n. with_abc GetField target x n line ∷ []) (λ x y. with_abc GetTable target x y line ∷ []) (λ x n. with_abc GetI target x n line ∷ []))) }
     {
         match operands.second {
+            Second::Constant(number) => {
+                self.put_abc(Opcode::GetField, target, operands.first, number, line)
+            }
             Second::Number(number) => {
                 self.put_abc(Opcode::GetI, target, operands.first, number, line)
             }
@@ -183,6 +196,54 @@ impl Emitter {
         }
     }
 
+    /// Does an operator to the value of a register and a constant.
+    fn with_constant(
+        &mut self,
+        op: BinOp,
+        x: usize,
+        number: usize,
+        target: usize,
+        line: u32,
+    ) -> Result<(), AllocError>
+        ensures { OnOk result (self.new ≡ listed self.old (constant_code op x number target line)) }
+    {
+        match op {
+            BinOp::Add => self.constant_arithmetic(Opcode::AddK, 6, x, number, target, line),
+            BinOp::Sub => self.constant_arithmetic(Opcode::SubK, 7, x, number, target, line),
+            BinOp::Mul => self.constant_arithmetic(Opcode::MulK, 8, x, number, target, line),
+            BinOp::Mod => self.constant_arithmetic(Opcode::ModK, 9, x, number, target, line),
+            BinOp::Idiv => self.constant_arithmetic(Opcode::IDivK, 12, x, number, target, line),
+            BinOp::Band => self.constant_arithmetic(Opcode::BAndK, 13, x, number, target, line),
+            BinOp::Bor => self.constant_arithmetic(Opcode::BOrK, 14, x, number, target, line),
+            BinOp::Bxor => self.constant_arithmetic(Opcode::BXorK, 15, x, number, target, line),
+            BinOp::Eq => self.truth(Opcode::EqK, x, number, true, target, line),
+            BinOp::Ne => self.truth(Opcode::EqK, x, number, false, target, line),
+            BinOp::Shl
+            | BinOp::Shr
+            | BinOp::Concat
+            | BinOp::Lt
+            | BinOp::Le
+            | BinOp::Gt
+            | BinOp::Ge => Ok(()),
+        }
+    }
+
+    /// Arithmetic with a constant, and the event where it is asked for.
+    fn constant_arithmetic(
+        &mut self,
+        op: Opcode,
+        event: usize,
+        x: usize,
+        number: usize,
+        target: usize,
+        line: u32,
+    ) -> Result<(), AllocError>
+        ensures { OnOk result (self.new ≡ listed self.old (constant_arithmetic op event x number target line)) }
+    {
+        self.put_abc(op, target, x, number, line)?;
+        self.put_abc(Opcode::MmBinK, x, number, event, line)
+    }
+
     /// A sum with a numeral, a difference or a shift by one, and its event.
     fn sum(
         &mut self,
@@ -201,7 +262,7 @@ impl Emitter {
         self.put_abc(Opcode::MmBinI, x, operand, event, line)
     }
 
-    /// Whether a comparison of two registers, or of one with a numeral's field, comes to k.
+    /// Whether a comparison of two registers, or of one with a numeral's field or a constant, comes to k.
     fn truth(
         &mut self,
         op: Opcode,

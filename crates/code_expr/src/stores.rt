@@ -1,16 +1,17 @@
-// Values that are stored in fields by a statement of their own (Lua 5.4 manual, 3.3.3).
+// Values that are stored in fields, by a statement of their own (Lua 5.4 manual, 3.3.3) or in a constructor (3.4.9).
 ghost use Rattle.std.specs.Prelude.{◌≡◌, ◌+◌, [], ◌∷◌, OnOk, IfOk};
 ghost use Rattle.tree_core.specs.Tree.{Index};
 ghost use Rattle.tree_core.specs.Plain.{plain_exp};
 ghost use Rattle.code_of.specs.Expressions.{exp_code, made_by};
 ghost use Rattle.code_of.specs.Operands.{local_of, seat, unless};
 ghost use Rattle.code_of.specs.Parts.{field_code};
-ghost use Rattle.code_of.specs.Stores.{short_number, name_in, beside_local, field_key, is_field};
+ghost use Rattle.code_of.specs.Stores.{short_number, name_in, field_key, is_field};
 ghost use Rattle.code_expr.specs.Listing.{followed, listed};
 ghost use Rattle.code_expr.specs.Stores.{key_seat, object_at, made_unless, seat_code, seat_made, seat_store, made_in_field};
 
 use crate::emitter::{Emitter, next};
 use crate::operands::{local_of, numeral_of};
+use crate::quiet::{beside_quiet, is_quiet};
 use code_core::Opcode;
 use std::alloc::AllocError;
 use tree_core::{Exp, ExpNode};
@@ -30,7 +31,7 @@ pub(crate) enum KeySeat {
 
 /// The number of a constant, where a field of 8 bits holds it, or none.
 #[tactic(auto, using(crate::proofs::FieldSeats::near, crate::proofs::FieldSeats::far))]
-fn short(number: usize) -> Option<usize>
+pub(crate) fn short(number: usize) -> Option<usize>
     ensures { result ≡ short_number number }
 {
     if number < 256 {
@@ -39,25 +40,15 @@ fn short(number: usize) -> Option<usize>
     None
 }
 
-/// The register of a local that stays where the value stored is a local too, or none.
-fn beside_local(value: Option<usize>, local: Option<usize>) -> Option<usize>
-    ensures { result ≡ beside_local value local }
-{
-    match value {
-        Some(_) => local,
-        None => None,
-    }
-}
-
 /// The register in which the object stays, or none for one that is made.
-fn object_at(key: KeySeat, value: Option<usize>, object: &Exp) -> Option<usize>
-    ensures { result ≡ object_at key value (plain_exp object.now) }
+fn object_at(key: KeySeat, quiet: bool, object: &Exp) -> Option<usize>
+    ensures { result ≡ object_at key quiet (plain_exp object.now) }
 {
     match key {
         KeySeat::Above => None,
-        KeySeat::Name(_) => beside_local(value, local_of(object)),
-        KeySeat::Index(_) => beside_local(value, local_of(object)),
-        KeySeat::Register(_) => beside_local(value, local_of(object)),
+        KeySeat::Name(_) => beside_quiet(quiet, local_of(object)),
+        KeySeat::Index(_) => beside_quiet(quiet, local_of(object)),
+        KeySeat::Register(_) => beside_quiet(quiet, local_of(object)),
     }
 }
 
@@ -112,10 +103,10 @@ impl Emitter {
         }
     }
 
-    /// Where a key stands beside a value that is stored.
+    /// Where a key stands beside a value that is stored, which is quiet or not.
     #[tactic(auto, using(crate::proofs::FieldSeats::seat_named, crate::proofs::FieldSeats::seat_indexed, crate::proofs::FieldSeats::seat_standing, crate::proofs::FieldSeats::seat_above))]
-    fn key_seat(&self, value: Option<usize>, key: &Exp) -> KeySeat
-        ensures { result ≡ key_seat (field_key self.now.constants value (plain_exp key.now)) }
+    pub(crate) fn key_seat(&self, quiet: bool, key: &Exp) -> KeySeat
+        ensures { result ≡ key_seat (field_key self.now.constants quiet (plain_exp key.now)) }
     {
         if let Some(number) = self.name_in(key) {
             return KeySeat::Name(number);
@@ -123,7 +114,7 @@ impl Emitter {
         if let Some(number) = numeral_of(key, Some(255)) {
             return KeySeat::Index(number);
         }
-        match beside_local(value, local_of(key)) {
+        match beside_quiet(quiet, local_of(key)) {
             Some(register) => KeySeat::Register(register),
             None => KeySeat::Above,
         }
@@ -143,8 +134,14 @@ impl Emitter {
     }
 
     /// Writes a key that is made.
+    #[cycle(expressions)]
     #[tactic(auto, using(crate::proofs::Seats::nothing_more))]
-    fn write_key(&mut self, stands: KeySeat, key: &Exp, target: usize) -> Result<(), AllocError>
+    pub(crate) fn write_key(
+        &mut self,
+        stands: KeySeat,
+        key: &Exp,
+        target: usize,
+    ) -> Result<(), AllocError>
         ensures { OnOk result (self.new ≡ followed self.old (seat_code stands (exp_code self.old.constants (plain_exp key.now) target self.old.made 2)) (seat_made stands (made_by (plain_exp key.now)))) }
     {
         match stands {
@@ -156,7 +153,7 @@ impl Emitter {
     }
 
     /// Writes the store of a value, where the object and the value stand in registers, and a key that is made in another.
-    fn put_store(
+    pub(crate) fn put_store(
         &mut self,
         stands: KeySeat,
         object: usize,
@@ -188,8 +185,9 @@ impl Emitter {
         let above = next(free)?;
         let top = next(above)?;
         let local = local_of(value);
-        let stands = self.key_seat(local, key);
-        let first = self.stand(object_at(stands, local, object), object, free)?;
+        let quiet = is_quiet(value);
+        let stands = self.key_seat(quiet, key);
+        let first = self.stand(object_at(stands, quiet, object), object, free)?;
         self.write_key(stands, key, above)?;
         let third = self.stand(local, value, top)?;
         self.put_store(stands, first, above, third, line)?;

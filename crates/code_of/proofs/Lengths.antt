@@ -7,7 +7,7 @@ use Rattle.tree_core.specs.declared.name.Place.TheVariants.{Local as LocalPlace}
 use Rattle.tree_core.specs.declared.operator.BinOp.{BinOp}
 use Rattle.tree_core.specs.declared.operator.BinOp.TheVariants.{Add as Plus, Sub as Minus, Mul as Times, Mod as Modulo, Idiv, Band, Bor, Bxor, Shl as ShiftLeft, Shr as ShiftRight, Concat as Join, Eq as Equal, Ne, Lt as Less, Le as AtMost, Gt, Ge}
 use Rattle.tree_core.specs.Tree.{Exp, Nil, True, False, Int, Str, Vararg, Function, Var, Index, Call, Method, Unary, Binary, And, Or, Paren, Table, Exps, EndExps, MoreExps}
-use Rattle.code_core.specs.declared.opcode.Opcode.TheVariants.{LoadI, LoadK, LoadKx, ExtraArg, GetUpval, GetTabUp, GetTable, GetI, GetField}
+use Rattle.code_core.specs.declared.opcode.Opcode.TheVariants.{LoadI, LoadK, LoadKx, ExtraArg, GetUpval, GetTabUp, GetTable, GetI, GetField, Call as CallCode}
 use Rattle.code_core.specs.declared.proto.Const.{Const}
 use Rattle.code_core.specs.declared.proto.Const.TheVariants.{Int as IntConst, Str as StrConst}
 use Rattle.code_core.specs.Instruction.{op_ax}
@@ -16,8 +16,10 @@ use Rattle.code_of.specs.Constants.{number_in, is_small, small_field, loads_numb
 use Rattle.code_of.specs.Operands.{local_of, greatest, numeral_of, Second, a_number, a_local, made, second_of, key_operand, first_of, unless, seat, operands_code}
 use Rattle.code_of.specs.Stores.{name_in}
 use Rattle.code_of.specs.FieldReads.{read_code}
-use Rattle.code_of.specs.Operators.{name_code, operator_code, number_code}
-use Rattle.code_of.specs.Expressions.{made_by, field_of, exp_code, exps_code}
+use Rattle.code_of.specs.Operators.{name_code, self_code, prefix_code, operator_code, number_code}
+use Rattle.code_of.specs.Expressions.{made_by, list_field, field_of, exp_code, exps_code}
+use Rattle.code_of.specs.Operations.{constant_in, constant_code, operation_code}
+use Rattle.code_of.proofs.Operations.{constant_is, operand_form, constant_some}
 use Rattle.code_of.proofs.Operands.{numeral_none, second_number}
 
 some_behind : (xs ys : List Coded) → 1 ≤ length ys → 1 ≤ length (xs ++ ys)
@@ -82,12 +84,24 @@ read_some : (name : Option ℕ) (object key : Exp) (first second : List Coded) (
 read_some (Some number) object key first second r t line = some_behind (unless (local_of object) first) (with_abc GetField r (seat (local_of object) t) number line ∷ []) (omega arith)
 read_some None object key first second r t line = operands_some (key_operand key) (first_of (key_operand key) object) first second t (λ x y. with_abc GetTable r x y line ∷ []) (λ x n. with_abc GetI r x n line ∷ []) (λ x y. omega arith) (λ n is x. omega arith)
 
+operation_some : (cs : List Const) (op : BinOp) (e d : Exp) (first second : List Coded) (r t line : ℕ) (o : Option ℕ) → constant_in cs op d ≡ o → 1 ≤ length (operation_code o op e d first second r t line)
+operation_some cs op e d first second r t line (Some number) h =
+    let f = constant_is cs op d number h in
+    some_behind (unless (local_of e) first) (constant_code op (seat (local_of e) t) number r line) (constant_some op d f.value (operand_form op d f.value f.is) (seat (local_of e) t) number r line)
+operation_some cs op e d first second r t line None h =
+    operands_some (second_of op d) (first_of (second_of op d) e) first second t (λ x y. operator_code op x y r line) (λ x n. number_code op x n r line)
+    (λ x y. operator_some op x y r line) (λ n is x. number_some op d n (second_number op d n is) x n r line)
+
 module _ (cs : List Const) where
   name_some : (place : Place) (text : List ℕ) (t line : ℕ) → 1 ≤ length (name_code cs place text t line)
   name_some Unset text t line = omega arith
   name_some (LocalPlace n) text t line = omega arith
   name_some (Upvalue u) text t line = omega arith
-  name_some (GlobalIn n) text t line = some_behind (loads cs (StrConst text) t line) (with_abc GetTable t n t line ∷ []) (omega arith)
+  name_some (GlobalIn n) text t line = by (nat_lt (number_in cs (StrConst text)) 256)
+    where
+      by : (b : Bool) → 1 ≤ length (cond b (with_abc GetField t n (number_in cs (StrConst text)) line ∷ []) (loads cs (StrConst text) t line ++ with_abc GetTable t n t line ∷ []))
+      by true = omega arith
+      by false = some_behind (loads cs (StrConst text) t line) (with_abc GetTable t n t line ∷ []) (omega arith)
   name_some (GlobalOf u) text t line = by (nat_lt (number_in cs (StrConst text)) 256)
     where
       by : (b : Bool) → 1 ≤ length (cond b (with_abc GetTabUp t u (number_in cs (StrConst text)) line ∷ []) (with_abc GetUpval t u 0 line ∷ (loads cs (StrConst text) (t + 1) line ++ with_abc GetTable t t (t + 1) line ∷ [])))
@@ -109,10 +123,13 @@ module _ (cs : List Const) where
   exp_some (Var line name) t j c = name_some name.place name.text t line
   exp_some (Index line object key) t j c = read_some (name_in cs key) object key (exp_code cs object t j 2) (exp_code cs key (t + 1) (j + made_by object) 2) t t line
   exp_some (Call line f es) t j c = some_before (exp_code cs f t j 2) _ (exp_some f t j 2)
-  exp_some (Method line object name es) t j c = some_before (exp_code cs object t j 2) _ (exp_some object t j 2)
-  exp_some (Unary line op e) t j c = some_before (exp_code cs e t j 2) _ (exp_some e t j 2)
+  exp_some (Method line object name es) t j c =
+      let x = seat (local_of object) t in
+      some_behind (unless (local_of object) (exp_code cs object t j 2)) _
+      (some_behind (self_code cs name.text x t line) _ (some_behind (exps_code cs es None (t + 2) (j + made_by object) line) (with_abc CallCode t (list_field 1 es) c line ∷ []) (omega arith)))
+  exp_some (Unary line op e) t j c = some_behind (unless (local_of e) (exp_code cs e t j 2)) (prefix_code op (seat (local_of e) t) t line) (omega arith)
   exp_some (Binary line op e d) t j c =
-      operands_some (second_of op d) (first_of (second_of op d) e) (exp_code cs e t j 2) (exp_code cs d (t + 1) (j + made_by e) 2) t (λ x y. operator_code op x y t line) (λ x n. number_code op x n t line) (λ x y. operator_some op x y t line) (λ n is x. number_some op d n (second_number op d n is) x n t line)
+      operation_some cs op e d (exp_code cs e t j 2) (exp_code cs d (t + 1) (j + made_by e) 2) t t line (constant_in cs op d) refl
   exp_some (And line e d) t j c = some_before (exp_code cs e t j 2) _ (exp_some e t j 2)
   exp_some (Or line e d) t j c = some_before (exp_code cs e t j 2) _ (exp_some e t j 2)
   exp_some (Paren line e) t j c = exp_some e t j 2

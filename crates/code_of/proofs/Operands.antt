@@ -9,7 +9,7 @@ use Rattle.tree_core.specs.declared.name.Place.TheVariants.{Local as LocalPlace}
 use Rattle.tree_core.specs.Tree.{Exp, Nil, True, False, Int, Str, Vararg, Function, Var, Index, Call, Method, Unary, Binary, And, Or, Paren, Table, Exps, EndExps, MoreExps}
 use Rattle.code_of.specs.Coded.{Coded}
 use Rattle.code_of.specs.Expressions.{made_by}
-use Rattle.code_of.specs.Operands.{local_at, local_of, computes, is_direct, target_local, assigned, greatest, numeral_of, joins, Second, a_number, a_local, made, second_by, second_of, key_operand, first_of, unless, seat, second_code, operands_code, operands_room}
+use Rattle.code_of.specs.Operands.{local_at, local_of, computes, is_direct, target_local, assigned, greatest, numeral_of, joins, Second, a_number, a_local, made, second_by, second_of, key_operand, first_of, unless, seat, operand_code, second_code, operands_code, operands_room}
 
 -- a numeral, and a local
 
@@ -227,9 +227,17 @@ first_local (a_local q) e r h = h
 
 -- sizes
 
-unless_sized : (at : Option ℕ) (xs ys xs' ys' : List Coded) → length xs ≡ length xs' → length ys ≡ length ys' → length (unless at xs ++ ys) ≡ length (unless at xs' ++ ys')
+pub unless_sized : (at : Option ℕ) (xs ys xs' ys' : List Coded) → length xs ≡ length xs' → length ys ≡ length ys' → length (unless at xs ++ ys) ≡ length (unless at xs' ++ ys')
 unless_sized None xs ys xs' ys' e d = length-append xs ys ∙ (omega (arith, e, d)) ∙ sym (length-append xs' ys')
 unless_sized (Some r) xs ys xs' ys' e d = d
+
+pub unless_short : (at : Option ℕ) (code : List Coded) → length (unless at code) ≤ length code
+unless_short None code = omega arith
+unless_short (Some r) code = omega arith
+
+pub operand_short : (at : Option ℕ) (first : List Coded) (t : ℕ) (by : ℕ → List Coded) (m : ℕ) → ((x : ℕ) → length (by x) ≤ m) → length (operand_code at first t by) ≤ length first + m
+operand_short None first t by m e = let sum = length-append first (by t) in let h = e t in omega (arith, sum, h)
+operand_short (Some r) first t by m e = let h = e r in omega (arith, h)
 
 pub operands_sized : (s : Second) (at : Option ℕ) (first code : List Coded) (t : ℕ) (by by' num num' : (x y : ℕ) → List Coded)
     → ((x y : ℕ) → length (by x y) ≡ length (by' x y)) → ((x n : ℕ) → length (num x n) ≡ length (num' x n))

@@ -1,22 +1,25 @@
 -- The code of a statement has as many instructions as its size says, wherever it stands and its jumps lead.
 use Rattle.std.proofs.Common.{◌≡◌, ℕ, ◌+◌, Bool, true, false, List, [], ◌∷◌, ◌++◌, length, Option, Some, None, refl, sym, ap, ap₂, ◌∙◌, arith, length-append, ◌≤◌, cond}
-use Rattle.tree_core.specs.Tree.{Block, Falls, Returns, Stats, EndStats, MoreStats, Stat, Empty, Local, LocalFunction, Assign, CallStat, Do, While, Repeat, If, IfElse, NumFor, NumForStep, GenFor, Label, Goto, Break, Arms, EndArms, MoreArms, Exp, Nil, True, False, Int, Str, Vararg, Function, Var, Index, Call, Method, Unary, Binary, And, Or, Paren, Table}
+use Rattle.tree_terms.specs.Bodies.{line_of_body, upvalues_of}
+use Rattle.tree_core.specs.Tree.{Body, Block, Falls, Returns, Stats, EndStats, MoreStats, Stat, Empty, Local, LocalFunction, Assign, CallStat, Do, While, Repeat, If, IfElse, NumFor, NumForStep, GenFor, Label, Goto, Break, Arms, EndArms, MoreArms, Exp, Nil, True, False, Int, Str, Vararg, Function, Var, Index, Call, Method, Unary, Binary, And, Or, Paren, Table}
 use Rattle.tree_core.specs.declared.operator.BinOp.{BinOp}
 use Rattle.tree_core.specs.declared.operator.BinOp.TheVariants.{Add as Plus, Sub as Minus, Mul as Times, Mod as Modulo, Idiv, Band, Bor, Bxor, Shl as ShiftLeft, Shr as ShiftRight, Concat as Join, Eq as Equal, Ne, Lt as Less, Le as AtMost, Gt, Ge}
 use Rattle.code_core.specs.declared.opcode.Opcode.{Opcode}
 use Rattle.tree_activation.specs.Activation.{line_of_end}
-use Rattle.code_core.specs.declared.opcode.Opcode.TheVariants.{Close, Eq, Lt, Le, ForLoop, ForPrep, TForPrep, TForCall, TForLoop, Return}
+use Rattle.code_core.specs.declared.opcode.Opcode.TheVariants.{Close, Eq, Lt, Le, EqK, ForLoop, ForPrep, TForPrep, TForCall, TForLoop, Return}
 use Rattle.code_core.specs.declared.proto.Const.{Const}
 use Rattle.code_of.specs.Conditions.{jump_if, pick, compared, is_not, value_test, test_code}
 use Rattle.code_of.specs.Coded.{Coded, with_abc, with_abx, jump_over, jump_back, leaving_by}
 use Rattle.code_of.specs.Expressions.{made_by, made_in, exp_code, exps_code}
-use Rattle.code_of.specs.Operands.{second_of, first_of}
+use Rattle.code_of.specs.Operands.{local_of, second_of, first_of}
 use Rattle.code_of.specs.Operators.{number_opcode}
-use Rattle.code_of.proofs.Operands.{operands_sized}
+use Rattle.code_of.proofs.Operands.{unless_sized, operands_sized}
+use Rattle.code_of.specs.Operations.{constant_in}
+use Rattle.code_of.proofs.Operations.{operation_sized}
 use Rattle.code_of.specs.Jumps.{Landing, Visible, Reach, label_in, leads}
-use Rattle.code_of.specs.Levels.{made_by_stat, made_in_arms, made_in_stats, made_in_block, closing_after, closings_after, closed_below}
+use Rattle.code_of.specs.Levels.{made_by_stat, made_in_arms, made_in_stats, made_in_block, closing_after, closings_after, closed_below, closed_until}
 use Rattle.tree_terms.specs.Levels.{level_after, levels_after, levels_in}
-use Rattle.code_of.specs.Parts.{marks_code, close_code, while_code, repeat_code, past_size, past, arm_code, counting_code, iterating_code, return_code, bounds_code, steps_code}
+use Rattle.code_of.specs.Parts.{marks_code, close_code, captures_local, closure_code, function_code, while_code, repeat_code, past_size, past, arm_code, counting_code, iterating_code, return_code, bounds_code, steps_code}
 use Rattle.code_of.specs.Sizes.{stat_size, arms_size, stats_size, block_size, open_size, whole_size}
 use Rattle.code_of.specs.Statements.{in_loop, passed_after, labels_ahead, stat_code, arms_code, stats_code, block_code, open_code, whole_code}
 use Rattle.std.specs.Prelude.{cond, not, nat_eq}
@@ -54,7 +57,7 @@ module _ (cs : List Const) where
   TestSized e = (k : Bool) (ahead t j : ℕ) → length (test_code cs e k ahead t j) ≡ length (test_code cs e k 0 t j)
 
   value_sized : (e : Exp) (k : Bool) (ahead t j : ℕ) → length (value_test cs e k ahead t j) ≡ length (value_test cs e k 0 t j)
-  value_sized e k ahead t j = both_sized (exp_code cs e t j 2) _ (exp_code cs e t j 2) _ refl refl
+  value_sized e k ahead t j = unless_sized (local_of e) (exp_code cs e t j 2) _ (exp_code cs e t j 2) _ refl refl
 
   anywhere : (e : Exp) → TestSized e → (k : Bool) (a b t j : ℕ) → length (test_code cs e k a t j) ≡ length (test_code cs e k b t j)
   anywhere e sized k a b t j = sized k a t j ∙ sym (sized k b t j)
@@ -82,9 +85,10 @@ module _ (cs : List Const) where
   test_sized (Binary line op e d) k ahead t j =
       compared_sized op _ _ _ _ (value_sized (Binary line op e d) k ahead t j)
       (λ o s w. let field = cond w (not k) k in
-      operands_sized (second_of op d) (first_of (second_of op d) e) (exp_code cs e t j 2) (exp_code cs d (t + 1) (j + made_by e) 2) t
+      operation_sized (constant_in cs op d) op e d (exp_code cs e t j 2) (exp_code cs d (t + 1) (j + made_by e) 2) t
+      (λ x n. jump_if EqK x n field ahead line) (λ x n. jump_if EqK x n field 0 line)
       (λ x y. jump_if o (pick s x y) (pick s y x) field ahead line) (λ x y. jump_if o (pick s x y) (pick s y x) field 0 line)
-      (λ x n. jump_if (number_opcode op) x (n + 127) field ahead line) (λ x n. jump_if (number_opcode op) x (n + 127) field 0 line) (λ x y. refl) (λ x n. refl))
+      (λ x n. jump_if (number_opcode op) x (n + 127) field ahead line) (λ x n. jump_if (number_opcode op) x (n + 127) field 0 line) (λ x n. refl) (λ x y. refl) (λ x n. refl))
   test_sized (True line) k ahead t j = true_sized k ahead line
   test_sized (Nil line) k ahead t j = value_sized (Nil line) k ahead t j
   test_sized (False line) k ahead t j = value_sized (False line) k ahead t j
@@ -179,8 +183,9 @@ module _ (cs : List Const) (back : ℕ) where
         let within = levels_in block t in
         let size = length (test_code cs e false 0 within (j + made_in_block block)) in
         let inner = in_loop reach (pc + stat_size cs back (Repeat line block e) closing t j) t in
-        let same = close_sized t within (line_of_end block) line in
-        let whole = repeat_sized (λ ahead. test_code cs e false ahead within (j + made_in_block block)) (open_code cs back block closing t j pc inner) (close_code t within (line_of_end block)) line _ _
+        let low = closed_until block e t in
+        let same = close_sized t low (line_of_end block) line in
+        let whole = repeat_sized (λ ahead. test_code cs e false ahead within (j + made_in_block block)) (open_code cs back block closing t j pc inner) (close_code t low (line_of_end block)) line _ _
         (λ ahead. test_sized cs e false ahead within (j + made_in_block block)) (open_sized block closing t j pc inner) in
         whole ∙ ap (λ c. open_size cs back block closing t j + (size + (c + c + 1))) same
     stat_sized (If line arms) closing t j pc reach = let a = arms_sized arms [] closing t j pc line reach in omega (arith, a)
@@ -264,3 +269,18 @@ whole_sized cs back (Falls ss tokens line) params pc =
     let b = stats_sized cs back ss true false 0 params 0 pc [] reach in
     omega (arith, a, b)
 whole_sized cs back (Returns ss es tokens line) params pc = block_sized cs back (Returns ss es tokens line) false 0 params 0 pc (record { labels = []; exit = None })
+
+closure_some : (own : Bool) (t j line : ℕ) → 1 ≤ length (closure_code own t j line)
+closure_some true t j line = omega arith
+closure_some false t j line = omega arith
+
+closure_short : (own : Bool) (t j line : ℕ) → length (closure_code own t j line) ≤ 2
+closure_short true t j line = omega arith
+closure_short false t j line = omega arith
+
+-- a local function has an instruction, and no more than two
+pub function_some : (body : Body) (t j : ℕ) → 1 ≤ length (function_code body t j)
+function_some body t j = closure_some (captures_local t (upvalues_of body)) t j (line_of_body body)
+
+pub function_short : (body : Body) (t j : ℕ) → length (function_code body t j) ≤ 2
+function_short body t j = closure_short (captures_local t (upvalues_of body)) t j (line_of_body body)

@@ -1,5 +1,5 @@
 -- Statements that store a value in a field, and where the object and the key stand.
-use Rattle.std.proofs.Common.{◌≡◌, ℕ, ◌+◌, ◌<◌, ◌≤◌, ltb-true, Bool, true, false, cond, List, length, ◌++◌, [], ◌∷◌, Option, Some, None, refl, sym, ap, arith, length-append}
+use Rattle.std.proofs.Common.{◌≡◌, ℕ, ◌+◌, ◌<◌, ◌≤◌, ltb-true, max, Bool, true, false, cond, List, length, ◌++◌, [], ◌∷◌, Option, Some, None, refl, sym, ap, arith, length-append}
 use Rattle.std.specs.Prelude.{nat_lt}
 use Rattle.tree_core.specs.Tree.{Exp, Str, Index, Exps, EndExps, MoreExps}
 use Rattle.code_core.specs.declared.proto.Const.{Const}
@@ -7,8 +7,8 @@ use Rattle.code_core.specs.declared.proto.Const.TheVariants.{Str as StrConst}
 use Rattle.code_of.specs.Coded.{Coded}
 use Rattle.code_of.specs.Constants.{number_in}
 use Rattle.code_of.specs.Operands.{local_of, numeral_of, seat, unless}
-use Rattle.code_of.proofs.Operands.{some_is, IsNumeral, numeral_is}
-use Rattle.code_of.specs.Stores.{FieldKey, a_name, an_index, a_register, evaluated, short_number, name_in, field_key_by, beside_local, field_key, object_of, key_code, field_store, fields_store, is_field, stores_field}
+use Rattle.code_of.proofs.Operands.{some_is, IsNumeral, numeral_is, unless_short}
+use Rattle.code_of.specs.Stores.{FieldKey, a_name, an_index, a_register, evaluated, short_number, name_in, field_key_by, beside_quiet, field_key, object_of, key_code, field_store, fields_store, keyed_store, is_field, stores_field, room_unless, room_of_key, room_above, keyed_room}
 
 pub record StoresField (targets es : Exps) : Type 0 where
   pub line : ℕ
@@ -38,7 +38,7 @@ pub record IsName (constants : List Const) (key : Exp) (number : ℕ) : Type 0 w
   pub same : number ≡ number_in constants (StrConst bytes)
   pub short : number < 256
 
-short_is : (n number : ℕ) → short_number n ≡ Some number → (number ≡ n) × (number < 256)
+pub short_is : (n number : ℕ) → short_number n ≡ Some number → (number ≡ n) × (number < 256)
 short_is n number h = by (nat_lt n 256) refl h
   where
     by : (b : Bool) → nat_lt n 256 ≡ b → cond b (Some n) None ≡ Some number → (number ≡ n) × (number < 256)
@@ -86,66 +86,100 @@ standing_by None (Some n) local r h = none_some r (ap register_part h)
 standing_by None None (Some q) r h = ap register_part h
 standing_by None None None r h = none_some r (ap register_part h)
 
-beside_is : (value local : Option ℕ) (r : ℕ) → beside_local value local ≡ Some r → local ≡ Some r
-beside_is None local r h = none_some r h
-beside_is (Some v) local r h = h
+beside_is : (quiet : Bool) (local : Option ℕ) (r : ℕ) → beside_quiet quiet local ≡ Some r → local ≡ Some r
+beside_is false local r h = none_some r h
+beside_is true local r h = h
 
-beside_some : (value local : Option ℕ) (r : ℕ) → beside_local value local ≡ Some r → value ≡ None → ⊥
-beside_some None local r h e = none_some r h
-beside_some (Some v) local r h e = none_some v (sym e)
+beside_some : (quiet : Bool) (local : Option ℕ) (r : ℕ) → beside_quiet quiet local ≡ Some r → quiet ≡ true
+beside_some false local r h = none_some r h
+beside_some true local r h = refl
 
--- a key that stands so is that name, that numeral, or that local, and a local is there only if the value is one too
-pub record FieldKeyStands (constants : List Const) (value : Option ℕ) (key : Exp) (s : FieldKey) : Type 0 where
+-- a key that stands so is that name, that numeral, or that local, and a local is there only if the value is quiet
+pub record FieldKeyStands (constants : List Const) (quiet : Bool) (key : Exp) (s : FieldKey) : Type 0 where
   pub name : (number : ℕ) → s ≡ a_name number → IsName constants key number
   pub index : (n : ℕ) → s ≡ an_index n → IsNumeral key n 255
   pub local : (r : ℕ) → s ≡ a_register r → local_of key ≡ Some r
-  pub only : (r : ℕ) → s ≡ a_register r → value ≡ None → ⊥
+  pub only : (r : ℕ) → s ≡ a_register r → quiet ≡ true
 
-pub field_key_stands : (constants : List Const) (value : Option ℕ) (key : Exp) → FieldKeyStands constants value key (field_key constants value key)
-field_key_stands constants value key =
+pub field_key_stands : (constants : List Const) (quiet : Bool) (key : Exp) → FieldKeyStands constants quiet key (field_key constants quiet key)
+field_key_stands constants quiet key =
     let name = name_in constants key in
     let index = numeral_of key (Some 255) in
-    let local = beside_local value (local_of key) in
+    let local = beside_quiet quiet (local_of key) in
     record {
       name = λ number h. name_is constants key number (named_by name index local number h);
       index = λ n h. numeral_is key 255 n (indexed_by name index local n h);
-      local = λ r h. beside_is value (local_of key) r (standing_by name index local r h);
-      only = λ r h. beside_some value (local_of key) r (standing_by name index local r h);
+      local = λ r h. beside_is quiet (local_of key) r (standing_by name index local r h);
+      only = λ r h. beside_some quiet (local_of key) r (standing_by name index local r h);
     }
 
--- an object that stays is that local, and nothing is evaluated behind it
+-- an object that stays is that local, and what is evaluated behind it is quiet
 
-pub record ObjectStays (key : FieldKey) (value : Option ℕ) (object : Exp) (r : ℕ) : Type 0 where
+pub record ObjectStays (key : FieldKey) (quiet : Bool) (object : Exp) (r : ℕ) : Type 0 where
   pub local : local_of object ≡ Some r
-  pub only : value ≡ None → ⊥
+  pub only : quiet ≡ true
   pub key_stays : key ≡ evaluated → ⊥
 
-pub object_stays : (key : FieldKey) (value : Option ℕ) (object : Exp) (r : ℕ) → object_of key value object ≡ Some r → ObjectStays key value object r
-object_stays evaluated value object r h = none_some r h
-object_stays (a_name number) value object r h = record { local = beside_is value (local_of object) r h; only = beside_some value (local_of object) r h; key_stays = λ e. none_some number (sym (ap name_part e)) }
-object_stays (an_index n) value object r h = record { local = beside_is value (local_of object) r h; only = beside_some value (local_of object) r h; key_stays = λ e. none_some n (sym (ap index_part e)) }
-object_stays (a_register q) value object r h = record { local = beside_is value (local_of object) r h; only = beside_some value (local_of object) r h; key_stays = λ e. none_some q (sym (ap register_part e)) }
+pub object_stays : (key : FieldKey) (quiet : Bool) (object : Exp) (r : ℕ) → object_of key quiet object ≡ Some r → ObjectStays key quiet object r
+object_stays evaluated quiet object r h = none_some r h
+object_stays (a_name number) quiet object r h = record { local = beside_is quiet (local_of object) r h; only = beside_some quiet (local_of object) r h; key_stays = λ e. none_some number (sym (ap name_part e)) }
+object_stays (an_index n) quiet object r h = record { local = beside_is quiet (local_of object) r h; only = beside_some quiet (local_of object) r h; key_stays = λ e. none_some n (sym (ap index_part e)) }
+object_stays (a_register q) quiet object r h = record { local = beside_is quiet (local_of object) r h; only = beside_some quiet (local_of object) r h; key_stays = λ e. none_some q (sym (ap register_part e)) }
 
 -- sizes
+
+key_short : (key : FieldKey) (code : List Coded) → length (key_code key code) ≤ length code
+key_short evaluated code = omega arith
+key_short (a_name number) code = omega arith
+key_short (an_index n) code = omega arith
+key_short (a_register r) code = omega arith
+
+pub keyed_store_short : (key : FieldKey) (value : Option ℕ) (second third : List Coded) (t line : ℕ) → length (keyed_store key value second third t line) ≤ length second + (length third + 1)
+keyed_store_short key value second third t line =
+    omega (
+      arith,
+      key_short key second,
+      unless_short value third,
+      length-append (key_code key second) (unless value third ++ field_store key t t (seat value (t + 2)) line ∷ []),
+      length-append (unless value third) (field_store key t t (seat value (t + 2)) line ∷ []),
+    )
 
 pub fields_store_short : (key : FieldKey) (object value : Option ℕ) (first second third : List Coded) (t line : ℕ) → length (fields_store key object value first second third t line) ≤ length first + (length second + (length third + 1))
 fields_store_short key object value first second third t line =
     omega (
       arith,
       unless_short object first,
-      key_short key,
+      key_short key second,
       unless_short value third,
       length-append (unless object first) (key_code key second ++ (unless value third ++ field_store key (seat object t) t (seat value (t + 2)) line ∷ [])),
       length-append (key_code key second) (unless value third ++ field_store key (seat object t) t (seat value (t + 2)) line ∷ []),
       length-append (unless value third) (field_store key (seat object t) t (seat value (t + 2)) line ∷ []),
     )
-  where
-    unless_short : (at : Option ℕ) (code : List Coded) → length (unless at code) ≤ length code
-    unless_short None code = omega arith
-    unless_short (Some r) code = omega arith
 
-    key_short : (key : FieldKey) → length (key_code key second) ≤ length second
-    key_short evaluated = omega arith
-    key_short (a_name number) = omega arith
-    key_short (an_index n) = omega arith
-    key_short (a_register r) = omega arith
+-- rooms of a field of a constructor, whose table stands in front
+
+pub room_above_table : (key : FieldKey) (second : ℕ) → room_of_key key second ≤ 1 + room_above key second
+room_above_table evaluated second = omega arith
+room_above_table (a_name number) second = omega arith
+room_above_table (an_index n) second = omega arith
+room_above_table (a_register r) second = omega arith
+
+pub room_above_key : (value : Option ℕ) (third : ℕ) → room_unless value (2 + third) ≤ 1 + room_unless value (1 + third)
+room_above_key None third = omega arith
+room_above_key (Some r) third = omega arith
+
+pub keyed_room_few : (key : FieldKey) (value : Option ℕ) (second third : ℕ) → keyed_room key value second third ≤ max second (1 + third)
+keyed_room_few key value second third = by (room_above key second) (room_unless value (1 + third)) (above_few key) (unless_few value)
+  where
+    above_few : (key : FieldKey) → room_above key second ≤ second
+    above_few evaluated = omega arith
+    above_few (a_name number) = omega arith
+    above_few (an_index n) = omega arith
+    above_few (a_register r) = omega arith
+
+    unless_few : (value : Option ℕ) → room_unless value (1 + third) ≤ 1 + third
+    unless_few None = omega arith
+    unless_few (Some r) = omega arith
+
+    by : (a b : ℕ) → a ≤ second → b ≤ 1 + third → max a b ≤ max second (1 + third)
+    by a b h k = omega arith

@@ -7,13 +7,14 @@ use Rattle.tree_core.specs.declared.operator.BinOp.{BinOp}
 use Rattle.tree_core.specs.declared.operator.BinOp.TheVariants.{Eq as Equal, Ne, Lt as Less, Le as AtMost, Gt, Ge}
 use Rattle.tree_core.specs.Tree.{Exp, Nil, True, False, Int, Str, Vararg, Function, Var, Index, Call, Method, Unary, Binary, And, Or, Paren, Table}
 use Rattle.code_core.specs.declared.opcode.Opcode.{Opcode}
-use Rattle.code_core.specs.declared.opcode.Opcode.TheVariants.{Test, Eq, Lt, Le}
+use Rattle.code_core.specs.declared.opcode.Opcode.TheVariants.{Test, Eq, Lt, Le, EqK}
 use Rattle.code_core.specs.declared.proto.Const.{Const}
 use Rattle.code_core.specs.Instruction.{abc}
 use Rattle.code_of.specs.Coded.{Coded, jump_over}
 use Rattle.code_of.specs.Expressions.{made_by, exp_code}
-use Rattle.code_of.specs.Operands.{second_of, first_of, operands_code}
+use Rattle.code_of.specs.Operands.{local_of, second_of, first_of, operand_code, operands_code}
 use Rattle.code_of.specs.Operators.{number_opcode}
+use Rattle.code_of.specs.Operations.{constant_in, operation_by}
 
 -- an instruction that finds a truth of x and y, and the jump behind it, which is taken where that truth is `field` and else passed
 abbrev pub jump_if : Opcode → (x y : ℕ) → (field : Bool) → (ahead line : ℕ) → List Coded
@@ -69,9 +70,9 @@ line_of (Paren line e) = line
 line_of (Table line fs) = line
 
 module _ (constants : List Const) where
-  -- the value goes to register t and is tested there; the jump is taken where its truth is not k
+  -- a local is tested in its register, and any other value goes to register t; the jump is taken where its truth is not k
   abbrev pub value_test : Exp → (k : Bool) → (ahead t j : ℕ) → List Coded
-  value_test e k ahead t j = exp_code constants e t j 2 ++ jump_if Test t 0 (not k) ahead (line_of e)
+  value_test e k ahead t j = operand_code (local_of e) (exp_code constants e t j 2) t (λ x. jump_if Test x 0 (not k) ahead (line_of e))
 
   -- Registers from t on are free, and functions that are made here are numbered from j on. `not` wants the other truth. A first operand decides
   -- where it is false before `and` and where it is true before `or`: it then jumps past the second operand, if that truth is k, or else as far as
@@ -87,7 +88,8 @@ module _ (constants : List Const) where
       test_code e false (length second + cond k 0 ahead) t j ++ second
   test_code (Binary line op e d) k ahead t j =
       compared op (value_test (Binary line op e d) k ahead t j)
-      (λ opcode swapped wanted. operands_code (second_of op d) (first_of (second_of op d) e) (exp_code constants e t j 2) (exp_code constants d (t + 1) (j + made_by e) 2) t
+      (λ opcode swapped wanted. operation_by (constant_in constants op d) op e d (exp_code constants e t j 2) (exp_code constants d (t + 1) (j + made_by e) 2) t
+      (λ x number. jump_if EqK x number (cond wanted (not k) k) ahead line)
       (λ x y. jump_if opcode (pick swapped x y) (pick swapped y x) (cond wanted (not k) k) ahead line)
       (λ x n. jump_if (number_opcode op) x (n + 127) (cond wanted (not k) k) ahead line))
   test_code (True line) k ahead t j = cond k [] (jump_over ahead line ∷ [])

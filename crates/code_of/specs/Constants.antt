@@ -1,18 +1,23 @@
--- The constants of a function: its strings and its greater integers, each once, in the order in which its code first names them.
-use Rattle.std.specs.Prelude.{◌≡◌, ℕ, suc, ◌+◌, ◌-◌, ◌<◌, ◌^◌, Some, slice_get, ℤ, pos, negsuc, Bool, false, cond, List, [], ◌∷◌, nat_le, nat_lt, bytes_eq}
+-- The constants of a function, each once, in the order in which its code first names them: its strings, its greater integers, and the second operands that may be constants of
+-- an operator's instruction.
+use Rattle.std.specs.Prelude.{◌≡◌, ℕ, suc, ◌+◌, ◌-◌, ◌<◌, ◌^◌, Option, Some, None, slice_get, ℤ, pos, negsuc, Bool, true, false, cond, List, [], ◌∷◌, nat_le, nat_lt, bytes_eq}
 use Rattle.int_core.specs.Value.{same_integer}
 use Rattle.tree_core.specs.declared.name.Place.{Place}
 use Rattle.tree_core.specs.declared.name.Place.TheVariants.{GlobalIn, GlobalOf}
 use Rattle.tree_core.specs.Tree.{Block, Falls, Returns, Stats, EndStats, MoreStats, Stat, Empty, Local, LocalFunction, Assign, CallStat, Do, While, Repeat, If, IfElse, NumFor, NumForStep, GenFor, Label, Goto, Break, Arms, EndArms, MoreArms, Exp, Nil, True, False, Int, Str, Vararg, Function, Var, Index, Call, Method, Unary, Binary, And, Or, Paren, Table, Exps, EndExps, MoreExps, Fields, EndFields, MoreFields, Field, Item, Keyed}
 use Rattle.code_core.specs.declared.opcode.Opcode.TheVariants.{LoadI, LoadK, LoadKx, ExtraArg}
 use Rattle.code_core.specs.declared.proto.Const.{Const}
-use Rattle.code_core.specs.declared.proto.Const.TheVariants.{Int as IntConst, Str as StrConst}
+use Rattle.code_core.specs.declared.proto.Const.TheVariants.{Nil as NilConst, False as FalseConst, True as TrueConst, Int as IntConst, Str as StrConst}
 use Rattle.code_core.specs.Instruction.{op_ax}
 use Rattle.code_of.specs.Coded.{Coded, with_abx}
+use Rattle.code_of.specs.ConstantOperands.{constant_of}
 
 abbrev pub same_constant : Const → Const → Bool
 same_constant (IntConst m) (IntConst n) = same_integer m n
 same_constant (StrConst s) (StrConst t) = bytes_eq s t
+same_constant NilConst NilConst = true
+same_constant FalseConst FalseConst = true
+same_constant TrueConst TrueConst = true
 same_constant _ _ = false
 
 -- the number of a constant; behind the last one where it is not there
@@ -23,6 +28,11 @@ number_in (c ∷ cs) x = cond (same_constant c x) 0 (suc (number_in cs x))
 abbrev pub with_constant : Const → List Const → List Const
 with_constant x [] = x ∷ []
 with_constant x (c ∷ cs) = cond (same_constant c x) (c ∷ cs) (c ∷ with_constant x cs)
+
+-- a constant, where there is one
+abbrev pub with_any : Option Const → List Const → List Const
+with_any None cs = cs
+with_any (Some x) cs = with_constant x cs
 
 -- LOADI holds the integers from -65535 to 65536, with 65535 added
 abbrev pub is_small : ℤ → Bool
@@ -65,7 +75,7 @@ abbrev mutual
   of_exp (Call line f es) cs = of_exps es (of_exp f cs)
   of_exp (Method line object name es) cs = of_exps es (with_constant (StrConst name.text) (of_exp object cs))
   of_exp (Unary line op e) cs = of_exp e cs
-  of_exp (Binary line op e d) cs = of_exp d (of_exp e cs)
+  of_exp (Binary line op e d) cs = of_exp d (with_any (constant_of op d) (of_exp e cs))
   of_exp (And line e d) cs = of_exp d (of_exp e cs)
   of_exp (Or line e d) cs = of_exp d (of_exp e cs)
   of_exp (Paren line e) cs = of_exp e cs

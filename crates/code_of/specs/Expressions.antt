@@ -3,16 +3,17 @@
 use Rattle.std.specs.Prelude.{ℕ, zero, suc, ◌+◌, ◌-◌, ◌/◌, ◌%◌, Bool, true, false, cond, List, [], ◌∷◌, ◌++◌, length, nat_lt, Option, Some, None}
 use Rattle.tree_core.specs.Tree.{Exp, Nil, True, False, Int, Str, Vararg, Function, Var, Index, Call, Method, Unary, Binary, And, Or, Paren, Table, Exps, EndExps, MoreExps, Fields, EndFields, MoreFields, Field, Item, Keyed}
 use Rattle.tree_terms.specs.Bodies.{line_of_body}
-use Rattle.code_core.specs.declared.opcode.Opcode.TheVariants.{LoadFalse, LoadTrue, LoadNil, SetTable, NewTable, Test, SetList, Closure, VarArg, ExtraArg, Call as CallCode}
+use Rattle.code_core.specs.declared.opcode.Opcode.TheVariants.{LoadFalse, LoadTrue, LoadNil, NewTable, Test, SetList, Closure, VarArg, ExtraArg, Call as CallCode}
 use Rattle.code_core.specs.declared.proto.Const.{Const}
 use Rattle.code_core.specs.declared.proto.Const.TheVariants.{Str as StrConst}
 use Rattle.code_core.specs.Instruction.{abc, op_ax}
 use Rattle.code_of.specs.Coded.{Coded, with_abc, with_abx, jump_over}
 use Rattle.code_of.specs.Constants.{loads, loads_integer}
-use Rattle.code_of.specs.Operands.{second_of, first_of, operands_code}
-use Rattle.code_of.specs.Stores.{name_in}
+use Rattle.code_of.specs.Operands.{local_of, second_of, first_of, operand_code, operands_code}
+use Rattle.code_of.specs.Stores.{name_in, is_quiet, field_key, keyed_store}
 use Rattle.code_of.specs.FieldReads.{read_code}
-use Rattle.code_of.specs.Operators.{name_code, self_code, prefix_code, operator_code, number_code}
+use Rattle.code_of.specs.Operators.{name_code, self_code, prefix_code}
+use Rattle.code_of.specs.Operations.{constant_in, operation_code}
 
 -- how many functions an expression makes itself
 abbrev mutual
@@ -121,12 +122,11 @@ module _ (constants : List Const) where
     exp_code (Index line object key) t j c = read_code (name_in constants key) object key (exp_code object t j 2) (exp_code key (t + 1) (j + made_by object) 2) t t line
     exp_code (Call line f es) t j c = exp_code f t j 2 ++ (exps_code es None (t + 1) (j + made_by f) line ++ with_abc CallCode t (list_field 0 es) c line ∷ [])
     exp_code (Method line object name es) t j c =
-        exp_code object t j 2 ++ (self_code constants name.text t line
-        ++ (exps_code es None (t + 2) (j + made_by object) line ++ with_abc CallCode t (list_field 1 es) c line ∷ []))
-    exp_code (Unary line op e) t j c = exp_code e t j 2 ++ prefix_code op t line
+        operand_code (local_of object) (exp_code object t j 2) t
+        (λ x. self_code constants name.text x t line ++ (exps_code es None (t + 2) (j + made_by object) line ++ with_abc CallCode t (list_field 1 es) c line ∷ []))
+    exp_code (Unary line op e) t j c = operand_code (local_of e) (exp_code e t j 2) t (λ x. prefix_code op x t line)
     exp_code (Binary line op e d) t j c =
-        operands_code (second_of op d) (first_of (second_of op d) e) (exp_code e t j 2) (exp_code d (t + 1) (j + made_by e) 2) t
-        (λ x y. operator_code op x y t line) (λ x n. number_code op x n t line)
+        operation_code (constant_in constants op d) op e d (exp_code e t j 2) (exp_code d (t + 1) (j + made_by e) 2) t t line
     exp_code (And line e d) t j c = either_code false (exp_code e t j 2) (exp_code d t (j + made_by e) 2) t line
     exp_code (Or line e d) t j c = either_code true (exp_code e t j 2) (exp_code d t (j + made_by e) 2) t line
     exp_code (Paren line e) t j c = exp_code e t j 2
@@ -144,5 +144,5 @@ module _ (constants : List Const) where
         exp_code e (t + 1) j (cond (is_last_item e fs) 0 2)
         ++ (set_list t (cond (is_last_item e fs) 0 1) items line ++ fields_code fs (items + 1) t (j + made_by e) line)
     fields_code (MoreFields (Keyed field_line e d) fs) items t j line =
-        exp_code e (t + 1) j 2 ++ (exp_code d (t + 2) (j + made_by e) 2
-        ++ (with_abc SetTable t (t + 1) (t + 2) field_line ∷ fields_code fs items t (j + made_by e + made_by d) line))
+        keyed_store (field_key constants (is_quiet d) e) (local_of d) (exp_code e (t + 1) j 2) (exp_code d (t + 2) (j + made_by e) 2) t field_line
+        ++ fields_code fs items t (j + made_by e + made_by d) line

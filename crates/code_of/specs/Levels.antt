@@ -1,9 +1,9 @@
 -- What a statement makes and what it declares: functions, locals in scope behind it, and variables to be closed among them.
 use Rattle.std.specs.Prelude.{ℕ, ◌+◌, Bool, false, cond, ◌||◌, List, [], ◌∷◌, nat_lt}
 use Rattle.tree_core.specs.declared.name.Declared.{Declared}
-use Rattle.tree_core.specs.Tree.{Block, Falls, Returns, Stats, EndStats, MoreStats, Stat, Empty, Local, LocalFunction, Assign, CallStat, Do, While, Repeat, If, IfElse, NumFor, NumForStep, GenFor, Label, Goto, Break, Arms, EndArms, MoreArms}
+use Rattle.tree_core.specs.Tree.{Exp, Block, Falls, Returns, Stats, EndStats, MoreStats, Stat, Empty, Local, LocalFunction, Assign, CallStat, Do, While, Repeat, If, IfElse, NumFor, NumForStep, GenFor, Label, Goto, Break, Arms, EndArms, MoreArms}
 use Rattle.tree_activation.specs.Statements.{is_closed}
-use Rattle.tree_terms.specs.Levels.{levels_after}
+use Rattle.tree_terms.specs.Levels.{levels_after, levels_in}
 use Rattle.code_of.specs.Expressions.{made_by, made_in}
 
 -- how many functions a piece of tree makes itself
@@ -59,3 +59,18 @@ may_hold ss = nat_lt 0 (made_in_stats ss) || closings_after ss false
 -- a scope around which `outer` locals are in scope: those from there on and below this number are closed at its end
 abbrev pub closed_below : Stats → (outer t : ℕ) → ℕ
 closed_below ss outer t = cond (may_hold ss) (levels_after ss t) outer
+
+-- the scope of a `repeat`, whose test may make functions too
+
+abbrev pub made_until : Block → Exp → ℕ
+made_until block e = made_in_block block + made_by e
+
+abbrev pub marked_in_block : Block → Bool
+marked_in_block (Falls ss tokens line) = closings_after ss false
+marked_in_block (Returns ss es tokens line) = closings_after ss false
+
+abbrev pub may_hold_until : Block → Exp → Bool
+may_hold_until block e = nat_lt 0 (made_until block e) || marked_in_block block
+
+abbrev pub closed_until : Block → Exp → (t : ℕ) → ℕ
+closed_until block e t = cond (may_hold_until block e) (levels_in block t) t

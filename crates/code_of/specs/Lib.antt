@@ -1,9 +1,12 @@
 pub mod Coded
 pub mod Constants
 pub mod Operands
+pub mod ConstantOperands
 pub mod Stores
+pub mod Targets
 pub mod FieldReads
 pub mod Operators
+pub mod Operations
 pub mod Expressions
 pub mod Conditions
 pub mod Levels

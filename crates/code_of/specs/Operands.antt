@@ -5,7 +5,7 @@ use Rattle.tree_core.specs.declared.name.Place.{Place}
 use Rattle.tree_core.specs.declared.name.Place.TheVariants.{Local as LocalPlace}
 use Rattle.tree_core.specs.declared.operator.BinOp.{BinOp}
 use Rattle.tree_core.specs.declared.operator.BinOp.TheVariants.{Add as Plus, Sub as Minus, Shr as ShiftRight, Concat as Join, Eq as Equal, Ne, Lt as Less, Le as AtMost, Gt, Ge}
-use Rattle.tree_core.specs.Tree.{Exp, Int, Var, Index, Binary, Paren, Exps, EndExps, MoreExps}
+use Rattle.tree_core.specs.Tree.{Exp, Nil, True, False, Int, Str, Var, Index, Unary, Binary, Paren, Exps, EndExps, MoreExps}
 use Rattle.code_of.specs.Coded.{Coded}
 
 -- the local that an expression names, in brackets or not
@@ -63,8 +63,8 @@ second_of op d = cond (joins op) made (second_by (numeral_of d (greatest op)) (l
 abbrev pub key_operand : Exp → Second
 key_operand key = second_by (numeral_of key (Some 255)) (local_of key)
 
--- Some expressions have one instruction at their end that writes their value: an operator that is neither a comparison nor `..`, and a field. Where a local is assigned
--- such a value alone, it goes straight to the local's register
+-- Some expressions have one instruction at their end that writes their value: a constant, a name, an operator that is neither a comparison, `..`, `and` nor `or`,
+-- and a field, in brackets or not. Where a local is assigned such a value alone, it goes straight to the local's register
 
 abbrev pub computes : BinOp → Bool
 computes Join = false
@@ -77,8 +77,16 @@ computes Ge = false
 computes _ = true
 
 abbrev pub is_direct : Exp → Bool
+is_direct (Nil line) = true
+is_direct (True line) = true
+is_direct (False line) = true
+is_direct (Int line z) = true
+is_direct (Str line bytes) = true
+is_direct (Var line name) = true
+is_direct (Unary line op e) = true
 is_direct (Binary line op e d) = computes op
 is_direct (Index line object key) = true
+is_direct (Paren line e) = is_direct e
 is_direct _ = false
 
 abbrev pub target_local : Exp → Option ℕ
@@ -102,6 +110,10 @@ seat (Some r) t = r
 abbrev pub unless : Option ℕ → List Coded → List Coded
 unless None code = code
 unless (Some r) code = []
+
+-- an operand that is alone, of which the code is given, and what is done then with its register
+abbrev pub operand_code : Option ℕ → (first : List Coded) → (t : ℕ) → (by_register : ℕ → List Coded) → List Coded
+operand_code at first t by_register = unless at first ++ by_register (seat at t)
 
 -- the second operand and what is done then, with its register or with its number
 abbrev pub second_code : Second → (code : List Coded) → (t : ℕ) → (by_register by_number : ℕ → List Coded) → List Coded

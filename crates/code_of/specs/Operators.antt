@@ -8,38 +8,46 @@ use Rattle.tree_core.specs.declared.operator.UnOp.TheVariants.{Neg, BitNot, Not 
 use Rattle.tree_core.specs.declared.operator.BinOp.{BinOp}
 use Rattle.tree_core.specs.declared.operator.BinOp.TheVariants.{Add as Plus, Sub as Minus, Mul as Times, Mod as Modulo, Idiv, Band, Bor, Bxor, Shl as ShiftLeft, Shr as ShiftRight, Concat as Join, Eq as Equal, Ne, Lt as Less, Le as AtMost, Gt, Ge}
 use Rattle.code_core.specs.declared.opcode.Opcode.{Opcode}
-use Rattle.code_core.specs.declared.opcode.Opcode.TheVariants.{Move, LoadNil, LFalseSkip, LoadTrue, GetUpval, GetTabUp, GetTable, OpSelf, Add, Sub, Mul, Mod, IDiv, BAnd, BOr, BXor, Shl, Shr, AddI, ShrI, MmBin, MmBinI, Unm, BNot, Not, Len, Concat, Eq, Lt, Le, EqI, LtI, LeI, GtI, GeI}
+use Rattle.code_core.specs.declared.opcode.Opcode.TheVariants.{Move, LoadNil, LFalseSkip, LoadTrue, GetUpval, GetTabUp, GetTable, GetField, OpSelf, Add, Sub, Mul, Mod, IDiv, BAnd, BOr, BXor, Shl, Shr, AddI, ShrI, MmBin, MmBinI, Unm, BNot, Not, Len, Concat, Eq, Lt, Le, EqI, LtI, LeI, GtI, GeI}
 use Rattle.code_core.specs.declared.proto.Const.{Const}
 use Rattle.code_core.specs.declared.proto.Const.TheVariants.{Str}
 use Rattle.code_core.specs.Instruction.{abc}
 use Rattle.code_of.specs.Coded.{Coded, with_abc, jump_over}
 use Rattle.code_of.specs.Constants.{number_in, loads}
 
--- a name's value goes to register t, which is nil where its place is unset. A global name is read by its key, which is a constant where its number has 8 bits
+-- A name's value goes to register r, which is nil where its place is unset; what its last instruction reads stands in the registers from t on. A global name is
+-- read by its key, which is a constant of the instruction where its number has 8 bits, from `_ENV`, which is a local or an upvalue
 
-abbrev pub global_code : (number u : ℕ) → (key : List Coded) → (t line : ℕ) → List Coded
-global_code number u key t line =
-    cond (nat_lt number 256) (with_abc GetTabUp t u number line ∷ [])
-    (with_abc GetUpval t u 0 line ∷ (key ++ with_abc GetTable t t (t + 1) line ∷ []))
+abbrev pub global_code : (number u : ℕ) → (key : List Coded) → (r t line : ℕ) → List Coded
+global_code number u key r t line =
+    cond (nat_lt number 256) (with_abc GetTabUp r u number line ∷ [])
+    (with_abc GetUpval t u 0 line ∷ (key ++ with_abc GetTable r t (t + 1) line ∷ []))
+
+abbrev pub local_global_code : (number n : ℕ) → (key : List Coded) → (r t line : ℕ) → List Coded
+local_global_code number n key r t line =
+    cond (nat_lt number 256) (with_abc GetField r n number line ∷ []) (key ++ with_abc GetTable r n t line ∷ [])
+
+abbrev pub name_into : List Const → Place → List ℕ → (r t line : ℕ) → List Coded
+name_into constants Unset text r t line = with_abc LoadNil r 0 0 line ∷ []
+name_into constants (LocalPlace n) text r t line = with_abc Move r n 0 line ∷ []
+name_into constants (Upvalue u) text r t line = with_abc GetUpval r u 0 line ∷ []
+name_into constants (GlobalIn n) text r t line = local_global_code (number_in constants (Str text)) n (loads constants (Str text) t line) r t line
+name_into constants (GlobalOf u) text r t line = global_code (number_in constants (Str text)) u (loads constants (Str text) (t + 1) line) r t line
 
 abbrev pub name_code : List Const → Place → List ℕ → (t line : ℕ) → List Coded
-name_code constants Unset text t line = with_abc LoadNil t 0 0 line ∷ []
-name_code constants (LocalPlace n) text t line = with_abc Move t n 0 line ∷ []
-name_code constants (Upvalue u) text t line = with_abc GetUpval t u 0 line ∷ []
-name_code constants (GlobalIn n) text t line = loads constants (Str text) t line ++ with_abc GetTable t n t line ∷ []
-name_code constants (GlobalOf u) text t line = global_code (number_in constants (Str text)) u (loads constants (Str text) (t + 1) line) t line
+name_code constants place text t line = name_into constants place text t t line
 
--- a method's object stands in register t, which gets the method; the object goes to t + 1. The method's name is read as a constant where its number
--- has 8 bits, else from register t + 2: SELF writes t + 1 before it looks the name up
+-- a method's object stands in register x, which is t or below it; register t gets the method, and the object goes to t + 1. The method's name is read as
+-- a constant where its number has 8 bits, else from register t + 2: SELF writes t + 1 before it looks the name up
 
-abbrev pub method_code : (number : ℕ) → (key : List Coded) → (t line : ℕ) → List Coded
-method_code number key t line =
-    cond (nat_lt number 256) ((abc OpSelf t t number true, line) ∷ []) (key ++ with_abc OpSelf t t (t + 2) line ∷ [])
+abbrev pub method_code : (number : ℕ) → (key : List Coded) → (x t line : ℕ) → List Coded
+method_code number key x t line =
+    cond (nat_lt number 256) ((abc OpSelf t x number true, line) ∷ []) (key ++ with_abc OpSelf t x (t + 2) line ∷ [])
 
-abbrev pub self_code : List Const → List ℕ → (t line : ℕ) → List Coded
-self_code constants text t line = method_code (number_in constants (Str text)) (loads constants (Str text) (t + 2) line) t line
+abbrev pub self_code : List Const → List ℕ → (x t line : ℕ) → List Coded
+self_code constants text x t line = method_code (number_in constants (Str text)) (loads constants (Str text) (t + 2) line) x t line
 
--- the operand of a prefix operator stands in register t, and so does the result
+-- the operand of a prefix operator stands in register x, and the result goes to t
 
 abbrev pub prefix_opcode : UnOp → Opcode
 prefix_opcode Neg = Unm
@@ -47,8 +55,8 @@ prefix_opcode BitNot = BNot
 prefix_opcode Negation = Not
 prefix_opcode Length = Len
 
-abbrev pub prefix_code : UnOp → (t line : ℕ) → List Coded
-prefix_code op t line = with_abc (prefix_opcode op) t t 0 line ∷ []
+abbrev pub prefix_code : UnOp → (x t line : ℕ) → List Coded
+prefix_code op x t line = with_abc (prefix_opcode op) t x 0 line ∷ []
 
 -- the operands stand in registers x and y, and the result goes to t. MMBIN names the event by its number in ltm.h
 

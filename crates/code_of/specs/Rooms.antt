@@ -1,16 +1,17 @@
 -- How many registers the code of an expression names, from its own on.
 use Rattle.std.specs.Prelude.{ℕ, zero, suc, ◌+◌, max, cond, List, Some, None, nat_lt}
 use Rattle.tree_core.specs.declared.name.Place.{Place}
-use Rattle.tree_core.specs.declared.name.Place.TheVariants.{GlobalOf}
+use Rattle.tree_core.specs.declared.name.Place.TheVariants.{GlobalIn, GlobalOf}
 use Rattle.tree_core.specs.Tree.{Exp, True, Vararg, Var, Index, Call, Method, Unary, Binary, And, Or, Paren, Table, Exps, EndExps, MoreExps, Fields, EndFields, MoreFields, Item, Keyed}
 use Rattle.code_core.specs.declared.proto.Const.{Const}
 use Rattle.code_core.specs.declared.proto.Const.TheVariants.{Str as StrConst}
 use Rattle.code_of.specs.Constants.{number_in}
 use Rattle.code_of.specs.Expressions.{Wanted, field_of, wanted_after, is_last_item}
 use Rattle.code_of.specs.Conditions.{is_not, is_compared}
-use Rattle.code_of.specs.Operands.{local_of, second_of, first_of, operands_room}
-use Rattle.code_of.specs.Stores.{name_in, field_key, object_of, fields_room}
-use Rattle.code_of.specs.FieldReads.{read_room}
+use Rattle.code_of.specs.Operands.{local_at, local_of, second_of, first_of, operands_room}
+use Rattle.code_of.specs.Stores.{name_in, field_key, object_of, fields_room, is_quiet, keyed_room}
+use Rattle.code_of.specs.FieldReads.{object_room, read_room}
+use Rattle.code_of.specs.Operations.{constant_in, operation_room}
 
 abbrev pub room_of_values : (field : ℕ) → ℕ
 room_of_values zero = 1
@@ -22,9 +23,14 @@ room_of_nils above (Some zero) = 0
 room_of_nils above (Some (suc n)) = above + suc n
 
 module _ (cs : List Const) where
+  -- `own` is how many registers the instruction takes that writes the value
+  abbrev pub room_of_name_by : (own : ℕ) → Place → List ℕ → ℕ
+  room_of_name_by own (GlobalIn n) text = cond (nat_lt (number_in cs (StrConst text)) 256) own 1
+  room_of_name_by own (GlobalOf u) text = cond (nat_lt (number_in cs (StrConst text)) 256) own 2
+  room_of_name_by own _ text = own
+
   abbrev pub room_of_name : Place → List ℕ → ℕ
-  room_of_name (GlobalOf u) text = cond (nat_lt (number_in cs (StrConst text)) 256) 1 2
-  room_of_name _ text = 1
+  room_of_name place text = room_of_name_by 1 place text
 
   -- a method and its object, and its name where that is no constant of the instruction
   abbrev pub room_of_self : List ℕ → ℕ
@@ -38,7 +44,7 @@ module _ (cs : List Const) where
     room_of (Call line f es) field = max (room_of f 2) (max (room_of_list 1 es None) (room_of_values field))
     room_of (Method line object name es) field = max (room_of object 2) (max (max (room_of_self name.text) (room_of_list 2 es None)) (room_of_values field))
     room_of (Unary line op e) field = room_of e 2
-    room_of (Binary line op e d) field = operands_room 1 (second_of op d) (first_of (second_of op d) e) (room_of e 2) (room_of d 2)
+    room_of (Binary line op e d) field = operation_room 1 (constant_in cs op d) op e d (room_of e 2) (room_of d 2)
     room_of (And line e d) field = max (room_of e 2) (room_of d 2)
     room_of (Or line e d) field = max (room_of e 2) (room_of d 2)
     room_of (Paren line e) field = room_of e 2
@@ -54,7 +60,7 @@ module _ (cs : List Const) where
     pub room_of_fields : Fields → ℕ
     room_of_fields EndFields = 0
     room_of_fields (MoreFields (Item e) fs) = max (room_of e (cond (is_last_item e fs) 0 2)) (room_of_fields fs)
-    room_of_fields (MoreFields (Keyed line e d) fs) = max (max (room_of e 2) (1 + room_of d 2)) (room_of_fields fs)
+    room_of_fields (MoreFields (Keyed line e d) fs) = max (keyed_room (field_key cs (is_quiet d) e) (local_of d) (room_of e 2) (room_of d 2)) (room_of_fields fs)
 
   -- a target, whose table and key go to two registers
   abbrev pub room_of_target : Exp → ℕ
@@ -65,7 +71,10 @@ module _ (cs : List Const) where
   -- a value that goes straight to a local's register
 
   abbrev pub room_of_direct : Exp → ℕ
-  room_of_direct (Binary line op e d) = operands_room 0 (second_of op d) (first_of (second_of op d) e) (room_of e 2) (room_of d 2)
+  room_of_direct (Var line name) = room_of_name_by 0 name.place name.text
+  room_of_direct (Paren line e) = room_of_direct e
+  room_of_direct (Unary line op e) = object_room 0 (local_of e) (room_of e 2)
+  room_of_direct (Binary line op e d) = operation_room 0 (constant_in cs op d) op e d (room_of e 2) (room_of d 2)
   room_of_direct (Index line object key) = read_room 0 (name_in cs key) object key (room_of object 2) (room_of key 2)
   room_of_direct _ = 0
 
@@ -77,7 +86,7 @@ module _ (cs : List Const) where
 
   abbrev pub room_of_field : Exp → Exp → ℕ
   room_of_field (Index line object key) e =
-      fields_room (field_key cs (local_of e) key) (object_of (field_key cs (local_of e) key) (local_of e) object) (local_of e) (room_of object 2) (room_of key 2) (room_of e 2)
+      fields_room (field_key cs (is_quiet e) key) (object_of (field_key cs (is_quiet e) key) (is_quiet e) object) (local_of e) (room_of object 2) (room_of key 2) (room_of e 2)
   room_of_field _ e = 0
 
   abbrev pub room_of_first : (targets es : Exps) → ℕ
@@ -89,8 +98,9 @@ module _ (cs : List Const) where
   room_of_test (Paren line e) = room_of_test e
   room_of_test (Unary line op e) = cond (is_not op) (room_of_test e) (room_of e 2)
   room_of_test (Binary line op e d) =
-      operands_room (cond (is_compared op) 0 1) (second_of op d) (first_of (second_of op d) e) (room_of e 2) (room_of d 2)
+      operation_room (cond (is_compared op) 0 1) (constant_in cs op d) op e d (room_of e 2) (room_of d 2)
   room_of_test (And line e d) = max (room_of_test e) (room_of_test d)
   room_of_test (Or line e d) = max (room_of_test e) (room_of_test d)
+  room_of_test (Var line name) = object_room 0 (local_at name.place) (room_of_name name.place name.text)
   room_of_test (True line) = 0
   room_of_test e = room_of e 2

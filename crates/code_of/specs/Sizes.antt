@@ -4,23 +4,23 @@ use Rattle.tree_core.specs.Tree.{Block, Falls, Returns, Stats, EndStats, MoreSta
 use Rattle.code_core.specs.declared.proto.Const.{Const}
 use Rattle.code_of.specs.Expressions.{made_by, made_in, exp_code, exps_code}
 use Rattle.code_of.specs.Conditions.{test_code}
-use Rattle.code_of.specs.Levels.{made_by_stat, made_in_arms, made_in_stats, made_in_block, closing_after, closings_after, closed_below}
+use Rattle.code_of.specs.Levels.{made_by_stat, made_in_arms, made_in_stats, made_in_block, closing_after, closings_after, closed_below, closed_until}
 use Rattle.tree_terms.specs.Levels.{level_after, levels_after, levels_in}
-use Rattle.code_of.specs.Parts.{marks_code, close_code, past_size, assign_code, return_code, bounds_code, steps_code}
+use Rattle.code_of.specs.Parts.{marks_code, close_code, function_code, past_size, assign_code, return_code, bounds_code, steps_code}
 
 module _ (constants : List Const) (back : ℕ) where
   abbrev mutual
     pub stat_size : Stat → (closing : Bool) → (t j : ℕ) → ℕ
     stat_size (Empty line) closing t j = 0
     stat_size (Local line names es) closing t j = length (exps_code constants es (Some (length names)) t j line) + length (marks_code names t)
-    stat_size (LocalFunction line name body) closing t j = 2
+    stat_size (LocalFunction line name body) closing t j = length (function_code body t j)
     stat_size (Assign line targets es) closing t j = length (assign_code constants targets es t j line)
     stat_size (CallStat line e) closing t j = length (exp_code constants e t j 1)
     stat_size (Do line block) closing t j = block_size block closing t t j
     stat_size (While line e block) closing t j = length (test_code constants e true 0 t j) + (block_size block closing t t (j + made_by e) + 1)
     stat_size (Repeat line block e) closing t j =
         let inner = levels_in block t in
-        let close = length (close_code t inner line) in
+        let close = length (close_code t (closed_until block e t) line) in
         open_size block closing t j + (length (test_code constants e false 0 inner (j + made_in_block block)) + (close + close + 1))
     stat_size (If line arms) closing t j = arms_size arms 0 closing t j
     stat_size (IfElse line arms block) closing t j =

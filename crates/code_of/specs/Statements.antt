@@ -9,7 +9,7 @@ use Rattle.code_of.specs.Coded.{Coded, leaving_by}
 use Rattle.code_of.specs.Expressions.{made_by, made_in, exp_code, exps_code}
 use Rattle.code_of.specs.Conditions.{test_code}
 use Rattle.code_of.specs.Jumps.{Visible, Reach, label_in, leads}
-use Rattle.code_of.specs.Levels.{made_by_stat, made_in_arms, made_in_stats, made_in_block, closing_after, closings_after, closed_below}
+use Rattle.code_of.specs.Levels.{made_by_stat, made_in_arms, made_in_stats, made_in_block, closing_after, closings_after, closed_below, closed_until}
 use Rattle.tree_terms.specs.Levels.{level_after, levels_after, levels_in}
 use Rattle.code_of.specs.Parts.{marks_code, close_code, function_code, while_code, repeat_code, past_size, arm_code, counting_code, iterating_code, assign_code, return_code, bounds_code, steps_code}
 use Rattle.code_of.specs.Sizes.{stat_size, arms_size, block_size}
@@ -53,7 +53,7 @@ module _ (constants : List Const) (back : ℕ) where
         let inner = levels_in block t in
         repeat_code (λ ahead. test_code constants e false ahead inner (j + made_in_block block))
         (open_code block closing t j pc (in_loop reach (pc + stat_size constants back (Repeat line block e) closing t j) t))
-        (close_code t inner (line_of_end block)) line
+        (close_code t (closed_until block e t) (line_of_end block)) line
     stat_code (If line arms) closing t j pc reach = arms_code arms [] closing t j pc line reach
     stat_code (IfElse line arms block) closing t j pc reach =
         let k = j + made_in_arms arms in

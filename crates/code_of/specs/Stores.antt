@@ -1,7 +1,10 @@
--- Where a value is stored in a field by a statement with one target: the object, the key and the value stand where they are, if nothing is evaluated between their turn and
--- the store, and else in the registers t, t + 1 and t + 2.
+-- Where a value is stored in a field, by a statement with one target or in a constructor: the object, the key and the value stand where they are, if nothing that may assign a
+-- local is evaluated between their turn and the store, and else in the registers t, t + 1 and t + 2.
 use Rattle.std.specs.Prelude.{ℕ, ◌+◌, max, Bool, true, false, cond, nat_lt, List, [], ◌∷◌, ◌++◌, Option, Some, None}
-use Rattle.tree_core.specs.Tree.{Exp, Str, Index, Exps, EndExps, MoreExps}
+use Rattle.tree_core.specs.declared.name.Place.{Place}
+use Rattle.tree_core.specs.declared.name.Place.TheVariants.{Upvalue, Local as LocalPlace}
+use Rattle.tree_core.specs.declared.operator.UnOp.TheVariants.{Not as Negation}
+use Rattle.tree_core.specs.Tree.{Exp, Nil, True, False, Int, Str, Function, Var, Index, Unary, Paren, Exps, EndExps, MoreExps}
 use Rattle.code_core.specs.declared.opcode.Opcode.TheVariants.{SetTable, SetI, SetField}
 use Rattle.code_core.specs.declared.proto.Const.{Const}
 use Rattle.code_core.specs.declared.proto.Const.TheVariants.{Str as StrConst}
@@ -30,21 +33,40 @@ field_key_by None (Some n) local = an_index n
 field_key_by None None (Some r) = a_register r
 field_key_by None None None = evaluated
 
--- a local stays where the value is one too; any other value may call code that assigns the local
-abbrev pub beside_local : (value local : Option ℕ) → Option ℕ
-beside_local None local = None
-beside_local (Some v) local = local
+-- An expression is quiet where no other code can run while it is evaluated, so no local is assigned
 
-abbrev pub field_key : List Const → (value : Option ℕ) → Exp → FieldKey
-field_key constants value key = field_key_by (name_in constants key) (numeral_of key (Some 255)) (beside_local value (local_of key))
+abbrev pub is_near : Place → Bool
+is_near (LocalPlace r) = true
+is_near (Upvalue u) = true
+is_near _ = false
+
+abbrev pub is_quiet : Exp → Bool
+is_quiet (Nil line) = true
+is_quiet (True line) = true
+is_quiet (False line) = true
+is_quiet (Int line n) = true
+is_quiet (Str line bytes) = true
+is_quiet (Function line body) = true
+is_quiet (Var line name) = is_near name.place
+is_quiet (Unary line Negation e) = is_quiet e
+is_quiet (Paren line e) = is_quiet e
+is_quiet _ = false
+
+-- a local stays where the value is quiet; any other value may call code that assigns the local
+abbrev pub beside_quiet : (quiet : Bool) → (local : Option ℕ) → Option ℕ
+beside_quiet false local = None
+beside_quiet true local = local
+
+abbrev pub field_key : List Const → (quiet : Bool) → Exp → FieldKey
+field_key constants quiet key = field_key_by (name_in constants key) (numeral_of key (Some 255)) (beside_quiet quiet (local_of key))
 
 -- the object stays where it is if the key is not evaluated behind it
 abbrev pub before_key : FieldKey → (local : Option ℕ) → Option ℕ
 before_key evaluated local = None
 before_key _ local = local
 
-abbrev pub object_of : FieldKey → (value : Option ℕ) → Exp → Option ℕ
-object_of key value object = before_key key (beside_local value (local_of object))
+abbrev pub object_of : FieldKey → (quiet : Bool) → Exp → Option ℕ
+object_of key quiet object = before_key key (beside_quiet quiet (local_of object))
 
 abbrev pub key_code : FieldKey → List Coded → List Coded
 key_code evaluated code = code
@@ -61,6 +83,10 @@ field_store evaluated x t v line = with_abc SetTable x (t + 1) v line
 abbrev pub fields_store : FieldKey → (object value : Option ℕ) → (first second third : List Coded) → (t line : ℕ) → List Coded
 fields_store key object value first second third t line =
     unless object first ++ (key_code key second ++ (unless value third ++ field_store key (seat object t) t (seat value (t + 2)) line ∷ []))
+
+-- a field of a constructor, whose table stands in register t
+abbrev pub keyed_store : FieldKey → (value : Option ℕ) → (second third : List Coded) → (t line : ℕ) → List Coded
+keyed_store key value second third t line = key_code key second ++ (unless value third ++ field_store key t t (seat value (t + 2)) line ∷ [])
 
 -- a statement that does so
 
@@ -83,3 +109,12 @@ room_of_key _ room = 0
 
 abbrev pub fields_room : FieldKey → (object value : Option ℕ) → (first second third : ℕ) → ℕ
 fields_room key object value first second third = max (room_unless object first) (max (room_of_key key second) (room_unless value (2 + third)))
+
+-- and from t + 1 on, by a field of a constructor
+
+abbrev pub room_above : FieldKey → (room : ℕ) → ℕ
+room_above evaluated room = room
+room_above _ room = 0
+
+abbrev pub keyed_room : FieldKey → (value : Option ℕ) → (second third : ℕ) → ℕ
+keyed_room key value second third = max (room_above key second) (room_unless value (1 + third))

@@ -2,12 +2,12 @@
 use Rattle.std.proofs.Common.{arith, ℕ, zero, suc, ◌+◌, ◌≡◌, Bool, true, false, cond, List, [], ◌++◌, refl, sym, ap, ap₂, ◌∙◌, subst, length, lt-ltb, ltb-true}
 use Rattle.std.specs.Prelude.{◌||◌, nat_lt}
 use Rattle.std.proofs.lemmas.List.{append-nil}
-use Rattle.tree_core.specs.Tree.{Falls, Returns, Stat, Stats, Exps}
+use Rattle.tree_core.specs.Tree.{Block, Falls, Returns, Stat, Stats, Exp, Exps}
 use Rattle.code_of.specs.Coded.{Coded}
-use Rattle.code_of.specs.Expressions.{made_in}
+use Rattle.code_of.specs.Expressions.{made_by, made_in}
 use Rattle.code_of.specs.Jumps.{Reach}
-use Rattle.code_of.specs.Levels.{made_by_stat, made_in_stats, closings_after, closed_below}
-use Rattle.tree_terms.specs.Levels.{levels_after}
+use Rattle.code_of.specs.Levels.{made_by_stat, made_in_stats, made_in_block, closings_after, closed_below, made_until, marked_in_block, closed_until}
+use Rattle.tree_terms.specs.Levels.{levels_after, levels_in}
 use Rattle.code_of.specs.Parts.{close_code, return_code}
 use Rattle.code_of.specs.Statements.{stat_code, stats_code}
 use Rattle.code_expr.specs.Listing.{followed, listed}
@@ -58,6 +58,17 @@ top_is a q ss closing outer level end top before behind w end_is before_is behin
     let made : behind ≡ a.emitter.made + made_in_stats ss = behind_is ∙ ap (λ z. z.made) w.emitter_is in
     e ∙ ap₂ (λ m n. cond (nat_lt m n || closings_after ss false) end outer) before_is made
     ∙ ap₂ (λ b n. cond (b || closings_after ss false) n outer) (more_made a.emitter.made (made_in_stats ss)) end_is
+
+-- the like at the end of a `repeat`, behind its test
+pub until_top :
+    (block : Block) (e : Exp) (level inner top j before behind : ℕ) (marked : Bool)
+    → inner ≡ levels_in block level → marked ≡ marked_in_block block → before ≡ j → behind ≡ j + made_in_block block + made_by e
+    → top ≡ cond (nat_lt before behind || marked) inner level → top ≡ closed_until block e level
+until_top block e level inner top j before behind marked inner_is marked_is before_is behind_is is =
+    let all : j + made_in_block block + made_by e ≡ j + made_until block e = omega arith in
+    is ∙ ap₂ (λ m n. cond (nat_lt m n || marked) inner level) before_is (behind_is ∙ all)
+    ∙ ap₂ (λ b n. cond (b || marked) n level) (more_made j (made_until block e)) inner_is
+    ∙ ap (λ b. cond (nat_lt 0 (made_until block e) || b) (levels_in block level) level) marked_is
 
 abbrev return_form : Stats → Exps → (closing : Bool) → (level line : ℕ) → Form
 return_form ss es closing level line k back j pc reach = return_code k (closings_after ss closing) es (levels_after ss level) j line back

@@ -1,6 +1,7 @@
 pub mod Going
 pub mod Returning
 pub mod Assigning
+pub mod LocalFunctions
 pub mod Leading
 pub mod Drafting
 pub mod Blocks

@@ -12,7 +12,7 @@ use Rattle.code_of.specs.Coded.{Coded, with_abc, with_abx, jump_back}
 use Rattle.code_of.specs.Conditions.{test_code}
 use Rattle.code_of.specs.Expressions.{made_by, made_in, exps_code}
 use Rattle.code_of.specs.Jumps.{Reach}
-use Rattle.code_of.specs.Levels.{made_in_block}
+use Rattle.code_of.specs.Levels.{made_in_block, closed_until}
 use Rattle.tree_terms.specs.Levels.{levels_in}
 use Rattle.code_of.specs.Parts.{close_code, while_code, counting_code, iterating_code, bounds_code, steps_code}
 use Rattle.code_of.specs.Sizes.{stat_size, block_size, open_size}
@@ -151,51 +151,55 @@ open_form block closing t k back j pc reach = open_code k back block closing t j
 repeat_is :
     (k : List Const) (back : ℕ) (e : Exp) (block : Block) (closing : Bool) (t line end_line j pc inner places end : ℕ) (reach : Reach)
     → inner ≡ levels_in block t → end_line ≡ line_of_end block
-    → places ≡ open_size k back block closing t j + length (test_code k e false 0 inner (j + made_in_block block)) + length (close_code t inner end_line) + 1
-    → end ≡ pc + (open_size k back block closing t j + (length (test_code k e false 0 inner (j + made_in_block block)) + (length (close_code t inner end_line) + length (close_code t inner end_line) + 1)))
-    → open_code k back block closing t j pc (in_loop reach end t) ++ until_code (λ ahead. test_code k e false ahead inner (j + made_in_block block)) (close_code t inner end_line) places line
+    → places ≡ open_size k back block closing t j + length (test_code k e false 0 inner (j + made_in_block block)) + length (close_code t (closed_until block e t) end_line) + 1
+    → end ≡ pc + (open_size k back block closing t j + (length (test_code k e false 0 inner (j + made_in_block block)) + (length (close_code t (closed_until block e t) end_line) + length (close_code t (closed_until block e t) end_line) + 1)))
+    → open_code k back block closing t j pc (in_loop reach end t) ++ until_code (λ ahead. test_code k e false ahead inner (j + made_in_block block)) (close_code t (closed_until block e t) end_line) places line
     ≡ stat_code k back (Repeat line block e) closing t j pc reach
 repeat_is k back e block closing t line end_line j pc inner places end reach inner_is line_is places_is end_is =
     subst (λ i. (l : ℕ) → l ≡ line_of_end block
-    → places ≡ open_size k back block closing t j + length (test_code k e false 0 i (j + made_in_block block)) + length (close_code t i l) + 1
-    → end ≡ pc + (open_size k back block closing t j + (length (test_code k e false 0 i (j + made_in_block block)) + (length (close_code t i l) + length (close_code t i l) + 1)))
-    → open_code k back block closing t j pc (in_loop reach end t) ++ until_code (λ ahead. test_code k e false ahead i (j + made_in_block block)) (close_code t i l) places line ≡ stat_code k back (Repeat line block e) closing t j pc reach)
+    → places ≡ open_size k back block closing t j + length (test_code k e false 0 i (j + made_in_block block)) + length (close_code t (closed_until block e t) l) + 1
+    → end ≡ pc + (open_size k back block closing t j + (length (test_code k e false 0 i (j + made_in_block block)) + (length (close_code t (closed_until block e t) l) + length (close_code t (closed_until block e t) l) + 1)))
+    → open_code k back block closing t j pc (in_loop reach end t) ++ until_code (λ ahead. test_code k e false ahead i (j + made_in_block block)) (close_code t (closed_until block e t) l) places line ≡ stat_code k back (Repeat line block e) closing t j pc reach)
     (sym inner_is) at_level end_line line_is places_is end_is
   where
     at_level : (l : ℕ) → l ≡ line_of_end block
-        → places ≡ open_size k back block closing t j + length (test_code k e false 0 (levels_in block t) (j + made_in_block block)) + length (close_code t (levels_in block t) l) + 1
-        → end ≡ pc + (open_size k back block closing t j + (length (test_code k e false 0 (levels_in block t) (j + made_in_block block)) + (length (close_code t (levels_in block t) l) + length (close_code t (levels_in block t) l) + 1)))
-        → open_code k back block closing t j pc (in_loop reach end t) ++ until_code (λ ahead. test_code k e false ahead (levels_in block t) (j + made_in_block block)) (close_code t (levels_in block t) l) places line ≡ stat_code k back (Repeat line block e) closing t j pc reach
+        → places ≡ open_size k back block closing t j + length (test_code k e false 0 (levels_in block t) (j + made_in_block block)) + length (close_code t (closed_until block e t) l) + 1
+        → end ≡ pc + (open_size k back block closing t j + (length (test_code k e false 0 (levels_in block t) (j + made_in_block block)) + (length (close_code t (closed_until block e t) l) + length (close_code t (closed_until block e t) l) + 1)))
+        → open_code k back block closing t j pc (in_loop reach end t) ++ until_code (λ ahead. test_code k e false ahead (levels_in block t) (j + made_in_block block)) (close_code t (closed_until block e t) l) places line ≡ stat_code k back (Repeat line block e) closing t j pc reach
     at_level l l_is p_is e_is =
         let within = levels_in block t in
+        let low = closed_until block e t in
         let test : ℕ → List Coded = λ ahead. test_code k e false ahead within (j + made_in_block block) in
-        let close = close_code t within (line_of_end block) in
+        let close = close_code t low (line_of_end block) in
         let behind : ℕ = pc + stat_size k back (Repeat line block e) closing t j in
-        let place : end ≡ behind = e_is ∙ ap (λ n. pc + (open_size k back block closing t j + (length (test 0) + (n + n + 1)))) (close_sized t within l line) in
+        let place : end ≡ behind = e_is ∙ ap (λ n. pc + (open_size k back block closing t j + (length (test 0) + (n + n + 1)))) (close_sized t low l line) in
         let size = open_sized k back block closing t j pc (in_loop reach behind t) in
         let long = test_sized k e false (length close + 1) within (j + made_in_block block) in
         let back_is : places ≡ length (open_code k back block closing t j pc (in_loop reach behind t)) + length (test (length close + 1)) + length close + 1 =
-        p_is ∙ ap₂ (λ m n. m + length (test 0) + n + 1) (sym size) (close_sized t within l (line_of_end block))
+        p_is ∙ ap₂ (λ m n. m + length (test 0) + n + 1) (sym size) (close_sized t low l (line_of_end block))
         ∙ ap (λ n. length (open_code k back block closing t j pc (in_loop reach behind t)) + n + length close + 1) (sym long) in
-        ap (λ m. open_code k back block closing t j pc (in_loop reach m t) ++ until_code test (close_code t within l) places line) place
-        ∙ ap₂ (λ m n. open_code k back block closing t j pc (in_loop reach behind t) ++ until_code test (close_code t within m) n line) l_is back_is
+        ap (λ m. open_code k back block closing t j pc (in_loop reach m t) ++ until_code test (close_code t low l) places line) place
+        ∙ ap₂ (λ m n. open_code k back block closing t j pc (in_loop reach behind t) ++ until_code test (close_code t low m) n line) l_is back_is
 
 -- the place where a `repeat` begins is the place of its block
 pub repeat_wrote :
-    (a q b : Writer) (s6 : Listing) (e : Exp) (block : Block) (closing : Bool) (t line end_line inner start first : ℕ)
+    (a q b : Writer) (s6 : Listing) (e : Exp) (block : Block) (closing : Bool) (t line end_line inner top start first : ℕ)
     → start ≡ length a.emitter.steps → first ≡ length a.jumps.items
-    → WroteOpen a q block closing t → inner ≡ levels_in block t → end_line ≡ line_of_end block
-    → s6 ≡ followed q.emitter (until_code (λ ahead. test_code q.emitter.constants e false ahead inner q.emitter.made) (close_code t inner end_line)
-    (length q.emitter.steps + length (test_code q.emitter.constants e false 0 inner q.emitter.made) + length (close_code t inner end_line) + 1 - start) line) (made_by e)
+    → WroteOpen a q block closing t → inner ≡ levels_in block t → end_line ≡ line_of_end block → top ≡ closed_until block e t
+    → s6 ≡ followed q.emitter (until_code (λ ahead. test_code q.emitter.constants e false ahead inner q.emitter.made) (close_code t top end_line)
+    (length q.emitter.steps + length (test_code q.emitter.constants e false 0 inner q.emitter.made) + length (close_code t top end_line) + 1 - start) line) (made_by e)
     → Ended q b s6 first t
     → WroteStat a b (Repeat line block e) closing t
-repeat_wrote a q b s6 e block closing t line end_line inner start first start_is first_is w inner_is line_is e6 end =
+repeat_wrote a q b s6 e block closing t line end_line inner top start first start_is first_is w inner_is line_is top_is ends_by end =
     let k = a.emitter.constants in
     let j = a.emitter.made in
     let pc = length a.emitter.steps in
     let m = made_in_block block in
     let test : ℕ → List Coded = λ ahead. test_code k e false ahead inner (j + m) in
-    let close = close_code t inner end_line in
+    let close = close_code t (closed_until block e t) end_line in
+    let e6 : s6 ≡ followed q.emitter (until_code (λ ahead. test_code q.emitter.constants e false ahead inner q.emitter.made) close (length q.emitter.steps + length (test_code q.emitter.constants e false 0 inner q.emitter.made) + length close + 1 - start) line) (made_by e) =
+    ends_by ∙ ap (λ u. followed q.emitter (until_code (λ ahead. test_code q.emitter.constants e false ahead inner q.emitter.made) (close_code t u end_line)
+    (length q.emitter.steps + length (test_code q.emitter.constants e false 0 inner q.emitter.made) + length (close_code t u end_line) + 1 - start) line) (made_by e)) top_is in
     let size = open_size k a.back block closing t j in
     let places = length q.emitter.steps + length (test 0) + length close + 1 - start in
     let ends = until_code test close places line in

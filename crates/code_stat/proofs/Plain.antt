@@ -1,5 +1,5 @@
 -- Plain trees of blocks and arms, by their parts.
-use Rattle.std.proofs.Common.{ℕ, ◌+◌, ◌≡◌, ◌<◌, List, length, drop, map, Option, Some, None, Vec, Global, refl, sym, ap, ◌∙◌}
+use Rattle.std.proofs.Common.{ℕ, ◌+◌, ◌≡◌, ◌<◌, List, length, drop, map, Option, Some, None, Vec, Global, false, refl, sym, ap, ◌∙◌}
 use Rattle.std.specs.Prelude.{slice_index_or}
 use Rattle.std.specs.Option.{option_map}
 use Rattle.tree_core.specs.declared.tree.Exp.{Exp}
@@ -9,6 +9,7 @@ use Rattle.tree_core.specs.Tree as tree
 use Rattle.tree_core.specs.Plain.{plain_exp, plain_exps, plain_stat, plain_arm, plain_block, block_of, if_of}
 use Rattle.tree_core.proofs.Rows.{plain-block}
 use Rattle.tree_activation.specs.Activation.{line_of_end}
+use Rattle.code_of.specs.Levels.{closings_after, marked_in_block}
 use Rattle.code_stat.specs.Forms.{choice}
 use Rattle.code_stat.proofs.Going.{front}
 
@@ -27,6 +28,13 @@ ends_at b = by (out-Block b).result refl
     by : (r : Option (Vec Exp Global)) → (out-Block b).result ≡ r → (out-Block b).line ≡ line_of_end (plain_block b)
     by None e = sym (ap line_of_end (result_of b None e))
     by (Some es) e = sym (ap line_of_end (result_of b (Some es) e))
+
+pub marks_at : (b : Block) → closings_after (tree.stats (map plain_stat (out-Block b).stats.items)) false ≡ marked_in_block (plain_block b)
+marks_at b = by (out-Block b).result refl
+  where
+    by : (r : Option (Vec Exp Global)) → (out-Block b).result ≡ r → closings_after (tree.stats (map plain_stat (out-Block b).stats.items)) false ≡ marked_in_block (plain_block b)
+    by None e = sym (ap marked_in_block (result_of b None e))
+    by (Some es) e = sym (ap marked_in_block (result_of b (Some es) e))
 
 pub arm_of : (a : Arm) → plain_arm a ≡ (plain_exp (out-Arm a).test, plain_block (out-Arm a).block)
 arm_of a = ap plain_arm (is-Arm' a)

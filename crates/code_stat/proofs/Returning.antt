@@ -11,6 +11,7 @@ use Rattle.code_core.specs.declared.opcode.Opcode.TheVariants.{TailCall, Return}
 use Rattle.code_of.specs.Coded.{Coded, leaving_by}
 use Rattle.code_of.specs.Expressions.{made_by, made_in, list_field, exp_code, exps_code}
 use Rattle.code_of.specs.Operators.{self_code}
+use Rattle.code_of.specs.Operands.{local_of, seat, unless}
 use Rattle.code_of.specs.Parts.{call_last, method_last, return_code, values_last}
 use Rattle.code_expr.specs.Listing.{Listing, followed}
 use Rattle.code_stat.specs.Tails.{is_called, tail_code}
@@ -154,8 +155,8 @@ tail_some k (tree.Call l f es) t j line back called h =
 tail_some k (tree.Method l object name es) t j line back called h =
     let last : List Coded = leaving_by TailCall t (list_field 1 es) back l ∷ leaving_by Return t 0 back l ∷ [] in
     let values = exps_code k es None (t + 2) (j + made_by object) l in
-    let whole = self_code k name.text t l in
-    let a = length-append (exp_code k object t j 2) (whole ++ (values ++ last)) in
+    let whole = self_code k name.text (seat (local_of object) t) t l in
+    let a = length-append (unless (local_of object) (exp_code k object t j 2)) (whole ++ (values ++ last)) in
     let b = length-append whole (values ++ last) in
     let c = length-append values last in
     omega (arith, a, b, c, h)

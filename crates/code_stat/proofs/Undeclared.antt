@@ -10,6 +10,7 @@ use Rattle.code_of.specs.Parts.{marks_code, past_size, return_code}
 use Rattle.code_of.specs.Sizes.{stat_size, arms_size, stats_size, block_size}
 use Rattle.code_of.specs.Variables.{declared_by, within_stat, within_arms, within_stats, within_block}
 use Rattle.code_of.proofs.Lengths.{values_some}
+use Rattle.code_of.proofs.Sizes.{function_some}
 use Rattle.code_stat.proofs.Returning.{return_some}
 use Rattle.tree_terms.proofs.Levels.{level_rises, levels_rise}
 
@@ -59,7 +60,7 @@ module _ (k : List Const) (back : ℕ) where
       let some : 1 ≤ length (exps_code k es (Some (length (d ∷ names))) t j line) = values_some k es (length names) t j line in
       let none : length (exps_code k es (Some (length (d ∷ names))) t j line) + length (marks_code (d ∷ names) t) ≡ 0 = h in
       absurd (omega (arith, some, none))
-  level_without (LocalFunction line name body) closing t j h = absurd (omega (arith, h))
+  level_without (LocalFunction line name body) closing t j h = let some = function_some body t j in absurd (omega (arith, some, h))
 
   levels_without : (ss : Stats) (closing : Bool) (t j : ℕ) → stats_size k back ss closing t j ≡ 0 → levels_after ss t ≡ t
   levels_without EndStats closing t j h = refl

@@ -1,17 +1,14 @@
 // Statements that have no block, and the parts without one of those that have.
-ghost use Rattle.std.specs.Prelude.{◌≡◌, ◌+◌, ◌-◌, Bool, false, ℕ, length, map, OnOk};
+ghost use Rattle.std.specs.Prelude.{◌≡◌, Bool, ℕ, map, OnOk};
 ghost use Rattle.std.specs.Option.{option_map};
 ghost use Rattle.tree_core.specs.Tree.{exps, Empty, Label, Local, LocalFunction, Assign, CallStat, Goto};
 ghost use Rattle.tree_core.specs.Plain.{plain_exp, plain_exps, plain_stat, plain_body};
-ghost use Rattle.code_of.specs.Conditions.{test_code};
-ghost use Rattle.code_of.specs.Expressions.{made_by, made_in};
-ghost use Rattle.code_of.specs.Parts.{close_code};
 ghost use Rattle.code_expr.specs.Listing.{followed};
 ghost use Rattle.code_stat.specs.Declares.{DeclaresStat};
 ghost use Rattle.code_stat.specs.Drafts.{WroteStat};
-ghost use Rattle.code_stat.specs.Forms.{until_code, range_code, made_in_range};
+ghost use Rattle.code_stat.specs.Forms.{range_code, made_in_range};
 
-use crate::marks::{write_close, write_marks};
+use crate::marks::write_marks;
 use crate::ranges::{write_bounds, write_steps};
 use crate::simple::{write_assign, write_call, write_local_function};
 use crate::writer::Writer;
@@ -35,27 +32,6 @@ pub(crate) fn write_range(
         None => write_bounds(emitter, from, limit, register, line),
         Some(step) => write_steps(emitter, from, limit, step, register),
     }
-}
-
-/// Writes the end of a `repeat`: its test, with `inner` locals in scope, and the jump back to its start.
-pub(crate) fn write_until(
-    emitter: &mut Emitter,
-    test: &Exp,
-    start: usize,
-    level: usize,
-    inner: usize,
-    end_line: u32,
-    line: u32,
-) -> Result<(), AllocError>
-    ensures { OnOk result (emitter.new ≡ followed emitter.old (until_code (λ ahead. test_code emitter.old.constants (plain_exp test.now) false ahead inner emitter.old.made) (close_code level inner end_line) (length emitter.old.steps + length (test_code emitter.old.constants (plain_exp test.now) false 0 inner emitter.old.made) + length (close_code level inner end_line) + 1 - start) line) (made_by (plain_exp test.now))) }
-{
-    let away = emitter.condition(test, false, inner)?;
-    write_close(emitter, level, inner, end_line)?;
-    emitter.put_jump_back(start, line)?;
-    let end = emitter.steps().len();
-    emitter.lead(&away, end)?;
-    write_close(emitter, level, inner, end_line)?;
-    Ok(())
 }
 
 impl Writer {

@@ -61,8 +61,8 @@ fn write_method_last(
     ensures { OnOk result (emitter.new ≡ followed emitter.old (method_last emitter.old.constants (plain_exp object.now) name.now.text (exps (plain_exps arguments.now.items)) register emitter.old.made line back) (made_by (Method line (plain_exp object.now) name.now (exps (plain_exps arguments.now.items))))) }
 {
     let above = next(register)?;
-    emitter.expression(object, register, 2)?;
-    emitter.look_up_method(&name.text, register, line)?;
+    let standing = emitter.operand(object, register)?;
+    emitter.look_up_method(&name.text, standing, register, line)?;
     emitter.list(arguments, None, next(above)?, line)?;
     let field = list_field(1, arguments);
     put_leaving(emitter, Opcode::TailCall, register, field, back, line)?;

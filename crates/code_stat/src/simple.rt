@@ -1,12 +1,9 @@
 // Statements that have no block.
-ghost use Rattle.std.specs.Prelude.{◌≡◌, ◌+◌, ◌∷◌, [], OnOk};
+ghost use Rattle.std.specs.Prelude.{◌≡◌, ◌+◌, ◌&&◌, true, nat_eq, OnOk};
 ghost use Rattle.tree_core.specs.Tree.{exps};
 ghost use Rattle.tree_core.specs.Plain.{plain_exp, plain_exps, plain_body};
-ghost use Rattle.tree_terms.specs.Bodies.{line_of_body};
-ghost use Rattle.code_core.specs.declared.opcode.Opcode.TheVariants.{LoadNil, Closure};
-ghost use Rattle.code_of.specs.Coded.{with_abc, with_abx};
 ghost use Rattle.code_of.specs.Expressions.{exp_code, made_by, made_in};
-ghost use Rattle.code_of.specs.Parts.{assign_code, store_by, stored_code};
+ghost use Rattle.code_of.specs.Parts.{assign_code, captures_local, closure_code, function_code, store_by, stored_code};
 ghost use Rattle.code_of.specs.Stores.{stores_field};
 ghost use Rattle.code_expr.specs.Listing.{followed};
 
@@ -15,7 +12,35 @@ use crate::targets::write_targets;
 use code_core::Opcode;
 use code_expr::{Emitter, direct_local, is_field};
 use std::alloc::AllocError;
-use tree_core::{Body, Exp};
+use tree_core::{Body, Exp, UpName};
+
+/// Whether an upvalue is the local of a register, in the function just around.
+fn is_local(upvalue: &UpName, register: usize) -> bool
+    ensures { result ≡ (upvalue.now.in_stack && nat_eq upvalue.now.index register) }
+{
+    upvalue.in_stack && usize::from(upvalue.index) == register
+}
+
+/// Whether a function with these upvalues captures the local of a register.
+fn captures_local(upvalues: &Vec<UpName>, register: usize) -> bool
+    ensures { result ≡ captures_local register upvalues.now.items }
+{
+    for upvalue in upvalues.iter() {
+        if is_local(upvalue, register) {
+            return true;
+        }
+    }
+    false
+}
+
+/// Writes a function that captures the local of its register. That is nil until the function is there.
+fn write_recursive(emitter: &mut Emitter, register: usize, line: u32) -> Result<(), AllocError>
+    ensures { OnOk result (emitter.new ≡ followed emitter.old (closure_code true register emitter.old.made line) 1) }
+{
+    emitter.put_abc(Opcode::LoadNil, register, 0, 0, line)?;
+    emitter.put_closure(register, line)?;
+    Ok(())
+}
 
 /// Writes `local function`, whose variable has this register.
 pub fn write_local_function(
@@ -23,11 +48,12 @@ pub fn write_local_function(
     body: &Body,
     register: usize,
 ) -> Result<(), AllocError>
-    ensures { OnOk result (emitter.new ≡ followed emitter.old (with_abc LoadNil register 0 0 (line_of_body (plain_body body.now)) ∷ with_abx Closure register emitter.old.made (line_of_body (plain_body body.now)) ∷ []) 1) }
+    ensures { OnOk result (emitter.new ≡ followed emitter.old (function_code (plain_body body.now) register emitter.old.made) 1) }
 {
-    emitter.put_abc(Opcode::LoadNil, register, 0, 0, body.line)?;
-    emitter.put_closure(register, body.line)?;
-    Ok(())
+    if captures_local(&body.upvalues, register) {
+        return write_recursive(emitter, register, body.line);
+    }
+    emitter.put_closure(register, body.line)
 }
 
 /// Writes a call that stands alone.
@@ -76,7 +102,10 @@ fn write_single(
     if is_field(target) {
         return emitter.store(target, value, register);
     }
-    write_stored(emitter, targets, values, register, line)
+    match emitter.local_store(target, value) {
+        Some(step) => emitter.put_step(step),
+        None => write_stored(emitter, targets, values, register, line),
+    }
 }
 
 /// Writes an assignment, where the registers from one on are free.

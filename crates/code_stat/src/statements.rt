@@ -9,7 +9,7 @@ ghost use Rattle.code_stat.specs.Declares.{DeclaresStat, DeclaresStats, Declares
 ghost use Rattle.code_stat.specs.Drafts.{Wrote, WroteStat, WroteStats, WroteBlock, WroteOpen};
 ghost use Rattle.code_stat.specs.Forms.{choice, counted_code, iterated_code};
 
-use crate::forms::{write_range, write_until};
+use crate::forms::write_range;
 use crate::jumps::{Destination, settle_all};
 use crate::labels::{Frame, meet_label};
 use crate::marks::write_close;
@@ -216,9 +216,16 @@ impl Writer {
         let start = self.place();
         let first = self.jumps.len();
         let declared = self.variables.count();
+        let before = self.emitter.made();
         let inner = self.open_block(block, closing, level)?;
-        let end_line = block.line;
-        write_until(&mut self.emitter, test, start, level, inner, end_line, line)?;
+        let away = self.emitter.condition(test, false, inner)?;
+        let behind = self.emitter.made();
+        let top = closed_below(&block.stats, behind > before, level, inner);
+        write_close(&mut self.emitter, level, top, block.line)?;
+        self.emitter.put_jump_back(start, line)?;
+        let exit = self.place();
+        self.emitter.lead(&away, exit)?;
+        write_close(&mut self.emitter, level, top, block.line)?;
         self.end_loop(first, level);
         let place = self.place();
         self.variables.end_scopes(declared, place)?;

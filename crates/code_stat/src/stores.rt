@@ -1,14 +1,12 @@
 // The stores of an assignment (Lua 5.4 manual, 3.3.3), from right to left.
-ghost use Rattle.std.specs.Prelude.{◌≡◌, ◌+◌, [], ◌∷◌, OnOk, IfOk};
-ghost use Rattle.code_core.specs.declared.opcode.Opcode.TheVariants.{SetTable};
-ghost use Rattle.code_of.specs.Coded.{with_abc};
+ghost use Rattle.std.specs.Prelude.{◌≡◌, ◌+◌, OnOk, IfOk};
 ghost use Rattle.tree_core.specs.Tree.{exps};
 ghost use Rattle.tree_core.specs.Plain.{plain_exp, plain_exps};
 ghost use Rattle.code_of.specs.Parts.{name_store, store_code, stores_code};
 ghost use Rattle.code_expr.specs.Listing.{listed};
 
 use code_core::Opcode;
-use code_expr::{Emitter, next};
+use code_expr::Emitter;
 use std::alloc::AllocError;
 use tree_core::{Exp, ExpNode, Name, Place};
 
@@ -19,19 +17,6 @@ pub(crate) fn behind(number: usize, more: usize) -> Result<usize, AllocError>
     number.checked_add(more).ok_or(AllocError)
 }
 
-/// Writes the store of a register's value in a table that has a register, too, with its key above it.
-fn write_entry(
-    emitter: &mut Emitter,
-    register: usize,
-    value: usize,
-    line: u32,
-) -> Result<(), AllocError>
-    ensures { OnOk result (emitter.new ≡ listed emitter.old (with_abc SetTable register (register + 1) value line ∷ [])) }
-{
-    let key = next(register)?;
-    emitter.put_abc(Opcode::SetTable, register, key, value, line)
-}
-
 /// Writes the store of a register's value in a name.
 fn write_name_store(
     emitter: &mut Emitter,
@@ -40,13 +25,15 @@ fn write_name_store(
     value: usize,
     line: u32,
 ) -> Result<(), AllocError>
-    ensures { OnOk result (emitter.new ≡ listed emitter.old (name_store emitter.old.constants name.now.place register value line)) }
+    ensures { OnOk result (emitter.new ≡ listed emitter.old (name_store emitter.old.constants name.now.place name.now.text register value line)) }
 {
     match name.place {
         Place::Unset => Ok(()),
         Place::Local(to) => emitter.put_abc(Opcode::Move, usize::from(to), value, 0, line),
         Place::Upvalue(to) => emitter.put_abc(Opcode::SetUpval, value, usize::from(to), 0, line),
-        Place::GlobalIn(_) | Place::GlobalOf(_) => write_entry(emitter, register, value, line),
+        Place::GlobalIn(_) | Place::GlobalOf(_) => {
+            emitter.store_name(&name.text, register, value, line)
+        }
     }
 }
 
@@ -61,7 +48,7 @@ fn write_store(
 {
     match &target.node {
         ExpNode::Var(name) => write_name_store(emitter, name, register, value, target.line),
-        ExpNode::Index(_, _) => write_entry(emitter, register, value, target.line),
+        ExpNode::Index(_, key) => emitter.store_waiting(key, register, value, target.line),
         _ => Ok(()),
     }
 }

@@ -6,13 +6,12 @@ ghost use Rattle.code_of.specs.Expressions.{made_by, made_in};
 ghost use Rattle.code_of.specs.Parts.{name_target, target_code, targets_code};
 ghost use Rattle.code_expr.specs.Listing.{followed, listed};
 
-use crate::pair::write_pair;
 use code_core::Opcode;
 use code_expr::{Emitter, next};
 use std::alloc::AllocError;
 use tree_core::{Exp, ExpNode, Name, Place};
 
-/// Writes the table and the key of a name that is assigned to, where it is a global one.
+/// Writes the table of a name that is assigned to, where it is a global one, and its key where the store does not name it.
 fn write_name_target(
     emitter: &mut Emitter,
     name: &Name,
@@ -25,12 +24,12 @@ fn write_name_target(
     match name.place {
         Place::GlobalIn(from) => {
             emitter.put_abc(Opcode::Move, register, usize::from(from), 0, line)?;
-            emitter.load_text(&name.text, key, line)?;
+            emitter.aim_name(&name.text, key, line)?;
             Ok(())
         }
         Place::GlobalOf(from) => {
             emitter.put_abc(Opcode::GetUpval, register, usize::from(from), 0, line)?;
-            emitter.load_text(&name.text, key, line)?;
+            emitter.aim_name(&name.text, key, line)?;
             Ok(())
         }
         Place::Unset | Place::Local(_) | Place::Upvalue(_) => Ok(()),
@@ -54,7 +53,7 @@ fn write_target(emitter: &mut Emitter, target: &Exp, register: usize) -> Result<
 {
     match &target.node {
         ExpNode::Var(name) => write_name_target(emitter, name, register, target.line),
-        ExpNode::Index(object, key) => write_pair(emitter, object, key, register),
+        ExpNode::Index(object, key) => emitter.aim_field(object, key, register),
         _ => count_made(emitter, target),
     }
 }

@@ -1,24 +1,24 @@
 -- Asks of both sides, and how both go on with the answers.
-use Rattle.std.proofs.Common.{◌≡◌, ℕ, zero, suc, ◌<◌, ◌≤◌, length, List, [], ◌∷◌, ◌++◌, Option, Some, None, refl, sym, subst, arith}
-use Rattle.int_core.specs.Value.{Value, nth}
-use Rattle.int_core.specs.Ask.{Ask, opens, Reply, values, faulted, left, values_in, throws, Captured, brought, Next, cell_held, AskLike, IsReplyTo, IsOne}
+use Rattle.std.proofs.Common.{◌≡◌, ℕ, zero, suc, ◌<◌, List, [], ◌∷◌, ◌++◌, refl, sym, subst, arith}
+use Rattle.int_core.specs.Value.{Value}
+use Rattle.int_core.specs.Ask.{Ask, Reply, values, faulted, left, values_in, throws, Captured, brought, AskLike, IsReplyTo, IsOne}
 use Rattle.tree_core.specs.Tree.{Body}
-use Rattle.tree_activation.specs.Work.{Control, capture, raise, leave_scope, finish, Work, Pending}
+use Rattle.tree_activation.specs.Work.{Control, raise, leave_scope, finish, Work, Pending}
 use Rattle.tree_activation.specs.Work as tree
-use Rattle.tree_activation.specs.Asking.{asks, asks_quickly, captures_one}
+use Rattle.tree_activation.specs.Asking.{asks, asks_quickly}
 use Rattle.tree_activation.specs.Asking as trees
 use Rattle.tree_activation.specs.Activation.{step}
 use Rattle.code_core.specs.Prototype.{Prototype}
 use Rattle.machine_core.specs.World.{Wait, for_value}
-use Rattle.machine_core.specs.Text.{Text, open_cell}
+use Rattle.machine_core.specs.Text.{Text}
 use Rattle.machine_core.specs.Text as text
 use Rattle.machine_core.specs.InstructionRows.{fails, rest_at, after, told_values}
 use Rattle.machine_core.specs.Talk as code
-use Rattle.machine_core.specs.Talk.{talk, talk_step, says_so, heard, amid}
+use Rattle.machine_core.specs.Talk.{talk_step, says_so, heard, amid}
 use Rattle.lua_meaning.specs.World.{without_name}
-use Rattle.exp_laws.proofs.Registers.{MayHold, Rel, After, told, share_same, after_none, after_share, after_hold}
+use Rattle.exp_laws.proofs.Registers.{Rel, After, told, share_same, after_share}
 use Rattle.exp_laws.specs.Setting.{Setting, InnerAlike}
-use Rattle.exp_laws.proofs.Talking.{Here, Agree, down, go_left, both_ask, of_tree, of_code}
+use Rattle.exp_laws.proofs.Talking.{Here, Agree, down, both_ask, of_tree, of_code}
 use Rattle.exp_laws.proofs.Leaving.{leaves_alike, faults_alike}
 
 module _ (S : Setting) (pending : List Pending) where
@@ -77,32 +77,3 @@ module _ (S : Setting) (pending : List Pending) where
       by (values (v ∷ w ∷ vs)) is env' regs' c' af = absurd is
       by (faulted words) is env' regs' c' af = absurd is
       by (left e) is env' regs' c' af = absurd is
-
-  -- a captured local gets a cell, where it has none
-  pub opens_alike : (n : ℕ) (s : tree.State) (t : code.State) (line place pc opened u : ℕ) (places : List ℕ) (next_of : Control) (env regs had : List Value) (c : Captured) (k : List Work) (rest : Text)
-      → step s ≡ captures_one (cell_held place c.held) line place places next_of (of_tree S pending env c) k
-      → talk_step S.code t ≡ talk S.code (open_cell place rest) had (of_code S pending pc regs opened) c
-      → place < length env → MayHold place S.hidden → length env ≤ u → Rel S.hidden S.code.own.stack pending env c regs → Here S pc line
-      → ((env' regs' : List Value) (c' : Captured) (t' : code.State) → After S.hidden S.code.own.stack pending env regs u env' regs' c' → talk_step S.code t' ≡ talk S.code rest had (of_code S pending pc regs' opened) c'
-      → Agree S n (tree.at (capture line places next_of) (of_tree S pending env' c') k) t')
-      → Agree S n s t
-  opens_alike n s t line place pc opened u places next_of env regs had c k rest e d below other le rel here next = by (cell_held place c.held) e d
-    where
-      by : (o : Option ℕ) → step s ≡ captures_one o line place places next_of (of_tree S pending env c) k
-          → talk_step S.code t ≡ elim o as (λ _. Next Prototype code.State) [
-            | Some _ ↦ talk S.code rest had (of_code S pending pc regs opened) c
-            | None ↦ says_so (opens (nth regs place)) S.code (of_code S pending pc regs opened) c (λ x b d'. amid rest had b (record d' { held = (place, x.cell) ∷ d'.held }))
-          ] → Agree S n s t
-      by (Some cell) e d = go_left S n s _ t e (next env regs c t (after_none S.hidden S.code.own.stack pending env regs c u rel) d)
-      by None e d = asked n e d next
-        where
-          asked : (n : ℕ) → step s ≡ captures_one None line place places next_of (of_tree S pending env c) k
-              → talk_step S.code t ≡ says_so (opens (nth regs place)) S.code (of_code S pending pc regs opened) c (λ x b d'. amid rest had b (record d' { held = (place, x.cell) ∷ d'.held }))
-              → ((env' regs' : List Value) (c' : Captured) (t' : code.State) → After S.hidden S.code.own.stack pending env regs u env' regs' c' → talk_step S.code t' ≡ talk S.code rest had (of_code S pending pc regs' opened) c'
-              → Agree S n (tree.at (capture line places next_of) (of_tree S pending env' c') k) t')
-              → Agree S n s t
-          asked zero e d next = tt
-          asked (suc n) e d next =
-              both_ask S n s t (opens (nth env place)) (opens (nth regs place)) line _ _ _ _ _ e d (rel.agree place below) refl here.lined (share_same S.hidden S.code.own.stack pending env c regs rel)
-              (λ x fits. down S n _ _ (next (brought c.held x.shared env) (brought c.held x.shared regs) (record { held = (place, x.cell) ∷ c.held; gone = [] }) _
-              (after_hold S.hidden S.code.own.stack pending env regs x.shared c u place x.cell below other rel) refl))

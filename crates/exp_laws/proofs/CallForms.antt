@@ -98,25 +98,25 @@ module _ (S : Setting) (pending : List Pending) where
       (λ none. open_mark S.code CallCode t b pc (subst (λ z. at S.code pc ≡ Some (abc CallCode t b z false)) none has.0) refl t_fits b_fits) inside le room
       (after_then S.hidden S.code.own.stack pending env regs env cut env1 regs1 c c1 t t (omega arith) af af1) goes)
 
-  -- a method is looked up: register t gets it, and the register after it its object
-  method_goes : (y : ℕ) (flag : Bool) (n line t pc opened : ℕ) (o key : Value) (s : tree.State) (env regs : List Value) (c : Captured) (k : List Work) (goes_so : List Value → Control)
+  -- a method of the object in register x is looked up: register t gets it, and the register after it its object
+  method_goes : (y : ℕ) (flag : Bool) (n line x t pc opened : ℕ) (o key : Value) (s : tree.State) (env regs : List Value) (c : Captured) (k : List Work) (goes_so : List Value → Control)
       → step s ≡ asks (operates index (o ∷ key ∷ [])) line (of_tree S pending env c) k goes_so
-      → HasAt S pc ((abc OpSelf t t y flag, line) ∷ [])
+      → HasAt S pc ((abc OpSelf t x y flag, line) ∷ [])
       → talk_step S.code (before (of_code S pending pc regs opened) c) ≡ says_so (operates index (o ∷ key ∷ [])) S.code (of_code S pending pc (write (t + 1) o regs) opened) c (λ x b d. heard for_value S.code x b d)
       → pc + 1 < length S.code.own.code → length env ≤ t → t + 1 < S.code.own.stack → Rel S.hidden S.code.own.stack pending env c regs
       → ((ws env1 regs1 : List Value) (c1 : Captured) → After S.hidden S.code.own.stack pending env regs t env1 regs1 c1 → nth regs1 t ≡ first ws → nth regs1 (t + 1) ≡ o
       → Agree S n (tree.at (goes_so ws) (of_tree S pending env1 c1) k) (before (of_code S pending (pc + 1) regs1 opened) c1))
       → Agree S n s (before (of_code S pending pc regs opened) c)
-  method_goes y flag n line t pc opened o key s env regs c k goes_so e has d inside le room rel next =
+  method_goes y flag n line x t pc opened o key s env regs c k goes_so e has d inside le room rel next =
       let fits : t < 2 ^ 8 = omega (arith, room, S.small) in
       let there = next_there S (pc + 1) inside in
       let regs1 = write (t + 1) o regs in
       let af1 = after_put S.hidden S.code.own.stack pending env regs c (t + 1) o (omega (arith, le)) rel in
       let none : t + 1 < t + 2 = omega arith in
       asks_alike S pending n for_value (λ reply. refl) s _ (operates index (o ∷ key ∷ [])) (operates index (o ∷ key ∷ [])) line pc opened (t + 2) env regs1 c k goes_so e d
-      (λ m. (refl, refl)) refl af1.rel (here_abc S OpSelf t t y flag line pc [] has)
+      (λ m. (refl, refl)) refl af1.rel (here_abc S OpSelf t x y flag line pc [] has)
       (λ ws env2 regs2 c2 af2. go_right S n _ _ (before (of_code S pending (pc + 1) (write t (first ws) regs2) opened) c2)
-      (ap (λ x. talk S.code x ws (of_code S pending pc regs2 opened) c2) (value_rest S.code OpSelf t t y pc flag has.0 fits refl)
+      (ap (λ x. talk S.code x ws (of_code S pending pc regs2 opened) c2) (value_rest S.code OpSelf t x y pc flag has.0 fits refl)
       ∙ to_register_step S.code t (read 0) there.0 ws (of_code S pending pc regs2 opened) c2 (omega (arith, room, af2.rel.room)) there.1)
       (next ws env2 (write t (first ws) regs2) c2
       (after_then S.hidden S.code.own.stack pending env regs env2 regs2 env2 (write t (first ws) regs2) c2 c2 t t (omega arith)
@@ -126,27 +126,27 @@ module _ (S : Setting) (pending : List Pending) where
       (nth_write_other t (first ws) regs2 (t + 1) (λ same. absurd (omega (arith, same))) ∙ af2.keeps (t + 1) (omega (arith, le)) none ∙ nth_write_same (t + 1) o regs)))
 
   self_by : (b : Bool) (text : List ℕ) → nat_lt (number_in S.code.own.constants (StrConst text)) 256 ≡ b
-      → (n line t pc opened : ℕ) (o : Value) (s : tree.State) (env regs : List Value) (c : Captured) (k : List Work) (goes_so : List Value → Control)
+      → (n line x t pc opened : ℕ) (o : Value) (s : tree.State) (env regs : List Value) (c : Captured) (k : List Work) (goes_so : List Value → Control)
       → step s ≡ asks (operates index (o ∷ known (string text) ∷ [])) line (of_tree S pending env c) k goes_so → (code : List Coded)
-      → code ≡ cond b ((abc OpSelf t t (number_in S.code.own.constants (StrConst text)) true, line) ∷ []) (loads S.code.own.constants (StrConst text) (t + 2) line ++ with_abc OpSelf t t (t + 2) line ∷ [])
-      → HasAt S pc code → Found S.code.own.constants (StrConst text) → pc + length code < length S.code.own.code → length env ≤ t → t + cond b 2 3 ≤ S.code.own.stack
-      → Rel S.hidden S.code.own.stack pending env c regs → nth regs t ≡ o
+      → code ≡ cond b ((abc OpSelf t x (number_in S.code.own.constants (StrConst text)) true, line) ∷ []) (loads S.code.own.constants (StrConst text) (t + 2) line ++ with_abc OpSelf t x (t + 2) line ∷ [])
+      → HasAt S pc code → Found S.code.own.constants (StrConst text) → pc + length code < length S.code.own.code → length env ≤ t → x ≤ t → t + cond b 2 3 ≤ S.code.own.stack
+      → Rel S.hidden S.code.own.stack pending env c regs → nth regs x ≡ o
       → ((ws env1 regs1 : List Value) (c1 : Captured) → After S.hidden S.code.own.stack pending env regs t env1 regs1 c1 → nth regs1 t ≡ first ws → nth regs1 (t + 1) ≡ o
       → Agree S n (tree.at (goes_so ws) (of_tree S pending env1 c1) k) (before (of_code S pending (pc + length code) regs1 opened) c1))
       → Agree S n s (before (of_code S pending pc regs opened) c)
-  self_by true text near n line t pc opened o s env regs c k goes_so e code is has found inside le room rel o_is next =
+  self_by true text near n line x t pc opened o s env regs c k goes_so e code is has found inside le low room rel o_is next =
       let number = number_in S.code.own.constants (StrConst text) in
       let size = ap length is in
       let here = subst (HasAt S pc) is has in
-      method_goes number true n line t pc opened o (known (string text)) s env regs c k goes_so e here
-      (self_key_step S.code t number (StrConst text) (of_code S pending pc regs opened) c here.0 (omega (arith, room, S.small)) (ltb-true number 256 near) (omega (arith, room, rel.room)) found.there
-      ∙ ap (λ x. says_so (operates index (x ∷ known (string text) ∷ [])) S.code (of_code S pending pc (write (t + 1) x regs) opened) c (λ x b d. heard for_value S.code x b d)) o_is)
+      method_goes number true n line x t pc opened o (known (string text)) s env regs c k goes_so e here
+      (self_key_step S.code x t number (StrConst text) (of_code S pending pc regs opened) c here.0 (omega (arith, low, room, S.small)) (omega (arith, room, S.small)) (ltb-true number 256 near) (omega (arith, low, room, rel.room)) found.there
+      ∙ ap (λ y. says_so (operates index (y ∷ known (string text) ∷ [])) S.code (of_code S pending pc (write (t + 1) y regs) opened) c (λ y b d. heard for_value S.code y b d)) o_is)
       (omega (arith, inside, size)) le (omega (arith, room)) rel
       (λ ws env1 regs1 c1 af method_is self_is. at_place S pending n (pc + 1) (pc + length code) opened _ regs1 c1 (omega (arith, size)) (next ws env1 regs1 c1 af method_is self_is))
-  self_by false text far n line t pc opened o s env regs c k goes_so e code is has found inside le room rel o_is next =
+  self_by false text far n line x t pc opened o s env regs c k goes_so e code is has found inside le low room rel o_is next =
       let key = known (string text) in
       let key_code = loads S.code.own.constants (StrConst text) (t + 2) line in
-      let last_code = with_abc OpSelf t t (t + 2) line ∷ [] in
+      let last_code = with_abc OpSelf t x (t + 2) line ∷ [] in
       let sum = length-append key_code last_code in
       let size = ap length is in
       let here = subst (HasAt S pc) is has in
@@ -154,21 +154,21 @@ module _ (S : Setting) (pending : List Pending) where
       let regs1 = write (t + 2) key regs in
       let put = after_put S.hidden S.code.own.stack pending env regs c (t + 2) key (omega (arith, le)) rel in
       load_right S pending (StrConst text) (t + 2) line n pc opened s regs c found (has_front S pc key_code last_code here) (omega (arith, inside, size, sum)) (omega (arith, room, S.small)) (omega (arith, room, rel.room))
-      (method_goes (t + 2) false n line t (pc + length key_code) opened o key s env regs1 c k goes_so e behind
-      (self_step S.code t (t + 2) (of_code S pending (pc + length key_code) regs1 opened) c behind.0 (omega (arith, room, S.small)) (omega (arith, room, S.small)) (omega (arith, room, put.rel.room)) (omega (arith, room, put.rel.room))
-      ∙ ap₂ (λ x y. says_so (operates index (x ∷ y ∷ [])) S.code (of_code S pending (pc + length key_code) (write (t + 1) x regs1) opened) c (λ x b d. heard for_value S.code x b d))
-      (nth_write_other (t + 2) key regs t (λ same. absurd (omega (arith, same))) ∙ o_is) (nth_write_same (t + 2) key regs))
+      (method_goes (t + 2) false n line x t (pc + length key_code) opened o key s env regs1 c k goes_so e behind
+      (self_step S.code x t (t + 2) (of_code S pending (pc + length key_code) regs1 opened) c behind.0 (omega (arith, low, room, S.small)) (omega (arith, room, S.small)) (omega (arith, room, S.small)) (omega (arith, low, room, put.rel.room)) (omega (arith, room, put.rel.room))
+      ∙ ap₂ (λ y z. says_so (operates index (y ∷ z ∷ [])) S.code (of_code S pending (pc + length key_code) (write (t + 1) y regs1) opened) c (λ y b d. heard for_value S.code y b d))
+      (nth_write_other (t + 2) key regs x (λ same. absurd (omega (arith, same, low))) ∙ o_is) (nth_write_same (t + 2) key regs))
       (omega (arith, inside, size, sum)) le (omega (arith, room)) put.rel
       (λ ws env2 regs2 c2 af method_is self_is. at_place S pending n (pc + length key_code + 1) (pc + length code) opened _ regs2 c2 (omega (arith, size, sum))
       (next ws env2 regs2 c2
       (after_then S.hidden S.code.own.stack pending env regs env regs1 env2 regs2 c c2 t t (omega arith) (lower S.hidden S.code.own.stack pending env regs env regs1 c (t + 2) t (omega arith) put) af) method_is self_is)))
 
   -- a method by its name
-  pub self_goes : (text : List ℕ) (n line t pc opened : ℕ) (o : Value) (s : tree.State) (env regs : List Value) (c : Captured) (k : List Work) (goes_so : List Value → Control)
-      → step s ≡ asks (operates index (o ∷ known (string text) ∷ [])) line (of_tree S pending env c) k goes_so → HasAt S pc (self_code S.code.own.constants text t line) → Found S.code.own.constants (StrConst text)
-      → pc + length (self_code S.code.own.constants text t line) < length S.code.own.code → length env ≤ t → t + room_of_self S.code.own.constants text ≤ S.code.own.stack → Rel S.hidden S.code.own.stack pending env c regs → nth regs t ≡ o
+  pub self_goes : (text : List ℕ) (n line x t pc opened : ℕ) (o : Value) (s : tree.State) (env regs : List Value) (c : Captured) (k : List Work) (goes_so : List Value → Control)
+      → step s ≡ asks (operates index (o ∷ known (string text) ∷ [])) line (of_tree S pending env c) k goes_so → HasAt S pc (self_code S.code.own.constants text x t line) → Found S.code.own.constants (StrConst text)
+      → pc + length (self_code S.code.own.constants text x t line) < length S.code.own.code → length env ≤ t → x ≤ t → t + room_of_self S.code.own.constants text ≤ S.code.own.stack → Rel S.hidden S.code.own.stack pending env c regs → nth regs x ≡ o
       → ((ws env1 regs1 : List Value) (c1 : Captured) → After S.hidden S.code.own.stack pending env regs t env1 regs1 c1 → nth regs1 t ≡ first ws → nth regs1 (t + 1) ≡ o
-      → Agree S n (tree.at (goes_so ws) (of_tree S pending env1 c1) k) (before (of_code S pending (pc + length (self_code S.code.own.constants text t line)) regs1 opened) c1))
+      → Agree S n (tree.at (goes_so ws) (of_tree S pending env1 c1) k) (before (of_code S pending (pc + length (self_code S.code.own.constants text x t line)) regs1 opened) c1))
       → Agree S n s (before (of_code S pending pc regs opened) c)
-  self_goes text n line t pc opened o s env regs c k goes_so e has found inside le room rel o_is next =
-      self_by (nat_lt (number_in S.code.own.constants (StrConst text)) 256) text refl n line t pc opened o s env regs c k goes_so e (self_code S.code.own.constants text t line) refl has found inside le room rel o_is next
+  self_goes text n line x t pc opened o s env regs c k goes_so e has found inside le low room rel o_is next =
+      self_by (nat_lt (number_in S.code.own.constants (StrConst text)) 256) text refl n line x t pc opened o s env regs c k goes_so e (self_code S.code.own.constants text x t line) refl has found inside le low room rel o_is next

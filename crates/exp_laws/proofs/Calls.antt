@@ -109,33 +109,33 @@ module _ (p : Prototype) where
 
   -- a method: its object goes to the register after it, and the method is asked for. Its name stands in a register or is a constant
 
-  abbrev method_text : (t : ℕ) → (k : Bool) → (c : ℕ) → Text
-  method_text t k c =
-      own (read_register t) (λ o _. cond k (own (read_constant c) (λ key _. gets (read o) (read key) (write_register (t + 1) (read o) ∷ []) t)) (own (read_register c) (λ key _. gets (read o) (read key) (write_register (t + 1) (read o) ∷ []) t)))
+  abbrev method_text : (x t : ℕ) → (k : Bool) → (c : ℕ) → Text
+  method_text x t k c =
+      own (read_register x) (λ o _. cond k (own (read_constant c) (λ key _. gets (read o) (read key) (write_register (t + 1) (read o) ∷ []) t)) (own (read_register c) (λ key _. gets (read o) (read key) (write_register (t + 1) (read o) ∷ []) t)))
 
-  method_row : (t y : ℕ) (k : Bool) (a : Activation) (c : Captured) → at p a.pc ≡ Some (abc OpSelf t t y k) → t < 2 ^ 8 → y < 2 ^ 8 → talk_step p (before a c) ≡ talk p (method_text t k y) [] a c
-  method_row t y k a c here t_fits fits =
-      let w = abc OpSelf t t y k in
-      row_step p w OpSelf (method_text t k y) a c here (opcode_of-abc OpSelf t t y k)
-      (ap₂ (λ b d. own (read_register b) (λ o _. register_or_constant w (λ key _. gets (read o) (read key) (write_register (d + 1) (read o) ∷ []) d))) (b_of-abc OpSelf t t y k t_fits t_fits) (a_of-abc OpSelf t t y k t_fits)
-      ∙ ap (λ k. method_text t k (c_of w)) (k_of-abc OpSelf t t y k t_fits)
-      ∙ ap (method_text t k) (c_of-abc OpSelf t t y k t_fits t_fits fits))
+  method_row : (x t y : ℕ) (k : Bool) (a : Activation) (c : Captured) → at p a.pc ≡ Some (abc OpSelf t x y k) → x < 2 ^ 8 → t < 2 ^ 8 → y < 2 ^ 8 → talk_step p (before a c) ≡ talk p (method_text x t k y) [] a c
+  method_row x t y k a c here x_fits t_fits fits =
+      let w = abc OpSelf t x y k in
+      row_step p w OpSelf (method_text x t k y) a c here (opcode_of-abc OpSelf t x y k)
+      (ap₂ (λ b d. own (read_register b) (λ o _. register_or_constant w (λ key _. gets (read o) (read key) (write_register (d + 1) (read o) ∷ []) d))) (b_of-abc OpSelf t x y k t_fits x_fits) (a_of-abc OpSelf t x y k t_fits)
+      ∙ ap (λ k. method_text x t k (c_of w)) (k_of-abc OpSelf t x y k t_fits)
+      ∙ ap (method_text x t k) (c_of-abc OpSelf t x y k t_fits x_fits fits))
 
-  pub self_step : (t y : ℕ) (a : Activation) (c : Captured) → at p a.pc ≡ Some (abc OpSelf t t y false) → t < 2 ^ 8 → y < 2 ^ 8 → t < length a.registers → y < length a.registers
-      → talk_step p (before a c) ≡ says_so (operates index (nth a.registers t ∷ nth a.registers y ∷ [])) p (record a { registers = write (t + 1) (nth a.registers t) a.registers }) c (λ x b d. heard for_value p x b d)
-  self_step t y a c here t_fits fits t_room room =
-      method_row t y false a c here t_fits fits
-      ∙ own_step p (read_register t) (λ o _. own (read_register y) (λ key _. gets (read o) (read key) (write_register (t + 1) (read o) ∷ []) t)) [] a c (lt-ltb t (length a.registers) t_room)
-      ∙ own_step p (read_register y) (λ key _. gets (read 0) (read key) (write_register (t + 1) (read 0) ∷ []) t) (nth a.registers t ∷ []) a c (lt-ltb y (length a.registers) room)
+  pub self_step : (x t y : ℕ) (a : Activation) (c : Captured) → at p a.pc ≡ Some (abc OpSelf t x y false) → x < 2 ^ 8 → t < 2 ^ 8 → y < 2 ^ 8 → x < length a.registers → y < length a.registers
+      → talk_step p (before a c) ≡ says_so (operates index (nth a.registers x ∷ nth a.registers y ∷ [])) p (record a { registers = write (t + 1) (nth a.registers x) a.registers }) c (λ x b d. heard for_value p x b d)
+  self_step x t y a c here x_fits t_fits fits x_room room =
+      method_row x t y false a c here x_fits t_fits fits
+      ∙ own_step p (read_register x) (λ o _. own (read_register y) (λ key _. gets (read o) (read key) (write_register (t + 1) (read o) ∷ []) t)) [] a c (lt-ltb x (length a.registers) x_room)
+      ∙ own_step p (read_register y) (λ key _. gets (read 0) (read key) (write_register (t + 1) (read 0) ∷ []) t) (nth a.registers x ∷ []) a c (lt-ltb y (length a.registers) room)
 
-  pub self_key_step : (t number : ℕ) (x : Const) (a : Activation) (c : Captured) → at p a.pc ≡ Some (abc OpSelf t t number true) → t < 2 ^ 8 → number < 2 ^ 8 → t < length a.registers → slice_get p.own.constants number ≡ Some x
-      → talk_step p (before a c) ≡ says_so (operates index (nth a.registers t ∷ known (constant x) ∷ [])) p (record a { registers = write (t + 1) (nth a.registers t) a.registers }) c (λ x b d. heard for_value p x b d)
-  self_key_step t number x a c here t_fits fits t_room there =
-      method_row t number true a c here t_fits fits
-      ∙ own_step p (read_register t) (λ o _. own (read_constant number) (λ key _. gets (read o) (read key) (write_register (t + 1) (read o) ∷ []) t)) [] a c (lt-ltb t (length a.registers) t_room)
-      ∙ own_step p (read_constant number) (λ key _. gets (read 0) (read key) (write_register (t + 1) (read 0) ∷ []) t) (nth a.registers t ∷ []) a c
-      (lt-ltb number (length p.own.constants) (found_below p.own.constants number x there))
-      ∙ ap (λ o. talk p (gets (read 0) (read 1) (write_register (t + 1) (read 0) ∷ []) t) (nth a.registers t ∷ elim o as (λ _. List Value) [ None ↦ [] | Some k ↦ known (constant k) ∷ [] ]) a c) there
+  pub self_key_step : (x t number : ℕ) (key : Const) (a : Activation) (c : Captured) → at p a.pc ≡ Some (abc OpSelf t x number true) → x < 2 ^ 8 → t < 2 ^ 8 → number < 2 ^ 8 → x < length a.registers → slice_get p.own.constants number ≡ Some key
+      → talk_step p (before a c) ≡ says_so (operates index (nth a.registers x ∷ known (constant key) ∷ [])) p (record a { registers = write (t + 1) (nth a.registers x) a.registers }) c (λ x b d. heard for_value p x b d)
+  self_key_step x t number key a c here x_fits t_fits fits x_room there =
+      method_row x t number true a c here x_fits t_fits fits
+      ∙ own_step p (read_register x) (λ o _. own (read_constant number) (λ key _. gets (read o) (read key) (write_register (t + 1) (read o) ∷ []) t)) [] a c (lt-ltb x (length a.registers) x_room)
+      ∙ own_step p (read_constant number) (λ key _. gets (read 0) (read key) (write_register (t + 1) (read 0) ∷ []) t) (nth a.registers x ∷ []) a c
+      (lt-ltb number (length p.own.constants) (found_below p.own.constants number key there))
+      ∙ ap (λ o. talk p (gets (read 0) (read 1) (write_register (t + 1) (read 0) ∷ []) t) (nth a.registers x ∷ elim o as (λ _. List Value) [ None ↦ [] | Some k ↦ known (constant k) ∷ [] ]) a c) there
 
   pub nils_step : (t n : ℕ) (w : Instruction) (a : Activation) (c : Captured) → at p a.pc ≡ Some (abc LoadNil t n 0 false) → at p (a.pc + 1) ≡ Some w → t < 2 ^ 8 → n < 2 ^ 8 → t + (n + 1) ≤ length a.registers
       → talk_step p (before a c) ≡ goes_on (before (record a { registers = write_all t (nils (n + 1)) a.registers; pc = a.pc + 1 }) c)

@@ -6,12 +6,14 @@ use Rattle.int_core.specs.Operations.{Operation, equal, less, less_equal}
 use Rattle.int_core.specs.Ask.{operates, Captured, Reply, values, faulted, left, goes_on}
 use Rattle.tree_core.specs.declared.operator.BinOp.{BinOp}
 use Rattle.tree_core.specs.declared.operator.BinOp.TheVariants.{Eq as Equal, Ne, Lt as Less, Le as AtMost, Gt, Ge}
+use Rattle.tree_core.specs.Tree.{Exp}
 use Rattle.tree_activation.specs.Work.{Work}
 use Rattle.tree_activation.specs.Work as tree
 use Rattle.tree_activation.specs.Expressions.{binary, truth_of}
 use Rattle.code_core.specs.declared.opcode.Opcode.{Opcode}
-use Rattle.code_core.specs.declared.opcode.Opcode.TheVariants.{LFalseSkip, Eq, Lt, Le}
+use Rattle.code_core.specs.declared.opcode.Opcode.TheVariants.{LFalseSkip, Eq, Lt, Le, EqK}
 use Rattle.code_core.specs.declared.instruction.Instruction.{Instruction}
+use Rattle.code_core.specs.declared.proto.Const.{Const}
 use Rattle.code_core.specs.Instruction.{abc, opcode_of, a_of, b_of, sb_of}
 use Rattle.code_core.specs.Prototype.{Prototype}
 use Rattle.code_core.specs.Check.{at}
@@ -24,6 +26,8 @@ use Rattle.machine_core.specs.Talk.{before, talk, talk_step, says_so, heard}
 use Rattle.code_of.specs.Coded.{Coded}
 use Rattle.code_of.specs.Operators.{operator_code, number_code, number_opcode, truth_code}
 use Rattle.code_of.specs.Conditions.{pick, compared, is_compared}
+use Rattle.code_of.specs.ConstantOperands.{constant_by}
+use Rattle.code_of.specs.Operations.{constant_code}
 use Rattle.exp_laws.proofs.Steps.{row_step, own_step, put_on, put_step}
 use Rattle.code_of.proofs.Fields.{k_of-abc}
 
@@ -34,6 +38,8 @@ pub record Comparison (op : BinOp) : Type 0 where
   pub swapped : Bool
   pub emits : (x y t line : ℕ) → operator_code op x y t line ≡ truth_code opcode (pick swapped x y) (pick swapped y x) wanted t line
   pub emits_number : (x n t line : ℕ) → number_code op x n t line ≡ truth_code (number_opcode op) x (n + 127) wanted t line
+  pub emits_constant : (d : Exp) (c : Const) → constant_by op d ≡ Some c → (x n t line : ℕ) → constant_code op x n t line ≡ truth_code EqK x n wanted t line
+  pub equals : (d : Exp) (c : Const) → constant_by op d ≡ Some c → (operation ≡ equal) × (swapped ≡ false)
   pub tests : (other : List Coded) (by : Opcode → (swapped wanted : Bool) → List Coded) → compared op other by ≡ by opcode swapped wanted
   pub compares_so : is_compared op ≡ true
   pub row : (p : Prototype) (pc : ℕ) (w : Instruction) → row_of p pc opcode w ≡ own (read_register (a_of w)) (λ x _. own (read_register (b_of w)) (λ y _. compares operation (read x) (read y) w))
@@ -50,12 +56,12 @@ IsComparison Ge = Unit {0}
 IsComparison _ = ⊥
 
 pub comparison_by : (op : BinOp) → IsComparison op → Comparison op
-comparison_by Equal h = record { opcode = Eq; operation = equal; wanted = true; swapped = false; emits = λ x y t line. refl; emits_number = λ x n t line. refl; tests = λ other by. refl; compares_so = refl; row = λ p pc w. refl; row_of_number = λ p pc w. refl; means = λ line v w a k. refl }
-comparison_by Ne h = record { opcode = Eq; operation = equal; wanted = false; swapped = false; emits = λ x y t line. refl; emits_number = λ x n t line. refl; tests = λ other by. refl; compares_so = refl; row = λ p pc w. refl; row_of_number = λ p pc w. refl; means = λ line v w a k. refl }
-comparison_by Less h = record { opcode = Lt; operation = less; wanted = true; swapped = false; emits = λ x y t line. refl; emits_number = λ x n t line. refl; tests = λ other by. refl; compares_so = refl; row = λ p pc w. refl; row_of_number = λ p pc w. refl; means = λ line v w a k. refl }
-comparison_by AtMost h = record { opcode = Le; operation = less_equal; wanted = true; swapped = false; emits = λ x y t line. refl; emits_number = λ x n t line. refl; tests = λ other by. refl; compares_so = refl; row = λ p pc w. refl; row_of_number = λ p pc w. refl; means = λ line v w a k. refl }
-comparison_by Gt h = record { opcode = Lt; operation = less; wanted = true; swapped = true; emits = λ x y t line. refl; emits_number = λ x n t line. refl; tests = λ other by. refl; compares_so = refl; row = λ p pc w. refl; row_of_number = λ p pc w. refl; means = λ line v w a k. refl }
-comparison_by Ge h = record { opcode = Le; operation = less_equal; wanted = true; swapped = true; emits = λ x y t line. refl; emits_number = λ x n t line. refl; tests = λ other by. refl; compares_so = refl; row = λ p pc w. refl; row_of_number = λ p pc w. refl; means = λ line v w a k. refl }
+comparison_by Equal h = record { opcode = Eq; operation = equal; wanted = true; swapped = false; emits = λ x y t line. refl; emits_number = λ x n t line. refl; emits_constant = λ d c is x n t line. refl; equals = λ d c is. (refl, refl); tests = λ other by. refl; compares_so = refl; row = λ p pc w. refl; row_of_number = λ p pc w. refl; means = λ line v w a k. refl }
+comparison_by Ne h = record { opcode = Eq; operation = equal; wanted = false; swapped = false; emits = λ x y t line. refl; emits_number = λ x n t line. refl; emits_constant = λ d c is x n t line. refl; equals = λ d c is. (refl, refl); tests = λ other by. refl; compares_so = refl; row = λ p pc w. refl; row_of_number = λ p pc w. refl; means = λ line v w a k. refl }
+comparison_by Less h = record { opcode = Lt; operation = less; wanted = true; swapped = false; emits = λ x y t line. refl; emits_number = λ x n t line. refl; emits_constant = λ d c is. absurd (cc); equals = λ d c is. absurd (cc); tests = λ other by. refl; compares_so = refl; row = λ p pc w. refl; row_of_number = λ p pc w. refl; means = λ line v w a k. refl }
+comparison_by AtMost h = record { opcode = Le; operation = less_equal; wanted = true; swapped = false; emits = λ x y t line. refl; emits_number = λ x n t line. refl; emits_constant = λ d c is. absurd (cc); equals = λ d c is. absurd (cc); tests = λ other by. refl; compares_so = refl; row = λ p pc w. refl; row_of_number = λ p pc w. refl; means = λ line v w a k. refl }
+comparison_by Gt h = record { opcode = Lt; operation = less; wanted = true; swapped = true; emits = λ x y t line. refl; emits_number = λ x n t line. refl; emits_constant = λ d c is. absurd (cc); equals = λ d c is. absurd (cc); tests = λ other by. refl; compares_so = refl; row = λ p pc w. refl; row_of_number = λ p pc w. refl; means = λ line v w a k. refl }
+comparison_by Ge h = record { opcode = Le; operation = less_equal; wanted = true; swapped = true; emits = λ x y t line. refl; emits_number = λ x n t line. refl; emits_constant = λ d c is. absurd (cc); equals = λ d c is. absurd (cc); tests = λ other by. refl; compares_so = refl; row = λ p pc w. refl; row_of_number = λ p pc w. refl; means = λ line v w a k. refl }
 comparison_by _ h = absurd h
 
 pub told_truth : (reply : Reply) → told_values for_truth reply ≡ told_values for_value reply

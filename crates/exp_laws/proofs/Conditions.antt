@@ -1,5 +1,5 @@
 -- The law of a condition: both come to the place behind it where the truth is k, and else to the place that its jumps lead to.
-use Rattle.std.proofs.Common.{◌⊎◌, inl, inr, ◌≡◌, ℕ, ◌+◌, ◌<◌, ◌≤◌, ◌^◌, Bool, true, false, cond, not, List, [], ◌∷◌, ◌++◌, length, refl, sym, ap, subst, ◌∙◌, arith, length-append, pos}
+use Rattle.std.proofs.Common.{◌⊎◌, inl, inr, ◌≡◌, ℕ, ◌+◌, ◌<◌, ◌≤◌, ◌^◌, Bool, true, false, cond, not, List, [], ◌∷◌, ◌++◌, length, None, refl, sym, ap, subst, ◌∙◌, arith, length-append, pos}
 use Rattle.int_core.specs.Value.{Value, known, boolean, integer, nth, shape, holds, same_truth}
 use Rattle.int_core.specs.Operations.{Operation}
 use Rattle.int_core.specs.Ask.{operates, Captured}
@@ -12,16 +12,16 @@ use Rattle.tree_activation.specs.Work as tree
 use Rattle.tree_activation.specs.Asking.{first}
 use Rattle.tree_activation.specs.Expressions.{truth_of}
 use Rattle.code_core.specs.declared.opcode.Opcode.{Opcode}
-use Rattle.code_core.specs.declared.opcode.Opcode.TheVariants.{Jmp, Test}
+use Rattle.code_core.specs.declared.opcode.Opcode.TheVariants.{Jmp, Test, EqK}
 use Rattle.code_core.specs.Instruction.{op_ax}
 use Rattle.machine_core.specs.World.{for_truth}
-use Rattle.machine_core.specs.Text.{go_by}
+use Rattle.machine_core.specs.Text.{constant, go_by}
 use Rattle.machine_core.specs.Talk.{before, amid, talk, talk_step, says_so, heard}
 use Rattle.code_of.specs.Coded.{Coded, jump_over}
 use Rattle.code_of.specs.Expressions.{made_by, exp_code}
 use Rattle.exp_laws.specs.Setting.{Setting}
 use Rattle.exp_laws.specs.Placed.{IsPlaced}
-use Rattle.code_of.specs.Rooms.{room_of, room_of_test}
+use Rattle.code_of.specs.Rooms.{room_of, room_of_name, room_of_test}
 use Rattle.exp_laws.proofs.Registers.{Rel, After, after_none, after_then}
 use Rattle.exp_laws.proofs.Talking.{as_code, Agree, go_left, go_right, of_tree, of_code}
 use Rattle.exp_laws.proofs.Placing.{HasAt, has_front, has_back, here_abc}
@@ -31,10 +31,14 @@ use Rattle.exp_laws.proofs.Tests.{test_on, test_past, jump_step}
 use Rattle.exp_laws.proofs.Comparisons.{Comparison, comparison_by, told_truth, compare_rest}
 use Rattle.exp_laws.proofs.OperatorForms.{one_of, compared_so, numbered_so}
 use Rattle.exp_laws.proofs.Operands.{operands_goes}
+use Rattle.exp_laws.proofs.Standing.{operand_goes}
 use Rattle.exp_laws.proofs.Going.{next_there, at_place}
 use Rattle.exp_laws.proofs.Exps.{exp_same, room_some}
 use Rattle.code_of.specs.Conditions.{jump_if, pick, compared, is_compared, line_of, value_test, test_code}
-use Rattle.code_of.specs.Operands.{second_of, first_of, operands_code, operands_room}
+use Rattle.code_of.specs.Operands.{local_at, local_of, second_of, first_of, operands_code, operands_room}
+use Rattle.code_of.specs.FieldReads.{object_room}
+use Rattle.exp_laws.proofs.ConstantForms.{operation_same, constant_so}
+use Rattle.code_of.specs.Operations.{constant_in, operation_by, operation_room}
 use Rattle.code_of.specs.Operators.{number_opcode}
 use Rattle.code_of.proofs.Operands.{operator_stands}
 
@@ -171,22 +175,19 @@ module _ (S : Setting) (pending : List Pending) where
       → GoesIf n t env regs (pc + length (test_code S.code.own.constants e k ahead t j) + ahead) w k false
       → Agree S n (tree.at (evaluate e) (of_tree S pending env c) w) (before (of_code S pending pc regs opened) c)
 
-  -- by the value
+  -- by the value, which may stay in the register of a local
   by_value : (e : Exp) (k : Bool) (ahead t j n pc opened : ℕ) (env regs : List Value) (c : Captured) (w : List Work)
       → n ≤ S.bound → HasAt S pc (value_test S.code.own.constants e k ahead t j) → IsPlaced S e (length env) j → pc + length (value_test S.code.own.constants e k ahead t j) + ahead < length S.code.own.code
-      → length env ≤ t → t + room_of S.code.own.constants e 2 ≤ S.code.own.stack → Rel S.hidden S.code.own.stack pending env c regs
+      → length env ≤ t → (local_of e ≡ None → t + room_of S.code.own.constants e 2 ≤ S.code.own.stack) → Rel S.hidden S.code.own.stack pending env c regs
       → GoesIf n t env regs (pc + length (value_test S.code.own.constants e k ahead t j)) w k true
       → GoesIf n t env regs (pc + length (value_test S.code.own.constants e k ahead t j) + ahead) w k false
       → Agree S n (tree.at (evaluate e) (of_tree S pending env c) w) (before (of_code S pending pc regs opened) c)
   by_value e k ahead t j n pc opened env regs c w bound has ok inside le room rel on away =
-      let value = exp_code S.code.own.constants e t j 2 in
-      let last = jump_if Test t 0 (not k) ahead (line_of e) in
-      let sum = length-append value last in
-      let some = room_some S.code.own.constants e in
-      exp_same S pending e t j n pc opened env regs c w bound (has_front S pc value last has) ok (omega (arith, inside, sum)) le room rel
-      (λ vs env1 regs1 c1 o1 af eq one. tested_goes k (same_truth (holds (shape (first vs))) k) t ahead (line_of e) n (pc + length value) o1 _ env1 regs1 c1 (first vs) (has_back S pc value last has) (omega (arith, inside, sum)) (omega (arith, room, some)) af.rel eq refl
-      (λ is. at_place S pending n (pc + length value + 2) (pc + length (value ++ last)) o1 _ regs1 c1 (omega (arith, sum)) (on vs env1 regs1 c1 o1 af is))
-      (λ is. at_place S pending n (pc + length value + 2 + ahead) (pc + length (value ++ last) + ahead) o1 _ regs1 c1 (omega (arith, sum)) (away vs env1 regs1 c1 o1 af is)))
+      let end = pc + length (value_test S.code.own.constants e k ahead t j) in
+      operand_goes S pending e (λ x. jump_if Test x 0 (not k) ahead (line_of e)) n t end env regs w j pc opened c (exp_same S pending e) (room_some S.code.own.constants e) bound has ok refl (omega (arith, inside)) le room rel
+      (λ x place o1 vs env1 regs1 c1 af low x_room x_is here ends. tested_goes k (same_truth (holds (shape (first vs))) k) x ahead (line_of e) n place o1 _ env1 regs1 c1 (first vs) here (omega (arith, inside, ends)) x_room af.rel x_is refl
+      (λ is. at_place S pending n (place + 2) end o1 _ regs1 c1 ends (on vs env1 regs1 c1 o1 af is))
+      (λ is. at_place S pending n (place + 2 + ahead) (end + ahead) o1 _ regs1 c1 (omega (arith, ends)) (away vs env1 regs1 c1 o1 af is)))
 
   pub truth_is : (h b : Bool) → same_truth h true ≡ b → h ≡ b
   truth_is true b e = e
@@ -236,9 +237,9 @@ module _ (S : Setting) (pending : List Pending) where
       (on (known (boolean (not (holds (shape (first vs))))) ∷ []) env1 regs1 c1 o1 af (sym (not_right (holds (shape (first vs))) k) ∙ is)))
       (λ vs env1 regs1 c1 o1 af is. go_left S n _ (tree.at (give (known (boolean (not (holds (shape (first vs))))) ∷ [])) (of_tree S pending env1 c1) w) _ refl
       (away (known (boolean (not (holds (shape (first vs))))) ∷ []) env1 regs1 c1 o1 af (sym (not_right (holds (shape (first vs))) k) ∙ is))))
-  test_same (Unary line Neg e) k ahead t j n pc opened env regs c w bound has ok inside le room rel on away = by_value (Unary line Neg e) k ahead t j n pc opened env regs c w bound has ok inside le room rel on away
-  test_same (Unary line BitNot e) k ahead t j n pc opened env regs c w bound has ok inside le room rel on away = by_value (Unary line BitNot e) k ahead t j n pc opened env regs c w bound has ok inside le room rel on away
-  test_same (Unary line Length e) k ahead t j n pc opened env regs c w bound has ok inside le room rel on away = by_value (Unary line Length e) k ahead t j n pc opened env regs c w bound has ok inside le room rel on away
+  test_same (Unary line Neg e) k ahead t j n pc opened env regs c w bound has ok inside le room rel on away = by_value (Unary line Neg e) k ahead t j n pc opened env regs c w bound has ok inside le (λ _. room) rel on away
+  test_same (Unary line BitNot e) k ahead t j n pc opened env regs c w bound has ok inside le room rel on away = by_value (Unary line BitNot e) k ahead t j n pc opened env regs c w bound has ok inside le (λ _. room) rel on away
+  test_same (Unary line Length e) k ahead t j n pc opened env regs c w bound has ok inside le room rel on away = by_value (Unary line Length e) k ahead t j n pc opened env regs c w bound has ok inside le (λ _. room) rel on away
   test_same (And line e d) k ahead t j n pc opened env regs c w bound has ok inside le room rel on away =
       let second = test_code S.code.own.constants d k ahead t (j + made_by e) in
       let front = test_code S.code.own.constants e true (length second + cond k ahead 0) t j in
@@ -273,13 +274,16 @@ module _ (S : Setting) (pending : List Pending) where
       by_registers : Opcode → (swapped wanted : Bool) → (x y : ℕ) → List Coded
       by_registers opcode swapped wanted x y = jump_if opcode (pick swapped x y) (pick swapped y x) (cond wanted (not k) k) ahead line
 
+      by_constant : (wanted : Bool) → (x m : ℕ) → List Coded
+      by_constant wanted x m = jump_if EqK x m (cond wanted (not k) k) ahead line
+
       by_number : (wanted : Bool) → (x m : ℕ) → List Coded
       by_number wanted x m = jump_if (number_opcode op) x (m + 127) (cond wanted (not k) k) ahead line
 
       code_by : Opcode → (swapped wanted : Bool) → List Coded
       code_by opcode swapped wanted =
-          operands_code (second_of op d) (first_of (second_of op d) e) (exp_code S.code.own.constants e t j 2) (exp_code S.code.own.constants d (t + 1) (j + made_by e) 2) t
-          (by_registers opcode swapped wanted) (by_number wanted)
+          operation_by (constant_in S.code.own.constants op d) op e d (exp_code S.code.own.constants e t j 2) (exp_code S.code.own.constants d (t + 1) (j + made_by e) 2) t
+          (by_constant wanted) (by_registers opcode swapped wanted) (by_number wanted)
 
       by : Comparison op ⊎ Other op → Agree S n (tree.at (evaluate (Binary line op e d)) (of_tree S pending env c) w) (before (of_code S pending pc regs opened) c)
       by (inr f) =
@@ -287,16 +291,22 @@ module _ (S : Setting) (pending : List Pending) where
           let size = ap length is in
           let own : ◌≡◌ {A = ℕ} (cond (is_compared op) 0 1) 1 = ap (λ b. cond b 0 1) f.compares_not in
           by_value (Binary line op e d) k ahead t j n pc opened env regs c w bound (subst (HasAt S pc) is has) ok (omega (arith, inside, size)) le
-          (subst (λ b. t + operands_room b (second_of op d) (first_of (second_of op d) e) (room_of S.code.own.constants e 2) (room_of S.code.own.constants d 2) ≤ S.code.own.stack) own room) rel
+          (λ _. subst (λ b. t + operation_room b (constant_in S.code.own.constants op d) op e d (room_of S.code.own.constants e 2) (room_of S.code.own.constants d 2) ≤ S.code.own.stack) own room) rel
           (if_at n t _ _ env regs w k true (omega (arith, size)) on) (if_at n t _ _ env regs w k false (omega (arith, size)) away)
       by (inl f) =
           let is = f.tests other code_by in
           let size = ap length is in
           let end = pc + length (code_by f.opcode f.swapped f.wanted) in
           go_left S n _ (tree.at (evaluate e) (of_tree S pending env c) (right_of line op d ∷ w)) _ refl
-          (operands_goes S pending (second_of op d) 128 e d (operator_stands op d) (right_of line op d) (left_of line op) (by_registers f.opcode f.swapped f.wanted) (by_number f.wanted) n t end env regs w (cond (is_compared op) 0 1) j pc opened c
-          (λ vs env' c'. refl) (exp_same S pending e) (exp_same S pending d)
+          (operation_same S pending line op e d (by_constant f.wanted) (by_registers f.opcode f.swapped f.wanted) (by_number f.wanted) n t end env regs w (cond (is_compared op) 0 1) j pc opened c
+          (exp_same S pending e) (exp_same S pending d)
           (room_some S.code.own.constants e) (room_some S.code.own.constants d) bound (subst (HasAt S pc) is has) ok.0 ok.1 refl (omega (arith, inside, size)) le room rel
+          (λ x m place o1 v q env1 regs1 c1 af x_room x_is here ends. let z = known (constant q.value) in
+          compare_goes EqK f.operation f.wanted k x m t ahead line n place o1 _ (pick f.swapped v z) (pick f.swapped z v) env1 regs1 c1 w here (omega (arith, inside, size, ends))
+          (omega (arith, x_room, S.small)) af.rel
+          (constant_so S pending op f d m q x place o1 (cond f.wanted (not k) k) v env1 regs1 c1 here.0 x_room af.rel x_is) (f.means line v z (of_tree S pending env1 c1) w)
+          (if_at n t _ _ env1 regs1 w k true (omega (arith, size, ends)) (if_after n t _ env regs env1 regs1 c1 w k true af on))
+          (if_at n t _ _ env1 regs1 w k false (omega (arith, size, ends)) (if_after n t _ env regs env1 regs1 c1 w k false af away)))
           (λ x y place o1 v ws env1 regs1 c1 af x_room y_room x_is y_is seats here ends.
           compare_goes f.opcode f.operation f.wanted k (pick f.swapped x y) (pick f.swapped y x) t ahead line n place o1 _ (pick f.swapped v (first ws)) (pick f.swapped (first ws) v) env1 regs1 c1 w here (omega (arith, inside, size, ends))
           (one_of S pending f.swapped x y (2 ^ 8) (omega (arith, x_room, S.small)) (omega (arith, y_room, S.small))) af.rel
@@ -319,14 +329,15 @@ module _ (S : Setting) (pending : List Pending) where
       (go_right S n _ _ (before (of_code S pending (pc + (ahead + 1)) regs opened) c)
       (jump_step S.code (of_code S pending pc regs opened) c ahead there.0 has.0 (omega (arith, inside, S.short)) there.1)
       (at_place S pending n (pc + (ahead + 1)) (pc + 1 + ahead) opened _ regs c far (away (known (boolean true) ∷ []) env regs c opened (after_none S.hidden S.code.own.stack pending env regs c t rel) refl)))
-  test_same (Nil line) k ahead t j n pc opened env regs c w bound has ok inside le room rel on away = by_value (Nil line) k ahead t j n pc opened env regs c w bound has ok inside le room rel on away
-  test_same (False line) k ahead t j n pc opened env regs c w bound has ok inside le room rel on away = by_value (False line) k ahead t j n pc opened env regs c w bound has ok inside le room rel on away
-  test_same (Int line z) k ahead t j n pc opened env regs c w bound has ok inside le room rel on away = by_value (Int line z) k ahead t j n pc opened env regs c w bound has ok inside le room rel on away
-  test_same (Str line bytes) k ahead t j n pc opened env regs c w bound has ok inside le room rel on away = by_value (Str line bytes) k ahead t j n pc opened env regs c w bound has ok inside le room rel on away
-  test_same (Vararg line) k ahead t j n pc opened env regs c w bound has ok inside le room rel on away = by_value (Vararg line) k ahead t j n pc opened env regs c w bound has ok inside le room rel on away
-  test_same (Function line body) k ahead t j n pc opened env regs c w bound has ok inside le room rel on away = by_value (Function line body) k ahead t j n pc opened env regs c w bound has ok inside le room rel on away
-  test_same (Var line name) k ahead t j n pc opened env regs c w bound has ok inside le room rel on away = by_value (Var line name) k ahead t j n pc opened env regs c w bound has ok inside le room rel on away
-  test_same (Index line object key) k ahead t j n pc opened env regs c w bound has ok inside le room rel on away = by_value (Index line object key) k ahead t j n pc opened env regs c w bound has ok inside le room rel on away
-  test_same (Call line f es) k ahead t j n pc opened env regs c w bound has ok inside le room rel on away = by_value (Call line f es) k ahead t j n pc opened env regs c w bound has ok inside le room rel on away
-  test_same (Method line object name es) k ahead t j n pc opened env regs c w bound has ok inside le room rel on away = by_value (Method line object name es) k ahead t j n pc opened env regs c w bound has ok inside le room rel on away
-  test_same (Table line fs) k ahead t j n pc opened env regs c w bound has ok inside le room rel on away = by_value (Table line fs) k ahead t j n pc opened env regs c w bound has ok inside le room rel on away
+  test_same (Nil line) k ahead t j n pc opened env regs c w bound has ok inside le room rel on away = by_value (Nil line) k ahead t j n pc opened env regs c w bound has ok inside le (λ _. room) rel on away
+  test_same (False line) k ahead t j n pc opened env regs c w bound has ok inside le room rel on away = by_value (False line) k ahead t j n pc opened env regs c w bound has ok inside le (λ _. room) rel on away
+  test_same (Int line z) k ahead t j n pc opened env regs c w bound has ok inside le room rel on away = by_value (Int line z) k ahead t j n pc opened env regs c w bound has ok inside le (λ _. room) rel on away
+  test_same (Str line bytes) k ahead t j n pc opened env regs c w bound has ok inside le room rel on away = by_value (Str line bytes) k ahead t j n pc opened env regs c w bound has ok inside le (λ _. room) rel on away
+  test_same (Vararg line) k ahead t j n pc opened env regs c w bound has ok inside le room rel on away = by_value (Vararg line) k ahead t j n pc opened env regs c w bound has ok inside le (λ _. room) rel on away
+  test_same (Function line body) k ahead t j n pc opened env regs c w bound has ok inside le room rel on away = by_value (Function line body) k ahead t j n pc opened env regs c w bound has ok inside le (λ _. room) rel on away
+  test_same (Var line name) k ahead t j n pc opened env regs c w bound has ok inside le room rel on away = by_value (Var line name) k ahead t j n pc opened env regs c w bound has ok inside le
+      (λ none. subst (λ at. t + object_room 0 at (room_of_name S.code.own.constants name.place name.text) ≤ S.code.own.stack) none room) rel on away
+  test_same (Index line object key) k ahead t j n pc opened env regs c w bound has ok inside le room rel on away = by_value (Index line object key) k ahead t j n pc opened env regs c w bound has ok inside le (λ _. room) rel on away
+  test_same (Call line f es) k ahead t j n pc opened env regs c w bound has ok inside le room rel on away = by_value (Call line f es) k ahead t j n pc opened env regs c w bound has ok inside le (λ _. room) rel on away
+  test_same (Method line object name es) k ahead t j n pc opened env regs c w bound has ok inside le room rel on away = by_value (Method line object name es) k ahead t j n pc opened env regs c w bound has ok inside le (λ _. room) rel on away
+  test_same (Table line fs) k ahead t j n pc opened env regs c w bound has ok inside le room rel on away = by_value (Table line fs) k ahead t j n pc opened env regs c w bound has ok inside le (λ _. room) rel on away

@@ -3,11 +3,11 @@ use Rattle.std.proofs.Common.{◌≡◌, ℕ, ◌+◌, ◌-◌, ◌<◌, ◌≤�
 use Rattle.int_core.specs.Value.{Value, a_table, object as reference, same_truth, known, nil, boolean, nth, shape, holds}
 use Rattle.int_core.specs.Ask.{Captured, goes_on}
 use Rattle.tree_core.specs.Tree.{Exp, Nil, True, False, Int, Str, Vararg, Function, Var, Index, Call, Method, Unary, Binary, And, Or, Paren, Table, Exps, EndExps, MoreExps, Fields, EndFields, MoreFields, Item, Keyed}
-use Rattle.tree_activation.specs.Work.{Purpose, for_call, evaluate, give, collect, construct, item_of, keyed_value, keyed_store, callee_of, method_of, listed, Work, Pending, key_of, object_of, operand_of, right_of, left_of, and_right, or_right, first_only}
+use Rattle.tree_activation.specs.Work.{Purpose, for_call, evaluate, give, collect, construct, item_of, keyed_value, keyed_store as keyed_store_of, callee_of, method_of, listed, Work, Pending, key_of, object_of, operand_of, right_of, left_of, and_right, or_right, first_only}
 use Rattle.tree_activation.specs.Work as tree
 use Rattle.tree_activation.specs.Activation.{takes_all, step}
 use Rattle.tree_activation.specs.Asking.{first}
-use Rattle.code_core.specs.declared.opcode.Opcode.TheVariants.{LoadNil, LoadTrue, LoadFalse, SetTable, Test, Call as CallCode}
+use Rattle.code_core.specs.declared.opcode.Opcode.TheVariants.{LoadNil, LoadTrue, LoadFalse, Test, Call as CallCode}
 use Rattle.code_core.specs.declared.proto.Const.{Const}
 use Rattle.code_core.specs.declared.proto.Const.TheVariants.{Str as StrConst}
 use Rattle.code_core.specs.Instruction.{abc}
@@ -15,9 +15,12 @@ use Rattle.code_core.specs.Check.{fixed, open_from}
 use Rattle.machine_core.specs.Talk.{before}
 use Rattle.code_of.specs.Coded.{with_abc, jump_over}
 use Rattle.code_of.specs.Constants.{is_small}
-use Rattle.code_of.specs.Operands.{second_of, first_of}
+use Rattle.code_of.specs.Operands.{local_of, second_of, first_of}
 use Rattle.code_of.proofs.Operands.{second_number, joins_made, operator_stands, some_operands}
-use Rattle.code_of.specs.Stores.{name_in}
+use Rattle.code_of.specs.Stores.{name_in, is_quiet, field_key, keyed_store}
+use Rattle.code_of.proofs.Stores.{field_key_stands, room_above_table, room_above_key}
+use Rattle.code_of.specs.Operations.{constant_in, constant_code}
+use Rattle.code_of.proofs.Operations.{some_operation}
 use Rattle.code_of.proofs.FieldReads.{some_read}
 use Rattle.code_of.specs.Operators.{self_code, prefix_code, operator_code, number_code}
 use Rattle.code_of.specs.Expressions.{made_by, count, is_open, ends_open, Wanted, results_field, one_less, field_of, wanted_after, list_field, exp_code, exps_code, fields_code, set_list}
@@ -32,16 +35,19 @@ use Rattle.exp_laws.proofs.CallForms.{varargs_goes, call_goes, self_goes}
 use Rattle.exp_laws.proofs.ListForms.{GoesListed, Listed, total, listed_at, listed_after, listed_less, passed, nils_goes, held_both}
 use Rattle.exp_laws.proofs.FunctionForms.{function_goes}
 use Rattle.exp_laws.proofs.Tables.{items_count}
-use Rattle.exp_laws.proofs.TableForms.{new_goes, fill_goes, store_goes}
+use Rattle.exp_laws.proofs.TableForms.{new_goes, fill_goes}
+use Rattle.exp_laws.proofs.Storing.{key_goes}
 use Rattle.exp_laws.proofs.Loads.{nil_step}
 use Rattle.exp_laws.specs.Placed.{IsPlaced, ArePlaced, FieldsArePlaced}
 use Rattle.code_of.specs.Rooms.{room_of, room_of_fields, room_of_list, room_of_values}
 use Rattle.code_of.proofs.Rooms.{name_room, self_room}
 use Rattle.exp_laws.proofs.Going.{Given, Filled, Goes, GoesFilled, at_place, goes_at, goes_after, into_goes, one_goes}
 use Rattle.exp_laws.proofs.NameForms.{constant_goes, integer_goes, name_goes}
-use Rattle.exp_laws.proofs.OperatorForms.{unary_goes, binary_goes, number_goes, decides_goes}
+use Rattle.exp_laws.proofs.OperatorForms.{unary_into, binary_goes, number_goes, decides_goes}
 use Rattle.exp_laws.proofs.Sums.{number_form}
 use Rattle.exp_laws.proofs.Operands.{ExpSame, operands_goes}
+use Rattle.exp_laws.proofs.Standing.{operand_goes}
+use Rattle.exp_laws.proofs.ConstantForms.{operation_same, with_constant_goes}
 use Rattle.exp_laws.proofs.FieldForms.{field_into}
 
 and_decides : {A : Type 0} (x y : A) (b : Bool) → same_truth b false ≡ true → cond b x y ≡ y
@@ -74,7 +80,7 @@ room_some cs (Index line object key) = some_read (name_in cs key) object key (ro
 room_some cs (Call line f es) = let h = room_some cs f in omega (arith, h)
 room_some cs (Method line object name es) = let h = room_some cs object in omega (arith, h)
 room_some cs (Unary line op e) = room_some cs e
-room_some cs (Binary line op e d) = some_operands (second_of op d) (first_of (second_of op d) e) (room_of cs e 2) (room_of cs d 2) (room_some cs e)
+room_some cs (Binary line op e d) = some_operation (constant_in cs op d) op e d (room_of cs e 2) (room_of cs d 2) (room_some cs e)
 room_some cs (And line e d) = let h = room_some cs e in omega (arith, h)
 room_some cs (Or line e d) = let h = room_some cs e in omega (arith, h)
 room_some cs (Paren line e) = room_some cs e
@@ -344,21 +350,21 @@ module _ (S : Setting) (pending : List Pending) where
         (one_same e (all_same e) t j n pc opened env regs c (first_only ∷ k) bound has ok inside le room rel
         (λ vs env1 regs1 c1 o1 af eq one. go_left S n _ (tree.at (give (first vs ∷ [])) (of_tree S pending env1 c1) k) _ refl (goes (first vs ∷ []) env1 regs1 c1 o1 af eq refl)))
     all_same (Unary line op e) field t j n pc opened env regs c k bound has fits ok inside le room rel goes =
-        let code = exp_code S.code.own.constants e t j 2 in
-        let last_code = prefix_code op t line in
-        let sum = length-append code last_code in
+        let end = pc + length (exp_code S.code.own.constants (Unary line op e) t j 2) in
         let some = room_some S.code.own.constants e in
         go_left S n _ (tree.at (evaluate e) (of_tree S pending env c) (operand_of line op ∷ k)) _ refl
-        (one_same e (all_same e) t j n pc opened env regs c (operand_of line op ∷ k) bound (has_front S pc code last_code has) ok (omega (arith, inside, sum)) le room rel
-        (λ vs env1 regs1 c1 o1 af eq one. unary_goes S pending op n false line t (pc + length code) o1 vs env1 regs1 c1 k (has_back S pc code last_code has) (omega (arith, inside, sum)) (omega (arith, le, af.size)) (omega (arith, room, some)) af.rel eq
-        (goes_at S pending n false t _ (pc + length (code ++ last_code)) env1 regs1 k (omega (arith, sum)) (goes_after S pending n false t _ env regs env1 regs1 c1 k af goes))))
+        (operand_goes S pending e (λ x. prefix_code op x t line) n t end env regs (operand_of line op ∷ k) j pc opened c (one_same e (all_same e)) some bound has ok refl inside le (λ _. room) rel
+        (λ x place o1 vs env1 regs1 c1 af low x_room x_is here ends. unary_into S pending op n false line x t t place o1 vs env1 regs1 c1 k here (omega (arith, inside, ends)) (omega (arith, room, some)) x_room af.rel x_is
+        (into_goes S pending n false t (place + 1) env1 regs1 k (omega (arith, le, af.size)) (goes_at S pending n false t (place + 1) end env1 regs1 k ends (goes_after S pending n false t _ env regs env1 regs1 c1 k af goes)))))
     all_same (Binary line op e d) field t j n pc opened env regs c k bound has fits ok inside le room rel goes =
         let constants = S.code.own.constants in
         let end = pc + length (exp_code constants (Binary line op e d) t j 2) in
-        let some = some_operands (second_of op d) (first_of (second_of op d) e) (room_of constants e 2) (room_of constants d 2) (room_some constants e) in
+        let some = some_operation (constant_in constants op d) op e d (room_of constants e 2) (room_of constants d 2) (room_some constants e) in
         go_left S n _ (tree.at (evaluate e) (of_tree S pending env c) (right_of line op d ∷ k)) _ refl
-        (operands_goes S pending (second_of op d) 128 e d (operator_stands op d) (right_of line op d) (left_of line op) (λ x y. operator_code op x y t line) (λ x m. number_code op x m t line) n t end env regs k
-        1 j pc opened c (λ vs env' c'. refl) (one_same e (all_same e)) (one_same d (all_same d)) (room_some constants e) (room_some constants d) bound has ok.0 ok.1 refl inside le room rel
+        (operation_same S pending line op e d (λ x m. constant_code op x m t line) (λ x y. operator_code op x y t line) (λ x m. number_code op x m t line) n t end env regs k
+        1 j pc opened c (one_same e (all_same e)) (one_same d (all_same d)) (room_some constants e) (room_some constants d) bound has ok.0 ok.1 refl inside le room rel
+        (λ x m place o1 v f env1 regs1 c1 af x_room x_is here ends. with_constant_goes S pending op d m f n false line x t place o1 v env1 regs1 c1 k here (omega (arith, inside, ends)) (omega (arith, le, af.size)) (omega (arith, room, some)) x_room af.rel x_is
+        (goes_at S pending n false t _ end env1 regs1 k ends (goes_after S pending n false t _ env regs env1 regs1 c1 k af goes)))
         (λ x y place o1 v ws env1 regs1 c1 af x_room y_room x_is y_is seats here ends. binary_goes S pending op n false line x y t place o1 v ws env1 regs1 c1 k here (omega (arith, inside, ends)) (omega (arith, le, af.size)) (omega (arith, room, some)) x_room y_room
         (λ joined. seats (joins_made op d joined)) af.rel x_is y_is (goes_at S pending n false t _ end env1 regs1 k ends (goes_after S pending n false t _ env regs env1 regs1 c1 k af goes)))
         (λ x m place o1 v env1 regs1 c1 af x_room x_is is here ends. number_goes S pending op d m (number_form op d m (second_number op d m is)) n false line x t place o1 v env1 regs1 c1 k here (omega (arith, inside, ends)) (omega (arith, le, af.size)) (omega (arith, room, some)) x_room af.rel x_is
@@ -426,26 +432,25 @@ module _ (S : Setting) (pending : List Pending) where
         (filled_at n field t _ (pc + length (first_code ++ (args_code ++ last_code))) env2 regs2 k (omega (arith, whole, rest))
         (filled_after n field t _ env regs env2 regs2 c2 k (after_then S.hidden S.code.own.stack pending env regs env1 regs1 env2 regs2 c1 c2 t t (omega arith) af af2) goes))))))
     all_same (Method line object name es) field t j n pc opened env regs c k bound has fits ok inside le room rel goes =
-        let first_code = exp_code S.code.own.constants object t j 2 in
-        let name_code = self_code S.code.own.constants name.text t line in
         let args_code = exps_code S.code.own.constants es None (t + 2) (j + made_by object) line in
         let last_code = with_abc CallCode t (list_field 1 es) field line ∷ [] in
-        let behind = has_back S pc first_code (name_code ++ (args_code ++ last_code)) has in
-        let beyond = has_back S (pc + length first_code) name_code (args_code ++ last_code) behind in
-        let whole = length-append first_code (name_code ++ (args_code ++ last_code)) in
-        let middle = length-append name_code (args_code ++ last_code) in
+        let end = pc + length (exp_code S.code.own.constants (Method line object name es) t j field) in
         let rest = length-append args_code last_code in
         let two = (self_room S.code.own.constants name.text).0 in
-        let q = pc + length first_code + length name_code in
         go_left S n _ (tree.at (evaluate object) (of_tree S pending env c) (method_of line false name.text es ∷ k)) _ refl
-        (one_same object (all_same object) t j n pc opened env regs c (method_of line false name.text es ∷ k) bound (has_front S pc first_code (name_code ++ (args_code ++ last_code)) has) ok.0 (omega (arith, inside, whole)) le (omega (arith, room)) rel
-        (λ vs env1 regs1 c1 o1 af eq one. self_goes S pending name.text n line t (pc + length first_code) o1 (first vs) _ env1 regs1 c1 k (λ ws. collect (for_call line false) (first ws ∷ first vs ∷ []) es) refl
-        (has_front S (pc + length first_code) name_code (args_code ++ last_code) behind) ok.1.0 (omega (arith, inside, whole, middle, rest)) (omega (arith, le, af.size)) (omega (arith, room)) af.rel eq
+        (operand_goes S pending object (λ x. self_code S.code.own.constants name.text x t line ++ (args_code ++ last_code)) n t end env regs (method_of line false name.text es ∷ k) j pc opened c
+        (one_same object (all_same object)) (room_some S.code.own.constants object) bound has ok.0 refl inside le (λ _. omega (arith, room)) rel
+        (λ x place o1 vs env1 regs1 c1 af low x_room x_is here ends. let name_code = self_code S.code.own.constants name.text x t line in
+        let beyond = has_back S place name_code (args_code ++ last_code) here in
+        let middle = length-append name_code (args_code ++ last_code) in
+        let q = place + length name_code in
+        self_goes S pending name.text n line x t place o1 (first vs) _ env1 regs1 c1 k (λ ws. collect (for_call line false) (first ws ∷ first vs ∷ []) es) refl
+        (has_front S place name_code (args_code ++ last_code) here) ok.1.0 (omega (arith, inside, ends, middle, rest)) (omega (arith, le, af.size)) low (omega (arith, room)) af.rel x_is
         (λ ws env2 regs2 c2 af2 method_is self_is. lists_same es (for_call line false) None t 2 (j + made_by object) line n q o1 (first ws ∷ first vs ∷ []) env2 regs2 c2 k bound tt (has_front S q args_code last_code beyond) tt
-        (placed_all es _ _ _ (af2.size ∙ af.size) ok.1.1) (omega (arith, inside, whole, middle, rest)) refl (held_two t (first ws) (first vs) regs2 method_is self_is) (omega (arith, le, af.size, af2.size)) (omega (arith, room, two)) (omega (arith, room)) af2.rel
+        (placed_all es _ _ _ (af2.size ∙ af.size) ok.1.1) (omega (arith, inside, ends, middle, rest)) refl (held_two t (first ws) (first vs) regs2 method_is self_is) (omega (arith, le, af.size, af2.size)) (omega (arith, room, two)) (omega (arith, room)) af2.rel
         (λ args env3 regs3 c3 o3 af3 l. called es 1 field args n line t (q + length args_code) o3 env3 regs3 c3 k (has_back S q args_code last_code beyond)
-        (omega (arith, inside, whole, middle, rest)) (omega (arith, le, af.size, af2.size, af3.size)) (omega (arith, room, two)) (omega (arith, room)) (omega (arith, room)) fits af3.rel l
-        (filled_at n field t _ (pc + length (first_code ++ (name_code ++ (args_code ++ last_code)))) env3 regs3 k (omega (arith, whole, middle, rest))
+        (omega (arith, inside, ends, middle, rest)) (omega (arith, le, af.size, af2.size, af3.size)) (omega (arith, room, two)) (omega (arith, room)) (omega (arith, room)) fits af3.rel l
+        (filled_at n field t _ end env3 regs3 k (omega (arith, ends, middle, rest))
         (filled_after n field t _ env regs env3 regs3 c3 k
         (after_then S.hidden S.code.own.stack pending env regs env1 regs1 env3 regs3 c1 c3 t t (omega arith) af
         (after_then S.hidden S.code.own.stack pending env1 regs1 env2 regs2 env3 regs3 c2 c3 t t (omega arith) af2 af3)) goes))))))
@@ -551,30 +556,26 @@ module _ (S : Setting) (pending : List Pending) where
         (goes_after S pending n false t _ env regs env2 regs2 c2 k
         (after_then S.hidden S.code.own.stack pending env regs env1 regs1 env2 regs2 c1 c2 t t (omega arith) (lower S.hidden S.code.own.stack pending env regs env1 regs1 c1 (t + 1) t (omega arith) af) (lower S.hidden S.code.own.stack pending env1 regs1 env2 regs2 c2 (t + 1) t (omega arith) af2)) goes)))))
     fields_same (MoreFields (Keyed field_line e d) fs) line items m t j n pc opened env regs c k bound has ok inside le room rel is goes =
-        let first_code = exp_code S.code.own.constants e (t + 1) j 2 in
-        let second_code = exp_code S.code.own.constants d (t + 2) (j + made_by e) 2 in
-        let set_code = with_abc SetTable t (t + 1) (t + 2) field_line in
-        let rest_code = fields_code S.code.own.constants fs items t (j + made_by e + made_by d) line in
-        let behind = has_back S pc first_code (second_code ++ (set_code ∷ rest_code)) has in
-        let beyond = has_back S (pc + length first_code) second_code (set_code ∷ rest_code) behind in
-        let whole = length-append first_code (second_code ++ (set_code ∷ rest_code)) in
-        let more = length-append second_code (set_code ∷ rest_code) in
-        let some = room_some S.code.own.constants d in
-        go_left S n _ (tree.at (evaluate e) (of_tree S pending env c) (keyed_value line (reference a_table m) items field_line d fs ∷ k)) _ refl
-        (one_same e (all_same e) (t + 1) j n pc opened env regs c (keyed_value line (reference a_table m) items field_line d fs ∷ k) bound (has_front S pc first_code (second_code ++ (set_code ∷ rest_code)) has) ok.0 (omega (arith, inside, whole)) (omega (arith, le)) (omega (arith, room)) rel
-        (λ vs env1 regs1 c1 o1 af eq one. go_left S n _ (tree.at (evaluate d) (of_tree S pending env1 c1) (keyed_store line (reference a_table m) items field_line (first vs) fs ∷ k)) _ refl
-        (one_same d (all_same d) (t + 2) (j + made_by e) n (pc + length first_code) o1 env1 regs1 c1 (keyed_store line (reference a_table m) items field_line (first vs) fs ∷ k) bound (has_front S (pc + length first_code) second_code (set_code ∷ rest_code) behind)
-        (placed d _ _ _ af.size ok.1.0) (omega (arith, inside, whole, more)) (omega (arith, le, af.size)) (omega (arith, room)) af.rel
-        (λ ws env2 regs2 c2 o2 af2 eq2 one2. store_goes S pending t (t + 1) (t + 2) (t + 1) n field_line (pc + length first_code + length second_code) o2 (reference a_table m) (first vs) (first ws) _ env2 regs2 c2 k (λ _. construct line (reference a_table m) items fs) refl
-        (beyond.0, (beyond.1.0, tt)) (omega (arith, inside, whole, more)) (omega (arith, room, some)) (omega (arith, room, some)) (omega (arith, room, some)) af2.rel
-        (af2.keeps t (omega (arith, le, af.size)) (omega arith) ∙ (af.keeps t (omega (arith, le)) (omega arith) ∙ is)) (af2.keeps (t + 1) (omega (arith, le, af.size)) (omega arith) ∙ eq) eq2
-        (λ us env3 regs3 c3 af3. fields_same fs line items m t (j + made_by e + made_by d) n (pc + length first_code + length second_code + 1) o2 env3 regs3 c3 k bound beyond.1.1
-        (subst (λ z. FieldsArePlaced S fs items z (j + made_by e + made_by d)) (sym (af3.size ∙ (af2.size ∙ af.size))) ok.1.1) (omega (arith, inside, whole, more)) (omega (arith, le, af.size, af2.size, af3.size)) (omega (arith, room)) af3.rel
-        (af3.keeps t (omega (arith, le, af.size, af2.size)) (omega arith) ∙ (af2.keeps t (omega (arith, le, af.size)) (omega arith) ∙ (af.keeps t (omega (arith, le)) (omega arith) ∙ is)))
-        (goes_at S pending n false t _ (pc + length (first_code ++ (second_code ++ (set_code ∷ rest_code)))) env3 regs3 k (omega (arith, whole, more))
-        (goes_after S pending n false t _ env regs env3 regs3 c3 k
-        (after_then S.hidden S.code.own.stack pending env regs env1 regs1 env3 regs3 c1 c3 t t (omega arith) (lower S.hidden S.code.own.stack pending env regs env1 regs1 c1 (t + 1) t (omega arith) af)
-        (after_then S.hidden S.code.own.stack pending env1 regs1 env2 regs2 env3 regs3 c2 c3 t t (omega arith) (lower S.hidden S.code.own.stack pending env1 regs1 env2 regs2 c2 (t + 2) t (omega arith) af2) (lower S.hidden S.code.own.stack pending env2 regs2 env3 regs3 c3 (t + 1) t (omega arith) af3))) goes)))))))
+        let cs = S.code.own.constants in
+        let key = field_key cs (is_quiet d) e in
+        let table = reference a_table m in
+        let store_code = keyed_store key (local_of d) (exp_code cs e (t + 1) j 2) (exp_code cs d (t + 2) (j + made_by e) 2) t field_line in
+        let rest_code = fields_code cs fs items t (j + made_by e + made_by d) line in
+        let whole = length-append store_code rest_code in
+        let key_above = room_above_table key (room_of cs e 2) in
+        let value_above = room_above_key (local_of d) (room_of cs d 2) in
+        go_left S n _ (tree.at (evaluate e) (of_tree S pending env c) (keyed_value line table items field_line d fs ∷ k)) _ refl
+        (key_goes S pending table d field_line n (t + 1) k (keyed_value line table items field_line d fs) (λ w. keyed_store_of line table items field_line w fs)
+        (λ w vs env c. tree.at (give vs) (of_tree S pending env c) (keyed_store_of line table items field_line w fs ∷ k)) (construct line table items fs)
+        key (is_quiet d) (local_of d) e t t j (j + made_by e) pc opened env regs c
+        (λ vs env1 c1 q next. go_left S n _ (tree.at (evaluate d) (of_tree S pending env1 c1) (keyed_store_of line table items field_line (first vs) fs ∷ k)) q refl next) (λ w vs env1 c1 q next. next) (λ w vs env1 c1. refl)
+        (one_same e (all_same e)) (one_same d (all_same d)) (room_some cs e) (room_some cs d) (field_key_stands cs (is_quiet d) e) refl refl bound (has_front S pc store_code rest_code has) ok.0 ok.1.0
+        (omega (arith, inside, whole)) le (omega arith) (λ loud. refl) (λ made. refl) (omega arith) (omega (arith, room)) (omega (arith, room, key_above)) (omega (arith, room, value_above)) rel is
+        (λ env1 regs1 c1 o1 af. fields_same fs line items m t (j + made_by e + made_by d) n (pc + length store_code) o1 env1 regs1 c1 k bound (has_back S pc store_code rest_code has)
+        (subst (λ z. FieldsArePlaced S fs items z (j + made_by e + made_by d)) (sym af.size) ok.1.1) (omega (arith, inside, whole)) (omega (arith, le, af.size)) (omega (arith, room)) af.rel
+        (af.keeps t (omega (arith, le)) (omega arith) ∙ is)
+        (goes_at S pending n false t _ (pc + length (store_code ++ rest_code)) env1 regs1 k (omega (arith, whole))
+        (goes_after S pending n false t _ env regs env1 regs1 c1 k (lower S.hidden S.code.own.stack pending env regs env1 regs1 c1 (t + 1) t (omega arith) af) goes))))
 
   -- the code of an expression of which one value is wanted
   pub exp_same : (e : Exp) → ExpSame S pending e

@@ -18,7 +18,7 @@ use Rattle.machine_core.specs.Talk as code
 use Rattle.machine_core.specs.Talk.{before, amid, talk_step, says_so, heard}
 use Rattle.list_laws.proofs.Values.{nth_write_same}
 use Rattle.code_of.specs.Coded.{Coded}
-use Rattle.exp_laws.proofs.Registers.{Rel, After, after_then, after_put}
+use Rattle.exp_laws.proofs.Registers.{Rel, After, after_none, after_then, after_put}
 use Rattle.exp_laws.specs.Setting.{Setting}
 use Rattle.exp_laws.proofs.Talking.{Here, Agree, go_left, go_right, of_tree, of_code}
 use Rattle.exp_laws.proofs.Placing.{HasAt}
@@ -90,6 +90,10 @@ module _ (S : Setting) (pending : List Pending) where
   pub into_after : (n : ℕ) (many : Bool) (t f pc : ℕ) (env regs env1 regs1 : List Value) (c1 : Captured) (k : List Work) → After S.hidden S.code.own.stack pending env regs f env1 regs1 c1 → GoesInto n many t f env regs pc k → GoesInto n many t f env1 regs1 pc k
   into_after n many t f pc env regs env1 regs1 c1 k af goes = λ vs env2 regs2 c2 o2 af2 one. goes vs env2 regs2 c2 o2 (after_then S.hidden S.code.own.stack pending env regs env1 regs1 env2 regs2 c1 c2 f f (omega arith) af af2) one
 
+  pub put_into : (n : ℕ) (many : Bool) (t f pc opened : ℕ) (v : Value) (env regs : List Value) (c : Captured) (k : List Work) → Rel S.hidden S.code.own.stack pending env c regs → GoesInto n many t f env regs pc k
+      → Agree S n (tree.at (give (v ∷ [])) (of_tree S pending env c) k) (before (of_code S pending pc (write t v regs) opened) c)
+  put_into n many t f pc opened v env regs c k rel goes = goes (v ∷ []) env regs c opened (after_none S.hidden S.code.own.stack pending env regs c f rel) (given_one many v)
+
   -- the first value of an answer goes to register t
   pub answer_into : (n : ℕ) (many : Bool) (t f pc opened : ℕ) (ws env regs env1 regs1 : List Value) (c1 : Captured) (k : List Work) → pc + 1 < length S.code.own.code → t < S.code.own.stack
       → After S.hidden S.code.own.stack pending env regs f env1 regs1 c1 → GoesInto n many t f env regs (pc + 1) k
@@ -126,15 +130,23 @@ module _ (S : Setting) (pending : List Pending) where
       operation_into wait told_so operation xs n many line t t pc opened s q env regs c k e d comes here inside room rel (into_goes n many t (pc + 1) env regs k le goes)
 
   -- an instruction that writes a value to register t
+  pub one_into : (i : Coded) (code : List Coded) (v : Value) (n : ℕ) (many : Bool) (t f pc opened : ℕ) (s : tree.State) (env regs : List Value) (c : Captured) (k : List Work)
+      → code ≡ i ∷ [] → step s ≡ gives v (of_tree S pending env c) k → HasAt S pc code → pc + length code < length S.code.own.code → Rel S.hidden S.code.own.stack pending env c regs
+      → (at S.code pc ≡ Some i.0 → (w : Instruction) → at S.code (pc + 1) ≡ Some w
+      → talk_step S.code (before (of_code S pending pc regs opened) c) ≡ goes_on (before (of_code S pending (pc + 1) (write t v regs) opened) c))
+      → GoesInto n many t f env regs (pc + length code) k → Agree S n s (before (of_code S pending pc regs opened) c)
+  one_into i code v n many t f pc opened s env regs c k is e has inside rel moves goes =
+      let size = ap length is in
+      let here = subst (HasAt S pc) is has in
+      let there = next_there S (pc + 1) (omega (arith, size)) in
+      go_left S n s (tree.at (give (v ∷ [])) (of_tree S pending env c) k) _ e
+      (go_right S n _ _ (before (of_code S pending (pc + 1) (write t v regs) opened) c) (moves here.0 there.0 there.1)
+      (put_into n many t f (pc + 1) opened v env regs c k rel (into_at n many t f (pc + 1) (pc + length code) env regs k (omega (arith, size)) goes)))
+
   pub one_goes : (i : Coded) (code : List Coded) (v : Value) (n : ℕ) (many : Bool) (t pc opened : ℕ) (s : tree.State) (env regs : List Value) (c : Captured) (k : List Work)
       → code ≡ i ∷ [] → step s ≡ gives v (of_tree S pending env c) k → HasAt S pc code → pc + length code < length S.code.own.code → length env ≤ t → Rel S.hidden S.code.own.stack pending env c regs
       → (at S.code pc ≡ Some i.0 → (w : Instruction) → at S.code (pc + 1) ≡ Some w
       → talk_step S.code (before (of_code S pending pc regs opened) c) ≡ goes_on (before (of_code S pending (pc + 1) (write t v regs) opened) c))
       → Goes n many t env regs (pc + length code) k → Agree S n s (before (of_code S pending pc regs opened) c)
   one_goes i code v n many t pc opened s env regs c k is e has inside le rel moves goes =
-      let size = ap length is in
-      let here = subst (HasAt S pc) is has in
-      let there = next_there S (pc + 1) (omega (arith, size)) in
-      go_left S n s (tree.at (give (v ∷ [])) (of_tree S pending env c) k) _ e
-      (go_right S n _ _ (before (of_code S pending (pc + 1) (write t v regs) opened) c) (moves here.0 there.0 there.1)
-      (put_goes n many t (pc + 1) opened v env regs c k le rel (goes_at n many t (pc + 1) (pc + length code) env regs k (omega (arith, size)) goes)))
+      one_into i code v n many t t pc opened s env regs c k is e has inside rel moves (into_goes n many t (pc + length code) env regs k le goes)

@@ -12,8 +12,9 @@ use Rattle.code_core.specs.declared.opcode.Opcode.TheVariants.{TailCall}
 use Rattle.code_core.specs.declared.proto.Const.TheVariants.{Str as StrConst}
 use Rattle.machine_core.specs.Text.{trap}
 use Rattle.machine_core.specs.Talk.{before, amid, marked}
-use Rattle.code_of.specs.Coded.{leaving_by}
+use Rattle.code_of.specs.Coded.{Coded, leaving_by}
 use Rattle.code_of.specs.Constants.{Found}
+use Rattle.code_of.specs.Operands.{local_of, operand_code}
 use Rattle.code_of.specs.Operators.{self_code}
 use Rattle.code_of.specs.Expressions.{made_by, count, ends_open, list_field, exp_code, exps_code}
 use Rattle.exp_laws.proofs.Registers.{Rel, told, share_same, after_share}
@@ -27,6 +28,7 @@ use Rattle.code_of.proofs.Rooms.{self_room}
 use Rattle.exp_laws.proofs.Calls.{Passed, tail_step}
 use Rattle.exp_laws.proofs.CallForms.{self_goes}
 use Rattle.exp_laws.proofs.ListForms.{Listed}
+use Rattle.exp_laws.proofs.Standing.{operand_goes}
 use Rattle.exp_laws.proofs.Exps.{room_some, args_ready, held_one, held_two, placed_all, exp_same, exps_same}
 
 module _ (S : Setting) (pending : List Pending) where
@@ -78,28 +80,32 @@ module _ (S : Setting) (pending : List Pending) where
       (omega (arith, inside, whole, rest)) refl (held_one S pending t (first vs) regs1 eq) (omega (arith, le, af.size)) (omega (arith, f_room, some)) es_room af.rel
       (λ args env2 regs2 c2 o2 af2 l. called_last es 0 back args n line t (pc + length first_code + length args_code) o2 env2 regs2 c2 k (has_back S (pc + length first_code) args_code last_code behind) (omega (arith, f_room, some)) es_room af2.rel l)))
 
-  -- a call of a method
+  -- a call of a method, without the RETURN behind it
+
+  abbrev pub asked_code : (object : Exp) → (name : List ℕ) → (es : Exps) → (line back t j : ℕ) → List Coded
+  asked_code object name es line back t j =
+      operand_code (local_of object) (exp_code S.code.own.constants object t j 2) t
+      (λ x. self_code S.code.own.constants name x t line ++ (exps_code S.code.own.constants es None (t + 2) (j + made_by object) line ++ leaving_by TailCall t (list_field 1 es) back line ∷ []))
+
   pub method_last_same : (object : Exp) (name : List ℕ) (es : Exps) (line back t j n pc opened : ℕ) (env regs : List Value) (c : Captured) (k : List Work) → n ≤ S.bound
-      → HasAt S pc (exp_code S.code.own.constants object t j 2 ++ (self_code S.code.own.constants name t line ++ (exps_code S.code.own.constants es None (t + 2) (j + made_by object) line ++ leaving_by TailCall t (list_field 1 es) back line ∷ [])))
-      → IsPlaced S object (length env) j → Found S.code.own.constants (StrConst name) → ArePlaced S es (length env) (j + made_by object)
-      → pc + length (exp_code S.code.own.constants object t j 2 ++ (self_code S.code.own.constants name t line ++ (exps_code S.code.own.constants es None (t + 2) (j + made_by object) line ++ leaving_by TailCall t (list_field 1 es) back line ∷ []))) < length S.code.own.code
+      → HasAt S pc (asked_code object name es line back t j) → IsPlaced S object (length env) j → Found S.code.own.constants (StrConst name) → ArePlaced S es (length env) (j + made_by object)
+      → pc + length (asked_code object name es line back t j) < length S.code.own.code
       → length env ≤ t → t + room_of S.code.own.constants object 2 ≤ S.code.own.stack → t + room_of_self S.code.own.constants name ≤ S.code.own.stack → t + room_of_list S.code.own.constants 2 es None ≤ S.code.own.stack → Rel S.hidden S.code.own.stack pending env c regs
       → Agree S n (tree.at (evaluate object) (of_tree S pending env c) (method_of line true name es ∷ k)) (before (of_code S pending pc regs opened) c)
   method_last_same object name es line back t j n pc opened env regs c k bound has o_ok found es_ok inside le o_room room es_room rel =
-      let first_code = exp_code S.code.own.constants object t j 2 in
-      let name_code = self_code S.code.own.constants name t line in
       let args_code = exps_code S.code.own.constants es None (t + 2) (j + made_by object) line in
       let last_code = leaving_by TailCall t (list_field 1 es) back line ∷ [] in
-      let behind = has_back S pc first_code (name_code ++ (args_code ++ last_code)) has in
-      let beyond = has_back S (pc + length first_code) name_code (args_code ++ last_code) behind in
-      let whole = length-append first_code (name_code ++ (args_code ++ last_code)) in
-      let middle = length-append name_code (args_code ++ last_code) in
+      let end = pc + length (asked_code object name es line back t j) in
       let rest = length-append args_code last_code in
       let two = (self_room S.code.own.constants name).0 in
-      let q = pc + length first_code + length name_code in
-      exp_same S pending object t j n pc opened env regs c (method_of line true name es ∷ k) bound (has_front S pc first_code (name_code ++ (args_code ++ last_code)) has) o_ok (omega (arith, inside, whole)) le o_room rel
-      (λ vs env1 regs1 c1 o1 af eq one. self_goes S pending name n line t (pc + length first_code) o1 (first vs) _ env1 regs1 c1 k (λ ws. collect (for_call line true) (first ws ∷ first vs ∷ []) es) refl
-      (has_front S (pc + length first_code) name_code (args_code ++ last_code) behind) found (omega (arith, inside, whole, middle, rest)) (omega (arith, le, af.size)) room af.rel eq
+      operand_goes S pending object (λ x. self_code S.code.own.constants name x t line ++ (args_code ++ last_code)) n t end env regs (method_of line true name es ∷ k) j pc opened c
+      (exp_same S pending object) (room_some S.code.own.constants object) bound has o_ok refl inside le (λ _. o_room) rel
+      (λ x place o1 vs env1 regs1 c1 af low x_room x_is here ends. let name_code = self_code S.code.own.constants name x t line in
+      let beyond = has_back S place name_code (args_code ++ last_code) here in
+      let middle = length-append name_code (args_code ++ last_code) in
+      let q = place + length name_code in
+      self_goes S pending name n line x t place o1 (first vs) _ env1 regs1 c1 k (λ ws. collect (for_call line true) (first ws ∷ first vs ∷ []) es) refl
+      (has_front S place name_code (args_code ++ last_code) here) found (omega (arith, inside, ends, middle, rest)) (omega (arith, le, af.size)) low room af.rel x_is
       (λ ws env2 regs2 c2 af2 method_is self_is. exps_same S pending es (for_call line true) None t 2 (j + made_by object) line n q o1 (first ws ∷ first vs ∷ []) env2 regs2 c2 k bound tt (has_front S q args_code last_code beyond) tt
-      (placed_all S pending es _ _ _ (af2.size ∙ af.size) es_ok) (omega (arith, inside, whole, middle, rest)) refl (held_two S pending t (first ws) (first vs) regs2 method_is self_is) (omega (arith, le, af.size, af2.size)) (omega (arith, room, two)) es_room af2.rel
+      (placed_all S pending es _ _ _ (af2.size ∙ af.size) es_ok) (omega (arith, inside, ends, middle, rest)) refl (held_two S pending t (first ws) (first vs) regs2 method_is self_is) (omega (arith, le, af.size, af2.size)) (omega (arith, room, two)) es_room af2.rel
       (λ args env3 regs3 c3 o3 af3 l. called_last es 1 back args n line t (q + length args_code) o3 env3 regs3 c3 k (has_back S q args_code last_code beyond) (omega (arith, room, two)) es_room af3.rel l)))

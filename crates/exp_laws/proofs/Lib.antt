@@ -4,14 +4,20 @@ pub mod Placing
 pub mod Lists
 pub mod Leaving
 pub mod Asking
+pub mod Still
 pub mod Going
 pub mod NameForms
 pub mod FieldForms
 pub mod OperatorForms
+pub mod ConstantSteps
+pub mod ConstantForms
 pub mod CallForms
 pub mod ListForms
 pub mod FunctionForms
+pub mod LocalFunctions
+pub mod Quieting
 pub mod TableForms
+pub mod Storing
 pub mod Exps
 pub mod Direct
 pub mod LastCalls
@@ -29,4 +35,5 @@ pub mod Tests
 pub mod Comparisons
 pub mod Sums
 pub mod Operands
+pub mod Standing
 pub mod Conditions

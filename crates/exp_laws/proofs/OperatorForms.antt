@@ -85,33 +85,34 @@ sort_of Gt = inr (inl tt)
 sort_of Ge = inr (inl tt)
 
 module _ (S : Setting) (pending : List Pending) where
-  prefix_goes : (op : UnOp) (f : Prefix op) (n : ℕ) (many : Bool) (line t pc opened : ℕ) (vs env regs : List Value) (c : Captured) (k : List Work)
-      → HasAt S pc (prefix_code op t line) → pc + 1 < length S.code.own.code → length env ≤ t → t < S.code.own.stack
-      → Rel S.hidden S.code.own.stack pending env c regs → nth regs t ≡ first vs → Goes S pending n many t env regs (pc + 1) k
+  prefix_into : (op : UnOp) (g : Prefix op) (n : ℕ) (many : Bool) (line x t f pc opened : ℕ) (vs env regs : List Value) (c : Captured) (k : List Work)
+      → HasAt S pc (prefix_code op x t line) → pc + 1 < length S.code.own.code → t < S.code.own.stack → x < S.code.own.stack
+      → Rel S.hidden S.code.own.stack pending env c regs → nth regs x ≡ first vs → GoesInto S pending n many t f env regs (pc + 1) k
       → Agree S n (tree.at (give vs) (of_tree S pending env c) (operand_of line op ∷ k)) (before (of_code S pending pc regs opened) c)
-  prefix_goes op f n many line t pc opened vs env regs c k has inside le room rel eq goes =
-      let fits : t < 2 ^ 8 = omega (arith, S.small) in
-      operation_goes S pending for_value (λ reply. refl) f.operation (given f.twice (first vs)) n many line t pc opened _ _ env regs c k (f.means line (first vs) (of_tree S pending env c) k)
-      (prefix_step S.code op f t fits (of_code S pending pc regs opened) c has.0 (omega (arith, rel.room))
-      ∙ ap (λ x. says_so (operates f.operation (given f.twice x)) S.code (of_code S pending pc regs opened) c (λ x b d. heard for_value S.code x b d)) eq)
-      (prefix_rest S.code op f t fits pc has.0) (here_abc S (prefix_opcode op) t t 0 false line pc [] has) inside le room rel goes
+  prefix_into op g n many line x t f pc opened vs env regs c k has inside room x_room rel eq goes =
+      let fits : t < 2 ^ 8 = omega (arith, room, S.small) in
+      let x_fits : x < 2 ^ 8 = omega (arith, x_room, S.small) in
+      operation_into S pending for_value (λ reply. refl) g.operation (given g.twice (first vs)) n many line t f pc opened _ _ env regs c k (g.means line (first vs) (of_tree S pending env c) k)
+      (prefix_step S.code op g x t x_fits fits (of_code S pending pc regs opened) c has.0 (omega (arith, x_room, rel.room))
+      ∙ ap (λ y. says_so (operates g.operation (given g.twice y)) S.code (of_code S pending pc regs opened) c (λ y b d. heard for_value S.code y b d)) eq)
+      (prefix_rest S.code op g x t x_fits fits pc has.0) (here_abc S (prefix_opcode op) t x 0 false line pc [] has) inside room rel goes
 
-  -- an operator before the value in register t
-  pub unary_goes : (op : UnOp) (n : ℕ) (many : Bool) (line t pc opened : ℕ) (vs env regs : List Value) (c : Captured) (k : List Work)
-      → HasAt S pc (prefix_code op t line) → pc + 1 < length S.code.own.code → length env ≤ t → t < S.code.own.stack
-      → Rel S.hidden S.code.own.stack pending env c regs → nth regs t ≡ first vs → Goes S pending n many t env regs (pc + 1) k
+  -- an operator before the value in register x, which goes to register t
+  pub unary_into : (op : UnOp) (n : ℕ) (many : Bool) (line x t f pc opened : ℕ) (vs env regs : List Value) (c : Captured) (k : List Work)
+      → HasAt S pc (prefix_code op x t line) → pc + 1 < length S.code.own.code → t < S.code.own.stack → x < S.code.own.stack
+      → Rel S.hidden S.code.own.stack pending env c regs → nth regs x ≡ first vs → GoesInto S pending n many t f env regs (pc + 1) k
       → Agree S n (tree.at (give vs) (of_tree S pending env c) (operand_of line op ∷ k)) (before (of_code S pending pc regs opened) c)
-  unary_goes Negation n many line t pc opened vs env regs c k has inside le room rel eq goes =
+  unary_into Negation n many line x t f pc opened vs env regs c k has inside room x_room rel eq goes =
       let there = next_there S (pc + 1) inside in
       let v = known (boolean (not (holds (shape (first vs))))) in
       go_left S n _ (tree.at (give (v ∷ [])) (of_tree S pending env c) k) _ refl
       (go_right S n _ _ (before (of_code S pending (pc + 1) (write t v regs) opened) c)
-      (not_step S.code (of_code S pending pc regs opened) c there.0 there.1 t t has.0 (omega (arith, S.small)) (omega (arith, S.small)) (omega (arith, rel.room)) (omega (arith, rel.room))
-      ∙ ap (λ x. goes_on (before (of_code S pending (pc + 1) (write t (known (boolean (not (holds (shape x))))) regs) opened) c)) eq)
-      (put_goes S pending n many t (pc + 1) opened v env regs c k le rel goes))
-  unary_goes Neg n many line t pc opened vs env regs c k has inside le room rel eq goes = prefix_goes Neg (prefix_by Neg tt) n many line t pc opened vs env regs c k has inside le room rel eq goes
-  unary_goes BitNot n many line t pc opened vs env regs c k has inside le room rel eq goes = prefix_goes BitNot (prefix_by BitNot tt) n many line t pc opened vs env regs c k has inside le room rel eq goes
-  unary_goes Length n many line t pc opened vs env regs c k has inside le room rel eq goes = prefix_goes Length (prefix_by Length tt) n many line t pc opened vs env regs c k has inside le room rel eq goes
+      (not_step S.code (of_code S pending pc regs opened) c there.0 there.1 t x has.0 (omega (arith, room, S.small)) (omega (arith, x_room, S.small)) (omega (arith, x_room, rel.room)) (omega (arith, room, rel.room))
+      ∙ ap (λ y. goes_on (before (of_code S pending (pc + 1) (write t (known (boolean (not (holds (shape y))))) regs) opened) c)) eq)
+      (goes (v ∷ []) env regs c opened (after_none S.hidden S.code.own.stack pending env regs c f rel) (given_one S pending many v)))
+  unary_into Neg n many line x t f pc opened vs env regs c k has inside room x_room rel eq goes = prefix_into Neg (prefix_by Neg tt) n many line x t f pc opened vs env regs c k has inside room x_room rel eq goes
+  unary_into BitNot n many line x t f pc opened vs env regs c k has inside room x_room rel eq goes = prefix_into BitNot (prefix_by BitNot tt) n many line x t f pc opened vs env regs c k has inside room x_room rel eq goes
+  unary_into Length n many line x t f pc opened vs env regs c k has inside room x_room rel eq goes = prefix_into Length (prefix_by Length tt) n many line x t f pc opened vs env regs c k has inside room x_room rel eq goes
 
   -- arithmetic on the values v and w: an instruction that does it on integers, and one behind it that asks
   module _ (event : Event) (op half : Opcode) (field x y number line t f pc opened : ℕ) (v w : Value) (slots env regs : List Value) (c : Captured) (k : List Work) (s : tree.State)
@@ -138,7 +139,7 @@ module _ (S : Setting) (pending : List Pending) where
         (here_abc S half x y number false line (pc + 1) [] has.1.1) (omega (arith, inside)) room rel
         (into_at S pending n many t f (pc + 1 + 1) (pc + 2) env regs k two goes))
 
-    arithmetic_into : (n : ℕ) (many : Bool) → GoesInto S pending n many t f env regs (pc + 2) k → Agree S n s (before (of_code S pending pc regs opened) c)
+    pub arithmetic_into : (n : ℕ) (many : Bool) → GoesInto S pending n many t f env regs (pc + 2) k → Agree S n s (before (of_code S pending pc regs opened) c)
     arithmetic_into n many goes = by (integer_in (shape v)) (integer_in (shape w)) begins reads
       where
         slow : (o q : Option ℤ) → step s ≡ asks (operates (arithmetic event) (v ∷ w ∷ [])) line (of_tree S pending env c) k give_first
@@ -236,7 +237,7 @@ module _ (S : Setting) (pending : List Pending) where
         (at_place S pending n (pc + 1 + 1 + 2) (pc + 4) opened _ (write t (known (boolean false)) regs1) c1 ends.0
         (put_goes S pending n many t (pc + 4) opened (known (boolean false)) env1 regs1 c1 k (omega (arith, le, af.size)) af.rel (goes_after S pending n many t (pc + 4) env regs env1 regs1 c1 k af goes)))))
 
-    truth_goes : (n : ℕ) (many : Bool) → Goes S pending n many t env regs (pc + 4) k → Agree S n s (before (of_code S pending pc regs opened) c)
+    pub truth_goes : (n : ℕ) (many : Bool) → Goes S pending n many t env regs (pc + 4) k → Agree S n s (before (of_code S pending pc regs opened) c)
     truth_goes n many goes =
         asks_alike S pending n for_truth told_truth s _ (operates operation (v ∷ w ∷ [])) (operates operation (v ∷ w ∷ [])) line pc opened t env regs c k
         (λ vs. give (known (boolean (cond wanted (holds (shape (first vs))) (not (holds (shape (first vs)))))) ∷ [])) begins asks_so

@@ -50,20 +50,21 @@ prefix_by BitNot h = record { operation = arithmetic of_bnot; twice = true; row 
 prefix_by Length h = record { operation = length'; twice = false; row = λ p pc w. refl; after = λ p pc w. refl; means = λ line v a k. refl }
 prefix_by Negation h = absurd h
 
-module _ (p : Prototype) (op : UnOp) (f : Prefix op) (t : ℕ) (fits : t < 2 ^ 8) where
-  pub prefix_step : (a : world.Activation) (c : Captured) → at p a.pc ≡ Some (abc (prefix_opcode op) t t 0 false) → t < length a.registers
-      → talk_step p (before a c) ≡ says_so (operates f.operation (given f.twice (nth a.registers t))) p a c (λ x b d. heard for_value p x b d)
+-- the operand stands in register x, and the value goes to t
+module _ (p : Prototype) (op : UnOp) (f : Prefix op) (x t : ℕ) (x_fits : x < 2 ^ 8) (fits : t < 2 ^ 8) where
+  pub prefix_step : (a : world.Activation) (c : Captured) → at p a.pc ≡ Some (abc (prefix_opcode op) t x 0 false) → x < length a.registers
+      → talk_step p (before a c) ≡ says_so (operates f.operation (given f.twice (nth a.registers x))) p a c (λ y b d. heard for_value p y b d)
   prefix_step a c here room =
-      let w = abc (prefix_opcode op) t t 0 false in
-      row_step p w (prefix_opcode op) (own (read_register t) (λ v _. operate f.operation (given f.twice (read v)) for_value [] (to_register t (read 0)))) a c here (opcode_of-abc (prefix_opcode op) t t 0 false)
+      let w = abc (prefix_opcode op) t x 0 false in
+      row_step p w (prefix_opcode op) (own (read_register x) (λ v _. operate f.operation (given f.twice (read v)) for_value [] (to_register t (read 0)))) a c here (opcode_of-abc (prefix_opcode op) t x 0 false)
       (f.row p a.pc w
-      ∙ ap₂ (λ b d. own (read_register b) (λ v _. operate f.operation (given f.twice (read v)) for_value [] (to_register d (read 0)))) (b_of-abc (prefix_opcode op) t t 0 false fits fits) (a_of-abc (prefix_opcode op) t t 0 false fits))
-      ∙ own_step p (read_register t) (λ v _. operate f.operation (given f.twice (read v)) for_value [] (to_register t (read 0))) [] a c (lt-ltb t (length a.registers) room)
-      ∙ ap (λ vs. says_so (operates f.operation vs) p a c (λ x b d. heard for_value p x b d)) (given_args f.twice (nth a.registers t ∷ []) (read 0))
+      ∙ ap₂ (λ b d. own (read_register b) (λ v _. operate f.operation (given f.twice (read v)) for_value [] (to_register d (read 0)))) (b_of-abc (prefix_opcode op) t x 0 false fits x_fits) (a_of-abc (prefix_opcode op) t x 0 false fits))
+      ∙ own_step p (read_register x) (λ v _. operate f.operation (given f.twice (read v)) for_value [] (to_register t (read 0))) [] a c (lt-ltb x (length a.registers) room)
+      ∙ ap (λ vs. says_so (operates f.operation vs) p a c (λ y b d. heard for_value p y b d)) (given_args f.twice (nth a.registers x ∷ []) (read 0))
 
-  pub prefix_rest : (pc : ℕ) → at p pc ≡ Some (abc (prefix_opcode op) t t 0 false) → rest_at {V = Value} for_value p pc ≡ to_register t (read 0)
+  pub prefix_rest : (pc : ℕ) → at p pc ≡ Some (abc (prefix_opcode op) t x 0 false) → rest_at {V = Value} for_value p pc ≡ to_register t (read 0)
   prefix_rest pc here =
-      let w = abc (prefix_opcode op) t t 0 false in
+      let w = abc (prefix_opcode op) t x 0 false in
       ap (λ o. elim o as (λ _. Text) [ None ↦ trap | Some i ↦ rest_by {V = Value} for_value p pc i (opcode_of i) ]) here
-      ∙ ap (rest_by {V = Value} for_value p pc w) (opcode_of-abc (prefix_opcode op) t t 0 false)
-      ∙ f.after p pc w ∙ ap (λ r. to_register r (read 0)) (a_of-abc (prefix_opcode op) t t 0 false fits)
+      ∙ ap (rest_by {V = Value} for_value p pc w) (opcode_of-abc (prefix_opcode op) t x 0 false)
+      ∙ f.after p pc w ∙ ap (λ r. to_register r (read 0)) (a_of-abc (prefix_opcode op) t x 0 false fits)

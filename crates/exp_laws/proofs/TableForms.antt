@@ -31,7 +31,7 @@ use Rattle.exp_laws.proofs.Steps.{go_step, put_step}
 use Rattle.exp_laws.proofs.Calls.{Passed}
 use Rattle.exp_laws.proofs.Tables.{items_count, items_field, filled_text, new_step, fill_near, fill_far, filled_step, set_step, set_index_step, set_name_step, set_rest, set_index_rest, set_name_rest}
 
-told_dropped : (reply : Reply) → told_values dropped reply ≡ told_values for_value reply
+pub told_dropped : (reply : Reply) → told_values dropped reply ≡ told_values for_value reply
 told_dropped (values vs) = refl
 told_dropped (faulted words) = refl
 told_dropped (left e) = refl

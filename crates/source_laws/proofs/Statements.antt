@@ -11,16 +11,18 @@ use Rattle.tree_terms.specs.Levels.{level_after, levels_after, levels_in}
 use Rattle.scope_core.specs.Held.{held_behind, held_stat}
 use Rattle.scope_core.specs.Rules.{tokens_of}
 use Rattle.code_of.specs.Operands.{assigned}
+use Rattle.code_of.specs.Coded.{Coded}
 use Rattle.code_of.specs.Stores.{stores_field}
+use Rattle.code_of.specs.Targets.{single_store}
 use Rattle.code_of.proofs.Operands.{assigned_is}
 use Rattle.code_of.specs.Rooms.{room_of_list}
 use Rattle.tree_terms.specs.Labels.{Named, names_ahead, names_passed}
-use Rattle.stat_laws.specs.Scoped.{MayAssign, IsNear, TargetsArePlaced, StoreIsPlaced, AssignIsPlaced, ListIsPlaced, LastIsPlaced, ReturnIsPlaced, StatIsPlaced, ArmsArePlaced, StatsArePlaced, BlockIsPlaced, OpenIsPlaced}
+use Rattle.stat_laws.specs.Scoped.{MayAssign, IsNear, TargetsArePlaced, KeptIsPlaced, StoreIsPlaced, AssignIsPlaced, ListIsPlaced, LastIsPlaced, ReturnIsPlaced, StatIsPlaced, ArmsArePlaced, StatsArePlaced, BlockIsPlaced, OpenIsPlaced}
 use Rattle.scope_laws.specs.Keeping.{BlockKeeps, StatsKeep, StatKeeps, ArmsKeep}
 use Rattle.scope_laws.specs.Finding.{PlaceIsThere, ExpsFind, BlockFinds, StatsFind, StatFinds, ArmsFind}
 use Rattle.code_bounds.specs.Constants.{ExpsHave, StatHas, ArmsHave, StatsHave, BlockHas}
 use Rattle.code_bounds.specs.Functions.{ExpsMake, StatMakes, ArmsMake, StatsMake, BlockMakes}
-use Rattle.code_bounds.specs.Registers.{TargetsHaveRoom, StoreHasRoom, AssignHasRoom, StatHasRoom, ArmsHaveRoom, StatsHaveRoom, BlockHasRoom}
+use Rattle.code_bounds.specs.Registers.{TargetsHaveRoom, KeptHasRoom, StoreHasRoom, AssignHasRoom, StatHasRoom, ArmsHaveRoom, StatsHaveRoom, BlockHasRoom}
 use Rattle.code_bounds.proofs.Widths.{list_width, targets_width}
 use Rattle.tree_terms.specs.Weight.{weight_of_exps, weight_of_stat, weight_of_arms, weight_of_stats, weight_of_block}
 use Rattle.code_bounds.proofs.Counts.{arguments_weigh}
@@ -145,10 +147,14 @@ mutual
             exps_placed x targets t j f.0 h.0 m.0 (omega (arith, b)) (omega (arith, w)),
             (exps_placed x es t (j + made_in targets) f.1 h.1 m.1 (omega (arith, b)) (omega (arith, w)), s),
           )
-          by_field false s = (
-            targets_placed x targets t t j o.0 f.0 h.0 m.0 s.0 (omega (arith, b)) (omega (arith, w)),
-            (exps_placed x es t (j + made_in targets) f.1 h.1 m.1 (omega (arith, b)) (omega (arith, w)), (s.1.0, (s.1.1, targets_width line targets es t g))),
-          )
+          by_field false s = by_kept (single_store (constants_of x) targets es) s
+            where
+              by_kept : (store : Option Coded) → KeptHasRoom (constants_of x) (stack_of x) store targets es t → KeptIsPlaced x.setting store targets es t j
+              by_kept None s = (
+                targets_placed x targets t t j o.0 f.0 h.0 m.0 s.0 (omega (arith, b)) (omega (arith, w)),
+                (exps_placed x es t (j + made_in targets) f.1 h.1 m.1 (omega (arith, b)) (omega (arith, w)), (s.1.0, (s.1.1, targets_width line targets es t g))),
+              )
+              by_kept (Some i) s = (exps_placed x targets t j f.0 h.0 m.0 (omega (arith, b)) (omega (arith, w)), exps_placed x es t (j + made_in targets) f.1 h.1 m.1 (omega (arith, b)) (omega (arith, w)))
       by (Some r) is s =
           let form = assigned_is targets es r is in
           let target = subst (λ z. ExpsFind z x.hidden t x.ups) form.target f.0 in

@@ -26,27 +26,29 @@ use Rattle.code_of.specs.Coded.{Coded}
 use Rattle.code_of.specs.Expressions.{made_in, count, exps_code}
 use Rattle.code_of.specs.Operands.{is_direct, assigned}
 use Rattle.code_of.proofs.Operands.{assigned_is}
-use Rattle.code_of.specs.Parts.{targets_code, store_code, stores_code, direct_code, first_direct, first_field, stored_code, store_by, assign_by}
-use Rattle.code_of.specs.Stores.{stores_field}
+use Rattle.code_of.specs.Parts.{targets_code, store_code, stores_code, direct_code, first_direct, first_field, stored_code, kept_code, store_by, assign_by}
+use Rattle.code_of.specs.Stores.{FieldKey, stores_field}
 use Rattle.code_of.proofs.Stores.{stores_field_is}
+use Rattle.code_of.specs.Targets.{single_store}
+use Rattle.code_of.proofs.Targets.{single_store_is}
 use Rattle.code_of.specs.Rooms.{room_of_direct, room_of_assigned, room_of_first}
 use Rattle.exp_laws.proofs.Registers.{Among, none_among, hides_write, Rel, HeldBelow, Ascends}
 use Rattle.exp_laws.specs.Setting.{Hidden, Setting}
 use Rattle.exp_laws.proofs.Talking.{Agree, go_left, go_right, of_tree, of_code}
 use Rattle.exp_laws.proofs.Placing.{HasAt, has_front, has_back, here_abc}
-use Rattle.exp_laws.specs.Placed.{IsPlaced, ArePlaced}
+use Rattle.exp_laws.specs.Placed.{NameIsPlaced, IsPlaced, ArePlaced}
 use Rattle.exp_laws.proofs.Lists.{Holds}
 use Rattle.exp_laws.proofs.Going.{next_there}
 use Rattle.exp_laws.proofs.Asking.{quick_alike}
-use Rattle.exp_laws.proofs.TableForms.{store_goes}
 use Rattle.exp_laws.proofs.Exps.{exps_same}
 use Rattle.exp_laws.proofs.Direct.{direct_same}
 use Rattle.exp_laws.proofs.Steps.{row_step, own_step, go_step, move_step}
 use Rattle.stat_laws.proofs.Standing.{Standing, GoesOn}
 use Rattle.stat_laws.proofs.Blocks.{StatLaw}
-use Rattle.stat_laws.specs.Scoped.{StoreIsPlaced, AssignIsPlaced}
+use Rattle.stat_laws.specs.Scoped.{KeptIsPlaced, StoreIsPlaced, AssignIsPlaced}
 use Rattle.stat_laws.proofs.FieldStores.{field_goes}
 use Rattle.stat_laws.proofs.Targets.{store_to, Stands, stands_still, AllAimed, all_still, aim_goes}
+use Rattle.stat_laws.proofs.GlobalStores.{waiting_goes, local_goes}
 
 pub rel_assigned : (hidden : Hidden) (stack n : ℕ) (v : Value) (ps : List Pending) (env regs : List Value) (c : Captured) → n < length env → (Among n hidden.integers → ⊥) → Rel hidden stack ps env c regs → Rel hidden stack ps (write n v env) c (write n v regs)
 rel_assigned hidden stack n v ps env regs c h other rel =
@@ -85,10 +87,10 @@ module _ (S : Setting) (back : ℕ) where
   Stored n t pc closed ps regs rest k =
       (env' regs' : List Value) (c' : Captured) (opened' : ℕ) → Standing S t closed ps env' c' regs' → ((q : ℕ) → t ≤ q → q < S.code.own.stack → nth regs' q ≡ nth regs q) → Agree S n (tree.at (store rest) (of_tree S ps env' c') k) (before (of_code S ps pc regs' opened') c')
 
-  store_one : (x : Target) (line r v n t pc : ℕ) (closed : List ℕ) (ps : List Pending) (env regs : List Value) (c : Captured) (opened : ℕ) (w : Value) (rest : List (Target × Value)) (k : List Work) → Stands S.hidden x r t regs → t ≤ v → r + 1 < S.code.own.stack → v < S.code.own.stack
-      → HasAt S pc (store_to x line r v) → pc + length (store_to x line r v) < length S.code.own.code → Standing S t closed ps env c regs → nth regs v ≡ w → Stored n t (pc + length (store_to x line r v)) closed ps regs rest k
+  store_one : (x : Target) (s : FieldKey) (line r v n t pc : ℕ) (closed : List ℕ) (ps : List Pending) (env regs : List Value) (c : Captured) (opened : ℕ) (w : Value) (rest : List (Target × Value)) (k : List Work) → Stands S.code.own.constants S.hidden x s r t regs → t ≤ v → r + 1 < S.code.own.stack → v < S.code.own.stack
+      → HasAt S pc (store_to x s line r v) → pc + length (store_to x s line r v) < length S.code.own.code → Standing S t closed ps env c regs → nth regs v ≡ w → Stored n t (pc + length (store_to x s line r v)) closed ps regs rest k
       → Agree S n (tree.at (store ((x, w) ∷ rest)) (of_tree S ps env c) k) (before (of_code S ps pc regs opened) c)
-  store_one (to_local m) line r v n t pc closed ps env regs c opened w rest k ok le two room has inside st eq goes =
+  store_one (to_local m) s line r v n t pc closed ps env regs c opened w rest k ok le two room has inside st eq goes =
       let there = next_there S (pc + 1) inside in
       let size = st.size in
       go_left S n _ (tree.at (store rest) (of_tree S ps (write m w env) c) k) _ refl
@@ -97,7 +99,7 @@ module _ (S : Setting) (back : ℕ) where
       ∙ ap (λ x. goes_on (before (of_code S ps (pc + 1) (write m x regs) opened) c)) eq)
       (goes (write m w env) (write m w regs) c opened (record { numbered = st.numbered; size = length_write m w env (omega (arith, size, ok.0)) ∙ size; rel = rel_assigned S.hidden S.code.own.stack m w ps env regs c (omega (arith, size, ok.0)) ok.1 st.rel })
       (λ q lo hi. nth_write_other m w regs q (λ e. absurd (omega (arith, e, lo, ok.0))))))
-  store_one (to_upvalue l u) line r v n t pc closed ps env regs c opened w rest k ok le two room has inside st eq goes =
+  store_one (to_upvalue l u) s line r v n t pc closed ps env regs c opened w rest k ok le two room has inside st eq goes =
       let there = next_there S (pc + 1) inside in
       let size = st.size in
       quick_alike S ps n _ _ (writes_upvalue u w) (writes_upvalue u (nth regs v)) l pc opened S.code.own.stack env regs c k (λ _. store rest) next (nth regs v ∷ []) refl
@@ -106,10 +108,10 @@ module _ (S : Setting) (back : ℕ) where
       (λ reply fits env1 regs1 c1 af. go_right S n _ _ (before (of_code S ps (pc + 1) regs1 opened) c1)
       (go_step S.code 1 there.0 ((nth regs v ∷ []) ++ values_in reply) (of_code S ps pc regs1 opened) c1 there.1)
       (goes env1 regs1 c1 opened (record { numbered = st.numbered; size = af.size ∙ size; rel = af.rel }) (λ q lo hi. af.keeps q (omega (arith, size, lo)) hi)))
-  store_one (to_field l o key) line r v n t pc closed ps env regs c opened w rest k ok le two room has inside st eq goes =
+  store_one (to_field l o key) s line r v n t pc closed ps env regs c opened w rest k ok le two room has inside st eq goes =
       let size = st.size in
-      store_goes S ps r (r + 1) v S.code.own.stack n l pc opened o key w _ env regs c k (λ ws. store rest) refl has inside (omega (arith, two)) two room st.rel ok.0 ok.1 eq
-      (λ ws env1 regs1 c1 af. goes env1 regs1 c1 opened (record { numbered = st.numbered; size = af.size ∙ size; rel = af.rel }) (λ q lo hi. af.keeps q (omega (arith, size, lo)) hi))
+      waiting_goes S ps s l r v S.code.own.stack n pc opened o key w env regs c rest k ok.1 has inside two room st.rel ok.0 eq
+      (λ env1 regs1 c1 af. goes env1 regs1 c1 opened (record { numbered = st.numbered; size = af.size ∙ size; rel = af.rel }) (λ q lo hi. af.keeps q (omega (arith, size, lo)) hi))
 
   abbrev others : List Value → List Value
   others vs = elim vs [ [] ↦ [] | _ ∷ ws ↦ ws ]
@@ -137,12 +139,12 @@ module _ (S : Setting) (back : ℕ) where
       let sum = length-append tail head in
       let size = ap length (all.0.stores v) in
       let here : v + 0 ≡ v = omega arith in
-      let there : pc + length tail + length (store_to x all.0.line r v) ≡ pc + length (tail ++ head) = omega (arith, sum, size) in
+      let there : pc + length tail + length (store_to x all.0.key all.0.line r v) ≡ pc + length (tail ++ head) = omega (arith, sum, size) in
       subst (λ z. Agree S n (tree.at (store z) (of_tree S ps env c) k) (before (of_code S ps pc regs opened) c)) (sym (list_so x xs vs rest))
       (stores_goes ts xs (r + 2) (v + 1) n t pc closed ps env regs c opened (others vs) ((x, first vs) ∷ rest) k all.1 (omega arith) (omega (arith, above)) (omega (arith, room)) (has_front S pc tail head has) (omega (arith, inside, sum)) st
       (λ i lt. let at : v + 1 + i ≡ v + suc i = omega arith in ap (nth regs) at ∙ held (suc i) (omega arith) ∙ sym (nth_others vs i))
-      (λ env1 regs1 c1 opened1 st1 same. store_one x all.0.line r v n t (pc + length tail) closed ps env1 regs1 c1 opened1 (first vs) rest k
-      (stands_still S.hidden x r t regs regs1 (same r le (omega (arith, above, room))) (same (r + 1) (omega (arith, le)) (omega (arith, above, room))) all.0.stands) (omega (arith, le, above)) (omega (arith, above, room)) (omega (arith, room))
+      (λ env1 regs1 c1 opened1 st1 same. store_one x all.0.key all.0.line r v n t (pc + length tail) closed ps env1 regs1 c1 opened1 (first vs) rest k
+      (stands_still S.code.own.constants S.hidden x all.0.key r t regs regs1 (same r le (omega (arith, above, room))) (same (r + 1) (omega (arith, le)) (omega (arith, above, room))) all.0.stands) (omega (arith, le, above)) (omega (arith, above, room)) (omega (arith, room))
       (subst (HasAt S (pc + length tail)) (all.0.stores v) (has_back S pc tail head has)) (omega (arith, inside, sum, size)) st1
       (same v (omega (arith, le, above)) (omega (arith, room)) ∙ ap (nth regs) (sym here) ∙ held 0 (omega arith))
       (λ env2 regs2 c2 opened2 st2 same2. subst (λ q. Agree S n (tree.at (store rest) (of_tree S ps env2 c2) k) (before (of_code S ps q regs2 opened2) c2)) (sym there)
@@ -150,7 +152,7 @@ module _ (S : Setting) (back : ℕ) where
 
   -- each target by its value
   stored_goes : (targets es : Exps) (n t j line pc : ℕ) (closed : List ℕ) (ps : List Pending) (env regs : List Value) (c : Captured) (opened : ℕ) (s : State) (k : List Work)
-      → n ≤ S.bound → HasAt S pc (stored_code S.code.own.constants targets es t j line) → StoreIsPlaced S false targets es t j → pc + length (stored_code S.code.own.constants targets es t j line) < length S.code.own.code
+      → n ≤ S.bound → HasAt S pc (stored_code S.code.own.constants targets es t j line) → KeptIsPlaced S None targets es t j → pc + length (stored_code S.code.own.constants targets es t j line) < length S.code.own.code
       → GoesOn S n t closed complete k (pc + length (stored_code S.code.own.constants targets es t j line)) → step s ≡ goes_on (tree.at (aim [] targets es) (of_tree S ps env c) k) → Standing S t closed ps env c regs
       → Agree S n s (before (of_code S ps pc regs opened) c)
   stored_goes targets es n t j line pc closed ps env regs c opened s k fewer has placed inside done st standing =
@@ -238,7 +240,24 @@ module _ (S : Setting) (back : ℕ) where
           by_field : (b : Bool) → stores_field targets es ≡ b → HasAt S pc (store_by S.code.own.constants b targets es t j line) → StoreIsPlaced S b targets es t j
               → pc + length (store_by S.code.own.constants b targets es t j line) < length S.code.own.code → GoesOn S n t closed complete k (pc + length (store_by S.code.own.constants b targets es t j line))
               → Agree S n s (before (of_code S ps pc regs opened) c)
-          by_field false is has placed inside done = stored_goes targets es n t j line pc closed ps env regs c opened s k fewer has placed inside done st standing
+          by_field false is has placed inside done = by_store (single_store S.code.own.constants targets es) refl has placed inside done
+            where
+              by_store : (o : Option Coded) → single_store S.code.own.constants targets es ≡ o → HasAt S pc (kept_code S.code.own.constants o targets es t j line) → KeptIsPlaced S o targets es t j
+                  → pc + length (kept_code S.code.own.constants o targets es t j line) < length S.code.own.code → GoesOn S n t closed complete k (pc + length (kept_code S.code.own.constants o targets es t j line))
+                  → Agree S n s (before (of_code S ps pc regs opened) c)
+              by_store None is has placed inside done = stored_goes targets es n t j line pc closed ps env regs c opened s k fewer has placed inside done st standing
+              by_store (Some x) is has placed inside done =
+                  let form = single_store_is S.code.own.constants targets es x is in
+                  let size = standing.size in
+                  let target = subst (λ z. ArePlaced S z t j) form.target placed.0 in
+                  let value = subst (λ z. ArePlaced S z t (j + made_in targets)) form.values placed.1 in
+                  let whole = MoreExps (Var form.line form.name) EndExps in
+                  let alone = MoreExps form.value EndExps in
+                  go_left S n s (tree.at (aim [] whole alone) (of_tree S ps env c) k) _ (st ∙ ap₂ (λ x y. goes_on (tree.at (aim [] x y) (of_tree S ps env c) k)) form.target form.values)
+                  (local_goes S ps form.line form.name form.value form.local x t n (j + made_in targets) pc opened env regs c k form.is form.short form.store has (subst (λ m. NameIsPlaced S form.name.place form.name.text m) (sym size) target.0)
+                  (subst (λ m. IsPlaced S form.value m (j + made_in targets)) (sym size) value.0) inside (omega (arith, size)) standing.rel
+                  (λ env1 regs1 c1 o1 af. go_left S n _ (tree.at complete (of_tree S ps env1 c1) k) _ refl
+                  (done n (omega arith) ps env1 regs1 c1 o1 (record { numbered = standing.numbered; size = af.size ∙ size; rel = af.rel }))))
           by_field true is has placed inside done =
               let form = stores_field_is targets es is in
               let after = j + made_in targets in

@@ -13,6 +13,7 @@ mod Ending
 mod Values
 mod Targets
 mod FieldStores
+mod GlobalStores
 mod Assigning
 mod Iterating
 mod Counting

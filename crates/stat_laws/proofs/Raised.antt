@@ -8,13 +8,15 @@ use Rattle.code_core.specs.Prototype.{Prototype, list_of}
 use Rattle.code_of.specs.CodeOf.{code_of, upvalue}
 use Rattle.code_of.specs.Expressions.{made_by, made_in}
 use Rattle.code_of.specs.Operands.{assigned}
+use Rattle.code_of.specs.Coded.{Coded}
 use Rattle.code_of.specs.Stores.{stores_field}
+use Rattle.code_of.specs.Targets.{single_store}
 use Rattle.code_of.specs.Levels.{made_by_stat, made_in_arms, made_in_stats, made_in_block, closing_after, closings_after}
 use Rattle.tree_terms.specs.Levels.{level_after, levels_after, levels_in}
 use Rattle.exp_laws.specs.Setting.{Hidden, Setting, with_loop, Alike}
 use Rattle.exp_laws.specs.Placed.{Inner, IsPlaced, ArePlaced, FieldsArePlaced}
 use Rattle.tree_terms.specs.Labels.{Named, names_ahead, names_passed}
-use Rattle.stat_laws.specs.Scoped.{TargetsArePlaced, StoreIsPlaced, AssignIsPlaced, LastIsPlaced, ReturnIsPlaced, BoundsArePlaced, StatIsPlaced, ArmsArePlaced, StatsArePlaced, BlockIsPlaced, OpenIsPlaced}
+use Rattle.stat_laws.specs.Scoped.{TargetsArePlaced, KeptIsPlaced, StoreIsPlaced, AssignIsPlaced, LastIsPlaced, ReturnIsPlaced, BoundsArePlaced, StatIsPlaced, ArmsArePlaced, StatsArePlaced, BlockIsPlaced, OpenIsPlaced}
 use Rattle.stat_laws.specs.Fits.{is_known, setting, BodyFits, InExp, InExps, InFields, InStat, InArms, InStats, InBlock}
 
 pub upvalues_same : (source : Option (List ℕ)) (body : Body) → (code_of source body).own.upvalues ≡ map upvalue (upvalues_of body)
@@ -66,9 +68,13 @@ module _ (source : Option (List ℕ)) (p : Prototype) (bound : ℕ) (varargs : L
   targets_up hs EndExps r t j h g = tt
   targets_up hs (MoreExps e ts) r t j h g = (h.0, (exp_up hs e t j h.1.0 g.0, (h.1.1.0, targets_up hs ts (r + 2) t (j + made_by e) h.1.1.1 g.1)))
 
+  kept_up : (hs : Hidden) (store : Option Coded) (targets es : Exps) (t j : ℕ) → KeptIsPlaced (low hs) store targets es t j → InExps source p targets j → InExps source p es (j + made_in targets) → KeptIsPlaced (high hs) store targets es t j
+  kept_up hs None targets es t j h a b = (targets_up hs targets t t j h.0 a, (exps_up hs es t (j + made_in targets) h.1.0 b, h.1.1))
+  kept_up hs (Some x) targets es t j h a b = (exps_up hs targets t j h.0 a, exps_up hs es t (j + made_in targets) h.1 b)
+
   store_up : (hs : Hidden) (field : Bool) (targets es : Exps) (t j : ℕ) → StoreIsPlaced (low hs) field targets es t j → InExps source p targets j → InExps source p es (j + made_in targets) → StoreIsPlaced (high hs) field targets es t j
   store_up hs true targets es t j h a b = (exps_up hs targets t j h.0 a, (exps_up hs es t (j + made_in targets) h.1.0 b, h.1.1))
-  store_up hs false targets es t j h a b = (targets_up hs targets t t j h.0 a, (exps_up hs es t (j + made_in targets) h.1.0 b, h.1.1))
+  store_up hs false targets es t j h a b = kept_up hs (single_store p.own.constants targets es) targets es t j h a b
 
   assign_up : (hs : Hidden) (o : Option ℕ) (targets es : Exps) (t j : ℕ) → AssignIsPlaced (low hs) o targets es t j → InExps source p targets j → InExps source p es (j + made_in targets) → AssignIsPlaced (high hs) o targets es t j
   assign_up hs None targets es t j h a b = store_up hs (stores_field targets es) targets es t j h a b

@@ -22,6 +22,7 @@ use Rattle.code_of.specs.Expressions.{made_by, count, list_field, exp_code, exps
 use Rattle.code_of.specs.Jumps.{Reach}
 use Rattle.tree_terms.specs.Levels.{level_after, levels_after}
 use Rattle.code_of.specs.Levels.{closing_after, closings_after, made_in_stats}
+use Rattle.code_of.specs.Operands.{local_of, seat, unless}
 use Rattle.code_of.specs.Operators.{self_code}
 use Rattle.code_of.specs.Parts.{values_last, return_code}
 use Rattle.code_of.specs.Sizes.{stat_size, stats_size, block_size, open_size}
@@ -65,8 +66,8 @@ return_some cs false (MoreExps (Call l f es) EndExps) t j line back =
     let two = length-append b last in
     omega (arith, one, two)
 return_some cs false (MoreExps (Method l o name es) EndExps) t j line back =
-    let a = exp_code cs o t j 2 in
-    let b = self_code cs name.text t l in
+    let a = unless (local_of o) (exp_code cs o t j 2) in
+    let b = self_code cs name.text (seat (local_of o) t) t l in
     let d = exps_code cs es None (t + 2) (j + made_by o) l in
     let last = leaving_by TailCall t (list_field 1 es) back l ∷ leaving_by Return t 0 back l ∷ [] in
     let one = length-append a (b ++ (d ++ last)) in
@@ -186,8 +187,8 @@ module _ (S : Setting) where
         (call_last_same S [] f es l back t j n pc opened env regs c k fewer (subst (HasAt S pc) (append_assoc first_code args (one ∷ [])) front) (subst (λ u. IsPlaced S f u j) (sym size) h.0) (subst (λ u. ArePlaced S es u (j + made_by f)) (sym size) h.1.0)
         (omega (arith, inside, a, b, d, e)) (omega (arith, size)) h.1.1.0 h.1.1.1 rel)
     return_goes (MoreExps (Method l o name es) EndExps) n t j line pc opened env regs c k s st fewer has h inside size rel =
-        let first_code = exp_code S.code.own.constants o t j 2 in
-        let key = self_code S.code.own.constants name.text t l in
+        let first_code = unless (local_of o) (exp_code S.code.own.constants o t j 2) in
+        let key = self_code S.code.own.constants name.text (seat (local_of o) t) t l in
         let args = exps_code S.code.own.constants es None (t + 2) (j + made_by o) l in
         let one = leaving_by TailCall t (list_field 1 es) back l in
         let two = leaving_by Return t 0 back l in

@@ -18,7 +18,7 @@ use Rattle.code_of.specs.CodeOf.{back_field, opening, body_code, code_of}
 use Rattle.code_of.specs.Constants.{of_block}
 use Rattle.code_of.specs.Statements.{whole_code}
 use Rattle.stat_laws.specs.Fits.{is_known}
-use Rattle.code_of.proofs.Sizes.{whole_sized}
+use Rattle.code_of.proofs.Sizes.{whole_sized, function_some}
 use Rattle.code_of.specs.Sizes.{stat_size, arms_size, stats_size, block_size, open_size, whole_size}
 use Rattle.code_of.specs.Variables.{names_of, variables, hidden, looped, declared_by, within_stat, within_arms, within_stats, within_block, within_open, within_whole}
 use Rattle.stat_laws.proofs.Naming.{StatIsNamed, ArmsAreNamed, StatsAreNamed, BlockIsNamed, OpenIsNamed}
@@ -129,7 +129,7 @@ module _ (cs : List Const) (back : ℕ) where
       let count = variables_alive (names_of names) (pc + length (exps_code cs es (Some (length names)) t j l)) end q (omega arith) lt in
       let same = length-map names (λ d. d.name) in
       omega (arith, count, same)
-  declared_alive (LocalFunction l name body) closing t j pc end q le lt = let count = variables_alive (name ∷ []) (pc + 1) end q (omega arith) lt in omega (arith, count)
+  declared_alive (LocalFunction l name body) closing t j pc end q le lt = let some = function_some body t j in let count = variables_alive (name ∷ []) (pc + 1) end q (omega (arith, some)) lt in omega (arith, count)
   declared_alive (Empty l) closing t j pc end q le lt = omega arith
   declared_alive (Assign l targets es) closing t j pc end q le lt = omega arith
   declared_alive (CallStat l e) closing t j pc end q le lt = omega arith

@@ -5,14 +5,16 @@ use Rattle.tree_core.specs.declared.name.UpName.{UpName}
 use Rattle.tree_core.specs.Tree.{Block, Falls, Returns, Body, Stats, EndStats, MoreStats, Stat, Empty, Local, LocalFunction, Assign, CallStat, Do, While, Repeat, If, IfElse, NumFor, NumForStep, GenFor, Label, Goto, Break, Arms, EndArms, MoreArms, Exp, Nil, True, False, Int, Str, Vararg, Function, Var, Index, Call, Method, Unary, Binary, And, Or, Paren, Table, Exps, EndExps, MoreExps, Fields, EndFields, MoreFields, Item, Keyed}
 use Rattle.tree_terms.specs.Bodies.{upvalues_of}
 use Rattle.code_of.specs.Operands.{assigned}
+use Rattle.code_of.specs.Coded.{Coded}
 use Rattle.code_of.specs.Stores.{stores_field}
+use Rattle.code_of.specs.Targets.{single_store}
 use Rattle.code_of.specs.Expressions.{made_by, made_in, made_in_fields}
-use Rattle.code_of.specs.Levels.{made_by_stat, made_in_arms, made_in_stats, made_in_block, closing_after, closings_after, may_hold}
+use Rattle.code_of.specs.Levels.{made_by_stat, made_in_arms, made_in_stats, made_in_block, closing_after, closings_after, may_hold, made_until, marked_in_block, may_hold_until}
 use Rattle.tree_terms.specs.Levels.{level_after, levels_after, levels_in}
 use Rattle.exp_laws.specs.Setting.{UnderAll, Setting, hiding, with_scope, scoped}
 use Rattle.exp_laws.specs.Placed.{Captures, Inner, IsPlaced, ArePlaced, FieldsArePlaced}
 use Rattle.tree_terms.specs.Labels.{Named, names_ahead, names_passed}
-use Rattle.stat_laws.specs.Scoped.{TargetsArePlaced, StoreIsPlaced, AssignIsPlaced, LastIsPlaced, ReturnIsPlaced, BoundsArePlaced, StatIsPlaced, ArmsArePlaced, StatsArePlaced, BlockIsPlaced, OpenIsPlaced}
+use Rattle.stat_laws.specs.Scoped.{TargetsArePlaced, KeptIsPlaced, StoreIsPlaced, AssignIsPlaced, LastIsPlaced, ReturnIsPlaced, BoundsArePlaced, StatIsPlaced, ArmsArePlaced, StatsArePlaced, BlockIsPlaced, OpenIsPlaced}
 use Rattle.stat_laws.proofs.Labels.{closed_numbers, closed_after}
 use Rattle.stat_laws.proofs.Blocks.{closeds_after, no_some, some_numbers}
 use Rattle.list_laws.proofs.Items.{append_nil}
@@ -31,6 +33,10 @@ none_counted (suc n) e = let some = lt-ltb 0 (suc n) (omega arith) in absurd (cc
 
 pub none_made : (ss : Stats) → may_hold ss ≡ false → made_in_stats ss ≡ 0
 none_made ss e = none_counted (made_in_stats ss) (first_false (nat_lt 0 (made_in_stats ss)) (closings_after ss false) e)
+
+-- of the block of a `repeat` and its test
+pub none_until : (block : Block) (e : Exp) → may_hold_until block e ≡ false → made_until block e ≡ 0
+none_until block e h = none_counted (made_until block e) (first_false (nat_lt 0 (made_until block e)) (marked_in_block block) h)
 
 -- nor is a variable marked
 
@@ -105,7 +111,7 @@ module _ (captures : Bool) (level : ℕ) where
   inner_scoped S j body h = record { prototype = h.prototype; there = h.there; near = h.near; upvalues = h.upvalues; alike = h.alike }
 
   mutual
-    exp_scoped : (S : Setting) (e : Exp) (t j : ℕ) → IsPlaced S e t j → Free (made_by e) → IsPlaced (scoped S captures level) e t j
+    pub exp_scoped : (S : Setting) (e : Exp) (t j : ℕ) → IsPlaced S e t j → Free (made_by e) → IsPlaced (scoped S captures level) e t j
     exp_scoped S (Nil l) t j h g = h
     exp_scoped S (True l) t j h g = h
     exp_scoped S (False l) t j h g = h
@@ -138,9 +144,13 @@ module _ (captures : Bool) (level : ℕ) where
   targets_scoped S EndExps r t j h g = tt
   targets_scoped S (MoreExps e ts) r t j h g = (h.0, (exp_scoped S e t j h.1.0 (λ is. omega (arith, g is)), (h.1.1.0, targets_scoped S ts (r + 2) t (j + made_by e) h.1.1.1 (λ is. omega (arith, g is)))))
 
+  kept_scoped : (S : Setting) (store : Option Coded) (targets es : Exps) (t j : ℕ) → KeptIsPlaced S store targets es t j → Free (made_in targets + made_in es) → KeptIsPlaced (scoped S captures level) store targets es t j
+  kept_scoped S None targets es t j h g = (targets_scoped S targets t t j h.0 (λ is. omega (arith, g is)), (exps_scoped S es t (j + made_in targets) h.1.0 (λ is. omega (arith, g is)), h.1.1))
+  kept_scoped S (Some x) targets es t j h g = (exps_scoped S targets t j h.0 (λ is. omega (arith, g is)), exps_scoped S es t (j + made_in targets) h.1 (λ is. omega (arith, g is)))
+
   store_scoped : (S : Setting) (field : Bool) (targets es : Exps) (t j : ℕ) → StoreIsPlaced S field targets es t j → Free (made_in targets + made_in es) → StoreIsPlaced (scoped S captures level) field targets es t j
   store_scoped S true targets es t j h g = (exps_scoped S targets t j h.0 (λ is. omega (arith, g is)), (exps_scoped S es t (j + made_in targets) h.1.0 (λ is. omega (arith, g is)), h.1.1))
-  store_scoped S false targets es t j h g = (targets_scoped S targets t t j h.0 (λ is. omega (arith, g is)), (exps_scoped S es t (j + made_in targets) h.1.0 (λ is. omega (arith, g is)), h.1.1))
+  store_scoped S false targets es t j h g = kept_scoped S (single_store S.code.own.constants targets es) targets es t j h g
 
   assign_scoped : (S : Setting) (at : Option ℕ) (targets es : Exps) (t j : ℕ) → AssignIsPlaced S at targets es t j → Free (made_in targets + made_in es) → AssignIsPlaced (scoped S captures level) at targets es t j
   assign_scoped S None targets es t j h g = store_scoped S (stores_field targets es) targets es t j h g

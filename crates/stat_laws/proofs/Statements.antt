@@ -5,7 +5,7 @@ use Rattle.tree_activation.specs.Work.{Work, End, falls_off, returns_list, until
 use Rattle.tree_terms.specs.Labels.{are_void}
 use Rattle.tree_activation.specs.Jumps.{is_at_end}
 use Rattle.exp_laws.specs.Setting.{Setting, hiding, scoped}
-use Rattle.code_of.specs.Levels.{may_hold}
+use Rattle.code_of.specs.Levels.{may_hold, may_hold_until}
 use Rattle.exp_laws.proofs.Conditions.{test_same}
 use Rattle.stat_laws.proofs.Blocks.{StatLaw, StatsLaw, none_goes, label_goes, more_goes}
 use Rattle.stat_laws.proofs.Forms.{TestLaw, BlockLaw, falls_goes, do_goes, goto_goes, break_goes, empty_stat_goes, label_stat_goes, while_goes, ArmsLaw, no_arms_goes, more_arms_goes, if_goes, if_else_goes}
@@ -29,7 +29,7 @@ module _ (back : ℕ) where
     stat_goes S (CallStat l e) = call_goes S back l e
     stat_goes S (Do l block) = do_goes S back l block (block_goes S block)
     stat_goes S (While l e block) = while_goes S back (tests S) l e block (block_goes S block)
-    stat_goes S (Repeat l (Falls ss tokens last) e) = repeat_goes S back (tests S) l ss tokens last e (λ outer closed k. stats_goes S ss (until last e) false outer closed k (λ more. refl))
+    stat_goes S (Repeat l (Falls ss tokens last) e) = repeat_goes S back l ss tokens last e (λ level. tests (scoped S (may_hold_until (Falls ss tokens last) e) level)) (λ outer closed k. stats_goes (scoped S (may_hold_until (Falls ss tokens last) e) outer) ss (until last e) false outer closed k (λ more. refl))
     stat_goes S (Repeat l (Returns ss es tokens last) e) = repeat_returns_goes S back l ss es tokens last e (λ outer closed k. stats_goes S ss (returns_list last es) false outer closed k (λ more. refl))
     stat_goes S (If l arms) = if_goes S back (tests S) l arms (arms_goes S arms)
     stat_goes S (IfElse l arms block) = if_else_goes S back (tests S) l arms block (arms_goes S arms) (block_goes S block)

@@ -23,7 +23,7 @@ use Rattle.exp_laws.proofs.Placing.{HasAt, has_front, has_back}
 use Rattle.exp_laws.specs.Placed.{IsPlaced, ArePlaced}
 use Rattle.exp_laws.proofs.Lists.{Holds}
 use Rattle.exp_laws.proofs.ListForms.{nth_behind}
-use Rattle.exp_laws.proofs.FunctionForms.{local_function_goes}
+use Rattle.exp_laws.proofs.LocalFunctions.{local_function_goes}
 use Rattle.exp_laws.proofs.Exps.{open_same, exps_same}
 use Rattle.stat_laws.proofs.Labels.{closed_numbers}
 use Rattle.exp_laws.proofs.Going.{at_place}

@@ -16,8 +16,10 @@ use Rattle.exp_laws.specs.Setting.{Hidden, Setting, hiding}
 use Rattle.code_of.specs.Constants.{Found}
 use Rattle.exp_laws.specs.Placed.{Inner, Captures, IsPlaced, ArePlaced}
 use Rattle.tree_terms.specs.Hidden.{IsNoneOf}
+use Rattle.code_of.specs.Coded.{Coded}
 use Rattle.code_of.specs.Operands.{assigned}
 use Rattle.code_of.specs.Stores.{stores_field}
+use Rattle.code_of.specs.Targets.{single_store}
 use Rattle.code_of.specs.Rooms.{room_of, room_of_target, room_of_assigned, room_of_first, room_of_test, room_of_list, room_of_self}
 
 -- what can be assigned: a name, though no hidden local has one, or an index
@@ -41,13 +43,18 @@ module _ (S : Setting) where
   TargetsArePlaced (MoreExps e targets) r t j =
       IsTarget S.hidden e × (IsPlaced S e t j × ((r + room_of_target S.code.own.constants e ≤ S.code.own.stack) × TargetsArePlaced targets (r + 2) t (j + made_by e)))
 
-  -- one value that goes to a field, or a list of values behind the tables and keys of their targets
+  -- a list of values behind the tables and keys of their targets, or a local that goes to a name by one instruction
+  abbrev pub KeptIsPlaced : (store : Option Coded) → (targets es : Exps) → (t j : ℕ) → Type 0
+  KeptIsPlaced None targets es t j =
+      TargetsArePlaced targets t t j × (ArePlaced S es t (j + made_in targets)
+      × ((t + 2 * count targets + room_of_list S.code.own.constants 0 es (Some (count targets)) ≤ S.code.own.stack) × ((t + 2 * count targets + count targets ≤ S.code.own.stack) × (count targets + 1 < 2 ^ 8))))
+  KeptIsPlaced (Some x) targets es t j = ArePlaced S targets t j × ArePlaced S es t (j + made_in targets)
+
+  -- one value that goes to a field, or other stores
   abbrev pub StoreIsPlaced : (field : Bool) → (targets es : Exps) → (t j : ℕ) → Type 0
   StoreIsPlaced true targets es t j =
       ArePlaced S targets t j × (ArePlaced S es t (j + made_in targets) × (t + room_of_first S.code.own.constants targets es ≤ S.code.own.stack))
-  StoreIsPlaced false targets es t j =
-      TargetsArePlaced targets t t j × (ArePlaced S es t (j + made_in targets)
-      × ((t + 2 * count targets + room_of_list S.code.own.constants 0 es (Some (count targets)) ≤ S.code.own.stack) × ((t + 2 * count targets + count targets ≤ S.code.own.stack) × (count targets + 1 < 2 ^ 8))))
+  StoreIsPlaced false targets es t j = KeptIsPlaced (single_store S.code.own.constants targets es) targets es t j
 
   -- a local that gets a value straight into its register is in scope, and not a hidden one
   abbrev pub AssignIsPlaced : Option ℕ → (targets es : Exps) → (t j : ℕ) → Type 0

@@ -4,7 +4,7 @@ use Rattle.std.proofs.lemmas.Result.{on_ok_weaker}
 use Rattle.tree_core.specs.Tree as tree
 use Rattle.tree_core.specs.Plain.{plain_exp, plain_exps}
 use Rattle.code_stat.proofs.Returning.{single}
-use Rattle.code_stat.proofs.Assigning.{one_field, one_stored, kept_by, kept_follows, field_follows}
+use Rattle.code_stat.proofs.Assigning.{one_field, one_stored, one_name, one_local, no_store_by, kept_by, kept_follows, local_follows, field_follows}
 use Rattle.code_stat.proofs.simple.write_single.Goals as goal
 
 pub returns-then-len-ne1 : goal.returns-then-len-ne1
@@ -13,7 +13,7 @@ returns-then-len-ne1 c =
     let es = tree.exps (plain_exps c.args.values.now.items) in
     let size : c.len.result ≡ length ts = search rules in
     on_ok_weaker c.write_stored.result
-    (kept_follows c.args.emitter.now c.write_stored.new.emitter (tree.exps (plain_exps ts)) es c.args.register c.args.line (one_field ts es (λ h. c.if-len-ne1.true (size ∙ h)))) c.write_stored.ensures
+    (kept_follows c.args.emitter.now c.write_stored.new.emitter (tree.exps (plain_exps ts)) es c.args.register c.args.line (one_field ts es (λ h. c.if-len-ne1.true (size ∙ h))) (one_name c.args.emitter.now.constants ts es (λ h. c.if-len-ne1.true (size ∙ h)))) c.write_stored.ensures
 
 pub returns-then-len-ne1-2 : goal.returns-then-len-ne1-2
 returns-then-len-ne1-2 c =
@@ -21,7 +21,7 @@ returns-then-len-ne1-2 c =
     let ts = tree.exps (plain_exps c.args.targets.now.items) in
     let size : c.len-2.result ≡ length es = search rules in
     on_ok_weaker c.write_stored-then-len-ne1-2.result
-    (kept_follows c.args.emitter.now c.write_stored-then-len-ne1-2.new.emitter ts (tree.exps (plain_exps es)) c.args.register c.args.line (one_stored ts es (λ h. c.if-len-ne1-2.true (size ∙ h)))) c.write_stored-then-len-ne1-2.ensures
+    (kept_follows c.args.emitter.now c.write_stored-then-len-ne1-2.new.emitter ts (tree.exps (plain_exps es)) c.args.register c.args.line (one_stored ts es (λ h. c.if-len-ne1-2.true (size ∙ h))) (one_local c.args.emitter.now.constants ts es (λ h. c.if-len-ne1-2.true (size ∙ h)))) c.write_stored-then-len-ne1-2.ensures
 
 pub returns-then-is_field : goal.returns-then-is_field
 returns-then-is_field c =
@@ -35,14 +35,27 @@ returns-then-is_field c =
     (field_follows c.args.emitter.now c.store.new.self (tree.exps (plain_exps c.args.targets.now.items)) (tree.exps (plain_exps c.args.values.now.items)) (plain_exp target) (plain_exp value) c.args.register c.args.line
     (single c.args.targets.now.items target one first) (single c.args.values.now.items value alone only) (sym c.is_field.ensures ∙ c.if-is_field.true)) c.store.ensures
 
-pub returns : goal.returns
-returns c =
+pub returns-in-Some : goal.returns-in-Some
+returns-in-Some c =
     let target = c.index-target.result.now in
     let value = c.index-value.result.now in
     let one : length c.args.targets.now.items ≡ 1 = search rules in
     let alone : length c.args.values.now.items ≡ 1 = search rules in
     let first : target ≡ slice_index_or c.args.targets.now.items 0 target = search rules in
     let only : value ≡ slice_index_or c.args.values.now.items 0 value = search rules in
-    on_ok_weaker c.write_stored-2.result
-    (kept_follows c.args.emitter.now c.write_stored-2.new.emitter (tree.exps (plain_exps c.args.targets.now.items)) (tree.exps (plain_exps c.args.values.now.items)) c.args.register c.args.line
-    (kept_by (single c.args.targets.now.items target one first) (single c.args.values.now.items value alone only) (sym c.is_field.ensures ∙ c.if-is_field.false))) c.write_stored-2.ensures
+    on_ok_weaker c.put_step.result
+    (local_follows c.args.emitter.now c.put_step.new.self (tree.exps (plain_exps c.args.targets.now.items)) (tree.exps (plain_exps c.args.values.now.items)) (plain_exp target) (plain_exp value) c.in-Some.step c.args.register c.args.line
+    (single c.args.targets.now.items target one first) (single c.args.values.now.items value alone only) (sym c.is_field.ensures ∙ c.if-is_field.false) (sym c.local_store.ensures ∙ c.in-Some.is)) c.put_step.ensures
+
+pub returns-in-None : goal.returns-in-None
+returns-in-None c =
+    let target = c.index-target.result.now in
+    let value = c.index-value.result.now in
+    let one : length c.args.targets.now.items ≡ 1 = search rules in
+    let alone : length c.args.values.now.items ≡ 1 = search rules in
+    let first : target ≡ slice_index_or c.args.targets.now.items 0 target = search rules in
+    let only : value ≡ slice_index_or c.args.values.now.items 0 value = search rules in
+    on_ok_weaker c.write_stored-in-None.result
+    (kept_follows c.args.emitter.now c.write_stored-in-None.new.emitter (tree.exps (plain_exps c.args.targets.now.items)) (tree.exps (plain_exps c.args.values.now.items)) c.args.register c.args.line
+    (kept_by (single c.args.targets.now.items target one first) (single c.args.values.now.items value alone only) (sym c.is_field.ensures ∙ c.if-is_field.false))
+    (no_store_by c.args.emitter.now.constants (single c.args.targets.now.items target one first) (single c.args.values.now.items value alone only) (sym c.local_store.ensures ∙ c.in-None.is))) c.write_stored-in-None.ensures

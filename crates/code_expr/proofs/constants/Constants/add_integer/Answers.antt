@@ -15,6 +15,6 @@ invariant_of-self-2 c =
     let count : c.len-number.result ≡ length cs = search rules in
     let absent : length cs ≤ number_in cs (Int n) = search rules in
     let all : c.push.new.self.items ≡ cs ++ Int n ∷ [] = search rules in
-    integer_indexed cs c.push.new.self.items c.self.inside.integers c.insert.new.self n c.len-number.result (text_number c.self.inside.texts) count absent all
+    integer_indexed cs c.push.new.self.items c.self.inside.integers c.insert.new.self n c.len-number.result (text_number c.self.inside.texts) c.self.inside.nil c.self.inside.falsehood c.self.inside.truth count absent all
     (subst (λ m. Updates int_eq c.self.inside.integers c.insert.new.self m (Some c.len-number.result)) whole c.in_ok-insert.ensures.updates)
-    (subst (λ l. IsIndexed l (text_number c.self.inside.texts) (get int_eq c.self.inside.integers)) c.self.view_is c.self.invariant)
+    (subst (λ l. IsIndexed l (text_number c.self.inside.texts) (get int_eq c.self.inside.integers) c.self.inside.nil c.self.inside.falsehood c.self.inside.truth) c.self.view_is c.self.invariant)

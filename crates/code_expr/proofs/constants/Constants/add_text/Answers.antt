@@ -15,5 +15,5 @@ invariant_of-self-2 c =
     let absent : length cs ≤ number_in cs (Str text) = search rules in
     let all : c.push.new.self.items ≡ cs ++ Str text ∷ [] = search rules in
     let key : c.in_ok-key.key.items ≡ text = search rules in
-    text_indexed cs c.push.new.self.items c.self.inside.texts c.insert.new.self c.in_ok-key.key text c.len-number.result (get int_eq c.self.inside.integers) key count absent all c.in_ok-insert.ensures.updates
-    (subst (λ l. IsIndexed l (text_number c.self.inside.texts) (get int_eq c.self.inside.integers)) c.self.view_is c.self.invariant)
+    text_indexed cs c.push.new.self.items c.self.inside.texts c.insert.new.self c.in_ok-key.key text c.len-number.result (get int_eq c.self.inside.integers) c.self.inside.nil c.self.inside.falsehood c.self.inside.truth key count absent all c.in_ok-insert.ensures.updates
+    (subst (λ l. IsIndexed l (text_number c.self.inside.texts) (get int_eq c.self.inside.integers) c.self.inside.nil c.self.inside.falsehood c.self.inside.truth) c.self.view_is c.self.invariant)

@@ -1,15 +1,18 @@
 use Rattle.std.proofs.Common.{arith, rules, ◌≡◌, ℕ, ◌+◌, ◌-◌, ◌<◌, [], ◌∷◌, ◌++◌, cond, sym, ap, ◌∙◌, Some, None, length, map}
 use Rattle.tree_core.specs.Tree as tree
 use Rattle.tree_core.specs.Plain.{plain_exp, plain_exps, plain_field}
-use Rattle.code_core.specs.declared.opcode.Opcode.TheVariants.{Test, GetTable, GetI, GetField, SetTable, ExtraArg}
+use Rattle.code_core.specs.declared.opcode.Opcode.TheVariants.{Test, GetTable, GetI, GetField, ExtraArg}
 use Rattle.code_core.specs.declared.opcode.Opcode.TheVariants.{Call as CallCode}
 use Rattle.code_core.specs.Instruction.{abc, op_ax}
 use Rattle.code_of.specs.Coded.{with_abc}
 use Rattle.code_of.specs.Operands.{local_of, second_of, key_operand, seat, unless}
-use Rattle.code_of.specs.Stores.{name_in}
+use Rattle.code_of.specs.Stores.{name_in, is_quiet, field_key}
 use Rattle.code_of.specs.FieldReads.{read_code}
-use Rattle.code_expr.proofs.FieldSeats.{name_makes}
+use Rattle.code_expr.proofs.FieldSeats.{name_makes, keyed_written}
+use Rattle.code_expr.specs.Stores.{key_seat, seat_code, seat_made, seat_store}
 use Rattle.code_of.proofs.Operands.{operator_stands, key_stands}
+use Rattle.code_of.specs.Operations.{constant_code}
+use Rattle.code_expr.proofs.ConstantSeats.{operation_written}
 use Rattle.code_of.specs.Operators.{self_code, prefix_code, operator_code, number_code}
 use Rattle.code_expr.proofs.Seats.{local_written, seated_written, seated_stand, done_written}
 use Rattle.code_of.specs.Expressions.{exp_code, exps_code, set_list, list_field, made_by, made_in}
@@ -42,22 +45,23 @@ expression-returns-in-Method t c =
 
 pub unary-returns : goal.unary-returns
 unary-returns t c =
-    then_listed c.args.self.now c.expression.new.self c.prefix.new.self (exp_code c.args.self.now.constants (plain_exp c.args.operand.now) c.args.target c.args.self.now.made 2) (made_by (plain_exp c.args.operand.now))
-    (λ k. prefix_code c.args.op c.args.target c.args.line) c.in_ok-expression.ensures c.in_ok-prefix.ensures
+    let e = plain_exp c.args.operand.now in
+    let prefixed : c.prefix.new.self ≡ listed c.operand.new.self (prefix_code c.args.op (seat (local_of e) c.args.free) c.args.target c.args.line) = rw c.in_ok-register.ensures.place at c.in_ok-prefix.ensures in
+    then_listed c.args.self.now c.operand.new.self c.prefix.new.self (unless (local_of e) (exp_code c.args.self.now.constants e c.args.free c.args.self.now.made 2)) (made_by e)
+    (λ k. prefix_code c.args.op (seat (local_of e) c.args.free) c.args.target c.args.line) c.in_ok-register.ensures.code prefixed
 
 pub binary-returns : goal.binary-returns
 binary-returns t c =
     let k = c.args.self.now.constants in
     let e = plain_exp c.args.left.now in
     let d = plain_exp c.args.right.now in
-    let s = second_of c.args.op d in
     let left = exp_code k e c.args.target c.args.self.now.made 2 in
     let right = exp_code k d (c.args.target + 1) (c.args.self.now.made + made_by e) 2 in
-    let code = rw c.staying.ensures at c.in_ok-operands.ensures.code in
-    let places = rw c.staying.ensures at c.in_ok-operands.ensures.places in
-    done_written c.args.self.now c.operands.new.self c.apply.new.self s e left right c.args.target (made_by e + made_by d) c.in_ok-operands.operands
-    (λ x y. operator_code c.args.op x y c.args.target c.args.line) (λ x n. number_code c.args.op x n c.args.target c.args.line)
-    (seated_written c.args.self.now c.operands.new.self s e d 128 left right (operator_stands c.args.op d) code) (seated_stand s e c.args.target c.in_ok-operands.operands places) c.in_ok-apply.ensures
+    let code = rw c.standing-stays.ensures at c.in_ok-operands.ensures.code in
+    let places = rw c.standing-stays.ensures at c.in_ok-operands.ensures.places in
+    operation_written c.args.self.now c.operands.new.self c.apply.new.self k c.args.op e d left right c.args.target c.in_ok-operands.operands
+    (λ x n. constant_code c.args.op x n c.args.target c.args.line) (λ x y. operator_code c.args.op x y c.args.target c.args.line) (λ x n. number_code c.args.op x n c.args.target c.args.line)
+    code places c.in_ok-apply.ensures
 
 pub operand-returns-in-Some-clause-code : goal.operand-returns-in-Some-clause-code
 operand-returns-in-Some-clause-code t c =
@@ -99,7 +103,7 @@ index-returns-in_ok-operands-in-None t c =
     let places = rw c.key_staying.ensures at c.in_ok-operands-in-None.ensures.places in
     on_ok_weaker c.read_field.result
     (λ h. done_written c.args.self.now c.operands.new.self c.read_field.new.self s e first second c.args.free (made_by e + made_by d) c.in_ok-operands-in-None.operands
-    (λ x y. with_abc GetTable c.args.target x y c.args.line ∷ []) (λ x n. with_abc GetI c.args.target x n c.args.line ∷ [])
+    (λ x n. with_abc GetField c.args.target x n c.args.line ∷ []) (λ x y. with_abc GetTable c.args.target x y c.args.line ∷ []) (λ x n. with_abc GetI c.args.target x n c.args.line ∷ [])
     (seated_written c.args.self.now c.operands.new.self s e d 255 first second (key_stands d) code) (seated_stand s e c.args.free c.in_ok-operands-in-None.operands places) h
     ∙ ap (λ o. followed c.args.self.now (read_code o e d first second c.args.target c.args.free c.args.line) (made_by e + made_by d)) (sym named)) c.read_field.ensures
 
@@ -126,17 +130,20 @@ call-returns t c =
 pub method-returns : goal.method-returns
 method-returns t c =
     let k = c.args.self.now.constants in
+    let e = plain_exp c.args.object.now in
+    let x = seat (local_of e) c.args.target in
     let es = tree.exps (plain_exps c.args.arguments.now.items) in
     let text = c.args.name.now.text in
     let called = with_abc CallCode c.args.target (list_field 1 es) c.args.results c.args.line in
     let two : c.in_ok-next.field-0 ≡ c.args.target + 2 = omega (arith, c.in_ok-next.ensures, c.in_ok-above.ensures) in
+    let looked_up : c.look_up_method.new.self ≡ listed c.operand.new.self (self_code c.operand.new.self.constants text x c.args.target c.args.line) = rw c.in_ok-register.ensures.place at c.in_ok-look_up_method.ensures in
     let values : c.list.new.self ≡ followed c.look_up_method.new.self (exps_code c.look_up_method.new.self.constants es None (c.args.target + 2) c.look_up_method.new.self.made c.args.line) (made_in es) =
     rw two at c.in_ok-list.ensures in
     let call : c.put_abc.new.self ≡ listed c.list.new.self (called ∷ []) = rw c.list_field.ensures at c.in_ok-put_abc.ensures in
-    then_made c.args.self.now c.expression.new.self c.put_abc.new.self (exp_code k (plain_exp c.args.object.now) c.args.target c.args.self.now.made 2) (made_by (plain_exp c.args.object.now))
-    (λ k j. self_code k text c.args.target c.args.line ++ (exps_code k es None (c.args.target + 2) j c.args.line ++ called ∷ [])) (made_in es) c.in_ok-expression.ensures
-    (listed_then c.expression.new.self c.look_up_method.new.self c.put_abc.new.self (self_code c.expression.new.self.constants text c.args.target c.args.line)
-    (λ k j. exps_code k es None (c.args.target + 2) j c.args.line ++ called ∷ []) (made_in es) c.in_ok-look_up_method.ensures
+    then_made c.args.self.now c.operand.new.self c.put_abc.new.self (unless (local_of e) (exp_code k e c.args.target c.args.self.now.made 2)) (made_by e)
+    (λ k j. self_code k text x c.args.target c.args.line ++ (exps_code k es None (c.args.target + 2) j c.args.line ++ called ∷ [])) (made_in es) c.in_ok-register.ensures.code
+    (listed_then c.operand.new.self c.look_up_method.new.self c.put_abc.new.self (self_code c.operand.new.self.constants text x c.args.target c.args.line)
+    (λ k j. exps_code k es None (c.args.target + 2) j c.args.line ++ called ∷ []) (made_in es) looked_up
     (then_listed c.look_up_method.new.self c.list.new.self c.put_abc.new.self (exps_code c.look_up_method.new.self.constants es None (c.args.target + 2) c.look_up_method.new.self.made c.args.line) (made_in es)
     (λ k. called ∷ []) values call))
 
@@ -181,18 +188,20 @@ item-returns t c =
 
 pub keyed-returns : goal.keyed-returns
 keyed-returns t c =
-    let k = c.args.self.now.constants in
-    let two : c.in_ok-second.second ≡ c.args.target + 2 = omega (arith, c.in_ok-second.ensures, c.in_ok-first.ensures) in
-    let set = with_abc SetTable c.args.target (c.args.target + 1) (c.args.target + 2) c.args.line in
-    let key : c.expression.new.self ≡ followed c.args.self.now (exp_code k (plain_exp c.args.key.now) (c.args.target + 1) c.args.self.now.made 2) (made_by (plain_exp c.args.key.now)) =
-    rw c.in_ok-first.ensures at c.in_ok-expression.ensures in
-    let value : c.expression-2.new.self ≡ followed c.expression.new.self (exp_code c.expression.new.self.constants (plain_exp c.args.value.now) (c.args.target + 2) c.expression.new.self.made 2) (made_by (plain_exp c.args.value.now)) =
-    rw two at c.in_ok-expression-2.ensures in
-    let stored : c.put_abc.new.self ≡ listed c.expression-2.new.self (set ∷ []) = rw c.in_ok-first.ensures at rw two at c.in_ok-put_abc.ensures in
-    then_made c.args.self.now c.expression.new.self c.put_abc.new.self (exp_code k (plain_exp c.args.key.now) (c.args.target + 1) c.args.self.now.made 2) (made_by (plain_exp c.args.key.now))
-    (λ k j. exp_code k (plain_exp c.args.value.now) (c.args.target + 2) j 2 ++ set ∷ []) (made_by (plain_exp c.args.value.now)) key
-    (then_listed c.expression.new.self c.expression-2.new.self c.put_abc.new.self (exp_code c.expression.new.self.constants (plain_exp c.args.value.now) (c.args.target + 2) c.expression.new.self.made 2) (made_by (plain_exp c.args.value.now))
-    (λ k. set ∷ []) value stored)
+    let key = plain_exp c.args.key.now in
+    let e = plain_exp c.args.value.now in
+    let s = key_seat (field_key c.args.self.now.constants (is_quiet e) key) in
+    let one = c.in_ok-above.ensures in
+    let two : c.in_ok-top.top ≡ c.args.target + 2 = omega (arith, c.in_ok-above.ensures, c.in_ok-top.ensures) in
+    let stands : c.key_seat-stands.result ≡ s = rw c.is_quiet-quiet.ensures at c.key_seat-stands.ensures in
+    let made : c.write_key.new.self ≡ followed c.args.self.now (seat_code s (exp_code c.args.self.now.constants key (c.args.target + 1) c.args.self.now.made 2)) (seat_made s (made_by key)) =
+    rw one at rw stands at c.in_ok-write_key.ensures in
+    let value : c.operand.new.self ≡ followed c.write_key.new.self (unless (local_of e) (exp_code c.write_key.new.self.constants e (c.args.target + 2) c.write_key.new.self.made 2)) (made_by e) =
+    rw two at c.in_ok-register.ensures.code in
+    let register : c.in_ok-register.register ≡ seat (local_of e) (c.args.target + 2) = rw two at c.in_ok-register.ensures.place in
+    let store : c.put_store.new.self ≡ listed c.operand.new.self (seat_store s c.args.target (c.args.target + 1) (seat (local_of e) (c.args.target + 2)) c.args.line ∷ []) =
+    rw register at rw one at rw stands at c.in_ok-put_store.ensures in
+    keyed_written c.args.self.now c.write_key.new.self c.operand.new.self c.put_store.new.self c.args.line key e c.args.target made value store
 
 -- the second part of a tree is no greater than the greater one
 
@@ -205,8 +214,8 @@ both-expression-requires-2 t c = (omega (arith, c.decreases), tt)
 pub either-expression-requires-2 : goal.either-expression-requires-2
 either-expression-requires-2 t c = (omega (arith, c.decreases), tt)
 
-pub keyed-expression-requires-2 : goal.keyed-expression-requires-2
-keyed-expression-requires-2 t c = (omega (arith, c.decreases), tt)
+pub keyed-operand-requires : goal.keyed-operand-requires
+keyed-operand-requires t c = (omega (arith, c.decreases), tt)
 
 pub call-list-requires : goal.call-list-requires
 call-list-requires t c = (omega (arith, c.decreases), tt)

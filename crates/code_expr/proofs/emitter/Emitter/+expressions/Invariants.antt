@@ -36,7 +36,7 @@ abbrev pub decreases-expression : goal.decreases-expression
 decreases-expression l = 5 * the_size l.exp.now
 
 abbrev pub decreases-unary : goal.decreases-unary
-decreases-unary l = 5 * the_size l.operand.now + 1
+decreases-unary l = 5 * the_size l.operand.now + 2
 
 abbrev pub decreases-binary : goal.decreases-binary
 decreases-binary l = 5 * max (the_size l.left.now) (the_size l.right.now) + 4
@@ -78,4 +78,7 @@ abbrev pub decreases-item : goal.decreases-item
 decreases-item l = 5 * the_size l.value.now + 1
 
 abbrev pub decreases-keyed : goal.decreases-keyed
-decreases-keyed l = 5 * max (the_size l.key.now) (the_size l.value.now) + 1
+decreases-keyed l = 5 * max (the_size l.key.now) (the_size l.value.now) + 2
+
+abbrev pub decreases-write_key : goal.decreases-write_key
+decreases-write_key l = 5 * the_size l.key.now + 1

@@ -1,10 +1,9 @@
 use Rattle.std.proofs.Common.{◌+◌}
 use Rattle.tree_core.specs.Plain.{plain_exp}
 use Rattle.code_of.specs.Expressions.{made_by, exp_code}
-use Rattle.code_of.specs.Operands.{second_of}
+use Rattle.code_of.specs.Operations.{constant_code}
 use Rattle.code_of.specs.Operators.{operator_code, number_code}
-use Rattle.code_of.proofs.Operands.{operator_stands}
-use Rattle.code_expr.proofs.Seats.{seated_written, seated_stand, done_written}
+use Rattle.code_expr.proofs.ConstantSeats.{operation_written}
 use Rattle.code_expr.proofs.emitter.Emitter.binary_into.Goals as goal
 
 pub returns : goal.returns
@@ -12,11 +11,10 @@ returns c =
     let k = c.args.self.now.constants in
     let e = plain_exp c.args.left.now in
     let d = plain_exp c.args.right.now in
-    let s = second_of c.args.op d in
     let first = exp_code k e c.args.free c.args.self.now.made 2 in
     let second = exp_code k d (c.args.free + 1) (c.args.self.now.made + made_by e) 2 in
-    let code = rw c.staying.ensures at c.in_ok-operands.ensures.code in
-    let places = rw c.staying.ensures at c.in_ok-operands.ensures.places in
-    done_written c.args.self.now c.operands.new.self c.apply.new.self s e first second c.args.free (made_by e + made_by d) c.in_ok-operands.operands
-    (λ x y. operator_code c.args.op x y c.args.target c.args.line) (λ x n. number_code c.args.op x n c.args.target c.args.line)
-    (seated_written c.args.self.now c.operands.new.self s e d 128 first second (operator_stands c.args.op d) code) (seated_stand s e c.args.free c.in_ok-operands.operands places) c.in_ok-apply.ensures
+    let code = rw c.standing-stays.ensures at c.in_ok-operands.ensures.code in
+    let places = rw c.standing-stays.ensures at c.in_ok-operands.ensures.places in
+    operation_written c.args.self.now c.operands.new.self c.apply.new.self k c.args.op e d first second c.args.free c.in_ok-operands.operands
+    (λ x n. constant_code c.args.op x n c.args.target c.args.line) (λ x y. operator_code c.args.op x y c.args.target c.args.line) (λ x n. number_code c.args.op x n c.args.target c.args.line)
+    code places c.in_ok-apply.ensures

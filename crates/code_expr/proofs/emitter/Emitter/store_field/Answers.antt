@@ -2,7 +2,7 @@ use Rattle.std.proofs.Common.{◌≡◌, ◌+◌, [], ◌∷◌, arith}
 use Rattle.tree_core.specs.Plain.{plain_exp}
 use Rattle.code_of.specs.Expressions.{made_by, exp_code}
 use Rattle.code_of.specs.Operands.{local_of, seat, unless}
-use Rattle.code_of.specs.Stores.{field_key}
+use Rattle.code_of.specs.Stores.{is_quiet, field_key}
 use Rattle.code_expr.specs.Listing.{listed, followed}
 use Rattle.code_expr.specs.Stores.{key_seat, object_at, made_unless, seat_code, seat_made, seat_store}
 use Rattle.code_expr.proofs.FieldSeats.{field_written}
@@ -13,11 +13,11 @@ returns c =
     let o = plain_exp c.args.object.now in
     let d = plain_exp c.args.key.now in
     let e = plain_exp c.args.value.now in
-    let s = key_seat (field_key c.args.self.now.constants (local_of e) d) in
+    let s = key_seat (field_key c.args.self.now.constants (is_quiet e) d) in
     let one = c.in_ok-above.ensures in
     let two : c.in_ok-top.top ≡ c.args.free + 2 = omega (arith, c.in_ok-above.ensures, c.in_ok-top.ensures) in
-    let stands : c.key_seat-stands.result ≡ s = rw c.local_of-local.ensures at c.key_seat-stands.ensures in
-    let at : c.object_at.result ≡ object_at s (local_of e) o = rw c.local_of-local.ensures at rw stands at c.object_at.ensures in
+    let stands : c.key_seat-stands.result ≡ s = rw c.is_quiet-quiet.ensures at c.key_seat-stands.ensures in
+    let at : c.object_at.result ≡ object_at s (is_quiet e) o = rw c.is_quiet-quiet.ensures at rw stands at c.object_at.ensures in
     let key : c.write_key.new.self ≡ followed c.stand.new.self (seat_code s (exp_code c.stand.new.self.constants d (c.args.free + 1) c.stand.new.self.made 2)) (seat_made s (made_by d)) =
     rw one at rw stands at c.in_ok-write_key.ensures in
     let value : c.stand-2.new.self ≡ followed c.write_key.new.self (unless (local_of e) (exp_code c.write_key.new.self.constants e (c.args.free + 2) c.write_key.new.self.made 2)) (made_unless (local_of e) (made_by e)) =

@@ -1,4 +1,4 @@
-use Rattle.std.proofs.Common.{rules, arith, cond, ◌&&◌, ◌≡◌, ◌+◌, ◌-◌, ◌++◌, ◌<◌, ◌≤◌, [], ◌∷◌, sym, ap, ap₂, ◌∙◌, subst, refl, length, map, take, drop, OnOk, Some, true}
+use Rattle.std.proofs.Common.{rules, arith, cond, ◌&&◌, ◌≡◌, ◌+◌, ◌-◌, ◌++◌, ◌<◌, ◌≤◌, [], ◌∷◌, sym, ap, ap₂, ◌∙◌, subst, refl, false, length, map, take, drop, OnOk, Some, true}
 use Rattle.std.specs.Prelude.{slice_index_or}
 use Rattle.std.specs.Option.{option_map}
 use Rattle.tree_core.specs.Tree as tree
@@ -15,17 +15,21 @@ use Rattle.code_expr.specs.Listing.{listed}
 use Rattle.code_expr.specs.Patches.{replaced}
 use Rattle.code_stat.specs.declared.writer.Writer.{Writer}
 use Rattle.code_stat.specs.Forms.{choice, level_at}
-use Rattle.code_stat.proofs.Plain.{falls_of, returns_of, ends_at, chosen_of, arms_front}
+use Rattle.code_stat.proofs.Plain.{falls_of, returns_of, ends_at, marks_at, chosen_of, arms_front}
 use Rattle.code_stat.proofs.Heights.{stat_height, stats_height, choice_height, block_inside, within_height}
 use Rattle.code_stat.proofs.Drafting.{written_sized}
 use Rattle.code_stat.proofs.Choosing.{full_wrote, empty_wrote}
 use Rattle.tree_activation.specs.Activation.{line_of_end}
 use Rattle.tree_terms.specs.Levels.{levels_after, levels_in}
-use Rattle.code_of.specs.Levels.{closings_after}
+use Rattle.code_of.specs.Conditions.{test_code}
+use Rattle.code_of.specs.Expressions.{made_by}
+use Rattle.code_of.specs.Levels.{closings_after, closed_until, made_in_block}
+use Rattle.code_of.specs.Parts.{close_code}
 use Rattle.code_stat.specs.Drafts.{WroteStat, WroteBlock, WroteOpen, newest_first}
 use Rattle.code_stat.proofs.Lists.{all_left, none_left, next_left, levels_next, closings_next}
 use Rattle.code_stat.proofs.Looping.{while_wrote, repeat_wrote, counted_wrote, iterated_wrote, num_for_wrote, gen_for_wrote}
-use Rattle.code_stat.proofs.Ends.{top_is, falls_wrote, returns_wrote, open_returns, nothing_wrote}
+use Rattle.code_stat.proofs.Jumping.{until_wrote}
+use Rattle.code_stat.proofs.Ends.{top_is, until_top, falls_wrote, returns_wrote, open_returns, nothing_wrote}
 use Rattle.code_stat.specs.Declares.{DeclaresStat, DeclaresBlock, DeclaresOpen}
 use Rattle.code_stat.proofs.Declaring.{begun_from, nothing_declared, next_declared, all_declared, scopes_end, block_ends, repeat_declares, rounds_declare, counted_long, iterated_long, num_for_declares, gen_for_declares, arm_declares}
 use Rattle.code_stat.proofs.writer.Writer.+statements.Goals as goal
@@ -137,8 +141,19 @@ pub repeat_loop-returns-clause-code : goal.repeat_loop-returns-clause-code
 repeat_loop-returns-clause-code t c =
     let first : c.len-first.result ≡ length c.args.self.now.jumps.items = search rules in
     let line_is : (out-Block c.args.block.now).line ≡ line_of_end (plain_block c.args.block.now) = ends_at c.args.block.now in
-    repeat_wrote c.args.self.now c.open_block.new.self (record c.end_loop.new.self { variables = c.end_scopes.new.self }) c.write_until.new.emitter (plain_exp c.args.test.now) (plain_block c.args.block.now) c.args.closing c.args.level c.args.line (out-Block c.args.block.now).line c.in_ok-inner.inner
-    c.place-start.result c.len-first.result c.place-start.ensures first c.in_ok-inner.ensures.code c.in_ok-inner.ensures.level line_is c.in_ok-write_until.ensures
+    let e = plain_exp c.args.test.now in
+    let block = plain_block c.args.block.now in
+    let q = c.open_block.new.self.emitter in
+    let top = c.closed_below-top.result in
+    let end_line = (out-Block c.args.block.now).line in
+    let behind : c.made-behind.result ≡ c.args.self.now.emitter.made + made_in_block block + made_by e =
+    c.made-behind.ensures ∙ c.in_ok-away.ensures.made_is ∙ ap (λ z. z.made + made_by e) c.in_ok-inner.ensures.code.emitter_is in
+    let closes : top ≡ closed_until block e c.args.level =
+    until_top block e c.args.level c.in_ok-inner.inner top c.args.self.now.emitter.made c.made-before.result c.made-behind.result _ c.in_ok-inner.ensures.level (marks_at c.args.block.now) c.made-before.ensures behind c.closed_below-top.ensures in
+    repeat_wrote c.args.self.now c.open_block.new.self (record c.end_loop.new.self { variables = c.end_scopes.new.self }) c.write_close-2.new.emitter e block c.args.closing c.args.level c.args.line end_line c.in_ok-inner.inner
+    top c.place-start.result c.len-first.result c.place-start.ensures first c.in_ok-inner.ensures.code c.in_ok-inner.ensures.level line_is closes
+    (until_wrote q c.condition.new.self c.write_close.new.emitter c.put_jump_back.new.self c.lead.new.self c.write_close-2.new.emitter (λ ahead. test_code q.constants e false ahead c.in_ok-inner.inner q.made) (close_code c.args.level top end_line) (made_by e)
+    c.place-start.result c.place-exit.result c.args.line c.in_ok-away.away.items c.in_ok-away.ensures c.in_ok-write_close.ensures c.in_ok-put_jump_back.ensures c.place-exit.ensures c.in_ok-lead.ensures c.in_ok-write_close-2.ensures)
     (record { emitter_is = c.end_loop.ensures.emitter; back_is = c.end_loop.ensures.back; front = c.end_loop.ensures.front; leads = c.end_loop.ensures.leads })
 
 pub counted-returns-clause-code : goal.counted-returns-clause-code

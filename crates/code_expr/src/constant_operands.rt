@@ -1,0 +1,204 @@
+// Second operands that are constants in the instruction of an operator.
+ghost use Rattle.std.specs.Prelude.{◌≡◌, OnOk};
+ghost use Rattle.tree_core.specs.Plain.{plain_exp};
+ghost use Rattle.code_of.specs.Constants.{with_any};
+ghost use Rattle.code_of.specs.ConstantOperands.{integer_constant, any_constant, constant_by, constant_of};
+ghost use Rattle.code_of.specs.Operands.{second_of};
+ghost use Rattle.code_of.specs.Operations.{short_of, constant_in};
+ghost use Rattle.code_expr.specs.Operands.{operation_staying};
+
+use crate::constants::Constants;
+use crate::emitter::Emitter;
+use crate::operands::{Second, greatest, numeral_of, staying};
+use std::alloc::{AllocError, Global};
+use tree_core::{BinOp, Exp, ExpNode};
+
+impl Constants {
+    /// Adds the second operand of an operator, where its instruction may hold it as a constant.
+    #[tactic(auto, using(crate::proofs::ConstantSeats::numeral_adds))]
+    pub(crate) fn add_operand(
+        &mut self,
+        alloc: Global,
+        op: BinOp,
+        exp: &Exp,
+    ) -> Result<(), AllocError>
+        ensures { OnOk result (self.new ≡ with_any (constant_of op (plain_exp exp.now)) self.old) }
+    {
+        if numeral_of(exp, greatest(op)).is_some() {
+            return Ok(());
+        }
+        self.add_literal_of(alloc, op, exp)
+    }
+
+    /// Adds a literal that is the operand of an operator, where one of its instructions takes such a constant.
+    fn add_literal_of(&mut self, alloc: Global, op: BinOp, exp: &Exp) -> Result<(), AllocError>
+        ensures { OnOk result (self.new ≡ with_any (constant_by op (plain_exp exp.now)) self.old) }
+    {
+        match op {
+            BinOp::Add
+            | BinOp::Sub
+            | BinOp::Mul
+            | BinOp::Mod
+            | BinOp::Idiv
+            | BinOp::Band
+            | BinOp::Bor
+            | BinOp::Bxor => self.add_numeral(exp),
+            BinOp::Eq | BinOp::Ne => self.add_literal(alloc, exp),
+            BinOp::Shl
+            | BinOp::Shr
+            | BinOp::Concat
+            | BinOp::Lt
+            | BinOp::Le
+            | BinOp::Gt
+            | BinOp::Ge => Ok(()),
+        }
+    }
+
+    /// Adds an integer that is written out.
+    fn add_numeral(&mut self, exp: &Exp) -> Result<(), AllocError>
+        ensures { OnOk result (self.new ≡ with_any (integer_constant (plain_exp exp.now)) self.old) }
+    {
+        match &exp.node {
+            ExpNode::Int(integer) => self.add_integer(*integer),
+            ExpNode::Nil
+            | ExpNode::True
+            | ExpNode::False
+            | ExpNode::Str(_)
+            | ExpNode::Vararg
+            | ExpNode::Function(_)
+            | ExpNode::Var(_)
+            | ExpNode::Index(_, _)
+            | ExpNode::Call(_, _)
+            | ExpNode::Method(_, _, _)
+            | ExpNode::Unary(_, _)
+            | ExpNode::Binary(_, _, _)
+            | ExpNode::And(_, _)
+            | ExpNode::Or(_, _)
+            | ExpNode::Paren(_)
+            | ExpNode::Table(_) => Ok(()),
+        }
+    }
+
+    /// Adds a constant that is written out.
+    fn add_literal(&mut self, alloc: Global, exp: &Exp) -> Result<(), AllocError>
+        ensures { OnOk result (self.new ≡ with_any (any_constant (plain_exp exp.now)) self.old) }
+    {
+        match &exp.node {
+            ExpNode::Nil => self.add_nil(),
+            ExpNode::True => self.add_true(),
+            ExpNode::False => self.add_false(),
+            ExpNode::Int(integer) => self.add_integer(*integer),
+            ExpNode::Str(bytes) => self.add_text(alloc, bytes),
+            ExpNode::Vararg
+            | ExpNode::Function(_)
+            | ExpNode::Var(_)
+            | ExpNode::Index(_, _)
+            | ExpNode::Call(_, _)
+            | ExpNode::Method(_, _, _)
+            | ExpNode::Unary(_, _)
+            | ExpNode::Binary(_, _, _)
+            | ExpNode::And(_, _)
+            | ExpNode::Or(_, _)
+            | ExpNode::Paren(_)
+            | ExpNode::Table(_) => Ok(()),
+        }
+    }
+
+    /// The number of an integer that is written out, if it is a constant of 8 bits, or none.
+    fn numeral_number(&self, exp: &Exp) -> Option<usize>
+        ensures { result ≡ short_of self.now (integer_constant (plain_exp exp.now)) }
+    {
+        match &exp.node {
+            ExpNode::Int(integer) => self.short(self.number_of_integer(*integer)),
+            ExpNode::Nil
+            | ExpNode::True
+            | ExpNode::False
+            | ExpNode::Str(_)
+            | ExpNode::Vararg
+            | ExpNode::Function(_)
+            | ExpNode::Var(_)
+            | ExpNode::Index(_, _)
+            | ExpNode::Call(_, _)
+            | ExpNode::Method(_, _, _)
+            | ExpNode::Unary(_, _)
+            | ExpNode::Binary(_, _, _)
+            | ExpNode::And(_, _)
+            | ExpNode::Or(_, _)
+            | ExpNode::Paren(_)
+            | ExpNode::Table(_) => None,
+        }
+    }
+
+    /// The number of a constant that is written out, if it has 8 bits, or none.
+    fn literal_number(&self, exp: &Exp) -> Option<usize>
+        ensures { result ≡ short_of self.now (any_constant (plain_exp exp.now)) }
+    {
+        match &exp.node {
+            ExpNode::Nil => self.short(self.number_of_nil()),
+            ExpNode::True => self.short(self.number_of_true()),
+            ExpNode::False => self.short(self.number_of_false()),
+            ExpNode::Int(integer) => self.short(self.number_of_integer(*integer)),
+            ExpNode::Str(bytes) => self.short(self.number_of_text(bytes)),
+            ExpNode::Vararg
+            | ExpNode::Function(_)
+            | ExpNode::Var(_)
+            | ExpNode::Index(_, _)
+            | ExpNode::Call(_, _)
+            | ExpNode::Method(_, _, _)
+            | ExpNode::Unary(_, _)
+            | ExpNode::Binary(_, _, _)
+            | ExpNode::And(_, _)
+            | ExpNode::Or(_, _)
+            | ExpNode::Paren(_)
+            | ExpNode::Table(_) => None,
+        }
+    }
+
+    /// The number of a literal that is the operand of an operator, where one of its instructions takes such a constant.
+    fn literal_of(&self, op: BinOp, exp: &Exp) -> Option<usize>
+        ensures { result ≡ short_of self.now (constant_by op (plain_exp exp.now)) }
+    {
+        match op {
+            BinOp::Add
+            | BinOp::Sub
+            | BinOp::Mul
+            | BinOp::Mod
+            | BinOp::Idiv
+            | BinOp::Band
+            | BinOp::Bor
+            | BinOp::Bxor => self.numeral_number(exp),
+            BinOp::Eq | BinOp::Ne => self.literal_number(exp),
+            BinOp::Shl
+            | BinOp::Shr
+            | BinOp::Concat
+            | BinOp::Lt
+            | BinOp::Le
+            | BinOp::Gt
+            | BinOp::Ge => None,
+        }
+    }
+
+    /// The number of the constant that is the second operand of an operator, in a field of 8 bits, or none.
+    #[tactic(auto, using(crate::proofs::ConstantSeats::numeral_none, crate::proofs::ConstantSeats::no_numeral))]
+    fn operand(&self, op: BinOp, exp: &Exp) -> Option<usize>
+        ensures { result ≡ constant_in self.now op (plain_exp exp.now) }
+    {
+        if numeral_of(exp, greatest(op)).is_some() {
+            return None;
+        }
+        self.literal_of(op, exp)
+    }
+}
+
+impl Emitter {
+    /// Where the second operand of an operator stays, or none for one that is made.
+    #[tactic(auto, using(crate::proofs::ConstantSeats::constant_stays, crate::proofs::ConstantSeats::other_stays))]
+    pub(crate) fn standing(&self, op: BinOp, exp: &Exp) -> Option<Second>
+        ensures { result ≡ operation_staying (constant_in self.now.constants op (plain_exp exp.now)) (second_of op (plain_exp exp.now)) }
+    {
+        match self.constants().operand(op, exp) {
+            Some(number) => Some(Second::Constant(number)),
+            None => staying(op, exp),
+        }
+    }
+}
