@@ -76,7 +76,7 @@ module _ (g : Running) (k : Code) (s : KeptStack) (ts : List Contents) (cs : Lis
     callee_is : nth own_now.registers register ≡ object a_function id.0
     callee_is = ap (λ rs. nth rs register) (sym registers_are) ∙ nth_map (value g.around.texts) registers register (a_func id) holds.holds
 
-  depth_is : length s.frames ≡ length g.around.context.below + 1
+  pub depth_is : length s.frames ≡ length g.around.context.below + 1
   depth_is = frame_count (value g.around.texts) s g.around.context.below r.may.top r.may.is
 
   module _ (u : KeptStack) (size : ℕ) (funcs : List Func) (codes : Codes) (w : Instruction) (left : ℕ) (x : CallsIn s u size funcs codes w fuel left) (q : Function)

@@ -23,7 +23,7 @@ use Rattle.machine_focus.proofs.Places.{own_move, place_is, step_is}
 
 module _ (c : Context) (s : Stands c) (h : Held) where
   -- a move on the frame, and what follows it
-  own_runs : (m : Own) (k : ℕ → Shape → Text) (env : List Value) → fits m c.closure.code h.own ≡ true
+  pub own_runs : (m : Own) (k : ℕ → Shape → Text) (env : List Value) → fits m c.closure.code h.own ≡ true
       → run (expand (own m k)) env (world c h) ≡ run (expand (k (length env) (tells m c.closure.code env h.own))) (env ++ reads m c.closure.code env h.own) (world c (held_own c m env h))
   own_runs m k env f =
       made_is (on_own m) (λ n s. expand_by at_once (k n s)) env (world c h) (world c (held_own c m env h)) (reads m c.closure.code env h.own) (tells m c.closure.code env h.own)
@@ -35,7 +35,7 @@ module _ (c : Context) (s : Stands c) (h : Held) where
         ap (λ (o : Option Instruction). elim o [ None ↦ trap | Some w ↦ text_by c.closure.code h.own.pc w (opcode_of w) ]) at_pc
         ∙ ap (text_by c.closure.code h.own.pc w) is_opcode
 
-    row_is : (rows : ℕ → Row) → step rows go (world c h) ≡ from_world (world c h) (run (expand (row_of c.closure.code h.own.pc op w)) [] (world c h))
+    pub row_is : (rows : ℕ → Row) → step rows go (world c h) ≡ from_world (world c h) (run (expand (row_of c.closure.code h.own.pc op w)) [] (world c h))
     row_is rows = step_is c s h rows ∙ ap (λ t. from_world (world c h) (run (expand t) [] (world c h))) text_is
 
 -- calls

@@ -4,10 +4,13 @@ mod Held
 pub mod Chained
 mod OnStack
 mod OpenRead
+mod FoundFields
 mod FrameRows
 mod Closed
 mod Calls
 mod Called
+mod Listed
+mod Stored
 mod Takers
 mod Returned
 mod Apart

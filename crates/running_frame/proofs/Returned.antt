@@ -17,7 +17,7 @@ use Rattle.machine_core.specs.Moves.{ends, go, run}
 use Rattle.machine_core.specs.MachineStep.{steps}
 use Rattle.machine_focus.specs.Focus.{Context, Held, Reaches, Stands, stacked, world}
 use Rattle.machine_sound.proofs.Values.{le_true}
-use Rattle.machine_sound.proofs.Lists.{get_there, get_within, last_push, last_splits, some_is, without_push}
+use Rattle.machine_sound.proofs.Lists.{get_there, last_push, last_splits, some_is, without_push}
 use Rattle.machine_view.proofs.Rows.{nth_map}
 use Rattle.table_core.specs.Table.{Contents}
 use Rattle.table_core.specs.declared.value.FuncId.{FuncId}
@@ -41,6 +41,7 @@ use Rattle.running_frame.proofs.Called.{behind_within, called_so, held_on, own_n
 use Rattle.running_frame.proofs.Chained.{reaches_none}
 use Rattle.running_frame.proofs.Closed.{closes_nothing}
 use Rattle.running_frame.proofs.FrameRows.{given, return_row, return_steps}
+use Rattle.running_frame.proofs.Listed.{listed_so}
 use Rattle.running_frame.proofs.Takers.{map_more}
 
 -- without its last item, item by item
@@ -85,13 +86,12 @@ given_is : (f : Kept → Value) → f Nil ≡ known nil → (registers : List Ke
     → range 0 wanted (range register count (map f registers)) ≡ range 0 wanted (f v ∷ [])
 given_is f z registers register count v g zero l = refl
 given_is f z registers register zero v g (suc zero) l = ap (λ v. v ∷ []) (sym z ∙ ap f (sym g))
-given_is f z registers register (suc zero) v g (suc zero) l = ap (λ v. v ∷ []) (nth_map f registers register v g.1)
-given_is f z registers register (suc (suc n)) v g (suc zero) l = absurd (let m = g.0 in cc)
+given_is f z registers register (suc n) v g (suc zero) l = ap (λ v. v ∷ []) (nth_map f registers register v g.1)
 given_is f z registers register count v g (suc (suc n)) l = absurd (omega (arith, l))
 
 fits_given : (registers : List Kept) (register count : ℕ) (v : Kept) → IsGiven registers register count v → behind register count ≤ length registers
 fits_given registers register zero v g = omega arith
-fits_given registers register (suc n) v g = let l = get_within registers register v g.1 in let m = g.0 in omega (arith, l, m)
+fits_given registers register (suc n) v g = g.0
 
 module _ (g : Running) (k : Code) (s : KeptStack) (ts : List Contents) (cs : List KeptCell) (fuel pc : ℕ) (r : RunsAt g k s ts cs fuel pc) (u : KeptStack) (funcs : List Func) (codes : Codes) (w : Instruction)
     (x : ReturnsIn s u funcs codes w) (a : AreFunctions g.around.context.base.functions funcs codes) where
@@ -230,20 +230,22 @@ module _ (g : Running) (k : Code) (s : KeptStack) (ts : List Contents) (cs : Lis
 -- a call or a return, or neither
 
 crossed_so : (g : Running) (k : Code) (s : KeptStack) (ts : List Contents) (cs : List KeptCell) (fuel pc : ℕ) → RunsAt g k s ts cs fuel pc → (u : KeptStack) (size : ℕ) (funcs : List Func) (codes : Codes) (w : Instruction) (left : ℕ)
-    → AreFunctions g.around.context.base.functions funcs codes → size ≡ g.around.context.closure.code.own.stack → slice_get k.words pc ≡ Some w → Crosses s u size funcs codes w fuel left
+    → AreFunctions g.around.context.base.functions funcs codes → size ≡ g.around.context.closure.code.own.stack → slice_get k.words pc ≡ Some w → Crosses s u size funcs codes k.words pc w fuel left
     → Reaches g.around.rows (standing g s ts cs fuel) (standing g u ts cs left)
 crossed_so g k s ts cs fuel pc r u size funcs codes w left a e word (inl x) =
     let q = shape_known g.around.context.base.functions funcs codes a x.enters.id x.enters.shape x.enters.has in
     called_so g k s ts cs fuel pc r u size funcs codes w left x q.0 q.1 q.2 e word
 crossed_so g k s ts cs fuel pc r u size funcs codes w left a e word (inr (inl x)) =
+    subst (λ (n : ℕ). Reaches g.around.rows (standing g s ts cs fuel) (standing g u ts cs n)) (sym x.1) (listed_so g k s ts cs fuel pc r u w x.0 word)
+crossed_so g k s ts cs fuel pc r u size funcs codes w left a e word (inr (inr (inl x))) =
     let q = shape_known g.around.context.base.functions funcs codes a x.enters.id x.enters.shape x.enters.has in
     tail_called_so g k s ts cs fuel pc r u funcs codes w left x q.0 q.1 q.2 word
-crossed_so g k s ts cs fuel pc r u size funcs codes w left a e word (inr (inr x)) =
+crossed_so g k s ts cs fuel pc r u size funcs codes w left a e word (inr (inr (inr x))) =
     subst (λ (n : ℕ). Reaches g.around.rows (standing g s ts cs fuel) (standing g u ts cs n)) (sym x.1) (returned_so g k s ts cs fuel pc r u funcs codes w x.0 a word)
 
 pub crossed_or_not : (g : Running) (k : Code) (s : KeptStack) (ts : List Contents) (cs : List KeptCell) (fuel pc : ℕ) → RunsAt g k s ts cs fuel pc → (u : KeptStack) (size : ℕ) (funcs : List Func) (codes : Codes) (w : Instruction) (left : ℕ)
     → AreFunctions g.around.context.base.functions funcs codes → size ≡ g.around.context.closure.code.own.stack → slice_get k.words pc ≡ Some w
-    → (o : Option (Unit {0})) → IfSome o (λ _. Crosses s u size funcs codes w fuel left) → IfNone o ((u ≡ s) × (left ≡ fuel)) → Reaches g.around.rows (standing g s ts cs fuel) (standing g u ts cs left)
+    → (o : Option (Unit {0})) → IfSome o (λ _. Crosses s u size funcs codes k.words pc w fuel left) → IfNone o ((u ≡ s) × (left ≡ fuel)) → Reaches g.around.rows (standing g s ts cs fuel) (standing g u ts cs left)
 crossed_or_not g k s ts cs fuel pc r u size funcs codes w left a e word None x y =
     subst (λ (n : ℕ). Reaches g.around.rows (standing g s ts cs fuel) (standing g u ts cs n)) (sym y.1)
     (subst (λ (u : KeptStack). Reaches g.around.rows (standing g s ts cs fuel) (standing g u ts cs fuel)) (sym y.0) (reaches_none g.around.rows (standing g s ts cs fuel)))

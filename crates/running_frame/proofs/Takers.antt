@@ -1,5 +1,5 @@
 -- What a return on a stack tests and does.
-use Rattle.std.proofs.Common.{◌≡◌, ℕ, ◌+◌, ◌-◌, ◌<◌, ◌≤◌, [], ◌∷◌, ◌++◌, List, Option, Some, None, refl, ap, sym, subst, ◌∙◌, arith, length, length-append, map}
+use Rattle.std.proofs.Common.{◌≡◌, ℕ, zero, suc, ◌+◌, ◌-◌, ◌<◌, ◌≤◌, [], ◌∷◌, ◌++◌, List, Option, Some, None, refl, ap, sym, subst, ◌∙◌, arith, length, length-append, map}
 use Rattle.std.specs.Prelude.{IfNone, IfSome, slice_get}
 use Rattle.std.proofs.lemmas.List.{length-map}
 use Rattle.int_core.specs.Value.{Value, known, last, nil, range, without_last, write, write_all}
@@ -16,9 +16,10 @@ use Rattle.running_frame.specs.Returning.{HasKept, IsCaller, IsCallerIn, IsGiven
 pub given_nil : (registers : List Kept) (register count : ℕ) → count ≡ 0 → IsGiven registers register count Nil
 given_nil registers register count e = subst (λ n. IsGiven registers register n Nil) (sym e) refl
 
-pub given_one : (registers : List Kept) (register count : ℕ) (o : Option Kept) → count ≡ 1 → o ≡ slice_get registers register → IfSome o (λ v. IsGiven registers register count v)
-given_one registers register count None e is = tt
-given_one registers register count (Some v) e is = subst (λ n. IsGiven registers register n v) (sym e) (refl, sym is)
+pub given_first : (registers : List Kept) (register count : ℕ) (o : Option Kept) → 0 < count → register + count ≤ length registers → o ≡ slice_get registers register → IfSome o (λ v. IsGiven registers register count v)
+given_first registers register zero o more l is = absurd (omega (arith, more))
+given_first registers register (suc n) None more l is = tt
+given_first registers register (suc n) (Some v) more l is = (l, sym is)
 
 -- two changes of the frame on top
 pub both_changes : {s t u : KeptStack} {first second : (Kept → Value) → LuaFrame → LuaFrame} → TopBecomes s t first → TopBecomes t u second → TopBecomes s u (λ f x. second f (first f x))
@@ -40,6 +41,10 @@ none_then None f x = f x
 none_then (Some a) f x = x
 
 -- a Lua frame is on top
+
+pub last_at : {A : Type 0} (xs : List A) (x : A) → slice_get xs (length xs - 1) ≡ Some x → last xs ≡ Some x
+last_at [] x h = absurd (cc)
+last_at (y ∷ xs) x h = let e : suc (length xs) - 1 ≡ length xs = omega arith in ap (slice_get (y ∷ xs)) (sym e) ∙ h
 
 pub frames_there : {s : KeptStack} → HasLuaTop s → 0 < length s.frames
 frames_there {s} h =

@@ -1,4 +1,4 @@
--- Returns to a Lua frame that waits for a call, as changes of a stack.
+-- Returns to a Lua frame that waits for a call and takes at most one value, as changes of a stack.
 use Rattle.std.specs.Prelude.{◌≡◌, ◌⊎◌, ◌+◌, ◌<◌, ◌≤◌, ℕ, zero, suc, [], ◌∷◌, ◌++◌, List, Option, Some, None, length, map, slice_get}
 use Rattle.code_core.specs.declared.instruction.Instruction.{Instruction}
 use Rattle.code_core.specs.declared.opcode.Opcode.{Opcode}
@@ -15,6 +15,7 @@ use Rattle.lua_heap.specs.declared.codes.Code.{Code}
 use Rattle.lua_heap.specs.declared.codes.Codes.{Codes}
 use Rattle.lua_heap.specs.declared.world.Func.{Func}
 use Rattle.running_frame.specs.Calling.{CallsIn, TailCallsIn, one_less}
+use Rattle.running_frame.specs.Listing.{ListsVarargs}
 use Rattle.running_frame.specs.Standing.{IsClosedFrom}
 use Rattle.running_frame.specs.declared.returning.Taker.{Taker}
 
@@ -25,10 +26,10 @@ count_of (Some Return0) b = Some 0
 count_of (Some Return1) b = Some 1
 count_of _ b = None
 
--- the value of a register, or nil where none is returned
+-- the first of so many registers, or nil where none is returned
 abbrev pub IsGiven : List Kept → (register count : ℕ) → Kept → Type 0
 IsGiven registers register zero v = v ≡ Nil
-IsGiven registers register (suc n) v = (n ≡ 0) × (slice_get registers register ≡ Some v)
+IsGiven registers register (suc n) v = (register + suc n ≤ length registers) × (slice_get registers register ≡ Some v)
 
 -- what is known of a frame that waits for a call
 pub record IsCallerIn (t : KeptLua) (c : LuaState) : Type 0 where
@@ -95,6 +96,10 @@ pub record ReturnsIn (s u : KeptStack) (funcs : List Func) (codes : Codes) (w : 
 abbrev pub Leaves : (s u : KeptStack) → List Func → Codes → Instruction → (fuel left : ℕ) → Type 0
 Leaves s u funcs codes w fuel left = TailCallsIn s u funcs codes w fuel left ⊎ (ReturnsIn s u funcs codes w × (left ≡ fuel))
 
+-- an open list of extra arguments, a tail call or a return
+abbrev pub GoesOn : (s u : KeptStack) → List Func → Codes → List Instruction → (pc : ℕ) → Instruction → (fuel left : ℕ) → Type 0
+GoesOn s u funcs codes words pc w fuel left = (ListsVarargs s u words pc w × (left ≡ fuel)) ⊎ Leaves s u funcs codes w fuel left
+
 -- one of these, or a call
-abbrev pub Crosses : (s u : KeptStack) (size : ℕ) → List Func → Codes → Instruction → (fuel left : ℕ) → Type 0
-Crosses s u size funcs codes w fuel left = CallsIn s u size funcs codes w fuel left ⊎ Leaves s u funcs codes w fuel left
+abbrev pub Crosses : (s u : KeptStack) (size : ℕ) → List Func → Codes → List Instruction → (pc : ℕ) → Instruction → (fuel left : ℕ) → Type 0
+Crosses s u size funcs codes words pc w fuel left = CallsIn s u size funcs codes w fuel left ⊎ GoesOn s u funcs codes words pc w fuel left

@@ -84,6 +84,7 @@ fn run_top(world: &mut World, budget: &mut u64) -> Option<Here>
                 &mut world.cells,
                 budget,
                 co,
+                world.string_meta,
             )
         }
         _ => unreachable!(),

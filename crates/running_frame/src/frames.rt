@@ -5,19 +5,25 @@ ghost use Rattle.machine_arms_tables.specs.Frame.{AreOpenAlike, code};
 ghost use Rattle.machine_focus.specs.Focus.{Reaches};
 ghost use Rattle.machine_loop.specs.Running.{Running};
 ghost use Rattle.running_frame.specs.Calling.{AreFunctions, HaveCode};
-ghost use Rattle.running_frame.specs.Returning.{Crosses, Leaves};
+ghost use Rattle.running_frame.specs.Inheriting.{metatable_number};
+ghost use Rattle.running_frame.specs.Returning.{Crosses, GoesOn, Leaves};
 ghost use Rattle.running_frame.specs.Standing.{IsClosedFrom, IsHereIn, MayRun, standing};
+ghost use Rattle.running_frame.specs.Storing.{StoresOpen};
+ghost use Rattle.running_frame.specs.Upvalues.{ListsOpen};
 
 use crate::calling::call_function;
+use crate::listing::list_varargs;
 use crate::place::Here;
 use crate::returning::return_value;
 use crate::stack::{Stop, run_stack};
+use crate::storing::store_open;
 use crate::tail_calling::tail_call_function;
+use code_core::Instruction;
 use lua_heap::{Cell, Codes, Func, Strings};
 use lua_stack::Stack;
 use machine_arms_tables::Closure;
 use object_pool::Pool;
-use table_core::{CoroId, Table};
+use table_core::{CoroId, Table, TableId};
 
 /// Runs the frame on top, and tells where it stops. `None` where another frame is on top now, of a function that it called or
 /// to which it returned. `size` is the number of registers of its
@@ -33,10 +39,12 @@ pub(crate) fn run_frame_on_top(
     cells: &mut Pool<Cell>,
     budget: &mut u64,
     co: CoroId,
+    string_meta: Option<TableId>,
 ) -> Option<Here>
     ghost g: { Running }
     requires may { MayRun g (code closure strings.now) stack.old tables.old.objects cells.old.objects budget.old }
     requires own { co.0 ≡ g.around.context.coroutine }
+    requires meta { metatable_number string_meta ≡ g.string_metatable }
     requires functions { AreFunctions g.around.context.base.functions funcs.now.objects codes.now }
     requires size { size ≡ g.around.context.closure.code.own.stack }
     ensures reaches { Reaches g.around.rows (standing g stack.old tables.old.objects cells.old.objects budget.old) (standing g stack.new tables.new.objects cells.new.objects budget.new) }
@@ -44,29 +52,59 @@ pub(crate) fn run_frame_on_top(
     ensures opened { AreOpenAlike cells.old.objects cells.new.objects }
     ensures listed { stack.new.open_cells ≡ stack.old.open_cells }
 {
-    let stop = run_stack(stack, closure, strings, tables, cells, budget, co);
+    let stop = run_stack(
+        stack,
+        closure,
+        strings,
+        tables,
+        cells,
+        budget,
+        co,
+        string_meta,
+    );
     if !stop.here.runs {
         return Some(stop.here);
     }
-    match cross(stack, size, funcs, codes, budget, stop) {
+    match cross(stack, size, funcs, codes, closure.words, budget, stop) {
         Some(()) => None,
-        None => Some(stop.here),
+        None => store(stack, closure, cells, co, stop.here),
     }
 }
 
-/// Calls a function, or returns to a frame below, where either changes nothing but the stack.
+/// Stores to a variable of a frame below, where the frame on top is at such an instruction: `None`. Else all stays, and told is where it is.
+fn store(
+    stack: &mut Stack,
+    closure: Closure,
+    cells: &Pool<Cell>,
+    co: CoroId,
+    here: Here,
+) -> Option<Here>
+    requires top { HasLuaTop stack.old }
+    requires cells { ListsOpen co.0 stack.old cells.now.objects }
+    ensures stores { IfNone result (StoresOpen co.0 closure.entry.upvalues.now closure.entry.words.now stack.old stack.new cells.now.objects here.pc here.word) }
+    ensures kept { IfSome result (λ at. (stack.new ≡ stack.old) × (at ≡ here)) }
+    ensures listed { stack.new.open_cells ≡ stack.old.open_cells }
+{
+    match store_open(stack, closure.words, closure.upvalues, cells, co, here) {
+        Some(()) => None,
+        None => Some(here),
+    }
+}
+
+/// Calls a function, returns to a frame below, or lists extra arguments, where this changes nothing but the stack.
 fn cross(
     stack: &mut Stack,
     size: usize,
     funcs: &Pool<Func>,
     codes: &Codes,
+    words: &[Instruction],
     budget: &mut u64,
     stop: Stop,
 ) -> Option<()>
     requires top { HasLuaTop stack.old }
     requires codes { HaveCode funcs.now.objects codes.now }
     requires closed { IfSome stop.closed (λ register. IsClosedFrom stack.old register) }
-    ensures crosses { IfSome result (λ _. Crosses stack.old stack.new size funcs.now.objects codes.now stop.here.word budget.old budget.new) }
+    ensures crosses { IfSome result (λ _. Crosses stack.old stack.new size funcs.now.objects codes.now words.now stop.here.pc stop.here.word budget.old budget.new) }
     ensures kept { IfNone result ((stack.new ≡ stack.old) × (budget.new ≡ budget.old)) }
     ensures listed { stack.new.open_cells ≡ stack.old.open_cells }
 {
@@ -79,6 +117,28 @@ fn cross(
         stop.here.word,
         stop.closed,
     ) {
+        Some(()) => Some(()),
+        None => go_on(stack, funcs, codes, words, budget, stop),
+    }
+}
+
+/// Lists extra arguments, calls a function in place of the frame on top, or returns from it.
+fn go_on(
+    stack: &mut Stack,
+    funcs: &Pool<Func>,
+    codes: &Codes,
+    words: &[Instruction],
+    budget: &mut u64,
+    stop: Stop,
+) -> Option<()>
+    requires top { HasLuaTop stack.old }
+    requires codes { HaveCode funcs.now.objects codes.now }
+    requires closed { IfSome stop.closed (λ register. IsClosedFrom stack.old register) }
+    ensures goes { IfSome result (λ _. GoesOn stack.old stack.new funcs.now.objects codes.now words.now stop.here.pc stop.here.word budget.old budget.new) }
+    ensures kept { IfNone result ((stack.new ≡ stack.old) × (budget.new ≡ budget.old)) }
+    ensures listed { stack.new.open_cells ≡ stack.old.open_cells }
+{
+    match list_varargs(stack, words, stop.here) {
         Some(()) => Some(()),
         None => leave(stack, funcs, codes, budget, stop),
     }

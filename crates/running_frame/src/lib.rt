@@ -5,9 +5,12 @@
 mod ahead;
 mod calling;
 mod frames;
+mod inherited;
+mod listing;
 mod place;
 mod returning;
 mod stack;
+mod storing;
 mod tail_calling;
 mod upvalues;
 

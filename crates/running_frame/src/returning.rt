@@ -1,4 +1,4 @@
-// Returns of a value or of none to a Lua frame below that waits for a call, which change nothing but the stack (luaD_poscall of ldo.c).
+// Returns to a Lua frame below that waits for a call and takes at most one value, which change nothing but the stack (luaD_poscall of ldo.c).
 ghost use Rattle.std.specs.Prelude.{◌≡◌, ◌+◌, ◌≤◌, [], ◌∷◌, IfNone, IfSome, Some, true};
 ghost use Rattle.code_core.specs.Instruction.{b_of, opcode_of};
 ghost use Rattle.int_core.specs.Value.{range, write_all};
@@ -23,8 +23,8 @@ pub(crate) struct Taker {
     to: usize,
 }
 
-/// A return of at most one value to a Lua frame whose CALL wants at most one: that frame runs again, behind the CALL. `None`, with all as before, at any other
-/// instruction, and where the return takes more than the stack. From the register `closed` on nothing of the frame on top is open or to be closed.
+/// A return to a Lua frame whose CALL wants at most one value: that frame runs again, behind the CALL. `None`, with all as before, at any other instruction, where
+/// more are wanted, and where the return takes more than the stack. From the register `closed` on nothing of the frame on top is open or to be closed.
 pub(crate) fn return_value(
     stack: &mut Stack,
     funcs: &Pool<Func>,
@@ -73,14 +73,15 @@ pub(crate) fn is_first(closed: Option<usize>) -> bool
     }
 }
 
-/// The value of a register, or nil where none is returned.
+/// The first of `count` registers, or nil where none is returned.
 fn given(registers: &[Value], register: usize, count: usize) -> Option<Value>
     ensures { IfSome result (λ v. IsGiven registers.now register count v) }
 {
     if count == 0 {
         return Some(Value::Nil);
     }
-    if count > 1 {
+    let end = register.checked_add(count)?;
+    if end > registers.len() {
         return None;
     }
     register_of(registers, register)

@@ -1,11 +1,13 @@
 // The frame on top of a stack, over the function that it runs.
-ghost use Rattle.std.specs.Prelude.{◌≡◌, IfSome, true};
+ghost use Rattle.std.specs.Prelude.{◌≡◌, IfNone, IfSome, true};
 ghost use Rattle.lua_stack.specs.Frames.{HasLuaTop};
 ghost use Rattle.machine_arms_tables.specs.Frame.{AreOpenAlike, code};
 ghost use Rattle.machine_focus.specs.Focus.{Reaches};
 ghost use Rattle.machine_loop.specs.Running.{ClosesNothing, Running};
+ghost use Rattle.running_frame.specs.Inheriting.{GoesWith, RunsWith, metatable_number};
 ghost use Rattle.running_frame.specs.Standing.{IsAboveLast, IsClosedFrom, IsHereIn, MayRun, RunsAt, standing};
 
+use crate::inherited::read_inherited;
 use crate::place::{Here, here_at, is_none};
 use crate::upvalues::read_open;
 use lua_heap::{Cell, Strings};
@@ -13,7 +15,7 @@ use lua_stack::{OpenCell, Stack};
 use machine_arms_tables::Closure;
 use machine_loop::run_frame;
 use object_pool::Pool;
-use table_core::{CoroId, Table};
+use table_core::{CoroId, Table, TableId};
 
 /// Where the frame on top stops, and from which register on nothing of it is open or to be closed, where that is known.
 #[derive(Clone, Copy, Debug)]
@@ -31,10 +33,12 @@ pub(crate) fn run_stack(
     cells: &mut Pool<Cell>,
     budget: &mut u64,
     co: CoroId,
+    string_meta: Option<TableId>,
 ) -> Stop
     ghost g: { Running }
     requires may { MayRun g (code closure strings.now) stack.old tables.old.objects cells.old.objects budget.old }
     requires own { co.0 ≡ g.around.context.coroutine }
+    requires meta { metatable_number string_meta ≡ g.string_metatable }
     ensures reaches { Reaches g.around.rows (standing g stack.old tables.old.objects cells.old.objects budget.old) (standing g stack.new tables.new.objects cells.new.objects budget.new) }
     ensures here { IsHereIn g (code closure.entry strings.now) stack.new result.here }
     ensures runs { result.here.runs ≡ true → RunsAt g (code closure.entry strings.now) stack.new tables.new.objects cells.new.objects budget.new result.here.pc }
@@ -50,7 +54,16 @@ pub(crate) fn run_stack(
     }
     let closed = closed_from(stack);
     let here = run_on_top(
-        stack, closure, strings, tables, cells, budget, co, closed, start,
+        stack,
+        closure,
+        strings,
+        tables,
+        cells,
+        budget,
+        co,
+        string_meta,
+        closed,
+        start,
     );
     Stop { here, closed }
 }
@@ -64,6 +77,7 @@ fn run_on_top(
     cells: &mut Pool<Cell>,
     budget: &mut u64,
     co: CoroId,
+    string_meta: Option<TableId>,
     closed: Option<usize>,
     start: usize,
 ) -> Here
@@ -71,6 +85,7 @@ fn run_on_top(
     requires runs { RunsAt g (code closure strings.now) stack.old tables.old.objects cells.old.objects budget.old start }
     requires closed { IfSome closed (λ register. ClosesNothing g.around cells.old.objects register) }
     requires own { co.0 ≡ g.around.context.coroutine }
+    requires meta { metatable_number string_meta ≡ g.string_metatable }
     ensures reaches { Reaches g.around.rows (standing g stack.old tables.old.objects cells.old.objects budget.old) (standing g stack.new tables.new.objects cells.new.objects budget.new) }
     ensures here { IsHereIn g (code closure.entry strings.now) stack.new result }
     ensures runs { RunsAt g (code closure.entry strings.now) stack.new tables.new.objects cells.new.objects budget.new result.pc }
@@ -78,13 +93,22 @@ fn run_on_top(
     ensures listed { stack.new.open_cells ≡ stack.old.open_cells }
 {
     let pc = run_rounds(
-        stack, closure, strings, tables, cells, budget, co, closed, start,
+        stack,
+        closure,
+        strings,
+        tables,
+        cells,
+        budget,
+        co,
+        string_meta,
+        closed,
+        start,
     );
     here_at(closure.words, pc, true)
 }
 
-/// Runs it from the place `start` on, and tells where it stops. The loop over instructions has the frame's own registers alone, so what stands in a register
-/// of a frame below is read between two rounds of it.
+/// Runs it from the place `start` on, and tells where it stops. The loop over instructions has the frame's own registers alone and follows no handlers, so what
+/// stands in a register of a frame below, and fields that handlers lead to, are read between two rounds of it.
 fn run_rounds(
     stack: &mut Stack,
     closure: Closure,
@@ -93,6 +117,7 @@ fn run_rounds(
     cells: &mut Pool<Cell>,
     budget: &mut u64,
     co: CoroId,
+    string_meta: Option<TableId>,
     closed: Option<usize>,
     start: usize,
 ) -> usize
@@ -100,6 +125,7 @@ fn run_rounds(
     requires runs { RunsAt g (code closure strings.now) stack.old tables.old.objects cells.old.objects budget.old start }
     requires closed { IfSome closed (λ register. ClosesNothing g.around cells.old.objects register) }
     requires own { co.0 ≡ g.around.context.coroutine }
+    requires meta { metatable_number string_meta ≡ g.string_metatable }
     ensures reaches { Reaches g.around.rows (standing g stack.old tables.old.objects cells.old.objects budget.old) (standing g stack.new tables.new.objects cells.new.objects budget.new) }
     ensures runs { RunsAt g (code closure.entry strings.now) stack.new tables.new.objects cells.new.objects budget.new result }
     ensures opened { AreOpenAlike cells.old.objects cells.new.objects }
@@ -108,12 +134,38 @@ fn run_rounds(
     let mut pc = start;
     for _ in 0..u64::MAX {
         let at = run_round(stack, closure, strings, tables, cells, budget, closed, pc);
-        let Some(next) = read_open(stack, closure, cells, co, at) else {
+        let Some(next) = read_between(stack, closure, strings, tables, cells, co, string_meta, at)
+        else {
             return at;
         };
         pc = next;
     }
     pc
+}
+
+/// Does an instruction that reads what the loop does not, and tells where the frame goes on. `None`, with all as before, at any other instruction.
+#[inline(always)]
+fn read_between(
+    stack: &mut Stack,
+    closure: Closure,
+    strings: &Strings,
+    tables: &Pool<Table>,
+    cells: &Pool<Cell>,
+    co: CoroId,
+    string_meta: Option<TableId>,
+    pc: usize,
+) -> Option<usize>
+    ghost g: { Running }
+    requires runs { RunsWith g (code closure strings.now) stack.old tables.now.objects cells.now.objects pc }
+    requires own { co.0 ≡ g.around.context.coroutine }
+    requires meta { metatable_number string_meta ≡ g.string_metatable }
+    ensures goes { IfSome result (λ to. GoesWith g (code closure.entry strings.now) stack.old stack.new tables.now.objects cells.now.objects pc to) }
+    ensures kept { IfNone result (stack.new ≡ stack.old) }
+{
+    match read_open(stack, closure, cells, co, pc) {
+        Some(to) => Some(to),
+        None => read_inherited(stack, closure, strings, tables, string_meta, pc),
+    }
 }
 
 /// One round of that loop. It needs no limit: between two units of the budget a frame goes ahead in its code.

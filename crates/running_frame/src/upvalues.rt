@@ -73,7 +73,7 @@ fn open_value(
 
 /// The cell of an upvalue.
 #[inline(always)]
-fn cell_of(upvalues: &[CellId], upvalue: u8) -> Option<CellId>
+pub(crate) fn cell_of(upvalues: &[CellId], upvalue: u8) -> Option<CellId>
     ensures { result ≡ slice_get upvalues.now upvalue }
 {
     upvalues.get(upvalue as usize).copied()
@@ -101,7 +101,7 @@ fn is_read(i: Instruction) -> bool
 
 /// The place behind.
 #[inline(always)]
-fn next(words: &[Instruction], pc: usize) -> usize
+pub(crate) fn next(words: &[Instruction], pc: usize) -> usize
     requires { pc + 1 < length words.now }
     ensures { result ≡ pc + 1 }
 {
@@ -111,7 +111,7 @@ fn next(words: &[Instruction], pc: usize) -> usize
 
 /// R[n] := v.
 #[inline(always)]
-fn put(registers: &mut [Value], n: usize, v: Value)
+pub(crate) fn put(registers: &mut [Value], n: usize, v: Value)
     requires { n < length registers.old }
     ensures { registers.new ≡ slice_set registers.old n v }
 {

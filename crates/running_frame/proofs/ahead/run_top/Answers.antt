@@ -58,8 +58,11 @@ run_frame_on_top-requires g c =
       (
         sym (shown W c.running-co.result s h.place r h.is).coroutine ∙ ap (λ (g : Running). g.around.context.coroutine) (sym h.held),
         (
-          subst (λ (g : Running). AreFunctions g.around.context.base.functions W.funcs.objects W.codes) (sym h.held) (are_functions g.g W h c.checked_code_is_there.ensures),
-          says.stack ∙ ap (λ (g : Running). g.around.context.closure.code.own.stack) (sym h.held),
+          sym (ap (λ (g : Running). g.string_metatable) h.held),
+          (
+            subst (λ (g : Running). AreFunctions g.around.context.base.functions W.funcs.objects W.codes) (sym h.held) (are_functions g.g W h c.checked_code_is_there.ensures),
+            says.stack ∙ ap (λ (g : Running). g.around.context.closure.code.own.stack) (sym h.held),
+          ),
         ),
       ),
     )

@@ -1,5 +1,5 @@
-use Rattle.std.proofs.Common.{◌≡◌, arith, rules}
-use Rattle.running_frame.proofs.Takers.{given_nil, given_one}
+use Rattle.std.proofs.Common.{◌+◌, ◌<◌, ◌≤◌, length, arith, rules}
+use Rattle.running_frame.proofs.Takers.{given_first, given_nil}
 use Rattle.running_frame.proofs.returning.given.Goals as goal
 
 pub returns-then-count-eq0 : goal.returns-then-count-eq0
@@ -7,5 +7,6 @@ returns-then-count-eq0 c = given_nil c.args.registers.now c.args.register c.args
 
 pub returns : goal.returns
 returns c =
-    let one : c.args.count ≡ 1 = search (rules, arith) in
-    given_one c.args.registers.now c.args.register c.args.count c.register_of.result one c.register_of.ensures
+    let more : 0 < c.args.count = search (rules, arith) in
+    let room : c.args.register + c.args.count ≤ length c.args.registers.now = search (rules, arith) in
+    given_first c.args.registers.now c.args.register c.args.count c.register_of.result more room c.register_of.ensures

@@ -1,4 +1,4 @@
-use Rattle.std.proofs.Common.{◌≡◌, map, refl, sym, ap, ◌∙◌}
+use Rattle.std.proofs.Common.{map, refl, sym}
 use Rattle.lua_heap.specs.Reading.{value}
 use Rattle.lua_stack.specs.Frames.{with_registers}
 use Rattle.running_frame.proofs.OnStack.{loop_ready, loop_reaches, rewritten, runs_at, stays_on_top}

@@ -1,0 +1,58 @@
+use Rattle.std.proofs.Common.{◌≡◌, ◌+◌, ap, length, sym, ◌∙◌, arith, refl, true}
+use Rattle.std.specs.Prelude.{slice_get, slice_set}
+use Rattle.code_core.specs.Instruction.{a_of, k_of}
+use Rattle.code_core.specs.declared.opcode.Opcode.TheVariants.{OpSelf}
+use Rattle.lua_heap.specs.Reading.{value}
+use Rattle.machine_arms_tables.specs.Frame.{code}
+use Rattle.machine_sound.proofs.Lists.{length_set}
+use Rattle.machine_view.proofs.Places.{next_there, register_there}
+use Rattle.running_frame.specs.Inheriting.{metatable_number}
+use Rattle.running_frame.proofs.FoundFields.{finds_here, method_goes, read_at}
+use Rattle.running_frame.proofs.OnStack.{stays_on_top}
+use Rattle.running_frame.proofs.inherited.get_method.Goals as goal
+
+pub put-requires : goal.put-requires
+put-requires g c =
+    let h =
+    read_at g.g (code c.args.closure c.args.strings.now) c.args.stack.now c.args.tables.now.objects c.args.pc c.registers_mut-registers.result.now c.registers_mut-registers.ensures.registers c.requires.0.cells c.requires.0.fuel c.requires.0.runs OpSelf c.args.i c.requires.1.1.0 c.requires.1.1.1 in
+    let l = register_there h 0 (a_of c.args.i + 1) refl in
+    let e = c.a-a.ensures in
+    omega (arith, l, e)
+
+pub put-requires-2 : goal.put-requires-2
+put-requires-2 g c =
+    let h =
+    read_at g.g (code c.args.closure c.args.strings.now) c.args.stack.now c.args.tables.now.objects c.args.pc c.registers_mut-registers.result.now c.registers_mut-registers.ensures.registers c.requires.0.cells c.requires.0.fuel c.requires.0.runs OpSelf c.args.i c.requires.1.1.0 c.requires.1.1.1 in
+    let l = register_there h 0 (a_of c.args.i + 1) refl in
+    let e = c.a-a.ensures in
+    let n = ap length c.put.ensures ∙ length_set c.registers_mut-registers.result.now _ _ in
+    omega (arith, l, e, n)
+
+pub next-to-requires : goal.next-to-requires
+next-to-requires g c =
+    next_there
+    (read_at g.g (code c.args.closure c.args.strings.now) c.args.stack.now c.args.tables.now.objects c.args.pc c.registers_mut-registers.result.now c.registers_mut-registers.ensures.registers c.requires.0.cells c.requires.0.fuel c.requires.0.runs OpSelf c.args.i c.requires.1.1.0 c.requires.1.1.1)
+    refl
+
+pub set_pc-requires : goal.set_pc-requires
+set_pc-requires g c =
+    let x = c.requires.0.runs in
+    let m = x.may in
+    stays_on_top g.g _ _ _ _ _ m c.registers_mut-registers.result.now c.args.pc x.runs (sym x.at_pc) (c.registers_mut-registers.ensures.registers (value g.g.around.texts) g.g.around.context.below m.top m.is)
+    c.put-2.new.registers c.registers_mut-registers.ensures.registers (c.put-2.auto.registers ∙ c.put.auto.registers)
+
+pub returns-clause-goes : goal.returns-clause-goes
+returns-clause-goes g c =
+    let k = code c.args.closure c.args.strings.now in
+    let r = c.registers_mut-registers.result.now in
+    let ts = c.args.tables.now.objects in
+    let object = c.in_ok-object.object in
+    let v = c.in_ok-v.v in
+    let constant_key : k_of c.args.i ≡ true = sym c.k-constant.ensures ∙ c.if-not-constant.false in
+    let finds =
+    finds_here g.g.around.texts c.args.strings.now ts g.g.string_metatable (metatable_number c.args.string_meta) object c.in_ok-key.key v c.requires.0.runs.may.closure.texts_are c.requires.1.0 c.in_ok-v.ensures in
+    method_goes g.g k c.args.stack.now ts c.args.pc r c.registers_mut-registers.ensures.registers c.put-2.new.registers (c.put-2.auto.registers ∙ c.put.auto.registers) c.next-to.result c.set_pc.new.self c.set_pc.ensures
+    c.args.i c.requires.1.1.0 c.next-to.ensures c.registers.result.now c.registers.ensures object c.in_ok-key.key v
+    (ap (slice_get c.registers.result.now) (sym c.b.ensures) ∙ sym c.in_ok-object.ensures) (ap (slice_get c.args.closure.constants.now) (sym c.c.ensures) ∙ sym c.in_ok-key.ensures) finds
+    c.requires.1.1.1 constant_key
+    (c.put-2.ensures ∙ ap (λ r. slice_set r c.a-a.result v) c.put.ensures ∙ ap (λ a. slice_set (slice_set r (a + 1) object) a v) c.a-a.ensures)

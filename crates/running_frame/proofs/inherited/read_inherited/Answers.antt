@@ -1,0 +1,17 @@
+use Rattle.std.proofs.Common.{Some, ap, sym, ◌∙◌, arith}
+use Rattle.running_frame.proofs.inherited.read_inherited.Goals as goal
+
+pub fetch-i-requires : goal.fetch-i-requires
+fetch-i-requires g c =
+    let x = c.requires.0.runs in
+    let l = x.may.within in
+    let e = x.at_pc in
+    omega (arith, l, e)
+
+pub get_field-requires : goal.get_field-requires
+get_field-requires g c =
+    (c.requires.0, (c.requires.1, (c.fetch-i.ensures, sym c.opcode.ensures ∙ c.in-Some-GetField.is ∙ ap (λ o. Some o) c.in-Some-GetField.field-0-is)))
+
+pub get_method-requires : goal.get_method-requires
+get_method-requires g c =
+    (c.requires.0, (c.requires.1, (c.fetch-i.ensures, sym c.opcode.ensures ∙ c.in-Some-OpSelf.is ∙ ap (λ o. Some o) c.in-Some-OpSelf.field-0-is)))

@@ -1,0 +1,45 @@
+use Rattle.std.proofs.Common.{◌≡◌, sym, subst, ◌∙◌, rules}
+use Rattle.std.specs.Prelude.{IfSome}
+use Rattle.std.proofs.lemmas.Option.{IfSome_then}
+use Rattle.lua_stack.specs.Frames.{KeptStack}
+use Rattle.machine_arms_tables.specs.Frame.{code}
+use Rattle.running_frame.specs.Inheriting.{RunsAmid}
+use Rattle.running_frame.specs.Standing.{RunsAt}
+use Rattle.running_frame.specs.Upvalues.{GoesOver}
+use Rattle.running_frame.proofs.FoundFields.{amid_goes, over_goes}
+use Rattle.running_frame.proofs.Takers.{none_then}
+use Rattle.running_frame.proofs.stack.read_between.Goals as goal
+
+pub read_open-requires : goal.read_open-requires
+read_open-requires g c =
+    let x = c.requires.0 in (
+      record {
+        tables = c.args.tables.now.objects;
+        fuel = x.fuel;
+        runs = subst (λ texts. RunsAt g.g (code c.args.closure texts) c.args.stack.now c.args.tables.now.objects c.args.cells.now.objects x.fuel c.args.pc) (sym x.runs.may.closure.texts_are) x.runs;
+      },
+      c.requires.1.0,
+    )
+
+pub returns-in-Some-clause-goes : goal.returns-in-Some-clause-goes
+returns-in-Some-clause-goes g c =
+    over_goes c.requires.0.runs.may.closure.texts_are
+    (subst (λ o. IfSome o (λ to. GoesOver g.g (code c.args.closure g.g.around.texts) c.args.stack.now c.read_open.new.stack c.args.cells.now.objects c.args.pc to)) c.in-Some.is c.read_open.ensures.goes)
+
+pub read_inherited-requires : goal.read_inherited-requires
+read_inherited-requires g c =
+    let x = c.requires.0 in
+    let kept : c.read_open.new.stack ≡ c.args.stack.now = search rules in (
+      subst (λ (s : KeptStack). RunsAmid g.g (code c.args.closure c.args.strings.now) s c.args.tables.now.objects c.args.pc) (sym kept) (record { cells = c.args.cells.now.objects; fuel = x.fuel; runs = x.runs }),
+      c.requires.1.1,
+    )
+
+pub returns-in-None-clause-goes : goal.returns-in-None-clause-goes
+returns-in-None-clause-goes g c =
+    let kept : c.read_open.new.stack ≡ c.args.stack.now = search rules in
+    IfSome_then c.read_inherited.result c.read_inherited.ensures.goes (λ to x. amid_goes kept x)
+
+pub returns-in-None-clause-kept : goal.returns-in-None-clause-kept
+returns-in-None-clause-kept g c =
+    let kept : c.read_open.new.stack ≡ c.args.stack.now = search rules in
+    none_then c.read_inherited.result (λ (e : c.read_inherited.new.stack ≡ c.read_open.new.stack). e ∙ kept) c.read_inherited.ensures.kept

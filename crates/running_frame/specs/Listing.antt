@@ -1,0 +1,23 @@
+-- Extra arguments as an open list, as a change of a stack.
+use Rattle.std.specs.Prelude.{◌≡◌, ◌+◌, ◌<◌, ℕ, Bool, true, false, List, Option, Some, length, map}
+use Rattle.code_core.specs.declared.instruction.Instruction.{Instruction}
+use Rattle.code_core.specs.declared.opcode.Opcode.{Opcode}
+use Rattle.code_core.specs.declared.opcode.Opcode.TheVariants.{VarArg}
+use Rattle.code_core.specs.Instruction.{a_of, c_of, opcode_of}
+use Rattle.int_core.specs.Value.{write_all}
+use Rattle.table_core.specs.declared.value.Value.{Value as Kept}
+use Rattle.lua_stack.specs.Frames.{KeptStack, OnTop, TopBecomes, with_opened, with_pc, with_registers}
+
+abbrev pub is_list : Option Opcode → Bool
+is_list (Some VarArg) = true
+is_list _ = false
+
+-- the arguments beyond the parameters are a list that is open from a register on, and the frame on top goes on behind
+pub record ListsVarargs (s u : KeptStack) (words : List Instruction) (pc : ℕ) (w : Instruction) : Type 0 where
+  pub is_vararg : opcode_of w ≡ Some VarArg
+  pub all : c_of w ≡ 0
+  pub registers : List Kept
+  pub are : OnTop s (λ f t. map f registers ≡ t.own.registers)
+  pub room : a_of w < length registers
+  pub within : pc + 1 < length words
+  pub becomes : TopBecomes s u (λ f t. with_pc (pc + 1) (with_opened (length t.own.varargs) (with_registers (write_all (a_of w) t.own.varargs t.own.registers) t)))

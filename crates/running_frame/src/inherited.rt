@@ -1,0 +1,124 @@
+// Fields that are found by handlers of `__index` which are no functions: methods of classes and of strings (luaV_finishget of lvm.c; Lua 5.4 manual, 2.4).
+ghost use Rattle.std.specs.Prelude.{◌≡◌, IfNone, IfSome, Some, slice_get};
+ghost use Rattle.code_core.specs.Instruction.{opcode_of};
+ghost use Rattle.code_core.specs.declared.opcode.Opcode.TheVariants.{GetField, OpSelf};
+ghost use Rattle.machine_arms_tables.specs.Frame.{code};
+ghost use Rattle.machine_loop.specs.Running.{Running};
+ghost use Rattle.running_frame.specs.Inheriting.{Finds, GoesAmid, RunsAmid, metatable_number};
+
+use crate::calling::register_of;
+use crate::upvalues::{fetch, next, put};
+use code_core::{Instruction, Opcode};
+use lua_heap::Strings;
+use lua_stack::Stack;
+use machine_arms_tables::Closure;
+use meta_ops::{Heap, Outcome, index_of};
+use object_pool::Pool;
+use table_core::{Table, TableId, Value};
+
+/// GETFIELD, or SELF with a constant, of a field that handlers of `__index` lead to without a call. Told is where the frame goes on. `None`, with all as before,
+/// at any other instruction, where a function is to be called, and where the field is an error. `string_meta` is the metatable that all strings share.
+pub(crate) fn read_inherited(
+    stack: &mut Stack,
+    closure: Closure,
+    strings: &Strings,
+    tables: &Pool<Table>,
+    string_meta: Option<TableId>,
+    pc: usize,
+) -> Option<usize>
+    ghost g: { Running }
+    requires runs { RunsAmid g (code closure strings.now) stack.old tables.now.objects pc }
+    requires meta { metatable_number string_meta ≡ g.string_metatable }
+    ensures goes { IfSome result (λ to. GoesAmid g (code closure.entry strings.now) stack.old stack.new tables.now.objects pc to) }
+    ensures kept { IfNone result (stack.new ≡ stack.old) }
+{
+    let i = fetch(closure.words, pc);
+    match i.opcode() {
+        Some(Opcode::GetField) => get_field(stack, closure, strings, tables, string_meta, pc, i),
+        Some(Opcode::OpSelf) => get_method(stack, closure, strings, tables, string_meta, pc, i),
+        _ => None,
+    }
+}
+
+/// GETFIELD: R[A] := R[B][K[C]].
+fn get_field(
+    stack: &mut Stack,
+    closure: Closure,
+    strings: &Strings,
+    tables: &Pool<Table>,
+    string_meta: Option<TableId>,
+    pc: usize,
+    i: Instruction,
+) -> Option<usize>
+    ghost g: { Running }
+    requires runs { RunsAmid g (code closure strings.now) stack.old tables.now.objects pc }
+    requires meta { metatable_number string_meta ≡ g.string_metatable }
+    requires word { slice_get closure.words.now pc ≡ Some i }
+    requires is { opcode_of i ≡ Some GetField }
+    ensures goes { IfSome result (λ to. GoesAmid g (code closure.entry strings.now) stack.old stack.new tables.now.objects pc to) }
+    ensures kept { IfNone result (stack.new ≡ stack.old) }
+{
+    let object = register_of(stack.registers(), i.b() as usize)?;
+    let key = register_of(closure.constants, i.c() as usize)?;
+    let v = inherited(strings, tables, string_meta, object, key)?;
+    let registers = stack.registers_mut();
+    put(registers, i.a() as usize, v);
+    let to = next(closure.words, pc);
+    stack.set_pc(to);
+    Some(to)
+}
+
+/// SELF: R[A + 1] := R[B]; R[A] := R[B][K[C]]. The key of a method is a constant wherever the field C has room for it.
+fn get_method(
+    stack: &mut Stack,
+    closure: Closure,
+    strings: &Strings,
+    tables: &Pool<Table>,
+    string_meta: Option<TableId>,
+    pc: usize,
+    i: Instruction,
+) -> Option<usize>
+    ghost g: { Running }
+    requires runs { RunsAmid g (code closure strings.now) stack.old tables.now.objects pc }
+    requires meta { metatable_number string_meta ≡ g.string_metatable }
+    requires word { slice_get closure.words.now pc ≡ Some i }
+    requires is { opcode_of i ≡ Some OpSelf }
+    ensures goes { IfSome result (λ to. GoesAmid g (code closure.entry strings.now) stack.old stack.new tables.now.objects pc to) }
+    ensures kept { IfNone result (stack.new ≡ stack.old) }
+{
+    let constant = i.k();
+    if !constant {
+        return None;
+    }
+    let object = register_of(stack.registers(), i.b() as usize)?;
+    let key = register_of(closure.constants, i.c() as usize)?;
+    let v = inherited(strings, tables, string_meta, object, key)?;
+    let registers = stack.registers_mut();
+    let a = i.a() as usize;
+    put(registers, a + 1, object);
+    put(registers, a, v);
+    let to = next(closure.words, pc);
+    stack.set_pc(to);
+    Some(to)
+}
+
+/// The field of an object at a key, where no function is to be called for it.
+fn inherited(
+    strings: &Strings,
+    tables: &Pool<Table>,
+    string_meta: Option<TableId>,
+    object: Value,
+    key: Value,
+) -> Option<Value>
+    ensures { IfSome result (λ v. Finds strings.now tables.now.objects (metatable_number string_meta) object key v) }
+{
+    let heap = Heap {
+        tables,
+        strings,
+        string_meta,
+    };
+    match index_of(heap, object, key) {
+        Outcome::Found(v) => Some(v),
+        _ => None,
+    }
+}

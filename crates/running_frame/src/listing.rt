@@ -1,0 +1,55 @@
+// Extra arguments as an open list, which change nothing but the stack (OP_VARARG of lvm.c).
+ghost use Rattle.std.specs.Prelude.{◌≡◌, ◌<◌, ◌+◌, IfNone, IfSome, length, true};
+ghost use Rattle.code_core.specs.Instruction.{c_of, opcode_of};
+ghost use Rattle.lua_stack.specs.Frames.{HasLuaTop};
+ghost use Rattle.running_frame.specs.Listing.{ListsVarargs, is_list};
+
+use crate::place::Here;
+use code_core::{Instruction, Opcode};
+use lua_stack::Stack;
+
+/// A VARARG that makes an open list of all arguments beyond the parameters: the frame goes on behind it. `None`, with all as before, at any other instruction, and
+/// where memory runs out.
+pub(crate) fn list_varargs(stack: &mut Stack, words: &[Instruction], here: Here) -> Option<()>
+    requires top { HasLuaTop stack.old }
+    ensures lists { IfSome result (λ _. ListsVarargs stack.old stack.new words.now here.pc here.word) }
+    ensures kept { IfNone result (stack.new ≡ stack.old) }
+    ensures listed { stack.new.open_cells ≡ stack.old.open_cells }
+{
+    if !is_list(here.word) {
+        return None;
+    }
+    let register = here.word.a() as usize;
+    if register >= stack.registers().len() {
+        return None;
+    }
+    let to = behind(words, here.pc)?;
+    match stack.write_varargs(register) {
+        Ok(()) => {
+            stack.set_pc(to);
+            Some(())
+        }
+        Err(_) => None,
+    }
+}
+
+/// The place behind one, where there is a word.
+pub(crate) fn behind(words: &[Instruction], pc: usize) -> Option<usize>
+    ensures { IfSome result (λ to. (to ≡ pc + 1) × (to < length words.now)) }
+{
+    let to = pc.checked_add(1)?;
+    if to >= words.len() {
+        return None;
+    }
+    Some(to)
+}
+
+/// Whether an instruction is a VARARG of all arguments that there are.
+fn is_list(i: Instruction) -> bool
+    ensures { result ≡ true → (is_list (opcode_of i) ≡ true) × (c_of i ≡ 0) }
+{
+    match i.opcode() {
+        Some(Opcode::VarArg) => i.c() == 0,
+        _ => false,
+    }
+}
