@@ -9,7 +9,7 @@ takes as luac: of whole Lua in 64 KiB, 256 KiB and 1 MiB, of functions with many
 labels, and of `if` with many `elseif`. Where the time grows with the source, that for each byte stays the same.
 
 PROGRAM is crates/luaris/out/luaris beside this folder if none is given; ./luaris builds it. luac5.4 is that of Debian's
-package lua5.4; this is no part of the gate.
+package lua5.4; `rt ci` runs nothing of this.
 """
 import argparse
 import pathlib

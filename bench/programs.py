@@ -8,7 +8,7 @@ COMMAND is put before each program's file. Where none is given it is `crates/lua
 interleaved, and of each the one with the least time on the processor counts. Both are to print the same line; the
 report line `return` that follows it is passed over. Status 0: each program ran and printed the same.
 
-lua5.4 is that of Debian's package; this is no part of the gate.
+lua5.4 is that of Debian's package; `rt ci` runs nothing of this.
 """
 import argparse
 import dataclasses

@@ -9,7 +9,7 @@ of each are to be those of the source. What a source prints may hang on choices 
     bench/stock_lua.py [--lua LUA] [--luac LUAC] [--program PROGRAM] [--seconds N] FOLDER
 
 PROGRAM is ./luaris above this folder if none is given. Status 0: no chunk differs. lua5.4 and luac5.4 are those of
-Debian's package lua5.4; this is no part of the gate.
+Debian's package lua5.4; `rt ci` runs nothing of this.
 """
 import argparse
 import dataclasses

@@ -15,7 +15,7 @@ greatest, a jump to the first and last place and just past them. Each chunk that
 source, spread evenly.
 
 PROGRAM is ./luaris above this folder if none is given. Status 0: nothing is otherwise. luac5.4 is that of Debian's package
-lua5.4; this is no part of the gate.
+lua5.4; `rt ci` runs nothing of this.
 """
 import argparse
 import collections
