@@ -1,13 +1,11 @@
 -- Permanents by their keys: of several with one key the first counts.
-use Rattle.std.proofs.Common.{◌≡◌, ℕ, ℤ, pos, negsuc, zero, suc, ◌+◌, ◌<◌, ◌≤◌, List, [], ◌∷◌, ◌++◌, Some, map, take, length, Bool, true, false, cond, refl, sym, ap, ◌∙◌, append_assoc, append-nil, arith}
-use Rattle.std.specs.Prelude.{nat_eq, slice_get}
+use Rattle.std.proofs.Common.{◌≡◌, ℕ, zero, suc, ◌+◌, ◌<◌, ◌≤◌, List, [], ◌∷◌, ◌++◌, Some, map, take, length, Bool, true, false, cond, refl, sym, ap, ◌∙◌, append_assoc, append-nil, arith}
+use Rattle.std.specs.Prelude.{slice_get}
 use Rattle.std.specs.Option.{option_map}
-use Rattle.std.proofs.lemmas.Bool.Decides.{nat_tests}
-use Rattle.std.proofs.lemmas.Slice.Eq.{bytes_eq-Decides}
 use Rattle.code_core.specs.Prototype.{Prototype}
 use Rattle.std.proofs.lemmas.List.{length-map}
 use Rattle.code_core.specs.Check.{IsChecked}
-use Rattle.int_core.specs.Value.{same_integer, a_function, object}
+use Rattle.int_core.specs.Value.{a_function, object}
 use Rattle.machine_core.specs.World.{World}
 use Rattle.machine_sound.specs.Sound.{Valid, sizes}
 use Rattle.lua_heap.specs.declared.world.World.{World as Memory}
@@ -15,8 +13,9 @@ use Rattle.lua_heap.specs.declared.world.Func.{Func}
 use Rattle.lua_heap.specs.Codes.{functions, no_code, prototype_at, code_or_none}
 use Rattle.lua_heap.specs.Plain.{plain, function}
 use Rattle.lua_heap.proofs.Added.{take_over}
-use Rattle.image_core.specs.Image.{PermKey, number_key, text_key, Perm}
+use Rattle.image_core.specs.Image.{PermKey, Perm}
 use Rattle.image_saved.specs.Permanents.{same_key, object_named}
+use Rattle.image_saved.proofs.Equal.{key_is}
 use Rattle.graph_core.specs.declared.permanents.Permanent.{Permanent}
 use Rattle.graph_core.specs.declared.permanents.PermanentSort.{PermanentSort}
 use Rattle.graph_core.specs.declared.permanents.PermanentSort.TheVariants as sort
@@ -27,21 +26,6 @@ use Rattle.image_records.specs.Views.{key}
 use Rattle.image_records.specs.Names.{perm, object_of, proto_of, code_in, has_key, added}
 use Rattle.eris_read.specs.Unpersist.{CanRead, code_of}
 use Rattle.eris_read.specs.Known.{IsFunction, IsObject, IsPermanent, IsSmall, IsSmallNumber}
-
-number_is : (m n : ℕ) → nat_eq m n ≡ true → m ≡ n
-number_is m n h = grind (arith, nat_tests)
-
-integer_is : (m n : ℤ) → same_integer m n ≡ true → m ≡ n
-integer_is (pos m) (pos n) h = ap pos (number_is m n h)
-integer_is (negsuc m) (negsuc n) h = ap negsuc (number_is m n h)
-integer_is (pos m) (negsuc n) h = absurd (cc)
-integer_is (negsuc m) (pos n) h = absurd (cc)
-
-key_is : (a b : PermKey) → same_key a b ≡ true → a ≡ b
-key_is (number_key m) (number_key n) h = ap number_key (integer_is m n h)
-key_is (text_key s) (text_key t) h = ap text_key ((bytes_eq-Decides s t).0 h)
-key_is (number_key m) (text_key t) h = absurd (cc)
-key_is (text_key s) (number_key n) h = absurd (cc)
 
 -- a permanent of another key does not count
 passed_by : (ps : List Perm) (p : Perm) (rest : List Perm) (name : PermKey) → same_key p.key name ≡ false → object_named (ps ++ p ∷ rest) name ≡ object_named (ps ++ rest) name

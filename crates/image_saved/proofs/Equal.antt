@@ -1,56 +1,9 @@
--- Values and keys that are raw equal are the same.
-use Rattle.std.proofs.Common.{arith, ℕ, ◌≡◌, Bool, true, false, refl, ap, ap₂, ℤ, pos, negsuc}
-use Rattle.std.proofs.lemmas.Bool.{and_parts}
-use Rattle.std.proofs.lemmas.Bool.Decides.{nat_tests}
-use Rattle.std.specs.Prelude.{nat_eq, ◌&&◌}
+-- Keys of permanents that are equal are the same.
+use Rattle.std.proofs.Common.{◌≡◌, true, refl, ap}
 use Rattle.std.proofs.lemmas.Slice.Eq.{bytes_eq-Decides}
-use Rattle.int_core.specs.Value.{Plain, nil, boolean, integer, string, primitive, Kind, a_table, a_function, a_coroutine, Value, known, object, same, same_plain, same_kind, same_integer, same_truth}
+use Rattle.int_core.proofs.Equality.{integer_is, integer_self}
 use Rattle.image_core.specs.Image.{PermKey, number_key, text_key}
 use Rattle.image_saved.specs.Permanents.{same_key}
-
-number_is : (m n : ℕ) → nat_eq m n ≡ true → m ≡ n
-number_is m n h = grind (arith, nat_tests)
-
-pub number_self : (n : ℕ) → nat_eq n n ≡ true
-number_self n = grind (arith, nat_tests)
-
-integer_is : (m n : ℤ) → same_integer m n ≡ true → m ≡ n
-integer_is (pos m) (pos n) h = ap pos (number_is m n h)
-integer_is (negsuc m) (negsuc n) h = ap negsuc (number_is m n h)
-integer_is (pos m) (negsuc n) h = absurd (cc)
-integer_is (negsuc m) (pos n) h = absurd (cc)
-
-integer_self : (n : ℤ) → same_integer n n ≡ true
-integer_self (pos n) = number_self n
-integer_self (negsuc n) = number_self n
-
-truth_is : (a b : Bool) → same_truth a b ≡ true → a ≡ b
-truth_is true true h = refl
-truth_is false false h = refl
-truth_is true false h = absurd (cc)
-truth_is false true h = absurd (cc)
-
-plain_is : (p q : Plain) → same_plain p q ≡ true → p ≡ q
-plain_is nil nil h = refl
-plain_is (boolean a) (boolean b) h = ap boolean (truth_is a b h)
-plain_is (integer m) (integer n) h = ap integer (integer_is m n h)
-plain_is (string s) (string t) h = ap string ((bytes_eq-Decides s t).0 h)
-plain_is (primitive m) (primitive n) h = ap primitive (number_is m n h)
-plain_is _ _ h = absurd (cc)
-
-kind_is : (k l : Kind) → same_kind k l ≡ true → k ≡ l
-kind_is a_table a_table h = refl
-kind_is a_function a_function h = refl
-kind_is a_coroutine a_coroutine h = refl
-kind_is _ _ h = absurd (cc)
-
-pub value_is : (a b : Value) → same a b ≡ true → a ≡ b
-value_is (known p) (known q) h = ap known (plain_is p q h)
-value_is (object k m) (object l n) h =
-    let both = and_parts (same_kind k l) (nat_eq m n) h in
-    ap₂ object (kind_is k l both.0) (number_is m n both.1)
-value_is (known p) (object l n) h = absurd (cc)
-value_is (object k m) (known q) h = absurd (cc)
 
 pub key_is : (a b : PermKey) → same_key a b ≡ true → a ≡ b
 key_is (number_key m) (number_key n) h = ap number_key (integer_is m n h)

@@ -1,3 +1,3 @@
-mod Equal
+pub mod Equal
 mod Names
 mod Saving

@@ -2,13 +2,14 @@
 use Rattle.std.proofs.Common.{ℕ, zero, suc, ◌≡◌, Bool, true, false, cond, List, [], ◌∷◌, Some, refl, sym, ◌∙◌, ap, subst}
 use Rattle.std.specs.Prelude.{slice_get, option_map}
 use Rattle.int_core.specs.Value.{a_table, Value, object, same}
+use Rattle.int_core.proofs.Equality.{value_is}
 use Rattle.machine_alike.specs.Agree.{SameValue, same_object}
 use Rattle.image_core.specs.Image.{PermKey, Perm, permanent, environment}
 use Rattle.image_core.specs.Records.{key_of, sort_of}
 use Rattle.image_core.specs.Loading.{value_made}
 use Rattle.image_core.proofs.Lists.{map_some, none_some}
 use Rattle.image_saved.specs.Permanents.{same_key, object_named, NamesAreRead}
-use Rattle.image_saved.proofs.Equal.{value_is, key_is, key_self}
+use Rattle.image_saved.proofs.Equal.{key_is, key_self}
 
 some_so : {A : Type 0} {a b : A} → Some a ≡ Some b → a ≡ b
 some_so e = cc

@@ -2,11 +2,11 @@
 use Rattle.std.proofs.Common.{ℕ, ◌≡◌, true, List, refl, ap, ◌∙◌, sym, arith}
 use Rattle.std.specs.Prelude.{nat_eq}
 use Rattle.int_core.specs.Value.{nil, boolean, integer, string, primitive, Value, known, object}
+use Rattle.int_core.proofs.Equality.{value_is}
 use Rattle.chunk_check.proofs.Exact.{no_fault_in_checked}
 use Rattle.image_core.specs.Image.{Perm, Item, plain, numbered, permanent, environment}
 use Rattle.image_saved.specs.Permanents.{object_named}
 use Rattle.images_stand.specs.Readers.{object_sort, Becomes, a_value, a_record, becomes, GoesBy, ReadersKnow}
-use Rattle.images_stand.proofs.Same.{value_is}
 use Rattle.images_stand.proofs.Session.{base_are}
 use Rattle.image_records.specs.Names.{sort_of_object}
 use Rattle.image_reading.specs.Reader.{RowKey, of_value, of_record, same_row_key, no_fault, row_key, reader}

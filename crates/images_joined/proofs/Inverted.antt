@@ -6,7 +6,7 @@ use Rattle.list_laws.proofs.Items.{some_same}
 use Rattle.image_core.specs.Image.{PermKey, Perm, Item, plain, numbered, permanent, environment}
 use Rattle.image_bytes.specs.Bytes.{Reader}
 use Rattle.image_saved.specs.Permanents.{same_key, object_named}
-use Rattle.images_stand.proofs.Same.{key_is, key_self}
+use Rattle.image_saved.proofs.Equal.{key_is, key_self}
 use Rattle.image_records.specs.Names.{sort_of_object}
 use Rattle.image_reading.specs.Reader.{of_value, no_fault, row_key, same_row_key, reader}
 use Rattle.chunk_check.specs.Faults.{first_fault}

@@ -16,6 +16,7 @@ use Rattle.int_core.specs.Heap.{Table}
 use Rattle.int_core.specs.Rows.{AreRows}
 use Rattle.int_core.specs.Value.{nil, boolean, integer, string, primitive, Plain, Kind, a_table, a_function, a_coroutine, Value, known, object, same, table_values, bind}
 use Rattle.int_core.specs.Operations.{is_function}
+use Rattle.int_core.proofs.Equality.{value_is, value_self}
 use Rattle.machine_core.specs.Text.{behind}
 use Rattle.machine_core.specs.World.{Function, Cell, closed, open_at, Wait, running, for_call, for_iterator, for_value, for_truth, dropped, for_concat, for_close, returning, leaving, LuaFrame, Frame, lua, pcall, xpcall, handler, closing, Coroutine, fresh, suspended, in_progress, normal, dead, failed, World, frames_of, lua_frame}
 use Rattle.machine_sound.specs.Sound.{Each, Sizes, sizes, Valid, OptionOk, TableOk, FunctionOk, WaitOk, LuaOk, FrameOk, waits_at, waiting_size, LuaWaits, FrameWaits, AllWait, CoroutineOk, registers_in, registers_of, CellOk, Solid}
@@ -32,7 +33,6 @@ use Rattle.image_bytes.specs.Bytes.{Reader, sort_at, is_sort, is_nil_item, is_ta
 use Rattle.image_load.specs.Loads.{IsWritten}
 use Rattle.image_sound.proofs.Savable.{open_cells_there}
 use Rattle.images_stand.specs.Standing.{IsObject, KeyFits, ArePermanents, PlainIsHeld, FieldIsHeld, IsItem, Knows, name, all_fields}
-use Rattle.images_stand.proofs.Same.{value_is, value_self}
 use Rattle.images_stand.proofs.Items.{Refers, PlainStands, ItemStands}
 use Rattle.images_stand.proofs.Records.{Stand, RowStands, AreNew, WaitStands, LuaStands, ErrorStands, FrameStands, RecordStands, registers_bound}
 

@@ -2,7 +2,6 @@ mod Walks
 mod Items
 mod Records
 mod Whole
-pub mod Same
 mod Kept
 mod Fits
 mod Stand

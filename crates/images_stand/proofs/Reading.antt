@@ -2,14 +2,15 @@
 use Rattle.std.proofs.Common.{ℕ, zero, suc, ◌≡◌, Bool, true, false, cond, List, [], ◌∷◌, Some, refl, subst, sym, ap, ◌∙◌}
 use Rattle.std.specs.Prelude.{slice_get, option_map}
 use Rattle.int_core.specs.Value.{nil, boolean, integer, string, primitive, Plain, Kind, a_table, Value, known, object}
+use Rattle.int_core.proofs.Equality.{value_self}
 use Rattle.image_core.specs.Image.{PermKey, Perm, Item, plain, numbered, permanent, environment}
 use Rattle.image_core.specs.Records.{key_of, sort_of, named}
 use Rattle.image_core.proofs.Lists.{none_some}
 use Rattle.image_saved.specs.Permanents.{same_key, object_named}
+use Rattle.image_saved.proofs.Equal.{key_is, key_self}
 use Rattle.images_stand.specs.Standing.{IsObject, ArePermanents, PlainIsHeld, IsItem}
 use Rattle.images_stand.specs.Readers.{object_sort, a_value, a_record, becomes, ReadersKnow}
 use Rattle.images_stand.proofs.Kept.{Named, by_environment, by_key, named_so}
-use Rattle.images_stand.proofs.Same.{value_self, key_is, key_self}
 
 some_so : {A : Type 0} {a b : A} → Some a ≡ Some b → a ≡ b
 some_so e = cc

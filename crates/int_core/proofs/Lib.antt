@@ -5,3 +5,4 @@ pub mod SpellsLemmas
 pub mod RowsLemmas
 pub mod RowsLaws
 pub mod ValueLemmas
+pub mod Equality

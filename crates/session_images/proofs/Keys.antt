@@ -1,20 +1,20 @@
 -- The names of the libraries' functions: each has its own, and nothing else has one but the prelude's environment.
 use Rattle.std.proofs.Common.{arith, ℕ, zero, suc, ◌+◌, ◌≡◌, ◌<◌, ◌≤◌, Bool, true, false, cond, List, [], ◌∷◌, ◌++◌, Some, None, refl, subst, sym, ◌∙◌, ap, ⊎_elim, length, map}
-use Rattle.std.specs.Prelude.{ℤ, pos, negsuc, slice_get, not, ◌&&◌, ◌||◌, nat_eq, option_map}
+use Rattle.std.specs.Prelude.{slice_get, not, ◌&&◌, ◌||◌, nat_eq, option_map}
 use Rattle.std.specs.List.{list_any}
 use Rattle.std.proofs.lemmas.Bool.{and_parts}
-use Rattle.std.proofs.lemmas.Slice.Eq.{bytes_eq-Decides}
-use Rattle.int_core.specs.Value.{Kind, a_table, a_function, a_coroutine, Value, known, object, primitive, same, same_integer}
+use Rattle.int_core.specs.Value.{Kind, a_table, a_function, a_coroutine, Value, known, object, primitive, same}
 use Rattle.list_laws.proofs.Tests.{eq_refl, or_left, or_right, split}
 use Rattle.library_rows.specs.Library as library
 use Rattle.library_rows.specs.Library.{all_entries}
 use Rattle.library_rows.specs.PreludeText.{function_keys}
 use Rattle.machine_core.specs.World.{World}
 use Rattle.machine_alike.specs.Agree.{SameValue, same_known, same_object}
-use Rattle.image_core.specs.Image.{PermKey, number_key, text_key, Perm, permanent, environment}
+use Rattle.image_core.specs.Image.{PermKey, text_key, Perm, permanent, environment}
 use Rattle.image_core.specs.Records.{key_of}
 use Rattle.image_core.proofs.Lists.{Every, every_get, every_both, none_some}
 use Rattle.image_saved.specs.Permanents.{same_key, AreInverse}
+use Rattle.image_saved.proofs.Equal.{key_self}
 use Rattle.session_images.specs.Permanents.{by_keys, primitive_value, function_value, base_permanents}
 use Rattle.session_images.specs.Saved.{prelude_pairs, session_name}
 use Rattle.session_images.proofs.Same.{below_so}
@@ -102,14 +102,6 @@ different (k ∷ ks) = not (list_any (same_key k) ks) && different ks
 
 abbrev key_in : Perm → PermKey
 key_in p = p.key
-
-integer_self : (n : ℤ) → same_integer n n ≡ true
-integer_self (pos n) = eq_refl n
-integer_self (negsuc n) = eq_refl n
-
-key_self : (k : PermKey) → same_key k k ≡ true
-key_self (number_key n) = integer_self n
-key_self (text_key s) = (bytes_eq-Decides s s).1 refl
 
 has_key : (ps : List Perm) (k : PermKey) (j : ℕ) (p : Perm) → slice_get ps j ≡ Some p → k ≡ p.key → list_any (same_key k) (map key_in ps) ≡ true
 has_key [] k j p e is = absurd (none_some p e)

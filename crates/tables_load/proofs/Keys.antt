@@ -6,6 +6,7 @@ use Rattle.std.specs.Map.{keys_of}
 use Rattle.std.proofs.lemmas.Bool.{and_parts, or_parts, not-true, false_from_ne_true}
 use Rattle.int_core.specs.Rows.{AreRows, has_row}
 use Rattle.int_core.specs.Value.{nil, boolean, integer, string, primitive, Kind, a_table, a_function, a_coroutine, Value, known, object, same, same_kind, table_values, bind}
+use Rattle.int_core.proofs.Equality.{kind_is, flipped}
 use Rattle.list_laws.proofs.Tests.{eq_true, eq_refl}
 use Rattle.image_core.specs.Image.{PermKey, Perm, Item, plain, numbered, permanent, environment, Record}
 use Rattle.image_core.specs.Loading.{kind_in, is_of, is_kind, rank, Target, count_in, new_number, numbered_value, value_made, row_made}
@@ -16,7 +17,6 @@ use Rattle.image_records.specs.Names.{sort_of_object}
 use Rattle.image_saved.specs.Permanents.{object_named}
 use Rattle.image_sound.specs.Reads.{ItemRead, All, RowRead}
 use Rattle.image_sound.proofs.Given.{numbers_name_records}
-use Rattle.tables_stay.proofs.Values.{kind_is, flipped}
 use Rattle.tables_load.specs.Laws.{IsHome}
 use Rattle.tables_load.proofs.NewKeys.{KeysNew}
 

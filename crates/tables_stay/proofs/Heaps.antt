@@ -7,9 +7,9 @@ use Rattle.int_core.proofs.RowsLaws.{AreRows-set}
 use Rattle.int_core.specs.Value.{nil, boolean, integer, string, primitive, a_table, a_function, a_coroutine, Value, known, object, same, is_nil, table_values, bind, greatest_string}
 use Rattle.int_core.specs.Heap.{Table, Heap, raw_get, raw_set, filled, filled_table, add_table}
 use Rattle.int_core.specs.Operations.{Event, of_index, of_newindex, of_len, of_eq, of_concat, of_lt, of_le, handler_in, handler_of, is_function, Settled, found, ask, fault, cannot_arise, asked, greatest_chain, indexed, index_of, set_raw, stored, store_of, arithmetic_on, concat_on, raw_length, length_on, truth, equal_on, ordered, computed, number_in, text_of, by_zero, before, cannot_compare, Operation, index, store, arithmetic, concat, length', equal, less, less_equal, does}
+use Rattle.int_core.proofs.Equality.{are_values}
 use Rattle.machine_sound.proofs.Lists.{each_set, each_push}
 use Rattle.tables_stay.specs.Laws.{AreTables}
-use Rattle.tables_stay.proofs.Values.{are_values}
 
 abbrev pub IsTable : Table → Type 0
 IsTable t = AreRows table_values t.rows

@@ -1,4 +1,3 @@
-pub mod Values
 mod Heaps
 mod Looks
 mod Library
