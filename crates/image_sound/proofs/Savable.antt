@@ -77,98 +77,99 @@ module _ (n : ℕ) (W : World) (s : Solid n W) where
       by_coroutine None e h = absurd (omega (arith, h))
       by_coroutine (Some c) e h = slice_get_within W.coroutines co c e
 
-  module _ (name : Value → Option Item) (roots : List Value) (roots_there : Each (Valid z) roots) where
-    abbrev FieldOk : Field → Type 0
-    FieldOk (of_value v) = Valid z v
-    FieldOk (of_cell c) = c < length W.cells
-    FieldOk (of_coroutine co) = co < length W.coroutines
+  -- values, cells and coroutines that an object names are there
+  abbrev pub FieldOk : Field → Type 0
+  FieldOk (of_value v) = Valid (sizes n W) v
+  FieldOk (of_cell c) = c < length W.cells
+  FieldOk (of_coroutine co) = co < length W.coroutines
 
+  pub values_ok : (vs : List Value) → Each (Valid z) vs → Every FieldOk (map of_value vs)
+  values_ok [] h = tt
+  values_ok (v ∷ vs) h = (h 0 v refl, values_ok vs (λ i x e. h (suc i) x e))
+
+  rows_ok : (rows : List (Value × Value)) → Each (λ row. Valid z row.0 × Valid z row.1) rows → Every FieldOk (flat_map row_fields rows)
+  rows_ok [] h = tt
+  rows_ok (row ∷ rows) h = let k = h 0 row refl in (k.0, (k.1, rows_ok rows (λ i x e. h (suc i) x e)))
+
+  metatable_ok : (m : Option ℕ) → OptionOk (λ m. m < z.tables) m → Valid z (metatable_value m)
+  metatable_ok None h = tt
+  metatable_ok (Some m) h = h
+
+  table_ok : (t : Table) → TableOk z t → Every FieldOk (table_fields t)
+  table_ok t h = every_both FieldOk (flat_map row_fields t.rows) (of_value (metatable_value t.metatable) ∷ []) (rows_ok t.rows h.rows) (metatable_ok t.metatable h.metatable, tt)
+
+  cells_ok : (cs : List ℕ) → Each (λ c. c < z.cells) cs → Every FieldOk (map of_cell cs)
+  cells_ok [] h = tt
+  cells_ok (c ∷ cs) h = (h 0 c refl, cells_ok cs (λ i x e. h (suc i) x e))
+
+  wait_ok : (w : Wait Value) → WaitOk z w → Every FieldOk (wait_fields w)
+  wait_ok running h = tt
+  wait_ok for_call h = tt
+  wait_ok for_iterator h = tt
+  wait_ok for_value h = tt
+  wait_ok for_truth h = tt
+  wait_ok dropped h = tt
+  wait_ok (for_concat k) h = tt
+  wait_ok for_close h = tt
+  wait_ok (returning k) h = tt
+  wait_ok (leaving e) h = (h, tt)
+
+  error_ok : (e : Option Value) → OptionOk (Valid z) e → Every FieldOk (error_fields e)
+  error_ok None h = tt
+  error_ok (Some e) h = (h, tt)
+
+  frame_ok : (f : Frame) → FrameOk z f → Every FieldOk (frame_fields f)
+  frame_ok (lua f) h = (
+    slice_get_within W.functions f.function h.function h.there,
+    every_both FieldOk (map of_value f.own.varargs) (map of_value f.own.registers ++ wait_fields f.wait) (values_ok f.own.varargs h.varargs) (every_both FieldOk (map of_value f.own.registers) (wait_fields f.wait) (values_ok f.own.registers h.registers) (wait_ok f.wait h.error)),
+  )
+  frame_ok pcall h = tt
+  frame_ok (xpcall v) h = (h, tt)
+  frame_ok handler h = tt
+  frame_ok (closing e left) h = every_both FieldOk (error_fields e) (map of_value left) (error_ok e h.0) (values_ok left h.1)
+
+  frames_ok : (fs : List Frame) → Each (FrameOk z) fs → Every FieldOk (flat_map frame_fields fs)
+  frames_ok [] h = tt
+  frames_ok (f ∷ fs) h = every_both FieldOk (frame_fields f) (flat_map frame_fields fs) (frame_ok f (h 0 f refl)) (frames_ok fs (λ i x e. h (suc i) x e))
+
+  coroutine_ok : (c : Coroutine) → CoroutineOk z c → Every FieldOk (coroutine_fields c)
+  coroutine_ok (fresh b) h = (h.0, tt)
+  coroutine_ok (suspended fs) h = frames_ok fs h.right.each
+  coroutine_ok (in_progress fs) h = tt
+  coroutine_ok (normal fs) h = tt
+  coroutine_ok dead h = tt
+  coroutine_ok (failed e vs) h = (h.0, values_ok vs h.1)
+
+  cell_ok : (inside : ℕ → Bool) (c : Cell) → CellOk z W.coroutines c → Every FieldOk (cell_fields W inside c)
+  cell_ok inside (closed v) h = (h, tt)
+  cell_ok inside (open_at co g r) h = go (inside co)
+    where
+      there : There co g r
+      there = register_there co g r h
+
+      go : (b : Bool) → Every FieldOk (cond b (of_coroutine co ∷ []) (of_value (present W (open_at co g r)) ∷ []))
+      go true = (coroutine_there co g r h, tt)
+      go false = (subst (Valid z) (sym (ap (λ o. unwrap_or o (known nil)) there.1)) there.2, tt)
+
+  there_ok : {A : Type 0} (xs : List A) (P : A → Type 0) (f : A → List Field) → Each P xs → ((x : A) → P x → Every FieldOk (f x)) → (m : ℕ) → Every FieldOk (if_there f (slice_get xs m))
+  there_ok xs P f h k m = go (slice_get xs m) refl
+    where
+      go : (o : Option _) → slice_get xs m ≡ o → Every FieldOk (if_there f o)
+      go None e = tt
+      go (Some x) e = k x (h m x e)
+
+  pub fields_ok : (inside : ℕ → Bool) (o : Part) → Every FieldOk (fields W inside o)
+  fields_ok inside (an_object a_table m) = there_ok W.heap.tables (TableOk z) table_fields s.tables table_ok m
+  fields_ok inside (an_object a_function m) = there_ok W.functions (FunctionOk z) (λ f. map of_cell f.cells) s.functions (λ f h. cells_ok f.cells h.cells) m
+  fields_ok inside (an_object a_coroutine m) = there_ok W.coroutines (CoroutineOk z) coroutine_fields s.coroutines coroutine_ok m
+  fields_ok inside (a_cell m) = there_ok W.cells (CellOk z W.coroutines) (cell_fields W inside) s.cells (cell_ok inside) m
+
+  module _ (name : Value → Option Item) (roots : List Value) (roots_there : Each (Valid z) roots) where
     abbrev Exists : Part → Type 0
     Exists (an_object a_table m) = m < length W.heap.tables
     Exists (an_object a_function m) = m < length W.functions
     Exists (an_object a_coroutine m) = m < length W.coroutines
     Exists (a_cell m) = m < length W.cells
-
-    values_ok : (vs : List Value) → Each (Valid z) vs → Every FieldOk (map of_value vs)
-    values_ok [] h = tt
-    values_ok (v ∷ vs) h = (h 0 v refl, values_ok vs (λ i x e. h (suc i) x e))
-
-    rows_ok : (rows : List (Value × Value)) → Each (λ row. Valid z row.0 × Valid z row.1) rows → Every FieldOk (flat_map row_fields rows)
-    rows_ok [] h = tt
-    rows_ok (row ∷ rows) h = let k = h 0 row refl in (k.0, (k.1, rows_ok rows (λ i x e. h (suc i) x e)))
-
-    metatable_ok : (m : Option ℕ) → OptionOk (λ m. m < z.tables) m → Valid z (metatable_value m)
-    metatable_ok None h = tt
-    metatable_ok (Some m) h = h
-
-    table_ok : (t : Table) → TableOk z t → Every FieldOk (table_fields t)
-    table_ok t h = every_both FieldOk (flat_map row_fields t.rows) (of_value (metatable_value t.metatable) ∷ []) (rows_ok t.rows h.rows) (metatable_ok t.metatable h.metatable, tt)
-
-    cells_ok : (cs : List ℕ) → Each (λ c. c < z.cells) cs → Every FieldOk (map of_cell cs)
-    cells_ok [] h = tt
-    cells_ok (c ∷ cs) h = (h 0 c refl, cells_ok cs (λ i x e. h (suc i) x e))
-
-    wait_ok : (w : Wait Value) → WaitOk z w → Every FieldOk (wait_fields w)
-    wait_ok running h = tt
-    wait_ok for_call h = tt
-    wait_ok for_iterator h = tt
-    wait_ok for_value h = tt
-    wait_ok for_truth h = tt
-    wait_ok dropped h = tt
-    wait_ok (for_concat k) h = tt
-    wait_ok for_close h = tt
-    wait_ok (returning k) h = tt
-    wait_ok (leaving e) h = (h, tt)
-
-    error_ok : (e : Option Value) → OptionOk (Valid z) e → Every FieldOk (error_fields e)
-    error_ok None h = tt
-    error_ok (Some e) h = (h, tt)
-
-    frame_ok : (f : Frame) → FrameOk z f → Every FieldOk (frame_fields f)
-    frame_ok (lua f) h = (
-      slice_get_within W.functions f.function h.function h.there,
-      every_both FieldOk (map of_value f.own.varargs) (map of_value f.own.registers ++ wait_fields f.wait) (values_ok f.own.varargs h.varargs) (every_both FieldOk (map of_value f.own.registers) (wait_fields f.wait) (values_ok f.own.registers h.registers) (wait_ok f.wait h.error)),
-    )
-    frame_ok pcall h = tt
-    frame_ok (xpcall v) h = (h, tt)
-    frame_ok handler h = tt
-    frame_ok (closing e left) h = every_both FieldOk (error_fields e) (map of_value left) (error_ok e h.0) (values_ok left h.1)
-
-    frames_ok : (fs : List Frame) → Each (FrameOk z) fs → Every FieldOk (flat_map frame_fields fs)
-    frames_ok [] h = tt
-    frames_ok (f ∷ fs) h = every_both FieldOk (frame_fields f) (flat_map frame_fields fs) (frame_ok f (h 0 f refl)) (frames_ok fs (λ i x e. h (suc i) x e))
-
-    coroutine_ok : (c : Coroutine) → CoroutineOk z c → Every FieldOk (coroutine_fields c)
-    coroutine_ok (fresh b) h = (h.0, tt)
-    coroutine_ok (suspended fs) h = frames_ok fs h.right.each
-    coroutine_ok (in_progress fs) h = tt
-    coroutine_ok (normal fs) h = tt
-    coroutine_ok dead h = tt
-    coroutine_ok (failed e vs) h = (h.0, values_ok vs h.1)
-
-    cell_ok : (c : Cell) → CellOk z W.coroutines c → Every FieldOk (cell_fields W (is_reached W name roots) c)
-    cell_ok (closed v) h = (h, tt)
-    cell_ok (open_at co g r) h = go (is_reached W name roots co)
-      where
-        there : There co g r
-        there = register_there co g r h
-
-        go : (b : Bool) → Every FieldOk (cond b (of_coroutine co ∷ []) (of_value (present W (open_at co g r)) ∷ []))
-        go true = (coroutine_there co g r h, tt)
-        go false = (subst (Valid z) (sym (ap (λ o. unwrap_or o (known nil)) there.1)) there.2, tt)
-
-    there_ok : {A : Type 0} (xs : List A) (P : A → Type 0) (f : A → List Field) → Each P xs → ((x : A) → P x → Every FieldOk (f x)) → (m : ℕ) → Every FieldOk (if_there f (slice_get xs m))
-    there_ok xs P f h k m = go (slice_get xs m) refl
-      where
-        go : (o : Option _) → slice_get xs m ≡ o → Every FieldOk (if_there f o)
-        go None e = tt
-        go (Some x) e = k x (h m x e)
-
-    fields_ok : (o : Part) → Every FieldOk (fields W (is_reached W name roots) o)
-    fields_ok (an_object a_table m) = there_ok W.heap.tables (TableOk z) table_fields s.tables table_ok m
-    fields_ok (an_object a_function m) = there_ok W.functions (FunctionOk z) (λ f. map of_cell f.cells) s.functions (λ f h. cells_ok f.cells h.cells) m
-    fields_ok (an_object a_coroutine m) = there_ok W.coroutines (CoroutineOk z) coroutine_fields s.coroutines coroutine_ok m
-    fields_ok (a_cell m) = there_ok W.cells (CellOk z W.coroutines) (cell_fields W (is_reached W name roots)) s.cells cell_ok m
 
     value_exists : (v : Value) → Valid z v → Every Exists (value_parts v)
     value_exists (known p) h = tt
@@ -198,7 +199,7 @@ module _ (n : ℕ) (W : World) (s : Solid n W) where
     met_exists o m =
         let r = place_met same_part part_tells (parts_in_order W name roots) o m in
         every_get Exists (parts_in_order W name roots) r.0 o
-        (order_within same_part part_tells part_self Exists (parts W name (is_reached W name roots)) (λ o h. all_exist (fields W (is_reached W name roots) o) (fields_ok o)) greatest_count (flat_map (λ v. field_parts name (of_value v)) roots) (roots_exist roots roots_there))
+        (order_within same_part part_tells part_self Exists (parts W name (is_reached W name roots)) (λ o h. all_exist (fields W (is_reached W name roots) o) (fields_ok (is_reached W name roots) o)) greatest_count (flat_map (λ v. field_parts name (of_value v)) roots) (roots_exist roots roots_there))
         (place_get same_part part_tells (parts_in_order W name roots) o r.0 r.1)
 
     abbrev N : Naming

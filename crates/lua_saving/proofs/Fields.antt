@@ -1,21 +1,19 @@
--- What a sound world's objects name is there; so nothing that a session's image names is refused.
+-- Nothing that a session's image names is refused.
 use Rattle.std.proofs.Common.{arith, ℕ, zero, suc, ◌+◌, ◌<◌, ◌≤◌, ◌≡◌, List, [], ◌∷◌, ◌++◌, Option, Some, None, refl, subst, sym, ap, ◌∙◌, length, Bool, true, false, cond, map}
-use Rattle.std.specs.Prelude.{slice_get, flat_map, option_map, nat_eq, unwrap_or, ◌||◌}
-use Rattle.std.proofs.lemmas.Option.{slice_get_within}
+use Rattle.std.specs.Prelude.{slice_get, flat_map, option_map, nat_eq, ◌||◌}
 use Rattle.std.specs.List.{list_any}
 use Rattle.int_core.specs.Value.{nil, boolean, integer, string, primitive, a_table, a_function, a_coroutine, Value, known, object}
-use Rattle.int_core.specs.Heap.{Table}
 use Rattle.code_core.specs.Writable.{signed_fits}
 use Rattle.list_laws.proofs.Tests.{eq_refl, eq_true}
 use Rattle.library_rows.specs.Library.{all_entries, key_of as key_of_entry}
 use Rattle.library_rows.specs.PreludeText.{function_keys}
-use Rattle.machine_core.specs.World.{Cell, closed, open_at, Wait, running, for_call, for_iterator, for_value, for_truth, dropped, for_concat, for_close, returning, leaving, Frame, lua, pcall, xpcall, handler, closing, Coroutine, fresh, suspended, in_progress, normal, dead, failed, World}
-use Rattle.machine_sound.specs.Sound.{Each, Sizes, sizes, Valid, OptionOk, TableOk, WaitOk, FrameOk, CoroutineOk, CellOk, Solid, apart, standing}
+use Rattle.machine_core.specs.World.{Coroutine, fresh, suspended, in_progress, normal, dead, failed, World}
+use Rattle.machine_sound.specs.Sound.{sizes, Valid, Solid, apart, standing}
 use Rattle.machine_runs.specs.Opening.{numbers}
 use Rattle.image_core.specs.Image.{PermKey, Item, permanent, text_key}
-use Rattle.image_core.specs.Records.{Part, an_object, a_cell, Field, of_value, of_cell, of_coroutine, row_fields, metatable_value, table_fields, wait_fields, error_fields, frame_fields, coroutine_fields, present, cell_fields, if_there, fields, is_reached, parts_in_order, key_of}
+use Rattle.image_core.specs.Records.{Field, of_value, of_cell, of_coroutine, fields, is_reached, parts_in_order, key_of}
 use Rattle.image_core.proofs.Lists.{Every, every_at, every_both, every_in_flat}
-use Rattle.image_sound.proofs.Savable.{open_cells_there}
+use Rattle.image_sound.proofs.Savable.{FieldOk, values_ok, fields_ok}
 use Rattle.image_load.specs.Session.{session_roots}
 use Rattle.session_images.specs.Permanents.{by_keys, primitive_value, function_value, base_permanents}
 use Rattle.session_images.specs.Saved.{session_name}
@@ -24,97 +22,6 @@ use Rattle.session_images.proofs.Resuming.{idle_apart, roots_valid}
 use Rattle.eris_write.specs.declared.fault.Refusal.{Refusal}
 use Rattle.eris_write.specs.declared.fault.Refusal.TheVariants.{LibraryFunction}
 use Rattle.eris_write.specs.Refusals.{Cause, refused, beyond, active, if_found, coroutine_refusal, unnamed_refusal, unless_item, or_else, field_refusal, first_refusal, all_fields}
-
--- values that an object names are valid
-module _ (n : ℕ) (W : World) (s : Solid n W) (inside : ℕ → Bool) where
-  abbrev z : Sizes
-  z = sizes n W
-
-  abbrev FieldOk : Field → Type 0
-  FieldOk (of_value v) = Valid z v
-  FieldOk (of_cell c) = Unit {0}
-  FieldOk (of_coroutine co) = Unit {0}
-
-  values_ok : (vs : List Value) → Each (Valid z) vs → Every FieldOk (map of_value vs)
-  values_ok [] h = tt
-  values_ok (v ∷ vs) h = (h 0 v refl, values_ok vs (λ i x e. h (suc i) x e))
-
-  rows_ok : (rows : List (Value × Value)) → Each (λ row. Valid z row.0 × Valid z row.1) rows → Every FieldOk (flat_map row_fields rows)
-  rows_ok [] h = tt
-  rows_ok (row ∷ rows) h = let k = h 0 row refl in (k.0, (k.1, rows_ok rows (λ i x e. h (suc i) x e)))
-
-  metatable_ok : (m : Option ℕ) → OptionOk (λ m. m < z.tables) m → Valid z (metatable_value m)
-  metatable_ok None h = tt
-  metatable_ok (Some m) h = h
-
-  table_ok : (t : Table) → TableOk z t → Every FieldOk (table_fields t)
-  table_ok t h = every_both FieldOk (flat_map row_fields t.rows) (of_value (metatable_value t.metatable) ∷ []) (rows_ok t.rows h.rows) (metatable_ok t.metatable h.metatable, tt)
-
-  cells_ok : (cs : List ℕ) → Every FieldOk (map of_cell cs)
-  cells_ok [] = tt
-  cells_ok (c ∷ cs) = (tt, cells_ok cs)
-
-  wait_ok : (w : Wait Value) → WaitOk z w → Every FieldOk (wait_fields w)
-  wait_ok running h = tt
-  wait_ok for_call h = tt
-  wait_ok for_iterator h = tt
-  wait_ok for_value h = tt
-  wait_ok for_truth h = tt
-  wait_ok dropped h = tt
-  wait_ok (for_concat k) h = tt
-  wait_ok for_close h = tt
-  wait_ok (returning k) h = tt
-  wait_ok (leaving e) h = (h, tt)
-
-  error_ok : (e : Option Value) → OptionOk (Valid z) e → Every FieldOk (error_fields e)
-  error_ok None h = tt
-  error_ok (Some e) h = (h, tt)
-
-  frame_ok : (f : Frame) → FrameOk z f → Every FieldOk (frame_fields f)
-  frame_ok (lua f) h = (
-    function_there W.functions f.function h.function h.there,
-    every_both FieldOk (map of_value f.own.varargs) (map of_value f.own.registers ++ wait_fields f.wait) (values_ok f.own.varargs h.varargs) (every_both FieldOk (map of_value f.own.registers) (wait_fields f.wait) (values_ok f.own.registers h.registers) (wait_ok f.wait h.error)),
-  )
-    where
-      function_there : {A : Type 0} (xs : List A) (i : ℕ) (x : A) → slice_get xs i ≡ Some x → i < length xs
-      function_there xs i x e = slice_get_within xs i x e
-  frame_ok pcall h = tt
-  frame_ok (xpcall v) h = (h, tt)
-  frame_ok handler h = tt
-  frame_ok (closing e left) h = every_both FieldOk (error_fields e) (map of_value left) (error_ok e h.0) (values_ok left h.1)
-
-  frames_ok : (fs : List Frame) → Each (FrameOk z) fs → Every FieldOk (flat_map frame_fields fs)
-  frames_ok [] h = tt
-  frames_ok (f ∷ fs) h = every_both FieldOk (frame_fields f) (flat_map frame_fields fs) (frame_ok f (h 0 f refl)) (frames_ok fs (λ i x e. h (suc i) x e))
-
-  coroutine_ok : (c : Coroutine) → CoroutineOk z c → Every FieldOk (coroutine_fields c)
-  coroutine_ok (fresh b) h = (h.0, tt)
-  coroutine_ok (suspended fs) h = frames_ok fs h.right.each
-  coroutine_ok (in_progress fs) h = tt
-  coroutine_ok (normal fs) h = tt
-  coroutine_ok dead h = tt
-  coroutine_ok (failed e vs) h = (h.0, values_ok vs h.1)
-
-  cell_ok : (c : ℕ) (content : Cell) → slice_get W.cells c ≡ Some content → CellOk z W.coroutines content → Every FieldOk (cell_fields W inside content)
-  cell_ok c (closed v) e h = (h, tt)
-  cell_ok c (open_at co g r) e h = go (inside co)
-    where
-      go : (b : Bool) → Every FieldOk (cond b (of_coroutine co ∷ []) (of_value (present W (open_at co g r)) ∷ []))
-      go true = (tt, tt)
-      go false = let there = open_cells_there n W s c co g r e in (subst (Valid z) (sym (ap (λ o. unwrap_or o (known nil)) there.1)) there.2, tt)
-
-  there_ok : {A : Type 0} (xs : List A) (f : A → List Field) (m : ℕ) → ((x : A) → slice_get xs m ≡ Some x → Every FieldOk (f x)) → Every FieldOk (if_there f (slice_get xs m))
-  there_ok xs f m k = go (slice_get xs m) refl
-    where
-      go : (o : Option _) → slice_get xs m ≡ o → Every FieldOk (if_there f o)
-      go None e = tt
-      go (Some x) e = k x e
-
-  fields_ok : (o : Part) → Every FieldOk (fields W inside o)
-  fields_ok (an_object a_table m) = there_ok W.heap.tables table_fields m (λ t e. table_ok t (s.tables m t e))
-  fields_ok (an_object a_function m) = there_ok W.functions (λ f. map of_cell f.cells) m (λ f e. cells_ok f.cells)
-  fields_ok (an_object a_coroutine m) = there_ok W.coroutines coroutine_fields m (λ c e. coroutine_ok c (s.coroutines m c e))
-  fields_ok (a_cell m) = there_ok W.cells (cell_fields W inside) m (λ c e. cell_ok m c e (s.cells m c e))
 
 -- each primitive has a key
 
@@ -197,12 +104,12 @@ module _ (W : World) (s : Solid (length all_entries) W) (idle : W.chain ≡ []) 
       by None e = unnamed_fine v h e
       by (Some i) e = tt
 
-  field_fine : (inside : ℕ → Bool) (f : Field) → FieldOk (length all_entries) W s inside f → IsFine (field_refusal W (session_name W) f)
+  field_fine : (inside : ℕ → Bool) (f : Field) → FieldOk (length all_entries) W s f → IsFine (field_refusal W (session_name W) f)
   field_fine inside (of_value v) h = value_fine v h
   field_fine inside (of_cell c) h = tt
   field_fine inside (of_coroutine co) h = coroutine_fine co
 
-  all_fine : (inside : ℕ → Bool) (fs : List Field) → Every (FieldOk (length all_entries) W s inside) fs → IsFine (first_refusal W (session_name W) fs)
+  all_fine : (inside : ℕ → Bool) (fs : List Field) → Every (FieldOk (length all_entries) W s) fs → IsFine (first_refusal W (session_name W) fs)
   all_fine inside [] h = tt
   all_fine inside (f ∷ fs) h = first_fine (field_refusal W (session_name W) f) (first_refusal W (session_name W) fs) (field_fine inside f h.0) (all_fine inside fs h.1)
 
@@ -211,9 +118,9 @@ module _ (W : World) (s : Solid (length all_entries) W) (idle : W.chain ≡ []) 
       let inside = is_reached W (session_name W) (session_roots W) in
       let order = parts_in_order W (session_name W) (session_roots W) in
       all_fine inside (all_fields W (session_name W) (session_roots W))
-      (every_both (FieldOk (length all_entries) W s inside) (map of_value (session_roots W)) (flat_map (fields W inside) order)
-      (values_ok (length all_entries) W s inside (session_roots W) (roots_valid (length all_entries) W s))
-      (every_in_flat (FieldOk (length all_entries) W s inside) (fields W inside) order (every_at (λ o. Every (FieldOk (length all_entries) W s inside) (fields W inside o)) order (λ j o e. fields_ok (length all_entries) W s inside o))))
+      (every_both (FieldOk (length all_entries) W s) (map of_value (session_roots W)) (flat_map (fields W inside) order)
+      (values_ok (length all_entries) W s (session_roots W) (roots_valid (length all_entries) W s))
+      (every_in_flat (FieldOk (length all_entries) W s) (fields W inside) order (every_at (λ o. Every (FieldOk (length all_entries) W s) (fields W inside o)) order (λ j o e. fields_ok (length all_entries) W s inside o))))
 
   pub none_refused : (r : Refusal) → first_refusal W (session_name W) (all_fields W (session_name W) (session_roots W)) ≡ Some (refused r) → ⊥
   none_refused r e = subst IsFine e session_fine
