@@ -1,4 +1,4 @@
 mod Goes
-mod Held
+pub mod Held
 mod Joined
 mod Inverted

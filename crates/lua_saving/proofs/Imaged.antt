@@ -33,7 +33,7 @@ use Rattle.session_images.proofs.Keys.{base_inverse}
 use Rattle.session_images.proofs.Resuming.{roots_valid}
 use Rattle.lua_saving.specs.Saving.{IsAsMade, IsImage, IsLarge}
 use Rattle.lua_saving.proofs.Fields.{none_refused}
-use Rattle.lua_saving.proofs.Held.{held_of}
+use Rattle.images_joined.proofs.Held.{held_of}
 
 length_map : {A B : Type 0} (f : A → B) (xs : List A) → length (map f xs) ≡ length xs
 length_map f [] = refl

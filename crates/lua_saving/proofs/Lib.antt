@@ -1,5 +1,4 @@
 mod Fields
-mod Held
 mod Imaged
 mod Keys
 mod Made
