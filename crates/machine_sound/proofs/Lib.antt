@@ -31,6 +31,7 @@ pub mod OpcodesLists
 pub mod RowsOfCode
 pub mod Rests
 pub mod LuaSteps
+pub mod Woken
 pub mod FrameRowsSafe
 pub mod Steps
 pub mod Example

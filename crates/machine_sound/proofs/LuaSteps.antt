@@ -112,49 +112,49 @@ module _ (n : ℕ) (t : Top) (W : World) (h : TopIs n t W) (s : Solid n W) where
       let g = all_rows_good n (expand (text_at t.code t.pc)) (on_lua usual) [] W (record { solid = s; phase = u; valid = each_none (Valid (sizes n W)) }) x in
       subst (λ p. Good n (run (expand (text_at p h.top.own.pc)) [] W)) (sym h.code) (subst (λ pc. Good n (run (expand (text_at t.code pc)) [] W)) (sym h.pc) g)
 
-  -- a frame that waited
+  -- a frame that waited, once it runs again
+  abbrev pub woken_top : Top
+  woken_top = record { code = t.code; pc = t.pc; size = t.size; opened = t.opened; pending = t.code.own.stack; cells = t.size; captured = []; runs = true }
+
+  pub known_woken : OwnIs (sizes n W) W.cells h.function.code h.coroutine (length h.base) woken_top h.top.own W.cells
+  known_woken =
+      let k = own_known n t W h s in
+      let q = ap (λ (p : Prototype). p.own.stack) h.code in
+      record {
+        code = k.code;
+        pc = k.pc;
+        size = k.size;
+        opened = k.opened;
+        bound = subst (λ m. Each (λ r. r < m) h.top.own.pending) q k.pending;
+        stack = k.stack;
+        registers = k.registers;
+        varargs = k.varargs;
+        pending = k.pending;
+        cells_below = k.cells_there;
+        cells_there = k.cells_there;
+        still_open = k.still_open;
+        closed_ok = k.closed_ok;
+        count = k.count;
+        captured = each_none (λ r. IsSome (find_open h.coroutine (length h.base) r W.cells));
+      }
+
+  abbrev pub woken_world : World
+  woken_world = new_world n t W h s woken_top running h.top.own W.cells known_woken tt
+
+  pub woken_solid : Solid n woken_world
+  woken_solid = new_solid n t W h s woken_top running h.top.own W.cells known_woken tt
+
+  pub woken_top_is : TopIs n woken_top woken_world
+  woken_top_is = new_top n t W h s woken_top running h.top.own W.cells known_woken tt refl
+
+  grows_p : Grows (sizes n W) (sizes n woken_world)
+  grows_p = new_grows n t W h s woken_top running h.top.own W.cells known_woken tt
+
+  pub woken_is : woken W (record { coroutine = h.coroutine; frames = h.base ++ lua h.top ∷ [] }) h.top ≡ with_moving woken_world [] woken_world.fuel
+  unfolding woken
+  woken_is = ap (λ (V : World). record V { moving = [] }) (top_put W (record { coroutine = h.coroutine; frames = h.base ++ lua h.top ∷ [] }) h.base h.top (record h.top { wait = running }) refl)
+
   module _ (w : LuaWaits (sizes n W) h.top) where
-    abbrev woken_top : Top
-    woken_top = record { code = t.code; pc = t.pc; size = t.size; opened = t.opened; pending = t.code.own.stack; cells = t.size; captured = []; runs = true }
-
-    known_woken : OwnIs (sizes n W) W.cells h.function.code h.coroutine (length h.base) woken_top h.top.own W.cells
-    known_woken =
-        let k = own_known n t W h s in
-        let q = ap (λ (p : Prototype). p.own.stack) h.code in
-        record {
-          code = k.code;
-          pc = k.pc;
-          size = k.size;
-          opened = k.opened;
-          bound = subst (λ m. Each (λ r. r < m) h.top.own.pending) q k.pending;
-          stack = k.stack;
-          registers = k.registers;
-          varargs = k.varargs;
-          pending = k.pending;
-          cells_below = k.cells_there;
-          cells_there = k.cells_there;
-          still_open = k.still_open;
-          closed_ok = k.closed_ok;
-          count = k.count;
-          captured = each_none (λ r. IsSome (find_open h.coroutine (length h.base) r W.cells));
-        }
-
-    abbrev P : World
-    P = new_world n t W h s woken_top running h.top.own W.cells known_woken tt
-
-    solid_p : Solid n P
-    solid_p = new_solid n t W h s woken_top running h.top.own W.cells known_woken tt
-
-    top_p : TopIs n woken_top P
-    top_p = new_top n t W h s woken_top running h.top.own W.cells known_woken tt refl
-
-    grows_p : Grows (sizes n W) (sizes n P)
-    grows_p = new_grows n t W h s woken_top running h.top.own W.cells known_woken tt
-
-    woken_is : woken W (record { coroutine = h.coroutine; frames = h.base ++ lua h.top ∷ [] }) h.top ≡ with_moving P [] P.fuel
-    unfolding woken
-    woken_is = ap (λ (V : World). record V { moving = [] }) (top_put W (record { coroutine = h.coroutine; frames = h.base ++ lua h.top ∷ [] }) h.base h.top (record h.top { wait = running }) refl)
-
     told_ok : (wait : Wait Value) → WaitOk (sizes n W) wait → Each (Valid (sizes n W)) (told_values wait (values W.moving))
     told_ok (leaving e) k = each_one (Valid (sizes n W)) e k
     told_ok running k = s.moving
@@ -184,15 +184,15 @@ module _ (n : ℕ) (t : Top) (W : World) (h : TopIs n t W) (s : Solid n W) where
     waited_good =
         let wait = h.top.wait in
         let vs = told_values wait (values W.moving) in
-        let V = with_moving P [] P.fuel in
+        let V = with_moving woken_world [] woken_world.fuel in
         let e : w.function ≡ h.function = some_is w.there h.there in
         let c : w.function.code ≡ t.code = ap (λ (f : Function). f.code) e ∙ h.code in
         let at_pc : at t.code t.pc ≡ Some w.instruction = ap (λ p. at p t.pc) (sym c) ∙ ap (at w.function.code) (sym h.pc) ∙ w.at_pc in
         let size : t.size ≡ waiting_size wait w.instruction t.code.own.stack = sym h.size ∙ w.size ∙ ap (λ (p : Prototype). waiting_size wait w.instruction p.own.stack) c in
         let x = rest_text_safe wait w.opcode woken_top w.instruction vs (record { checked = code_checked; at_pc = at_pc; is_opcode = w.is_opcode; pending = refl; cells = refl; opened = sym h.opened ∙ w.opened; runs = refl }) w.fits size in
         let ok = (top_ok n t W h s).error in
-        let g = grows_then (sizes n W) (sizes n P) (sizes n V) grows_p (moving_grows n P [] P.fuel) in
-        let i : Is n (on_lua woken_top) vs V = record { solid = moving_solid n P [] P.fuel solid_p (each_none (Valid (sizes n P))); phase = fuel_top n woken_top P [] P.fuel solid_p top_p (each_none (Valid (sizes n P))); valid = values_on (sizes n W) (sizes n V) g vs (told_ok wait ok) } in
+        let g = grows_then (sizes n W) (sizes n woken_world) (sizes n V) grows_p (moving_grows n woken_world [] woken_world.fuel) in
+        let i : Is n (on_lua woken_top) vs V = record { solid = moving_solid n woken_world [] woken_world.fuel woken_solid (each_none (Valid (sizes n woken_world))); phase = fuel_top n woken_top woken_world [] woken_world.fuel woken_solid woken_top_is (each_none (Valid (sizes n woken_world))); valid = values_on (sizes n W) (sizes n V) g vs (told_ok wait ok) } in
         let r = all_rows_good n (goes_on_by (rest_at wait t.code t.pc)) (on_lua woken_top) vs V i (asking_safe (rest_at wait t.code t.pc) (on_lua woken_top) vs x) in
         let r' = subst (λ p. Good n (run (goes_on_by (rest_at wait p h.top.own.pc)) vs V)) (sym h.code) (subst (λ pc. Good n (run (goes_on_by (rest_at wait t.code pc)) vs V)) (sym h.pc) r) in
         subst (λ o. Good n o) (sym (step_is wait w.opcode w.instruction w.fits)) (subst (λ V. Good n (run (goes_on_by (rest_at wait h.function.code h.top.own.pc)) vs V)) (sym woken_is) r')
