@@ -5,9 +5,10 @@ use Rattle.std.specs.Global.{Vec}
 use Rattle.int_core.specs.Value.{Value}
 use Rattle.machine_core.specs.World.{World}
 use Rattle.machine_core.specs.Moves.{take_moving, Made}
-use Rattle.machine_sound.specs.Sound.{Each, sizes, Valid, TopIs, Settled, StackWaits, Rests, idle, on_top, all_wait, Sound}
+use Rattle.machine_sound.specs.Sound.{Each, sizes, Valid, Settled, StackWaits, Rests, idle, on_top, all_wait, Sound}
 use Rattle.machine_sound.proofs.Lists.{each_none}
 use Rattle.machine_sound.proofs.Waits.{with_moving, moving_solid, moving_waits}
+use Rattle.machine_sound.proofs.Calls.{fuel_top}
 use Rattle.table_core.specs.declared.value.Value.{Value as Kept}
 use Rattle.lua_heap.specs.declared.world.World.{World as Memory}
 use Rattle.lua_heap.specs.Cells.{CellsAreListed}
@@ -19,32 +20,12 @@ use Rattle.move_laws.specs.Memory.{Makes, InOrder, IsSound, ReadsSame}
 
 -- what moves is no part of what makes a world sound but for being valid
 
-top_moved : (n : ℕ) (t : Rattle.machine_sound.specs.Sound.Top) (W : World) (vs : List Value) → TopIs n t W → TopIs n t (with_moving W vs W.fuel)
-top_moved n t W vs h = record {
-  coroutine = h.coroutine;
-  base = h.base;
-  top = h.top;
-  function = h.function;
-  last = h.last;
-  frames = h.frames;
-  there = h.there;
-  below = h.below;
-  code = h.code;
-  pc = h.pc;
-  size = h.size;
-  opened = h.opened;
-  pending = h.pending;
-  cells = h.cells;
-  captured = h.captured;
-  wait = h.wait;
-}
-
 pub sound_moved : (n : ℕ) (W : World) (vs : List Value) → Sound n W → Each (Valid (sizes n W)) vs → Sound n (with_moving W vs W.fuel)
 sound_moved n W vs s h = record { solid = moving_solid n W vs W.fuel s.solid h; rests = by s.rests }
   where
     by : Rests n W → Rests n (with_moving W vs W.fuel)
     by (idle e) = idle e
-    by (on_top t) = on_top (record { top = t.top; is_top = top_moved n t.top W vs t.is_top; fits = t.fits })
+    by (on_top t) = on_top (record { top = t.top; is_top = fuel_top n t.top W vs W.fuel s.solid t.is_top h; fits = t.fits })
     by (all_wait w) = all_wait (moving_waits n W vs W.fuel w)
 
 -- the world is as before, but that nothing moves
