@@ -21,7 +21,7 @@ impl Constants {
 
     /// Adds the constants of an expression.
     #[cycle(collecting)]
-    #[tactic(auto, using(crate::proofs::Rows::exps_of, crate::proofs::Rows::fields_of))]
+    #[tactic(auto, using(tree_core::proofs::Rows::exps_of, tree_core::proofs::Rows::fields_of))]
     pub fn add_exp(&mut self, alloc: Global, exp: &Exp) -> Result<(), AllocError>
         ensures { OnOk result (self.new ≡ of_exp (plain_exp exp.now) self.old) }
     {

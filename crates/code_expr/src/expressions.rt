@@ -22,7 +22,7 @@ impl Emitter {
     /// Writes an expression, whose value goes to a register. `results` is the field C of a call
     /// or `...`: one more than the number of values that are wanted, or 0 for all.
     #[cycle(expressions)]
-    #[tactic(auto, using(crate::proofs::Joining::none_made, crate::proofs::Rows::exps_of, crate::proofs::Rows::fields_of, crate::proofs::Rows::body_line))]
+    #[tactic(auto, using(crate::proofs::Joining::none_made, tree_core::proofs::Rows::exps_of, tree_core::proofs::Rows::fields_of, crate::proofs::Rows::body_line))]
     pub fn expression(&mut self, exp: &Exp, target: usize, results: usize) -> Result<(), AllocError>
         ensures { OnOk result (self.new ≡ followed self.old (exp_code self.old.constants (plain_exp exp.now) target self.old.made results) (made_by (plain_exp exp.now))) }
     {

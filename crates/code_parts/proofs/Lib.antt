@@ -1,4 +1,3 @@
-pub mod Rows
 pub mod Joining
 pub mod Written
 pub mod Whole

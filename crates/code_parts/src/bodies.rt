@@ -19,7 +19,7 @@ pub fn inner_bodies<'a>(alloc: Global, block: &'a Block) -> Result<Vec<&'a Body>
 
 /// Lists the functions of an expression.
 #[cycle(expressions)]
-#[tactic(auto, using(crate::proofs::Rows::exps_of, crate::proofs::Rows::fields_of))]
+#[tactic(auto, using(tree_core::proofs::Rows::exps_of, tree_core::proofs::Rows::fields_of))]
 fn find_in_exp<'a>(found: &mut Vec<&'a Body>, exp: &'a Exp) -> Result<(), AllocError>
     ensures { OnOk result (map (λ b. plain_body b.now) found.new.items ≡ map (λ b. plain_body b.now) found.old.items ++ exp_bodies (plain_exp exp.now)) }
 {
@@ -131,7 +131,7 @@ fn find_in_arms<'a>(found: &mut Vec<&'a Body>, list: &'a Vec<Arm>) -> Result<(),
 
 /// Lists the functions of a statement.
 #[cycle(statements)]
-#[tactic(auto, using(crate::proofs::Rows::exps_of, crate::proofs::Rows::arms_of))]
+#[tactic(auto, using(tree_core::proofs::Rows::exps_of, tree_core::proofs::Rows::arms_of))]
 fn find_in_stat<'a>(found: &mut Vec<&'a Body>, stat: &'a Stat) -> Result<(), AllocError>
     ensures { OnOk result (map (λ b. plain_body b.now) found.new.items ≡ map (λ b. plain_body b.now) found.old.items ++ stat_bodies (plain_stat stat.now)) }
 {

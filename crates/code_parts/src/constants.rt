@@ -56,7 +56,7 @@ fn add_arms(constants: &mut Constants, alloc: Global, list: &Vec<Arm>) -> Result
 
 /// Adds the constants of a statement. Inner functions have constants of their own.
 #[cycle(gathering)]
-#[tactic(auto, using(crate::proofs::Rows::exps_of, crate::proofs::Rows::arms_of))]
+#[tactic(auto, using(tree_core::proofs::Rows::exps_of, tree_core::proofs::Rows::arms_of))]
 fn add_stat(constants: &mut Constants, alloc: Global, stat: &Stat) -> Result<(), AllocError>
     ensures { OnOk result (constants.new ≡ of_stat (plain_stat stat.now) constants.old) }
 {

@@ -61,7 +61,7 @@ pub fn check_stat(
 }
 
 /// The rules on a statement of its form.
-#[tactic(auto, using(crate::proofs::Rows::exps_of, crate::proofs::Rows::block_tokens))]
+#[tactic(auto, using(tree_core::proofs::Rows::exps_of, crate::proofs::Rows::block_tokens))]
 fn check_form(
     nesting: &Nesting,
     flags: Flags,

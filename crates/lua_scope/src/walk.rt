@@ -17,7 +17,7 @@ use tree_core::{Arm, Attrib, Block, Body, Declared, Exp, ExpNode, Field, Name, S
 
 /// Meets the violations in an expression.
 #[cycle(rules)]
-#[tactic(auto, using(crate::proofs::Rows::exps_of, crate::proofs::Rows::fields_of))]
+#[tactic(auto, using(tree_core::proofs::Rows::exps_of, tree_core::proofs::Rows::fields_of))]
 fn meet_exp(
     nesting: &mut Nesting,
     alloc: Global,
@@ -319,7 +319,7 @@ fn meet_arm<'a>(
 
 /// Meets the violations in a statement, behind which its variables are in scope.
 #[cycle(rules)]
-#[tactic(auto, using(crate::proofs::Rows::exps_of, crate::proofs::Rows::arms_of))]
+#[tactic(auto, using(tree_core::proofs::Rows::exps_of, tree_core::proofs::Rows::arms_of))]
 fn meet_stat<'a>(
     nesting: &mut Nesting,
     alloc: Global,

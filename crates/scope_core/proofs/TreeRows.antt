@@ -1,8 +1,7 @@
 -- Rows of trees by the items of their vectors, and walks over them.
-use Rattle.std.proofs.Common.{◌≡◌, ℕ, Bool, List, [], ◌∷◌, map, Option, None, Box, Vec, Global, refl, ap, ◌∙◌}
+use Rattle.std.proofs.Common.{◌≡◌, ℕ, Bool, List, [], ◌∷◌, map, Option, Box, Vec, Global, refl, ap}
 use Rattle.std.specs.Option.{option_map}
-use Rattle.tree_core.specs.declared.tree.ExpNode.TheBlock.{hidden-the_row-Exp-0, hidden-the_row-Field-1, hidden-the_row-Arm-2, hidden-the_row-Stat-3}
-use Rattle.tree_core.specs.declared.tree.Block.{Block, out-Block, items_hidden-the_row-Stat-3, Row_of-Stat, end_of-Stat, more_of-Stat, items-the_row-Stat}
+use Rattle.tree_core.specs.declared.tree.Block.{Block, out-Block}
 use Rattle.tree_core.specs.declared.tree.Stat.{Stat}
 use Rattle.tree_core.specs.declared.tree.Block as blocks
 use Rattle.tree_core.specs.declared.tree.Body as bodies
@@ -10,34 +9,12 @@ use Rattle.tree_core.specs.declared.name.Name.{Name}
 use Rattle.tree_core.specs.declared.name.UpName.{UpName}
 use Rattle.tree_core.specs.declared.tree.Exp.{Exp}
 use Rattle.tree_core.specs.declared.tree.Field.{Field}
-use Rattle.tree_core.specs.declared.tree.Arm.{Arm}
 use Rattle.tree_core.specs.Tree as tree
-use Rattle.tree_core.specs.Plain.{plain_exps, plain_exp_row, plain_field, plain_field_row, plain_arm, plain_arm_row, plain_stat, plain_stat_node, plain_stat_row, plain_block, plain_body, block_of}
-use Rattle.tree_core.proofs.Rows.{plain-assign, plain-table, plain-if, plain-block, plain-body}
+use Rattle.tree_core.specs.Plain.{plain_exps, plain_stat, plain_block, plain_body, block_of}
+use Rattle.tree_core.proofs.Rows.{plain-block, plain-body}
 use Rattle.scope_core.specs.Scopes.{Frame}
 use Rattle.scope_core.specs.Walked.{after_exp, after_exps, after_field, after_fields, after_stat, after_stats, after_open, ended, after_arms, settled_exp, settled_exps, settled_field, settled_fields, settled_stat, settled_stats, settled_block, settled_arms, after_arm, settled_arm}
 use Rattle.scope_core.proofs.Going.{after_all, settled_all}
-
-abbrev targets_in : tree.Stat → tree.Exps
-targets_in (tree.Assign line targets values) = targets
-targets_in _ = tree.EndExps
-
-abbrev fields_in : tree.Exp → tree.Fields
-fields_in (tree.Table line fields) = fields
-fields_in _ = tree.EndFields
-
-abbrev arms_in : tree.Stat → tree.Arms
-arms_in (tree.If line arms) = arms
-arms_in _ = tree.EndArms
-
-pub exps_of : (es : Vec Exp Global) → plain_exp_row (hidden-the_row-Exp-0 es) ≡ tree.exps (plain_exps es.items)
-exps_of es = ap targets_in (plain-assign 0 es es)
-
-pub fields_of : (fs : Vec Field Global) → plain_field_row (hidden-the_row-Field-1 fs) ≡ tree.fields (map plain_field fs.items)
-fields_of fs = ap fields_in (plain-table 0 fs)
-
-pub arms_of : (as' : Vec Arm Global) → plain_arm_row (hidden-the_row-Arm-2 as') ≡ tree.arms (map plain_arm as'.items)
-arms_of as' = ap arms_in (plain-if 0 as' None)
 
 pub block_rows : (b : Block) → plain_block b ≡ block_of (map plain_stat (out-Block b).stats.items) (option_map (λ es. plain_exps es.items) (out-Block b).result) (out-Block b).tokens (out-Block b).line
 block_rows b = plain-block b
@@ -52,13 +29,6 @@ rolled_rows ss r tokens line =
 pub rolled_body : (params : Vec Name Global) (vararg : Bool) (block : Block) (upvalues : Vec UpName Global) (line : ℕ) → plain_body (bodies.roll-Body (record { params = params; vararg = vararg; block = block; upvalues = upvalues; line = line })) ≡ tree.BodyOf params.items vararg (plain_block block) upvalues.items line
 rolled_body params vararg block upvalues line =
     rw (bodies.out-roll-Body (record { params = params; vararg = vararg; block = block; upvalues = upvalues; line = line })) at (plain-body (bodies.roll-Body (record { params = params; vararg = vararg; block = block; upvalues = upvalues; line = line })))
-
-stat_rows : (n : _) (ss : Row_of-Stat n) → plain_stat_row ss ≡ tree.stats (map plain_stat (items-the_row-Stat n ss))
-stat_rows n end_of-Stat = refl
-stat_rows n (more_of-Stat l s ss) = ap (tree.MoreStats (plain_stat_node s l)) (stat_rows _ ss)
-
-pub stats_of : (ss : Vec Stat Global) → plain_stat_row (hidden-the_row-Stat-3 ss) ≡ tree.stats (map plain_stat ss.items)
-stats_of ss = stat_rows _ (hidden-the_row-Stat-3 ss) ∙ ap (λ x. tree.stats (map plain_stat x)) (items_hidden-the_row-Stat-3 ss)
 
 -- a walk over a row is one over its list
 

@@ -17,7 +17,7 @@ use tree_core::{
 
 /// Sets the places in an expression.
 #[cycle(placing)]
-#[tactic(auto, using(crate::proofs::TreeRows::exps_of, crate::proofs::TreeRows::fields_of, crate::proofs::TreeRows::arms_of))]
+#[tactic(auto, using(tree_core::proofs::Rows::exps_of, tree_core::proofs::Rows::fields_of, tree_core::proofs::Rows::arms_of))]
 fn place_exp(nesting: &mut Nesting, alloc: Global, exp: &mut Exp) -> Result<(), AllocError>
     ensures after { OnOk result (nesting.new ≡ after_exp nesting.old (plain_exp exp.old)) }
     ensures settled { OnOk result (plain_exp exp.new ≡ settled_exp nesting.old (plain_exp exp.old)) }
@@ -195,7 +195,7 @@ fn place_arm(nesting: &mut Nesting, alloc: Global, arm: &mut Arm) -> Result<(), 
 
 /// Sets the places in a statement, behind which its variables are in scope.
 #[cycle(placing)]
-#[tactic(auto, using(crate::proofs::TreeRows::exps_of, crate::proofs::TreeRows::fields_of, crate::proofs::TreeRows::arms_of))]
+#[tactic(auto, using(tree_core::proofs::Rows::exps_of, tree_core::proofs::Rows::fields_of, tree_core::proofs::Rows::arms_of))]
 fn place_stat(nesting: &mut Nesting, alloc: Global, stat: &mut Stat) -> Result<(), AllocError>
     ensures after { OnOk result (nesting.new ≡ after_stat nesting.old (plain_stat stat.old)) }
     ensures settled { OnOk result (plain_stat stat.new ≡ settled_stat nesting.old (plain_stat stat.old)) }

@@ -31,16 +31,16 @@ arm_rows : (n : _) (as' : Row_of-Arm n) → plain_arm_row as' ≡ tree.arms (map
 arm_rows n end_of-Arm = refl
 arm_rows n (more_of-Arm (Arm' l e b) more) = ap (tree.MoreArms (plain_exp_node e l) (plain_block b)) (arm_rows _ more)
 
-exps_of : (es : Vec Exp Global) → plain_exp_row (hidden-the_row-Exp-0 es) ≡ tree.exps (plain_exps es.items)
+pub exps_of : (es : Vec Exp Global) → plain_exp_row (hidden-the_row-Exp-0 es) ≡ tree.exps (plain_exps es.items)
 exps_of es = exp_rows _ (hidden-the_row-Exp-0 es) ∙ ap (λ x. tree.exps (plain_exps x)) (items_hidden-the_row-Exp-0 es)
 
-fields_of : (fs : Vec Field Global) → plain_field_row (hidden-the_row-Field-1 fs) ≡ tree.fields (map plain_field fs.items)
+pub fields_of : (fs : Vec Field Global) → plain_field_row (hidden-the_row-Field-1 fs) ≡ tree.fields (map plain_field fs.items)
 fields_of fs = field_rows _ (hidden-the_row-Field-1 fs) ∙ ap (λ x. tree.fields (map plain_field x)) (items_hidden-the_row-Field-1 fs)
 
 stats_of : (ss : Vec Stat Global) → plain_stat_row (hidden-the_row-Stat-3 ss) ≡ tree.stats (map plain_stat ss.items)
 stats_of ss = stat_rows _ (hidden-the_row-Stat-3 ss) ∙ ap (λ x. tree.stats (map plain_stat x)) (items_hidden-the_row-Stat-3 ss)
 
-arms_of : (as' : Vec Arm Global) → plain_arm_row (hidden-the_row-Arm-2 as') ≡ tree.arms (map plain_arm as'.items)
+pub arms_of : (as' : Vec Arm Global) → plain_arm_row (hidden-the_row-Arm-2 as') ≡ tree.arms (map plain_arm as'.items)
 arms_of as' = arm_rows _ (hidden-the_row-Arm-2 as') ∙ ap (λ x. tree.arms (map plain_arm x)) (items_hidden-the_row-Arm-2 as')
 
 -- expressions
@@ -87,3 +87,15 @@ plain-block b = ap plain_block (is-Block' b) ∙ block_back (out-Block b).stats 
 
 pub plain-body : (b : Body) → plain_body b ≡ tree.BodyOf (out-Body b).params.items (out-Body b).vararg (plain_block (out-Body b).block) (out-Body b).upvalues.items (out-Body b).line
 plain-body b = ap plain_body (is-Body' b)
+
+-- a block that ends by a `return`, and one that does not
+
+pub with_result : (b : Block) (es : Vec Exp Global) → (out-Block b).result ≡ Some es → plain_block b ≡ tree.Returns (tree.stats (map plain_stat (out-Block b).stats.items)) (tree.exps (plain_exps es.items)) (out-Block b).tokens (out-Block b).line
+with_result b es is =
+    plain-block b
+    ∙ ap (λ r. block_of (map plain_stat (out-Block b).stats.items) (option_map (λ xs. plain_exps xs.items) r) (out-Block b).tokens (out-Block b).line) is
+
+pub without_result : (b : Block) → (out-Block b).result ≡ None → plain_block b ≡ tree.Falls (tree.stats (map plain_stat (out-Block b).stats.items)) (out-Block b).tokens (out-Block b).line
+without_result b is =
+    plain-block b
+    ∙ ap (λ r. block_of (map plain_stat (out-Block b).stats.items) (option_map (λ xs. plain_exps xs.items) r) (out-Block b).tokens (out-Block b).line) is

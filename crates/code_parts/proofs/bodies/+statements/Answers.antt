@@ -4,9 +4,8 @@ use Rattle.std.specs.Option.{option_map}
 use Rattle.tree_core.specs.declared.tree.Block.{out-Block}
 use Rattle.tree_core.specs.Tree as tree
 use Rattle.tree_core.specs.Plain.{plain_arm, plain_block, plain_body, plain_exps, plain_stat, plain_stat_node, if_of}
-use Rattle.tree_core.proofs.Rows.{plain-local, plain-assign, plain-if, plain-gen_for}
+use Rattle.tree_core.proofs.Rows.{plain-local, plain-assign, plain-if, plain-gen_for, with_result, without_result}
 use Rattle.code_parts.specs.Bodies.{arms_bodies, block_bodies, exps_bodies, stat_bodies, stats_bodies}
-use Rattle.code_parts.proofs.Rows.{with_result, without_result}
 use Rattle.code_parts.proofs.Joining.{joined}
 use Rattle.code_parts.proofs.bodies.+statements.Goals as goal
 

@@ -2,9 +2,8 @@ use Rattle.std.proofs.Common.{◌≡◌, ap, sym, ◌∙◌}
 use Rattle.std.proofs.lemmas.Result.{on_ok_weaker}
 use Rattle.tree_core.specs.Tree as tree
 use Rattle.tree_core.specs.Plain.{plain_exps, plain_stat, plain_stat_node, plain_block}
-use Rattle.tree_core.proofs.Rows.{plain-local, plain-assign, plain-gen_for}
+use Rattle.tree_core.proofs.Rows.{plain-local, plain-assign, plain-gen_for, with_result, without_result}
 use Rattle.code_of.specs.Constants.{of_exps, of_stat, of_block}
-use Rattle.code_parts.proofs.Rows.{with_result, without_result}
 use Rattle.code_parts.proofs.constants.+gathering.Goals as goal
 
 pub add_block-returns-in_ok-add_stats-in-Some : goal.add_block-returns-in_ok-add_stats-in-Some

@@ -7,7 +7,7 @@ use Rattle.tree_core.specs.declared.tree.Block.{out-Block}
 use Rattle.tree_core.specs.declared.tree.Body.{out-Body}
 use Rattle.tree_core.specs.Tree as tree
 use Rattle.tree_core.specs.Plain.{plain_arm, plain_block, plain_exp, plain_exp_node, plain_exps, plain_field, plain_stat, plain_stat_node}
-use Rattle.tree_core.proofs.Rows.{plain-call, plain-method, plain-local, plain-assign, plain-gen_for, plain-body}
+use Rattle.tree_core.proofs.Rows.{plain-call, plain-method, plain-local, plain-assign, plain-gen_for, plain-body, with_result, without_result}
 use Rattle.scope_core.specs.declared.violation.Violation.{Violation}
 use Rattle.scope_core.specs.Scopes.{Frame, behind, behind_stats, declare_all, declared_by, plain_variable, numeric_hidden, generic_hidden}
 use Rattle.scope_core.specs.Rules.{breach}
@@ -18,7 +18,6 @@ use Rattle.lua_scope.specs.declared.labels.BlockPlace.{BlockPlace}
 use Rattle.lua_scope.specs.Blocks.{scope_at, moved}
 use Rattle.lua_scope.proofs.Looping.{on, at_end, mapped, within, gone}
 use Rattle.lua_scope.proofs.Placing.{around_here, gone_out, next_behind, next_met}
-use Rattle.lua_scope.proofs.Rows.{with_result, without_result}
 use Rattle.lua_scope.proofs.Endings.{ended_behind}
 use Rattle.lua_scope.proofs.Walking.{returned_met, body_left, body_met, repeated_met, for_ended, for_met}
 use Rattle.lua_scope.proofs.walk.+rules.Goals as goal
