@@ -13,13 +13,14 @@ ghost use Rattle.lua_heap.specs.Plain.{plain};
 ghost use Rattle.lua_heap.specs.Reading.{value as meant};
 ghost use Rattle.move_laws.specs.Memory.{HasStack, InOrder, IsSound, Leads, ReadsSame};
 ghost use Rattle.machine_moves.specs.Ending.{ending_of};
-ghost use Rattle.machine_calls.specs.Entering.{HasFunction, HasShape};
+ghost use Rattle.machine_calls.specs.Entering.{HasFunction};
 ghost use Rattle.lib_coroutine.specs.Arguments.{FirstIs};
 
 use crate::resuming::behind_first;
 use crate::switching::run_fresh;
-use lua_heap::{World, law};
-use lua_stack::{Shape, Stack};
+use lua_heap::World;
+use lua_stack::Stack;
+use machine_calls::shape_of;
 use machine_moves::{Ending, take_moving};
 use std::alloc::AllocError;
 use table_core::{CoroId, FuncId, Value};
@@ -89,19 +90,4 @@ fn first_stack(world: &World, function: FuncId, arguments: &[Value]) -> Result<S
     let mut stack = Stack::new(world.alloc);
     stack.enter(function, shape_of(world, function), arguments)?;
     Ok(stack)
-}
-
-/// What a call needs to know of a function's code.
-fn shape_of(world: &World, function: FuncId) -> Shape
-    requires codes { AreCodes world.now.strings world.now.codes }
-    requires function { HasFunction world.now function.0 }
-    ensures { HasShape world.now function.0 result }
-{
-    law::checked_code_is_there();
-    let code = world.code(world.funcs.get(function.0).code);
-    Shape {
-        params: code.params as usize,
-        vararg: code.vararg,
-        stack: code.stack as usize,
-    }
 }

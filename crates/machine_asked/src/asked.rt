@@ -14,10 +14,9 @@ ghost use Rattle.machine_asked.specs.Asked.{EntersAsked, RefusesAsked};
 ghost use Rattle.machine_calls.specs.Calling.{CanEnter};
 ghost use Rattle.machine_calls.specs.Entering.{HasFunction};
 
-use crate::running::is_full;
 use lua_heap::World;
 use lua_stack::Top;
-use machine_calls::enter_function;
+use machine_calls::{enter_function, is_full};
 use machine_errors::{blame, give_up, raise};
 use machine_moves::{Ending, see_top, take_moving};
 use meta_ops::{Callee, Event, Heap, callee_of, handler_in};

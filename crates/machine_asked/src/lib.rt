@@ -3,6 +3,5 @@
 #![tactic(auto)]
 
 mod asked;
-mod running;
 
 pub use asked::call_asked;

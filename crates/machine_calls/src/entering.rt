@@ -10,9 +10,9 @@ ghost use Rattle.move_laws.specs.Memory.{HasStack};
 ghost use Rattle.machine_calls.specs.Entering.{EntersSo, HasFunction, HasShape, entered_or_not};
 ghost use Rattle.machine_calls.specs.Waiting.{IsFull};
 
-use crate::running::running;
 use lua_heap::{Coro, World, law};
 use lua_stack::{Shape, Stack};
+use machine_moves::running;
 use std::alloc::AllocError;
 use table_core::{FuncId, Value};
 
@@ -43,7 +43,7 @@ pub fn enter_function(
 }
 
 /// What a call needs to know of a function's code.
-pub(crate) fn shape_of(world: &World, function: FuncId) -> Shape
+pub fn shape_of(world: &World, function: FuncId) -> Shape
     requires codes { AreCodes world.now.strings world.now.codes }
     requires function { HasFunction world.now function.0 }
     ensures { HasShape world.now function.0 result }
@@ -79,7 +79,7 @@ fn enter_stack(
 }
 
 /// Whether the running stack has as many frames as it may have.
-pub(crate) fn is_full(world: &World) -> bool
+pub fn is_full(world: &World) -> bool
     requires { HasStack world.now }
     ensures { IsFull world.now result }
 {

@@ -11,10 +11,9 @@ ghost use Rattle.machine_moves.specs.Tops.{TopIs, shape_of};
 ghost use Rattle.machine_calls.specs.Leaving.{HasClosed};
 ghost use Rattle.machine_calls.specs.Tails.{Drops};
 
-use crate::running::running;
 use lua_heap::{Coro, World};
 use lua_stack::Top;
-use machine_moves::see_top;
+use machine_moves::{running, see_top};
 use table_core::Value;
 
 /// Leaves the Lua frame on top: its cells are closed, it is popped, and its results or its error are on their way. What is on top then is told.

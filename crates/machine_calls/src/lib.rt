@@ -6,12 +6,11 @@ mod entering;
 mod leaving;
 mod preparing;
 mod registers;
-mod running;
 mod tails;
 mod waiting;
 
 pub use calling::{Called, call_value, enter_callee};
-pub use entering::enter_function;
+pub use entering::{enter_function, is_full, shape_of};
 pub use leaving::{drop_frame, leave_frame};
 pub use preparing::{Prepared, make_ready};
 pub use registers::call_registers;

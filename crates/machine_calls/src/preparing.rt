@@ -7,10 +7,9 @@ ghost use Rattle.move_laws.specs.Memory.{HasFrame, InOrder};
 ghost use Rattle.machine_errors.specs.Raising.{CanLeave};
 ghost use Rattle.machine_calls.specs.Preparing.{CanChange, CanPrepare, ClosesFor, HasTop, NoneIsLeft, ReadyFor, changed, left_as, returned_as};
 
-use crate::running::running;
 use lua_heap::{Coro, World};
 use lua_stack::{Stack, Wait};
-use machine_moves::{close_cells, code_on_top};
+use machine_moves::{close_cells, code_on_top, running};
 use table_core::Value;
 
 /// What a Lua frame does to itself before it waits.

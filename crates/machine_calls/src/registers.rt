@@ -8,10 +8,9 @@ ghost use Rattle.machine_calls.specs.Preparing.{CanPrepare};
 ghost use Rattle.machine_calls.specs.Waiting.{IsFull};
 
 use crate::entering::{is_full, shape_of};
-use crate::running::running;
 use lua_heap::{Coro, World};
 use lua_stack::Wait;
-use machine_moves::code_on_top;
+use machine_moves::{code_on_top, running};
 use std::alloc::AllocError;
 use table_core::FuncId;
 

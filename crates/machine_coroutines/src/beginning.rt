@@ -13,9 +13,9 @@ ghost use Rattle.machine_coroutines.specs.Beginning.{IsLeft, PushesClosing, told
 ghost use Rattle.machine_coroutines.specs.declared.beginning.Begun.TheVariants.{Entered};
 
 use crate::burying::bury;
-use crate::running::running;
 use lua_heap::{Coro, World};
 use lua_stack::Stack;
+use machine_moves::running;
 use std::alloc::{AllocError, Global};
 use table_core::{CoroId, Value};
 

@@ -12,9 +12,9 @@ ghost use Rattle.move_laws.specs.Memory.{Makes};
 ghost use Rattle.machine_moves.specs.Tops.{TopIs};
 ghost use Rattle.machine_coroutines.specs.Closings.{at_end, closing_of, shape_of, values_of};
 
-use crate::running::running;
 use lua_heap::{Coro, World};
 use lua_stack::Stack;
+use machine_moves::running;
 use meta_ops::{Event, Heap, handler_in};
 use table_core::Value;
 

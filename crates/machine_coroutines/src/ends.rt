@@ -10,8 +10,8 @@ ghost use Rattle.move_laws.specs.Memory.{HasStack, Makes};
 ghost use Rattle.machine_coroutines.specs.Ends.{IsPending};
 
 use crate::burying::bury;
-use crate::running::{running, running_stack};
 use lua_heap::{Coro, World};
+use machine_moves::{running, running_stack};
 use std::alloc::AllocError;
 use table_core::Value;
 

@@ -8,7 +8,6 @@ mod closing;
 mod endings;
 mod ends;
 mod finishing;
-mod running;
 mod standing;
 
 pub use beginning::{Begun, begin_closing};

@@ -10,8 +10,8 @@ ghost use Rattle.lua_heap.specs.Reading.{value as meant};
 ghost use Rattle.move_laws.specs.Memory.{HasStack, Makes};
 ghost use Rattle.machine_coroutines.specs.Standing.{status_in};
 
-use crate::running::running;
 use lua_heap::{Coro, World, law};
+use machine_moves::running;
 use std::alloc::AllocError;
 use table_core::{CoroId, Value};
 

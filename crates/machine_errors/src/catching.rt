@@ -10,10 +10,9 @@ ghost use Rattle.move_laws.specs.Memory.{HasStack, InOrder, IsSafe, IsSound, Mak
 ghost use Rattle.machine_errors.specs.Catching.{Catches, uncaught};
 
 use crate::handlers::call_handler;
-use crate::running::running_stack;
 use lua_heap::World;
 use lua_stack::Top;
-use machine_moves::Ending;
+use machine_moves::{Ending, running_stack};
 use std::alloc::AllocError;
 
 /// An error has been raised: a message handler is to be called, or the frame on top is left with the error. Nothing is done, and none is the answer,

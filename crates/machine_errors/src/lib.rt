@@ -8,7 +8,6 @@ mod handlers;
 mod protected;
 mod protecting;
 mod raising;
-mod running;
 mod throwing;
 
 pub use catching::{call_catcher, see_catcher};

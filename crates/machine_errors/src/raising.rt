@@ -12,10 +12,9 @@ ghost use Rattle.machine_moves.specs.Moves.{CanCut};
 ghost use Rattle.machine_moves.specs.declared.ending.Ending.TheVariants.{Raised};
 ghost use Rattle.machine_errors.specs.Raising.{CanLeave, IsBlamed, LeavesWith};
 
-use crate::running::running;
 use lua_heap::{Coro, World};
 use lua_stack::Wait;
-use machine_moves::{Ending, close_cells, code_on_top, give_values};
+use machine_moves::{Ending, close_cells, code_on_top, give_values, running};
 use std::alloc::AllocError;
 use table_core::Value;
 

@@ -8,7 +8,7 @@ ghost use Rattle.lua_heap.specs.Plain.{plain};
 ghost use Rattle.move_laws.specs.Memory.{HasFrame, Makes, StandsAt};
 ghost use Rattle.machine_moves.specs.Moves.{CanOpen, NoneIsOpenFrom};
 
-use crate::running::running;
+use crate::chain::running;
 use lua_heap::World;
 use std::alloc::AllocError;
 

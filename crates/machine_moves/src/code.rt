@@ -8,7 +8,7 @@ ghost use Rattle.machine_core.specs.Moves.{on_own};
 ghost use Rattle.move_laws.specs.Memory.{CanDo, Makes};
 ghost use Rattle.machine_moves.specs.Code.{HasCode, IsCodeOnTop};
 
-use crate::running::running_stack;
+use crate::chain::running_stack;
 use lua_heap::{Code, World, law};
 use table_core::Value;
 

@@ -7,7 +7,7 @@ ghost use Rattle.machine_core.specs.Moves.{on_own};
 ghost use Rattle.move_laws.specs.Memory.{Makes, StandsAt};
 ghost use Rattle.machine_moves.specs.Moves.{CanCut, CanKeep};
 
-use crate::running::running;
+use crate::chain::running;
 use lua_heap::{Coro, World};
 
 /// Sets the registers from one on to nil, and leaves as many as the code has.

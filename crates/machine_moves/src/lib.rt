@@ -3,6 +3,7 @@
 
 mod budget;
 mod cells;
+mod chain;
 mod code;
 mod ending;
 mod leaving;
@@ -12,12 +13,12 @@ mod objects;
 mod operations;
 mod pending;
 mod registers;
-mod running;
 mod tops;
 mod upvalues;
 
 pub use budget::pay;
 pub use cells::{close_cells, open_register};
+pub use chain::{running, running_stack};
 pub use code::{code_on_top, read_constant};
 pub use ending::Ending;
 pub use leaving::{cut_from, keep_pending, keep_results};

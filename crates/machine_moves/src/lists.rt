@@ -8,9 +8,9 @@ ghost use Rattle.machine_core.specs.Moves.{on_own};
 ghost use Rattle.move_laws.specs.Memory.{CanDo, HasFrame, IsSound, Makes, StandsAt};
 ghost use Rattle.machine_moves.specs.Moves.{CanCut, IsInFront};
 
+use crate::chain::{running, running_stack};
 use crate::code::code_on_top;
 use crate::registers::span;
-use crate::running::{running, running_stack};
 use code_core::Instruction;
 use lua_heap::{Coro, World};
 use std::alloc::AllocError;

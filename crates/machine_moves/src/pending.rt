@@ -8,7 +8,7 @@ ghost use Rattle.machine_core.specs.Moves.{on_own};
 ghost use Rattle.move_laws.specs.Memory.{CanDo, Makes, StandsAt};
 ghost use Rattle.machine_moves.specs.Moves.{CanSee, value_seen};
 
-use crate::running::{running, running_stack};
+use crate::chain::{running, running_stack};
 use lua_heap::{Coro, World};
 use std::alloc::AllocError;
 use table_core::Value;

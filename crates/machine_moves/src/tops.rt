@@ -11,8 +11,8 @@ ghost use Rattle.move_laws.specs.Memory.{HasStack, Leads, Makes};
 ghost use Rattle.machine_moves.specs.Ending.{ending_of};
 ghost use Rattle.machine_moves.specs.Tops.{HasOther, TopIs, frame_pushed, kept_over, shape_of};
 
+use crate::chain::{running, running_stack};
 use crate::ending::Ending;
-use crate::running::{running, running_stack};
 use lua_heap::{Coro, World};
 use lua_stack::{Stack, Top};
 use std::alloc::AllocError;

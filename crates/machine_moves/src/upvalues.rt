@@ -8,7 +8,7 @@ ghost use Rattle.machine_core.specs.Moves.{outside};
 ghost use Rattle.move_laws.specs.Memory.{Makes, StandsAt};
 ghost use Rattle.machine_moves.specs.Code.{HasUpvalue, IsUpvalue};
 
-use crate::running::running_stack;
+use crate::chain::running_stack;
 use lua_heap::World;
 use table_core::{CellId, Value};
 

@@ -8,9 +8,9 @@ ghost use Rattle.move_laws.specs.Memory.{InOrder, Makes, StandsAt};
 ghost use Rattle.machine_objects.specs.Opening.{upvalues_at};
 ghost use Rattle.machine_objects.specs.Objects.{CanMake, CanCapture, HasCell, HasInner, HasOpen, HasOuter, IsCell, IsInner, IsOpen, IsOuter, AreCaptured};
 
-use crate::running::running_stack;
 use code_core::UpDesc;
 use lua_heap::{Func, World, law};
+use machine_moves::running_stack;
 use std::alloc::AllocError;
 use table_core::{CellId, FuncId, ProtoId};
 

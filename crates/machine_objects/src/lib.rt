@@ -5,7 +5,6 @@ mod closures;
 mod filling;
 mod functions;
 mod lists;
-mod running;
 
 pub use closures::new_function;
 pub use filling::fill_table;

@@ -11,7 +11,6 @@ mod marking;
 mod names;
 mod results;
 mod returning;
-mod running;
 mod waking;
 
 pub use closables::{find_close, is_closable};

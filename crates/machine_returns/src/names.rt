@@ -6,9 +6,9 @@ ghost use Rattle.lua_heap.specs.Codes.{AreCodes};
 ghost use Rattle.machine_moves.specs.Code.{HasCode};
 ghost use Rattle.machine_returns.specs.Names.{IsProtoOnTop, TellsOpen, name_in, name_of};
 
-use crate::running::running_stack;
 use code_core::{LocVar, Proto};
 use lua_heap::{World, law};
+use machine_moves::running_stack;
 use std::alloc::AllocError;
 
 /// The text of the error of a variable that cannot be closed, at a place of the function on top.

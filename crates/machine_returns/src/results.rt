@@ -13,10 +13,9 @@ ghost use Rattle.machine_moves.specs.Ending.{ending_of};
 ghost use Rattle.machine_returns.specs.Results.{MayTake, writing};
 ghost use Rattle.machine_calls.specs.Preparing.{HasTop};
 
-use crate::running::running;
 use lua_heap::{Coro, World};
 use lua_stack::Stack;
-use machine_moves::{Ending, go_to, write_list};
+use machine_moves::{Ending, go_to, running, write_list};
 use std::alloc::AllocError;
 use table_core::Value;
 

@@ -5,10 +5,9 @@ ghost use Rattle.lua_heap.specs.declared.world.World.{World as Memory};
 ghost use Rattle.move_laws.specs.Memory.{HasFrame, IsSound, ReadsSame, StandsAt};
 ghost use Rattle.machine_returns.specs.Waking.{HasWait, IsSolid, Wakes, WaitsSo};
 
-use crate::running::{running, running_stack};
 use lua_heap::{Coro, World};
 use lua_stack::Wait;
-use machine_moves::take_moving;
+use machine_moves::{running, running_stack, take_moving};
 use table_core::Value;
 
 /// The Lua frame on top runs again. Told is for what it waited, and the values that came.

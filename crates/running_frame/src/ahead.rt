@@ -12,10 +12,11 @@ ghost use Rattle.running_frame.specs.Here.{IsHere};
 ghost use Rattle.running_frame.specs.Standing.{IsApart};
 
 use crate::frames::run_frame_on_top;
-use crate::place::{Here, find_here, running};
+use crate::place::{Here, find_here};
 use lua_heap::law::checked_code_is_there;
 use lua_heap::{Coro, World};
 use machine_arms_tables::Closure;
+use machine_moves::running;
 
 /// Runs the Lua frame on top as long as it goes on by itself, and the functions that it calls: some steps of the machine, none where the frame waits. The world
 /// is ready for the next step, of whatever kind, which is at the place that is answered.

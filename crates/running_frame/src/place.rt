@@ -5,16 +5,14 @@ ghost use Rattle.lua_heap.specs.Reading.{value};
 ghost use Rattle.library_rows.specs.Library.{all_entries};
 ghost use Rattle.lua_stack.specs.Frames.{wait_of};
 ghost use Rattle.machine_core.specs.Moves.{go};
-ghost use Rattle.machine_moves.specs.Moves.{RunsAs, RunsOn};
-ghost use Rattle.move_laws.specs.Memory.{HasFrame, HasStack, StandsAt};
+ghost use Rattle.move_laws.specs.Memory.{HasFrame, StandsAt};
 ghost use Rattle.step_laws.specs.Steps.{IsReady};
 ghost use Rattle.running_frame.specs.Here.{HasWord, IsAtWord, IsHere, RunsIf, is_none};
 
 use code_core::Instruction;
-use lua_heap::{Coro, World};
-use lua_stack::{Stack, Wait};
-use machine_moves::code_on_top;
-use table_core::CoroId;
+use lua_heap::World;
+use lua_stack::Wait;
+use machine_moves::{code_on_top, running_stack};
 
 /// Where a Lua frame is in its code, the word there, and whether it runs or waits.
 #[derive(Clone, Copy, Debug)]
@@ -91,24 +89,5 @@ pub(crate) fn is_none(wait: Wait) -> bool
         Wait::ForClose => false,
         Wait::Returning(_) => false,
         Wait::Leaving(_) => false,
-    }
-}
-
-/// The coroutine that runs.
-pub(crate) fn running(world: &World) -> CoroId
-    requires { HasStack world.now }
-    ensures { RunsAs world.now result }
-{
-    world.chain[world.chain.len() - 1]
-}
-
-/// Its stack.
-fn running_stack(world: &World) -> &Stack
-    requires { HasStack world.now }
-    ensures { RunsOn world.now result.now }
-{
-    match world.coros.get(running(world).0) {
-        Coro::Running(stack) => stack,
-        _ => unreachable!(),
     }
 }

@@ -1,6 +1,5 @@
-// The stack of the running coroutine.
-ghost use Rattle.move_laws.specs.Memory.{HasStack, Runs};
-ghost use Rattle.move_laws.specs.Law.{RunsIn};
+// The running coroutine, the last of the chain, and its stack.
+ghost use Rattle.move_laws.specs.Memory.{HasStack};
 ghost use Rattle.machine_moves.specs.Moves.{RunsOn, RunsAs};
 
 use lua_heap::{Coro, World};
@@ -8,7 +7,7 @@ use lua_stack::Stack;
 use table_core::CoroId;
 
 /// The coroutine that runs.
-pub(crate) fn running(world: &World) -> CoroId
+pub fn running(world: &World) -> CoroId
     requires { HasStack world.now }
     ensures { RunsAs world.now result }
 {
@@ -16,7 +15,7 @@ pub(crate) fn running(world: &World) -> CoroId
 }
 
 /// Its stack.
-pub(crate) fn running_stack(world: &World) -> &Stack
+pub fn running_stack(world: &World) -> &Stack
     requires { HasStack world.now }
     ensures { RunsOn world.now result.now }
 {

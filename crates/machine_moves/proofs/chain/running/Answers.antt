@@ -2,7 +2,7 @@ use Rattle.std.proofs.Common.{rules, ◌≡◌, ◌-◌, length, Some, ap, sym, 
 use Rattle.std.specs.Prelude.{slice_get}
 use Rattle.move_laws.proofs.Running.{stack_runs, last_there}
 use Rattle.machine_moves.proofs.Stacks.{got_is, runs_as}
-use Rattle.machine_asked.proofs.running.running.Goals as goal
+use Rattle.machine_moves.proofs.chain.running.Goals as goal
 
 pub returns : goal.returns
 returns c =
