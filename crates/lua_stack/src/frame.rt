@@ -1,6 +1,9 @@
 // The frames of a stack, and the cells that are open in it.
 use table_core::{CellId, FuncId, Value};
 
+/// How many frames a stack may have.
+pub const GREATEST_DEPTH: usize = 100000;
+
 /// For what a Lua frame waits.
 #[derive(Clone, Copy, Debug)]
 pub enum Wait {

@@ -13,6 +13,6 @@ mod stack;
 mod values;
 mod views;
 
-pub use frame::{LuaState, OpenCell, Shape, Top, Wait};
+pub use frame::{GREATEST_DEPTH, LuaState, OpenCell, Shape, Top, Wait};
 pub use stack::Stack;
 pub use views::{FrameView, LuaView};

@@ -11,13 +11,10 @@ ghost use Rattle.machine_calls.specs.Entering.{EntersSo, HasFunction, HasShape, 
 ghost use Rattle.machine_calls.specs.Waiting.{IsFull};
 
 use lua_heap::{Coro, World, law};
-use lua_stack::{Shape, Stack};
+use lua_stack::{GREATEST_DEPTH, Shape, Stack};
 use machine_moves::running;
 use std::alloc::AllocError;
 use table_core::{FuncId, Value};
-
-/// How many frames a stack may have.
-const GREATEST_DEPTH: usize = 100000;
 
 /// Enters a function with these arguments, and says whether there was room. Where there is none, and where memory is wanting, all is as before.
 pub fn enter_function(

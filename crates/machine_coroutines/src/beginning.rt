@@ -14,13 +14,10 @@ ghost use Rattle.machine_coroutines.specs.declared.beginning.Begun.TheVariants.{
 
 use crate::burying::bury;
 use lua_heap::{Coro, World};
-use lua_stack::Stack;
+use lua_stack::{GREATEST_DEPTH, Stack};
 use machine_moves::running;
 use std::alloc::{AllocError, Global};
 use table_core::{CoroId, Value};
-
-/// How many frames a stack may have.
-const GREATEST_DEPTH: usize = 100000;
 
 /// What the closing of a coroutine begins with.
 #[derive(Debug, Clone, Copy, PartialEq, Eq)]

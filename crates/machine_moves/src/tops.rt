@@ -14,12 +14,9 @@ ghost use Rattle.machine_moves.specs.Tops.{HasOther, TopIs, frame_pushed, kept_o
 use crate::chain::{running, running_stack};
 use crate::ending::Ending;
 use lua_heap::{Coro, World};
-use lua_stack::{Stack, Top};
+use lua_stack::{GREATEST_DEPTH, Stack, Top};
 use std::alloc::AllocError;
 use table_core::Value;
-
-/// How many frames a stack may have.
-const GREATEST_DEPTH: usize = 100000;
 
 /// A frame over which a value is called.
 #[derive(Debug, Clone, Copy)]

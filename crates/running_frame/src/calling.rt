@@ -7,12 +7,9 @@ ghost use Rattle.running_frame.specs.Standing.{IsClosedFrom};
 
 use code_core::{Instruction, Opcode};
 use lua_heap::{Codes, Func};
-use lua_stack::{Shape, Stack, Wait};
+use lua_stack::{GREATEST_DEPTH, Shape, Stack, Wait};
 use object_pool::Pool;
 use table_core::{FuncId, Value};
-
-/// How many frames a stack may have.
-pub(crate) const GREATEST_DEPTH: usize = 100000;
 
 /// A CALL that gives a Lua function its arguments in registers, for a unit of the budget: the function's frame is on top. `size` is the number of registers
 /// of the caller's code. `None`, with all as before, at any other instruction, and where the call takes more than the stack. From the register `closed` on

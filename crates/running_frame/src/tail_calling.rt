@@ -5,11 +5,11 @@ ghost use Rattle.lua_stack.specs.Frames.{HasLuaTop};
 ghost use Rattle.running_frame.specs.Calling.{HaveCode, ReplacesIn, TailCallsIn, is_tail_call};
 ghost use Rattle.running_frame.specs.Standing.{IsClosedFrom};
 
-use crate::calling::{GREATEST_DEPTH, callee, one_less, shape_of};
+use crate::calling::{callee, one_less, shape_of};
 use crate::returning::is_first;
 use code_core::{Instruction, Opcode};
 use lua_heap::{Codes, Func};
-use lua_stack::Stack;
+use lua_stack::{GREATEST_DEPTH, Stack};
 use object_pool::Pool;
 
 /// A TAILCALL that gives a Lua function its arguments in registers, for a unit of the budget: the function's frame takes the place of the one on top. `None`,
