@@ -8,7 +8,8 @@ use Rattle.std.proofs.lemmas.Result.{IfOk-weaker}
 use Rattle.code_core.specs.Prototype.{Prototype}
 use Rattle.int_core.specs.Heap.{Table}
 use Rattle.machine_core.specs.World.{World, Function, Cell as CellShown, Coroutine}
-use Rattle.machine_sound.specs.Sound.{Sound, Solid, Rests, idle, on_top, all_wait}
+use Rattle.machine_sound.specs.Sound.{Sound}
+use Rattle.machine_sound.proofs.Budgets.{sound_refuelled}
 use Rattle.image_core.specs.Image.{Perm, Item, Record}
 use Rattle.image_core.specs.Loading.{Target, table_made, function_made, cell_made, coroutine_made, chosen, loaded}
 use Rattle.image_records.specs.Views.{record_read, item, image_read}
@@ -33,56 +34,6 @@ use Rattle.move_laws.specs.Memory.{InOrder}
 use Rattle.eris_read.specs.Known.{IsNamed}
 use Rattle.eris_read.specs.Loaded.{LoadsBy, LoadsImage}
 use Rattle.eris_read.specs.Unpersist.{CanRead, target}
-
--- soundness does not hang on the budget
-
-solid_refuelled : (n fuel : ℕ) (V : World) → Solid n V → Solid n (record V { fuel = fuel })
-solid_refuelled n fuel V s = record {
-  tables = s.tables;
-  functions = s.functions;
-  cells = s.cells;
-  one_each = s.one_each;
-  coroutines = s.coroutines;
-  chain = s.chain;
-  moving = s.moving;
-  roots = record {
-    string_metatable = s.roots.string_metatable;
-    globals = s.roots.globals;
-    prelude_environment = s.roots.prelude_environment;
-    prelude_functions = s.roots.prelude_functions;
-    special_key = s.roots.special_key;
-    main = s.roots.main;
-  };
-}
-
-rests_refuelled : (n fuel : ℕ) (V : World) → Rests n V → Rests n (record V { fuel = fuel })
-rests_refuelled n fuel V (idle e) = idle e
-rests_refuelled n fuel V (on_top s) = on_top (record {
-  top = s.top;
-  is_top = record {
-    coroutine = s.is_top.coroutine;
-    base = s.is_top.base;
-    top = s.is_top.top;
-    function = s.is_top.function;
-    last = s.is_top.last;
-    frames = s.is_top.frames;
-    there = s.is_top.there;
-    below = s.is_top.below;
-    code = s.is_top.code;
-    pc = s.is_top.pc;
-    size = s.is_top.size;
-    opened = s.is_top.opened;
-    pending = s.is_top.pending;
-    cells = s.is_top.cells;
-    captured = s.is_top.captured;
-    wait = s.is_top.wait;
-  };
-  fits = s.fits;
-})
-rests_refuelled n fuel V (all_wait w) = all_wait (record { coroutine = w.coroutine; frames = w.frames; last = w.last; running = w.running; waits = w.waits })
-
-pub sound_refuelled : (n fuel : ℕ) (V : World) → Sound n V → Sound n (record V { fuel = fuel })
-sound_refuelled n fuel V s = record { solid = solid_refuelled n fuel V s.solid; rests = rests_refuelled n fuel V s.rests }
 
 -- counts
 

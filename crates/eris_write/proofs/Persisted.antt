@@ -7,6 +7,7 @@ use Rattle.code_core.specs.Writable.{signed_fits}
 use Rattle.int_core.specs.Value.{nil, boolean, integer, string, primitive, a_table, a_function, a_coroutine, Value, known, object}
 use Rattle.machine_core.specs.World.{Coroutine, fresh, suspended, in_progress, normal, dead, failed, World}
 use Rattle.machine_sound.specs.Sound.{Solid}
+use Rattle.machine_sound.proofs.Budgets.{solid_budget}
 use Rattle.table_core.specs.declared.value.Value.{Value as Kept}
 use Rattle.image_core.specs.Visit.{IsMet, greatest_count}
 use Rattle.image_core.specs.Image.{Item}
@@ -89,23 +90,7 @@ never_equal W name (f ∷ fs) h = go (field_refusal W name f) refl h (λ k. neve
     go (Some r) e h ih = field_is W name f (e ∙ h)
 
 pub solid_by_fuel : (p : ℕ) (W : Memory) (fuel : ℕ) → Solid p (plain W 0) → Solid p (plain W fuel)
-solid_by_fuel p W fuel s = record {
-  tables = s.tables;
-  functions = s.functions;
-  cells = s.cells;
-  one_each = s.one_each;
-  coroutines = s.coroutines;
-  chain = s.chain;
-  moving = s.moving;
-  roots = record {
-    string_metatable = s.roots.string_metatable;
-    globals = s.roots.globals;
-    prelude_environment = s.roots.prelude_environment;
-    prelude_functions = s.roots.prelude_functions;
-    special_key = s.roots.special_key;
-    main = s.roots.main;
-  };
-}
+solid_by_fuel p W fuel s = solid_budget p (plain W 0) (plain W 0).printed fuel s
 
 module _ (w : Writer) (roots : List Kept) (out : Output) (can : CanPersist w.world.now roots) (n : IsNumbering w.world.now w.permanents.now roots w.numbering.now) (once : KeysAreOnce (permanents w.permanents.now)) (drawn : (fuel : ℕ) → IsDrawn w roots fuel out) where
   abbrev Roots : List Value

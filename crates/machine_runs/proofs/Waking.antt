@@ -19,6 +19,7 @@ use Rattle.machine_sound.proofs.WaitingMoves.{top_is}
 use Rattle.machine_sound.proofs.Coroutines.{with_coroutines, coroutines_grow, coroutines_solid, registers_by, registers_are}
 use Rattle.machine_sound.proofs.Frames.{stack_is}
 use Rattle.machine_sound.proofs.Steps.{runs_good}
+use Rattle.machine_sound.proofs.Budgets.{solid_budget}
 use Rattle.machine_runs.specs.Runs.{resumed_main, after_waking, wakes, with_budget, turn}
 use Rattle.machine_runs.specs.Laws.{MayTurn}
 
@@ -187,23 +188,7 @@ wakes_good n W s t = subst (λ o. StepGood n (after_waking o)) (sym is) (starts_
 -- the budget, and what is printed, do not count
 
 pub budget_solid : (n : ℕ) (W : World) (budget : ℕ) → Solid n W → Solid n (with_budget W budget)
-budget_solid n W budget s = record {
-  tables = s.tables;
-  functions = s.functions;
-  cells = s.cells;
-  one_each = s.one_each;
-  coroutines = s.coroutines;
-  chain = s.chain;
-  moving = s.moving;
-  roots = record {
-    string_metatable = s.roots.string_metatable;
-    globals = s.roots.globals;
-    prelude_environment = s.roots.prelude_environment;
-    prelude_functions = s.roots.prelude_functions;
-    special_key = s.roots.special_key;
-    main = s.roots.main;
-  };
-}
+budget_solid n W budget s = solid_budget n W [] budget s
 
 pub budget_turn : (W : World) (budget : ℕ) → MayTurn W → MayTurn (with_budget W budget)
 budget_turn W budget t = record { idle = t.idle; main = t.main; is_main = t.is_main; coroutine = t.coroutine; there = t.there; waits = t.waits }

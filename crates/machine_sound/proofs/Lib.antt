@@ -11,6 +11,7 @@ pub mod Cells
 pub mod Writes
 pub mod Rules
 pub mod Waits
+pub mod Budgets
 pub mod Calls
 pub mod Held
 pub mod Ends
