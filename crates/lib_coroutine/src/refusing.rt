@@ -1,6 +1,5 @@
 // First arguments, and those of another type than is wanted (luaL_typeerror of lauxlib.c and getco of lcorolib.c).
-ghost use Rattle.std.specs.Prelude.{◌≡◌, List, ℕ, IfOk, OnErr};
-ghost use Rattle.int_core.specs.Operations.{type_name};
+ghost use Rattle.std.specs.Prelude.{◌≡◌, List, IfOk, OnErr};
 ghost use Rattle.int_core.specs.Value.{Value as Meant, shape};
 ghost use Rattle.lua_heap.specs.Reading.{value as meant};
 ghost use Rattle.machine_core.specs.FrameRows.{blames};
@@ -10,7 +9,7 @@ ghost use Rattle.machine_moves.specs.Ending.{ending_of};
 ghost use Rattle.lib_coroutine.specs.Arguments.{can_be_called, coroutine_in};
 
 use library_arguments::Refusal;
-use lua_heap::World;
+use lua_heap::{World, type_name};
 use machine_errors::blame;
 use machine_moves::Ending;
 use std::alloc::AllocError;
@@ -57,19 +56,4 @@ pub(crate) fn refuse(
     };
     let text = refusal.text(world.alloc)?;
     blame(world, &text)
-}
-
-/// The word that `type` has for a value.
-fn type_name(v: Value) -> &'static [u8]
-    ensures { (texts : List (List ℕ)) → result.now ≡ type_name (shape (meant texts v)) }
-{
-    match v {
-        Value::Nil => b"nil",
-        Value::Bool(_) => b"boolean",
-        Value::Int(_) => b"number",
-        Value::Str(_) => b"string",
-        Value::Prim(_) | Value::Func(_) => b"function",
-        Value::Table(_) => b"table",
-        Value::Coro(_) => b"thread",
-    }
 }

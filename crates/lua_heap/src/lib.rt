@@ -10,6 +10,7 @@ mod coroutines;
 mod errors;
 mod functions;
 pub mod law;
+mod naming;
 mod objects;
 mod opening;
 mod places;
@@ -19,5 +20,6 @@ mod trees;
 mod world;
 
 pub use codes::{Code, Codes};
+pub use naming::type_name;
 pub use strings::Strings;
 pub use world::{Cell, Coro, Func, Mark, Prelude, World};

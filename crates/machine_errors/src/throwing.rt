@@ -1,6 +1,5 @@
 // Calls of `error` (luaB_error of lbaselib.c; Lua 5.4 manual, 6.1).
-ghost use Rattle.std.specs.Prelude.{◌≡◌, List, ℕ, codes, IfOk, OnErr};
-ghost use Rattle.int_core.specs.Operations.{type_name};
+ghost use Rattle.std.specs.Prelude.{◌≡◌, List, codes, IfOk, OnErr};
 ghost use Rattle.int_core.specs.Value.{Value as Meant, shape};
 ghost use Rattle.lua_heap.specs.Errors.{HasText};
 ghost use Rattle.lua_heap.specs.Plain.{plain};
@@ -18,8 +17,8 @@ use crate::protected::first_of;
 use crate::raising::blame;
 use int_core::read_integer;
 use library_arguments::Refusal;
-use lua_heap::World;
 use lua_heap::law::strings_are_there;
+use lua_heap::{World, type_name};
 use machine_moves::{Ending, give_values};
 use std::alloc::AllocError;
 use table_core::Value;
@@ -117,19 +116,4 @@ fn refuse_level(world: &mut World, level: Value) -> Result<Ending, AllocError>
     };
     let text = refusal.text(world.alloc)?;
     blame(world, &text)
-}
-
-/// The word that `type` has for a value.
-fn type_name(v: Value) -> &'static [u8]
-    ensures { (texts : List (List ℕ)) → result.now ≡ type_name (shape (meant texts v)) }
-{
-    match v {
-        Value::Nil => b"nil",
-        Value::Bool(_) => b"boolean",
-        Value::Int(_) => b"number",
-        Value::Str(_) => b"string",
-        Value::Prim(_) | Value::Func(_) => b"function",
-        Value::Table(_) => b"table",
-        Value::Coro(_) => b"thread",
-    }
 }

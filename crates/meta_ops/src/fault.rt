@@ -1,10 +1,10 @@
 // What can be wrong with an operation, and its text (luaG_typeerror, luaG_opinterror, luaG_ordererror and luaG_runerror of ldebug.c).
 ghost use Rattle.std.specs.Prelude.{◌≡◌, ℕ, List, IfOk};
-ghost use Rattle.int_core.specs.Operations.{cannot_compare, of_type, type_name};
-ghost use Rattle.int_core.specs.Value.{shape};
+ghost use Rattle.int_core.specs.Operations.{cannot_compare, of_type};
 ghost use Rattle.lua_heap.specs.Reading.{value};
 ghost use Rattle.meta_ops.specs.Outcome.{fault_text};
 
+use lua_heap::type_name;
 use std::alloc::{AllocError, Global};
 use table_core::Value;
 
@@ -62,21 +62,6 @@ impl Fault {
             Fault::ModuloByZero => b"attempt to perform 'n%%0'".to_vec(alloc),
             Fault::TooLarge => b"resulting string too large".to_vec(alloc),
         }
-    }
-}
-
-/// The word that `type` has for a value (Lua 5.4 manual, 6.1).
-fn type_name(v: Value) -> &'static [u8]
-    ensures { (texts : List (List ℕ)) → result.now ≡ type_name (shape (value texts v)) }
-{
-    match v {
-        Value::Nil => b"nil",
-        Value::Bool(_) => b"boolean",
-        Value::Int(_) => b"number",
-        Value::Str(_) => b"string",
-        Value::Prim(_) | Value::Func(_) => b"function",
-        Value::Table(_) => b"table",
-        Value::Coro(_) => b"thread",
     }
 }
 
