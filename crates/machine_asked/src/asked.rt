@@ -6,7 +6,6 @@ ghost use Rattle.lua_heap.specs.Plain.{plain};
 ghost use Rattle.lua_heap.specs.Reading.{value as meant};
 ghost use Rattle.machine_core.specs.FrameRows.{asked_row};
 ghost use Rattle.meta_ops.specs.Chains.{called_as, through};
-ghost use Rattle.meta_ops.specs.Heap.{heap_of};
 ghost use Rattle.move_laws.specs.Memory.{HasStack, InOrder, IsSafe, IsSound, Steps};
 ghost use Rattle.machine_moves.specs.Ending.{ending_of};
 ghost use Rattle.machine_errors.specs.Protected.{first_of};
@@ -16,10 +15,10 @@ ghost use Rattle.machine_calls.specs.Entering.{HasFunction};
 
 use lua_heap::World;
 use lua_stack::Top;
-use machine_calls::{enter_function, is_full};
+use machine_calls::{enter_function, is_full, with_links};
 use machine_errors::{blame, give_up, raise};
 use machine_moves::{Ending, see_top, take_moving};
-use meta_ops::{Callee, Event, Heap, callee_of, handler_in};
+use meta_ops::{Callee, Heap, callee_of};
 use std::alloc::AllocError;
 use table_core::{FuncId, Value};
 
@@ -71,24 +70,6 @@ fn asked_arguments(world: &World, links: usize) -> Result<Vec<Value>, AllocError
     };
     let (called, given) = split_asked(&world.moving);
     with_links(heap, called, links, given.to_vec(world.alloc)?)
-}
-
-/// Arguments with what the links of `__call` put in front of them.
-fn with_links(
-    heap: Heap,
-    called: Value,
-    links: usize,
-    arguments: Vec<Value>,
-) -> Result<Vec<Value>, AllocError>
-    ensures { IfOk result (λ all. map (meant heap.entry.strings.now) all.items ≡ through links (heap_of heap.entry) (meant heap.entry.strings.now called) (map (meant heap.entry.strings.now) arguments.items)) }
-{
-    let mut at = called;
-    let mut all = arguments;
-    for link in 0..links {
-        all.insert(0, at)?;
-        at = handler_in(heap, Event::Call, at);
-    }
-    Ok(all)
 }
 
 /// The value that is asked for, and its arguments.

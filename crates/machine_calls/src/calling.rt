@@ -68,7 +68,7 @@ pub fn call_value(
 }
 
 /// Arguments with what the links of `__call` put in front of them.
-pub(crate) fn with_links(
+pub fn with_links(
     heap: Heap,
     called: Value,
     links: usize,

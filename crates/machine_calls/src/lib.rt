@@ -9,7 +9,7 @@ mod registers;
 mod tails;
 mod waiting;
 
-pub use calling::{Called, call_value, enter_callee};
+pub use calling::{Called, call_value, enter_callee, with_links};
 pub use entering::{enter_function, is_full, shape_of};
 pub use leaving::{drop_frame, leave_frame};
 pub use preparing::{Prepared, make_ready};
