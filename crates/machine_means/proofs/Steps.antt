@@ -29,12 +29,12 @@ none_last (x ∷ xs) e = absurd (there x xs e)
     there x [] e = cc
     there x (y ∷ ys) e = there y ys e
 
-abbrev ending_in : Outcome → Option Ending
+abbrev pub ending_in : Outcome → Option Ending
 ending_in trapped = None
 ending_in (ends ending W) = Some ending
 
 -- results that are handed over end no row by an error
-not_raised : (top : TopShape) → Some (ending_of top) ≡ Some raised → ⊥
+pub not_raised : (top : TopShape) → Some (ending_of top) ≡ Some raised → ⊥
 not_raised lua_top e = cc
 not_raised pcall_top e = cc
 not_raised xpcall_top e = cc
@@ -42,7 +42,7 @@ not_raised handler_top e = cc
 not_raised closing_top e = cc
 not_raised (no_top b) e = cc
 
-not_unwinding : (top : TopShape) → Some (ending_of top) ≡ Some unwinding → ⊥
+pub not_unwinding : (top : TopShape) → Some (ending_of top) ≡ Some unwinding → ⊥
 not_unwinding lua_top e = cc
 not_unwinding pcall_top e = cc
 not_unwinding xpcall_top e = cc

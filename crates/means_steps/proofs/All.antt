@@ -4,7 +4,7 @@ use Rattle.std.proofs.Common.{ℕ, ◌<◌, ◌≡◌, [], ◌∷◌, ◌++◌, 
 use Rattle.int_core.specs.Value.{Value, last}
 use Rattle.list_laws.proofs.Ends.{last_is}
 use Rattle.machine_core.specs.World.{Frame, lua, pcall, xpcall, handler, closing, World}
-use Rattle.machine_core.specs.Moves.{runs_main, see_top, TopShape, lua_top, pcall_top, xpcall_top, handler_top, closing_top, no_top, top_shape, Ending, go, returned, asks, calls_primitive, raised, unwinding, spent, main_yielded, main_returned, main_failed, Row, act, Outcome, trapped, ends, run}
+use Rattle.machine_core.specs.Moves.{runs_main, see_top, TopShape, lua_top, pcall_top, xpcall_top, handler_top, closing_top, no_top, top_shape, Ending, go, returned, asks, calls_primitive, raised, unwinding, spent, main_yielded, main_returned, main_failed, Row, act, ends, run}
 use Rattle.machine_core.specs.FrameRows.{hand_over, handed_to, unwound, raised_row}
 use Rattle.machine_core.specs.MachineStep.{step_by}
 use Rattle.lua_meaning.specs.World.{breaks}
@@ -19,7 +19,7 @@ use Rattle.machine_means.proofs.AtRest.{stack_now, see_is}
 use Rattle.machine_means.proofs.Giving.{ends_joined, fails_joined}
 use Rattle.machine_means.proofs.Protected.{results_reach, errors_reach}
 use Rattle.machine_means.proofs.Catching.{errors_raised}
-use Rattle.machine_means.proofs.Steps.{none_last, no_talks}
+use Rattle.machine_means.proofs.Steps.{none_last, no_talks, ending_in, not_raised, not_unwinding}
 use Rattle.means_steps.specs.Steps.{Leads, SameLibrary, StepsLead}
 use Rattle.means_steps.proofs.Within.{comes_leads, gives_leads, handed_to_free, unwound_free, raised_row_free}
 use Rattle.means_steps.proofs.Steps.{running_steps}
@@ -44,10 +44,6 @@ not_lua W (Some (xpcall h)) n e = cc
 not_lua W (Some handler) n e = cc
 not_lua W (Some (closing v us)) n e = cc
 
-abbrev ending_in : Outcome → Option Ending
-ending_in trapped = None
-ending_in (ends ending W) = Some ending
-
 -- results that are on their way to the frame on top end a row so
 
 only_go : (top : TopShape) → Some (ending_of top) ≡ Some returned → top ≡ lua_top → ⊥
@@ -57,22 +53,6 @@ only_go xpcall_top e q = cc
 only_go handler_top e q = cc
 only_go closing_top e q = cc
 only_go (no_top b) e q = cc
-
-not_raised : (top : TopShape) → Some (ending_of top) ≡ Some raised → ⊥
-not_raised lua_top e = cc
-not_raised pcall_top e = cc
-not_raised xpcall_top e = cc
-not_raised handler_top e = cc
-not_raised closing_top e = cc
-not_raised (no_top b) e = cc
-
-not_unwinding : (top : TopShape) → Some (ending_of top) ≡ Some unwinding → ⊥
-not_unwinding lua_top e = cc
-not_unwinding pcall_top e = cc
-not_unwinding xpcall_top e = cc
-not_unwinding handler_top e = cc
-not_unwinding closing_top e = cc
-not_unwinding (no_top b) e = cc
 
 not_calling : (top : TopShape) (n : ℕ) → Some (ending_of top) ≡ Some (calls_primitive n) → ⊥
 not_calling lua_top n e = cc
