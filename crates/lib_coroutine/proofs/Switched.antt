@@ -1,23 +1,22 @@
 -- Another coroutine runs, in the words of the machine.
-use Rattle.std.proofs.Common.{◌≡◌, ◌⊎◌, ⊎_elim, inl, inr, ℕ, zero, suc, ◌<◌, List, [], ◌∷◌, ◌++◌, length, map, Option, Some, None, refl, ap, sym, subst, ◌∙◌}
+use Rattle.std.proofs.Common.{◌≡◌, ℕ, zero, suc, ◌<◌, List, [], ◌∷◌, ◌++◌, length, map, Option, Some, None, refl, ap, sym, subst, ◌∙◌}
 use Rattle.std.specs.Prelude.{◌≢◌, slice_get, slice_set}
 use Rattle.std.proofs.lemmas.List.{map-set, map_push}
 use Rattle.int_core.specs.Value.{Value}
-use Rattle.list_laws.proofs.Items.{some_same}
 use Rattle.machine_core.specs.World.{Frame, Coroutine, fresh, in_progress, normal, suspended, World, Stack, stack_of}
 use Rattle.machine_core.specs.Moves.{go_into, put_coroutine, wait_for_another}
 use Rattle.machine_sound.proofs.Frames.{stack_is}
 use Rattle.machine_sound.proofs.Lists.{get_map, get_set_other, get_set_same, get_within, last_push, map_get, map_set, some_is}
 use Rattle.table_core.specs.declared.value.CoroId.{CoroId}
-use Rattle.lua_stack.specs.declared.frame.OpenCell.{OpenCell}
-use Rattle.lua_stack.specs.Frames.{KeptStack, cell_at, frames}
+use Rattle.lua_stack.specs.Frames.{KeptStack, frames}
 use Rattle.lua_heap.specs.declared.world.Cell.{Cell as KeptCell}
 use Rattle.lua_heap.specs.declared.world.Coro.{Coro}
 use Rattle.lua_heap.specs.declared.world.Coro.TheVariants.{Fresh, Suspended}
 use Rattle.lua_heap.specs.declared.world.World.{World as Memory}
-use Rattle.lua_heap.specs.Cells.{AreListed, CellsAreListed, IsOnce, open_cells_in}
+use Rattle.lua_heap.specs.Cells.{AreListed, CellsAreListed, open_cells_in}
 use Rattle.lua_heap.specs.Reading.{value}
 use Rattle.lua_heap.specs.Plain.{coroutine, plain}
+use Rattle.lua_heap.proofs.Resumed.{woken_listed as listed_awake}
 use Rattle.move_laws.specs.Memory.{HasStack}
 use Rattle.move_laws.proofs.Places.{stack_is as stack_there}
 use Rattle.machine_coroutines.proofs.Beginnings.{set_set}
@@ -29,13 +28,6 @@ pub set_twice : {A : Type 0} (xs : List A) (i : ℕ) (a b : A) → slice_set (sl
 set_twice [] i a b = refl
 set_twice (x ∷ xs) zero a b = refl
 set_twice (x ∷ xs) (suc i) a b = ap (λ l. x ∷ l) (set_twice xs i a b)
-
-set_cases : {A : Type 0} (xs : List A) (n k : ℕ) (x y : A) → slice_get (slice_set xs n x) k ≡ Some y → ((n ≡ k) × (x ≡ y)) ⊎ (slice_get xs k ≡ Some y)
-set_cases [] n k x y e = absurd (cc)
-set_cases (z ∷ zs) zero zero x y e = inl (refl, some_same x y e)
-set_cases (z ∷ zs) zero (suc k) x y e = inr e
-set_cases (z ∷ zs) (suc n) zero x y e = inr e
-set_cases (z ∷ zs) (suc n) (suc k) x y e = ⊎_elim (λ p. inl (ap suc p.0, p.1)) (λ q. inr q) (set_cases zs n k x y e)
 
 -- the coroutine that runs is no other one
 
@@ -111,24 +103,6 @@ woken_listed cells coros co c d e f = subst (AreListed cells) (sym (map_set open
 
 -- one that has not begun
 
--- a list of its own in which nothing stands yet
-listed_anew : (cells : List KeptCell) (lists : List (Option (List OpenCell))) (n : ℕ) → AreListed cells lists → slice_get lists n ≡ Some None → AreListed cells (slice_set lists n (Some []))
-listed_anew cells lists n a e = record {
-  listed = λ id co frame register own there is.
-      let h = a.held id co frame register is in
-      let before : slice_get lists co.0 ≡ Some (Some own) =
-      ⊎_elim (λ new. absurd (let k : Some None ≡ Some (Some h.0) = sym e ∙ ap (slice_get lists) new.0 ∙ h.1 in cc)) (λ old. old) (set_cases lists n co.0 (Some []) (Some own) there) in
-      a.listed id co frame register own before is;
-  opened = λ id co frame register own there is.
-      ⊎_elim (λ new. absurd (let k : None ≡ Some id = ap (cell_at frame register) (some_same _ _ new.1) ∙ is in cc)) (λ old. a.opened id co frame register own old is)
-      (set_cases lists n co.0 (Some []) (Some own) there);
-  held = λ id co frame register is.
-      let h = a.held id co frame register is in
-      let other : n ≢ co.0 = λ same. let k : Some None ≡ Some (Some h.0) = sym e ∙ ap (slice_get lists) same ∙ h.1 in cc in
-      (h.0, get_set_other lists n co.0 (Some []) other ∙ h.1);
-  once = λ k own there. ⊎_elim (λ h. subst IsOnce (some_same _ _ h.1) tt) (λ h. a.once k own h) (set_cases lists n k (Some []) (Some own) there);
-}
-
 not_fresh : (fs : List Frame) (body : Value) (o : Option Coroutine) → o ≡ Some (in_progress fs) → o ≡ Some (fresh body) → ⊥
 not_fresh fs body o e f = let k : Some (in_progress fs) ≡ Some (fresh body) = sym e ∙ f in cc
 
@@ -161,7 +135,7 @@ module _ (old mid : Memory) (co : CoroId) (stack : KeptStack) (f : IsFresh old c
       let now : map open_cells_in mid.coros.objects ≡ slice_set lists co.0 (Some []) =
       ap (map open_cells_in) objects ∙ map-set open_cells_in old.coros.objects co.0 (Suspended stack) ∙ ap (λ own. slice_set lists co.0 (Some own)) none in
       subst (λ cells. AreListed cells (map open_cells_in mid.coros.objects)) (sym cells)
-      (subst (AreListed old.cells.objects) (sym now) (listed_anew old.cells.objects lists co.0 a (get_map open_cells_in old.coros.objects co.0 (Fresh f.body) f.there)))
+      (subst (AreListed old.cells.objects) (sym now) (listed_awake old.cells.objects lists co.0 None a (get_map open_cells_in old.coros.objects co.0 (Fresh f.body) f.there)))
 
   module _ (put : (fuel : ℕ) → plain mid fuel ≡ put_coroutine (plain old fuel) co.0 (coroutine old.strings (Suspended stack))) where
     other : (fuel : ℕ) (s : Stack) → stack_of (plain old fuel) ≡ Some s → co.0 ≢ s.coroutine

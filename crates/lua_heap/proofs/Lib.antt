@@ -9,6 +9,6 @@ mod Walk
 pub mod Added
 mod Listed
 mod Placed
-mod Resumed
+pub mod Resumed
 pub mod Captured
 mod Closed
