@@ -50,7 +50,7 @@ after_ok P rows after key h e = pick (same key (known nil)) e
     pick true e = let k : rows ≡ after = cc in subst (Each P) k h
     pick false e = from (position (same key) (keys_of rows)) e
 
-next_ok : (P : Value × Value → Type 0) (rows : List (Value × Value)) (key : Value) (row : Value × Value) → Each P rows → next table_values rows key ≡ Some (Some row) → P row
+pub next_ok : (P : Value × Value → Type 0) (rows : List (Value × Value)) (key : Value) (row : Value × Value) → Each P rows → next table_values rows key ≡ Some (Some row) → P row
 next_ok P rows key row h e = from (rows_after table_values rows key) refl e
   where
     from : (o : Option (List (Value × Value))) → rows_after table_values rows key ≡ o → option_map (find (is_filled table_values)) o ≡ Some (Some row) → P row

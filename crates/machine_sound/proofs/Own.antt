@@ -74,7 +74,7 @@ filtered r (q ∷ qs) = pick (nat_lt q r) refl (filtered r qs)
     pick true e h = each_cons (λ q. q < r) q (filter (λ q. nat_lt q r) qs) (grind (arith, nat_tests)) h
     pick false e h = h
 
-each_left : (P : ℕ → Type 0) (r : ℕ) (qs : List ℕ) → Each P qs → Each P (without_pending r qs)
+pub each_left : (P : ℕ → Type 0) (r : ℕ) (qs : List ℕ) → Each P qs → Each P (without_pending r qs)
 each_left P r [] h = h
 each_left P r (q ∷ qs) h = pick (is_there (last_pending r qs)) (nat_le r q) (each_left P r qs (each_tail P q qs h))
   where

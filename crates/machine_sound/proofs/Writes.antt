@@ -80,7 +80,7 @@ closed_top n W m v t h =
 abbrev pub written_frame : LuaFrame → ℕ → Value → LuaFrame
 written_frame l r v = record l { own = record l.own { registers = write r v l.own.registers } }
 
-lua_is : (f : Frame) (l : LuaFrame) → lua_frame f ≡ Some l → f ≡ lua l
+pub lua_is : (f : Frame) (l : LuaFrame) → lua_frame f ≡ Some l → f ≡ lua l
 lua_is (lua g) l e = let k : g ≡ l = cc in ap lua k
 lua_is pcall l e = absurd (cc)
 lua_is (xpcall v) l e = absurd (cc)

@@ -1,14 +1,14 @@
 -- Library rows that look at values and tables alone give no environment, and never write it: one lemma an operation, and none a row.
-use Rattle.std.proofs.Common.{ℕ, ◌+◌, ◌≡◌, List, [], ◌∷◌, ◌++◌, Option, Some, None, refl, subst, length, drop, arith, Bool, true, false, cond}
-use Rattle.std.specs.Prelude.{slice_get, slice_set, find, position, option_map}
-use Rattle.std.specs.Map.{keys_of}
-use Rattle.int_core.specs.Rows.{next, rows_after, is_filled}
-use Rattle.int_core.specs.Value.{nil, boolean, integer, string, primitive, a_table, a_function, a_coroutine, Value, known, object, same, table_values, nth, bind}
+use Rattle.std.proofs.Common.{ℕ, ◌+◌, ◌≡◌, List, [], ◌∷◌, ◌++◌, Option, Some, None, refl, length, drop, arith}
+use Rattle.std.specs.Prelude.{slice_get, slice_set}
+use Rattle.int_core.specs.Rows.{next}
+use Rattle.int_core.specs.Value.{nil, boolean, integer, string, primitive, a_table, a_function, a_coroutine, Value, known, object, table_values, nth, bind}
 use Rattle.int_core.specs.Heap.{Table, Heap, raw_get, metatable_of, add_table}
 use Rattle.library_rows.specs.Look.{Arg, read, written, arg, args_of, HeapOp, look, compare, read_field, write_field, read_metatable, write_metatable, border_of, row_after, make_table, or_nil, table_or_nil, put_field, put_metatable, put_meta, row_step, row_in, does_op, Look, gives, gives_all, refuses, raises, count, does, Done, done, refused, raised, looked}
 use Rattle.machine_sound.specs.Sound.{Each, OptionOk}
-use Rattle.machine_sound.proofs.Lists.{each_none, each_cons, each_one, each_append, each_push, each_drop, each_tail, get_push_old, get_within}
+use Rattle.machine_sound.proofs.Lists.{each_none, each_cons, each_one, each_append, each_push, each_drop, get_push_old, get_within}
 use Rattle.machine_sound.proofs.Values.{nth_ok}
+use Rattle.machine_sound.proofs.Looks.{next_ok}
 use Rattle.prelude_stays.specs.Kept.{Home, Apart, RowOk, MetaOk, TableOk, HeapOk}
 use Rattle.prelude_stays.proofs.Heaps.{raw_get_ok, raw_set_ok, put_table}
 
@@ -21,34 +21,6 @@ arg_apart e env (written p) v = tt
 pub args_apart : (e : ℕ) (env : List Value) (xs : List Arg) → Each (Apart e) env → Each (Apart e) (args_of env xs)
 args_apart e env [] v = each_none (Apart e)
 args_apart e env (x ∷ xs) v = each_cons (Apart e) (arg env x) (args_of env xs) (arg_apart e env x v) (args_apart e env xs v)
-
--- the row after a key's row is one of the table's
-
-found_ok : (P : Value × Value → Type 0) (t : Value × Value → Bool) (rows : List (Value × Value)) (row : Value × Value) → Each P rows → find t rows ≡ Some row → P row
-found_ok P t [] row h e = absurd (cc)
-found_ok P t (x ∷ rows) row h e = pick (t x) e (found_ok P t rows row (each_tail P x rows h))
-  where
-    pick : (b : Bool) → cond b (Some x) (find t rows) ≡ Some row → (find t rows ≡ Some row → P row) → P row
-    pick true e more = let k : x ≡ row = cc in subst P k (h 0 x refl)
-    pick false e more = more e
-
-after_ok : (P : Value × Value → Type 0) (rows after : List (Value × Value)) (key : Value) → Each P rows → rows_after table_values rows key ≡ Some after → Each P after
-after_ok P rows after key h e = pick (same key (known nil)) e
-  where
-    from : (o : Option ℕ) → option_map (λ at. drop (at + 1) rows) o ≡ Some after → Each P after
-    from None e = absurd (cc)
-    from (Some at) e = let k : drop (at + 1) rows ≡ after = cc in subst (Each P) k (each_drop P (at + 1) rows h)
-
-    pick : (b : Bool) → cond b (Some rows) (option_map (λ at. drop (at + 1) rows) (position (same key) (keys_of rows))) ≡ Some after → Each P after
-    pick true e = let k : rows ≡ after = cc in subst (Each P) k h
-    pick false e = from (position (same key) (keys_of rows)) e
-
-next_ok : (P : Value × Value → Type 0) (rows : List (Value × Value)) (key : Value) (row : Value × Value) → Each P rows → next table_values rows key ≡ Some (Some row) → P row
-next_ok P rows key row h e = from (rows_after table_values rows key) refl e
-  where
-    from : (o : Option (List (Value × Value))) → rows_after table_values rows key ≡ o → option_map (find (is_filled table_values)) o ≡ Some (Some row) → P row
-    from None d e = absurd (cc)
-    from (Some after) d e = let k : find (is_filled table_values) after ≡ Some row = cc in found_ok P (is_filled table_values) after row (after_ok P rows after key h d) k
 
 -- tables
 

@@ -5,11 +5,12 @@ use Rattle.int_core.specs.Value.{Value, known, nil, nth, range, write, write_all
 use Rattle.code_core.specs.declared.proto.Const.{Const}
 use Rattle.code_core.specs.Prototype.{Prototype}
 use Rattle.machine_core.specs.World.{Cell, closed, Coroutine, Activation}
-use Rattle.machine_core.specs.Text.{Arg, read, written, arg, args_of, behind, constant, list_end, list_values, value_if, Own, read_register, read_registers, read_list, read_constant, read_varargs, see, write_register, write_registers, write_list, write_nils, end_list, cut_from, close_cells, mark_pending, see_pending, take_pending, drop_pending, keep_results, keep_pending, reads, effect, done, nils, blanked, last_pending, without_pending, is_there, is_pending}
+use Rattle.machine_core.specs.Text.{Arg, read, written, arg, args_of, behind, constant, list_end, list_values, value_if, Own, read_register, read_registers, read_list, read_constant, read_varargs, see, write_register, write_registers, write_list, write_nils, end_list, cut_from, close_cells, mark_pending, see_pending, take_pending, drop_pending, keep_results, keep_pending, reads, effect, done, nils, blanked, last_pending, is_pending}
 use Rattle.machine_core.specs.Moves.{cells_after, cells_done}
 use Rattle.machine_sound.specs.Sound.{Each}
 use Rattle.machine_sound.proofs.Lists.{each_none, each_cons, each_one, each_tail, each_push, each_drop, each_filter}
 use Rattle.machine_sound.proofs.Values.{nth_ok, each_range, each_nils}
+use Rattle.machine_sound.proofs.Own.{each_left}
 use Rattle.prelude_stays.specs.Guards.{Guard, OwnReads, AllRead}
 use Rattle.prelude_stays.specs.Kept.{Apart, RegistersOk, function_at}
 use Rattle.prelude_stays.proofs.Cells.{Carries, close_get, close_carries}
@@ -61,15 +62,6 @@ module _ (P : Value → Type 0) (nil_ok : P (known nil)) where
   held_range Q from (suc count) vs h k = each_cons P (nth vs from) (range (suc from) count vs) (h from (k from (omega arith))) (held_range Q (suc from) count vs h (λ r l. k r (omega arith)))
 
 -- pending registers
-
-each_left : (P : ℕ → Type 0) (r : ℕ) (qs : List ℕ) → Each P qs → Each P (without_pending r qs)
-each_left P r [] h = h
-each_left P r (q ∷ qs) h = pick (is_there (last_pending r qs)) (nat_le r q) (each_left P r qs (each_tail P q qs h))
-  where
-    pick : (b c : Bool) → Each P (without_pending r qs) → Each P (cond b (q ∷ without_pending r qs) (cond c qs (q ∷ qs)))
-    pick true c k = each_cons P q (without_pending r qs) (h zero q refl) k
-    pick false true k = each_tail P q qs h
-    pick false false k = h
 
 last_held : (P : ℕ → Type 0) (r : ℕ) (qs : List ℕ) (q : ℕ) → Each P qs → last_pending r qs ≡ Some q → P q
 last_held P r [] q h e = absurd (cc)

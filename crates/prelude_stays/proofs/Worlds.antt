@@ -2,11 +2,12 @@
 use Rattle.std.proofs.Common.{ℕ, ◌-◌, ◌≡◌, List, [], ◌∷◌, ◌++◌, Option, Some, None, refl, subst, sym, ap, ◌∙◌, length, arith, Bool, true, false, cond, length-append}
 use Rattle.std.specs.Prelude.{slice_get, slice_set}
 use Rattle.int_core.specs.Value.{Value, object, a_table, bind, last, without_last}
-use Rattle.machine_core.specs.World.{Function, Cell, closed, LuaFrame, Frame, lua, pcall, xpcall, handler, closing, Coroutine, fresh, suspended, in_progress, normal, dead, failed, World, Stack, stack_of, frames_of, running_frames, lua_frame, Place, place_of}
+use Rattle.machine_core.specs.World.{Function, Cell, closed, LuaFrame, Frame, lua, Coroutine, fresh, suspended, in_progress, normal, dead, failed, World, Stack, stack_of, frames_of, running_frames, lua_frame, Place, place_of}
 use Rattle.machine_core.specs.Moves.{Made, Outcome, trapped, ends}
 use Rattle.machine_sound.specs.Sound.{Each}
 use Rattle.machine_sound.proofs.Lists.{bind_some, last_splits, last_push, each_set, each_last, each_front, some_is}
 use Rattle.machine_sound.proofs.Frames.{stack_is}
+use Rattle.machine_sound.proofs.Writes.{lua_is}
 use Rattle.prelude_stays.specs.Guards.{Guard}
 use Rattle.prelude_stays.specs.Kept.{Home, Apart, LuaOk, FrameOk, CoroutineOk, HeapOk, function_at, FunctionOk, Keeps}
 use Rattle.prelude_stays.proofs.Cells.{in_frames, Carries, FramesStay, in_last, set_stays, function_of, stay_carries}
@@ -98,13 +99,6 @@ pub record OnPlace (W : World) (p : Place) : Type 0 where
   pub splits : p.stack.frames ≡ without_last p.stack.frames ++ lua p.top ∷ []
   pub number : p.number ≡ length (without_last p.stack.frames)
   pub function : slice_get W.functions p.top.function ≡ Some p.function
-
-lua_is : (f : Frame) (l : LuaFrame) → lua_frame f ≡ Some l → f ≡ lua l
-lua_is (lua g) l e = let k : g ≡ l = cc in ap lua k
-lua_is pcall l e = absurd (cc)
-lua_is (xpcall v) l e = absurd (cc)
-lua_is handler l e = absurd (cc)
-lua_is (closing v vs) l e = absurd (cc)
 
 pub place_there : (W : World) (p : Place) → place_of W ≡ Some p → OnPlace W p
 place_there W p h =
