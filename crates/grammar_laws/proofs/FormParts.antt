@@ -13,7 +13,7 @@ use Rattle.lua_lex.specs.Lexical.{is_end}
 use Rattle.lua_lex.specs.declared.token.Token.{Token}
 use Rattle.lua_lex.specs.declared.token.Token.TheVariants as token
 use Rattle.token_cursor.specs.declared.level.Level.{Level}
-use Rattle.token_cursor.specs.declared.level.Level.TheVariants.{Or, And, Comparison, BitOr, BitXor, BitAnd, Shift, Concat, Sum, Product}
+use Rattle.token_cursor.specs.declared.level.Level.TheVariants.{Or, And}
 use Rattle.token_cursor.specs.declared.start.Start.{Start}
 use Rattle.token_cursor.specs.declared.start.Start.TheVariants as start
 use Rattle.token_cursor.specs.declared.word.TheConstants.{ELSE, ELSEIF, FUNCTION, RETURN, FALSE, NIL, TRUE, LESS, ASSIGN, OPEN_ROUND, CLOSE_ROUND, OPEN_CURLY, CLOSE_CURLY, OPEN_SQUARE, SEMICOLON, COLON, COMMA, DOT, DOTS}
@@ -21,6 +21,7 @@ use Rattle.token_cursor.specs.Words.{Lexeme, is_word, is_string, name_of, string
 use Rattle.lua_parse.specs.Words.{literal, constant_of}
 use Rattle.lua_parse.specs.Moves.{Part, chunk, word, opener, name, chain, behind, unary, simple, table, more_fields, separated_field, field, keyed, item, prefix, primary, paren, suffixes, suffix, dotted, indexed, method, call, method_arguments, arguments, listed, string_argument, explist, more_exps, body, params, more_params, block, items, returned, stat, label_stat, goto_stat, do_stat, while_stat, repeat_stat, if_stat, arms, more_arms, arm, else_part, do_block, for_stat, numeric, step, generic, more_names, function_stat, function_name, path, local_stat, local_function, local_names, more_declared, declared, values, prefix_stat, assignment, more_targets, Move}
 use Rattle.lua_parse.specs.Grammar.{expects, name_move, constant_move, operand, right_operand, operator_move, unary_move, string_move, item_move, stat_move}
+use Rattle.grammar_laws.proofs.Operands.{operand_has, right_has}
 use Rattle.grammar_laws.specs.Formed.{IsCall, IsNameOrIndex, AreTargets, ExpIsFormed, ExpsAreFormed, FieldsAreFormed, FieldIsFormed, StatIsFormed, ArmsAreFormed, StatsAreFormed, BlockIsFormed}
 use Rattle.grammar_laws.proofs.FormKeeping.{MaybeIsFormed, ElseIsFormed, ValuesAreFormed, StandsFormed, GivesFormed, picks, passes, refuses, reads, ends, either, either_by, passes_if, only_reads, on_a_line, on_a_name, on_some_names, on_some_params, on_a_declared, on_some_declared, on_an_exp, on_a_target_exp, on_maybe_exp, on_some_exps, on_some_targets, on_a_field, on_some_fields, on_a_target, on_an_arm, on_some_arms, on_some_items, on_a_stat, on_a_block, on_maybe_block, on_a_body}
 
@@ -90,28 +91,10 @@ joined_formed joining.And line a b h k = (h, k)
 joined_formed (joining.Binary op) line a b h k = (h, k)
 
 operand_stands : (level : Level) → StandsFormed (operand level)
-operand_stands Or = tt
-operand_stands And = tt
-operand_stands Comparison = tt
-operand_stands BitOr = tt
-operand_stands BitXor = tt
-operand_stands BitAnd = tt
-operand_stands Shift = tt
-operand_stands Concat = tt
-operand_stands Sum = tt
-operand_stands Product = tt
+operand_stands level = operand_has StandsFormed (λ level. tt) tt level
 
 right_stands : (level : Level) → StandsFormed (right_operand level)
-right_stands Or = tt
-right_stands And = tt
-right_stands Comparison = tt
-right_stands BitOr = tt
-right_stands BitXor = tt
-right_stands BitAnd = tt
-right_stands Shift = tt
-right_stands Concat = tt
-right_stands Sum = tt
-right_stands Product = tt
+right_stands level = right_has StandsFormed (λ level. tt) tt level
 
 operator_gives : (room : ℕ) (level : Level) (left : tree.Exp) (height line : ℕ) (o : Option Infix) → ExpIsFormed left → GivesFormed (behind level left height) (operator_move room level left height line o)
 operator_gives room level left height line None c = ends c tt

@@ -1,4 +1,5 @@
 mod FormKeeping
+pub mod Operands
 mod FormParts
 pub mod FormReadings
 pub mod PlacedForms

@@ -14,7 +14,7 @@ use Rattle.lua_lex.specs.Lexical.{is_end}
 use Rattle.lua_lex.specs.declared.token.Token.{Token}
 use Rattle.lua_lex.specs.declared.token.Token.TheVariants as token
 use Rattle.token_cursor.specs.declared.level.Level.{Level}
-use Rattle.token_cursor.specs.declared.level.Level.TheVariants.{Or, And, Comparison, BitOr, BitXor, BitAnd, Shift, Concat, Sum, Product}
+use Rattle.token_cursor.specs.declared.level.Level.TheVariants.{Or, And}
 use Rattle.token_cursor.specs.declared.start.Start.{Start}
 use Rattle.token_cursor.specs.declared.start.Start.TheVariants as start
 use Rattle.token_cursor.specs.declared.word.TheConstants.{ELSE, ELSEIF, FUNCTION, RETURN, FALSE, NIL, TRUE, LESS, ASSIGN, OPEN_ROUND, CLOSE_ROUND, OPEN_CURLY, CLOSE_CURLY, OPEN_SQUARE, SEMICOLON, COLON, COMMA, DOT, DOTS}
@@ -22,6 +22,7 @@ use Rattle.token_cursor.specs.Words.{Lexeme, is_word, is_string, name_of, string
 use Rattle.lua_parse.specs.Words.{literal, constant_of}
 use Rattle.lua_parse.specs.Moves.{Piece, a_line, a_name, some_names, some_params, a_declared, some_declared, an_exp, maybe_exp, some_exps, a_field, some_fields, a_target, an_arm, some_arms, some_items, a_stat, a_block, maybe_block, a_body, Part, chunk, word, opener, name, chain, behind, unary, simple, table, more_fields, separated_field, field, keyed, item, prefix, primary, paren, suffixes, suffix, dotted, indexed, method, call, method_arguments, arguments, listed, string_argument, explist, more_exps, body, params, more_params, block, items, returned, stat, label_stat, goto_stat, do_stat, while_stat, repeat_stat, if_stat, arms, more_arms, arm, else_part, do_block, for_stat, numeric, step, generic, more_names, function_stat, function_name, path, local_stat, local_function, local_names, more_declared, declared, values, prefix_stat, assignment, more_targets, Move, gives}
 use Rattle.lua_parse.specs.Grammar.{expects, name_move, constant_move, operand, right_operand, operator_move, unary_move, string_move, item_move, stat_move, pass_if}
+use Rattle.grammar_laws.proofs.Operands.{operand_has, right_has}
 use Rattle.grammar_laws.proofs.Nesting.{nesting, nesting_in_exps, nesting_in_fields, nesting_in_field, nesting_in_stat, nesting_in_arms, nesting_in_stats, nesting_in_block, nesting_in_body}
 use Rattle.grammar_laws.proofs.Walk.{Keeps, picks, passes, refuses, reads, ends, either, passes_if, only_reads, on_a_line, on_a_name, on_some_names, on_some_params, on_a_declared, on_some_declared, on_an_exp, on_maybe_exp, on_some_exps, on_a_field, on_some_fields, on_a_target, on_an_arm, on_some_arms, on_some_items, on_a_stat, on_a_block, on_maybe_block, on_a_body}
 
@@ -153,52 +154,16 @@ joined_nests room joining.And line a b h k = omega (arith, h, k)
 joined_nests room (joining.Binary op) line a b h k = omega (arith, h, k)
 
 operand_stands : (level : Level) (room : ℕ) → StandsNested (operand level) room
-operand_stands Or room = tt
-operand_stands And room = tt
-operand_stands Comparison room = tt
-operand_stands BitOr room = tt
-operand_stands BitXor room = tt
-operand_stands BitAnd room = tt
-operand_stands Shift room = tt
-operand_stands Concat room = tt
-operand_stands Sum room = tt
-operand_stands Product room = tt
+operand_stands level room = operand_has (λ part. StandsNested part room) (λ level. tt) tt level
 
 operand_nests : (level : Level) (room : ℕ) (e : tree.Exp) → Nests (operand level) room (an_exp e) → nesting e ≤ room
-operand_nests Or room e h = h
-operand_nests And room e h = h
-operand_nests Comparison room e h = h
-operand_nests BitOr room e h = h
-operand_nests BitXor room e h = h
-operand_nests BitAnd room e h = h
-operand_nests Shift room e h = h
-operand_nests Concat room e h = h
-operand_nests Sum room e h = h
-operand_nests Product room e h = h
+operand_nests level room e = operand_has (λ part. Nests part room (an_exp e) → nesting e ≤ room) (λ level h. h) (λ h. h) level
 
 right_stands : (level : Level) (room : ℕ) → StandsNested (right_operand level) room
-right_stands Or room = tt
-right_stands And room = tt
-right_stands Comparison room = tt
-right_stands BitOr room = tt
-right_stands BitXor room = tt
-right_stands BitAnd room = tt
-right_stands Shift room = tt
-right_stands Concat room = tt
-right_stands Sum room = tt
-right_stands Product room = tt
+right_stands level room = right_has (λ part. StandsNested part room) (λ level. tt) tt level
 
 right_nests : (level : Level) (room : ℕ) (e : tree.Exp) → Nests (right_operand level) room (an_exp e) → nesting e ≤ room
-right_nests Or room e h = h
-right_nests And room e h = h
-right_nests Comparison room e h = h
-right_nests BitOr room e h = h
-right_nests BitXor room e h = h
-right_nests BitAnd room e h = h
-right_nests Shift room e h = h
-right_nests Concat room e h = h
-right_nests Sum room e h = h
-right_nests Product room e h = h
+right_nests level room e = right_has (λ part. Nests part room (an_exp e) → nesting e ≤ room) (λ level h. h) (λ h. h) level
 
 operator_kept : (room : ℕ) (level : Level) (left : tree.Exp) (height line : ℕ) (o : Option Infix) → nesting left ≤ room → KeepsNesting (behind level left height) room (operator_move room level left height line o)
 operator_kept room level left height line None h = ends h

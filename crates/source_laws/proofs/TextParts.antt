@@ -14,7 +14,7 @@ use Rattle.lua_lex.specs.Lexical.{is_end}
 use Rattle.lua_lex.specs.declared.token.Token.{Token}
 use Rattle.lua_lex.specs.declared.token.Token.TheVariants as token
 use Rattle.token_cursor.specs.declared.level.Level.{Level}
-use Rattle.token_cursor.specs.declared.level.Level.TheVariants.{Or, And, Comparison, BitOr, BitXor, BitAnd, Shift, Concat, Sum, Product}
+use Rattle.token_cursor.specs.declared.level.Level.TheVariants.{Or, And}
 use Rattle.token_cursor.specs.declared.start.Start.{Start}
 use Rattle.token_cursor.specs.declared.start.Start.TheVariants as start
 use Rattle.token_cursor.specs.declared.word.TheConstants.{ELSE, ELSEIF, FUNCTION, RETURN, FALSE, NIL, TRUE, LESS, ASSIGN, OPEN_ROUND, CLOSE_ROUND, OPEN_CURLY, CLOSE_CURLY, OPEN_SQUARE, SEMICOLON, COLON, COMMA, DOT, DOTS}
@@ -22,6 +22,7 @@ use Rattle.token_cursor.specs.Words.{Lexeme, is_word, is_string, name_of, string
 use Rattle.lua_parse.specs.Words.{literal, constant_of}
 use Rattle.lua_parse.specs.Moves.{Piece, a_line, a_name, some_names, some_params, a_declared, some_declared, an_exp, maybe_exp, some_exps, a_field, some_fields, a_target, an_arm, some_arms, some_items, a_stat, a_block, maybe_block, a_body, Part, chunk, word, opener, name, chain, behind, unary, simple, table, more_fields, separated_field, field, keyed, item, prefix, primary, paren, suffixes, suffix, dotted, indexed, method, call, method_arguments, arguments, listed, string_argument, explist, more_exps, body, params, more_params, block, items, returned, stat, label_stat, goto_stat, do_stat, while_stat, repeat_stat, if_stat, arms, more_arms, arm, else_part, do_block, for_stat, numeric, step, generic, more_names, function_stat, function_name, path, local_stat, local_function, local_names, more_declared, declared, values, prefix_stat, assignment, more_targets, Move}
 use Rattle.lua_parse.specs.Grammar.{expects, name_move, constant_move, operand, right_operand, operator_move, unary_move, string_move, item_move, stat_move, only}
+use Rattle.grammar_laws.proofs.Operands.{operand_has, right_has}
 use Rattle.code_core.specs.Writable.{signed_fits}
 use Rattle.code_checked.specs.Written.{TextFits, NamesFit}
 use Rattle.source_laws.proofs.Texts.{DeclaredTextsFit, ExpTextsFit, ExpsTextsFit, FieldsTextsFit, FieldTextsFit, StatTextsFit, ArmsTextsFit, StatsTextsFit, BlockTextsFit, BodyTextsFit}
@@ -178,28 +179,10 @@ joined_fits joining.And line a b h k = (h, k)
 joined_fits (joining.Binary op) line a b h k = (h, k)
 
 operand_stands : (level : Level) → FrontFits (operand level)
-operand_stands Or = tt
-operand_stands And = tt
-operand_stands Comparison = tt
-operand_stands BitOr = tt
-operand_stands BitXor = tt
-operand_stands BitAnd = tt
-operand_stands Shift = tt
-operand_stands Concat = tt
-operand_stands Sum = tt
-operand_stands Product = tt
+operand_stands level = operand_has FrontFits (λ level. tt) tt level
 
 right_stands : (level : Level) → FrontFits (right_operand level)
-right_stands Or = tt
-right_stands And = tt
-right_stands Comparison = tt
-right_stands BitOr = tt
-right_stands BitXor = tt
-right_stands BitAnd = tt
-right_stands Shift = tt
-right_stands Concat = tt
-right_stands Sum = tt
-right_stands Product = tt
+right_stands level = right_has FrontFits (λ level. tt) tt level
 
 operator_kept : (room : ℕ) (level : Level) (left : tree.Exp) (height line : ℕ) (o : Option Infix) → ExpTextsFit left → KeepsTexts (behind level left height) room (operator_move room level left height line o)
 operator_kept room level left height line None h = ends h
