@@ -11,7 +11,7 @@ use Rattle.code_core.specs.Check.{IsChecked}
 use Rattle.library_rows.specs.Library.{Library, of_globals, of_coroutine, of_string, of_table, of_math, of_utf8, Primitive, Entry, all_entries, constants}
 use Rattle.machine_core.specs.World.{Cell, closed, open_at, Coroutine, fresh, World, frames_of}
 use Rattle.machine_sound.specs.Sound.{Each, Sizes, sizes, Valid, TableOk, FunctionOk, CoroutineOk, standing, runs, resumed_another, ChainOk, CellOk, registers_in, registers_of, Solid, idle, Sound}
-use Rattle.machine_sound.proofs.Lists.{each_none, each_one, each_cons, each_tail, each_append, each_push, each_filter, each_on, get_within, get_push_old, get_push_new, get_front}
+use Rattle.machine_sound.proofs.Lists.{each_none, each_one, each_cons, each_tail, each_append, each_push, each_filter, each_on, get_within, get_push_old, get_push_new, get_front, each_eight}
 use Rattle.machine_sound.proofs.Values.{le_of, lt_of, both_of}
 use Rattle.machine_sound.proofs.Grow.{Grows, table_on, function_on, coroutine_on, valid_on}
 use Rattle.machine_sound.proofs.Chains.{chain_beside}
@@ -179,16 +179,6 @@ no_item i x e = absurd (cc)
 functions_length : (es : List (Entry Prototype)) → length (map prelude_function es) ≡ length es
 functions_length [] = refl
 functions_length (e ∷ es) = ap suc (functions_length es)
-
-each_eight : {A : Type 0} (P : A → Type 0) (a b c d e f g h : A) → P a → P b → P c → P d → P e → P f → P g → P h → Each P (a ∷ b ∷ c ∷ d ∷ e ∷ f ∷ g ∷ h ∷ [])
-each_eight P a b c d e f g h p q r s t u v w =
-    each_cons P a (b ∷ c ∷ d ∷ e ∷ f ∷ g ∷ h ∷ []) p
-    (each_cons P b (c ∷ d ∷ e ∷ f ∷ g ∷ h ∷ []) q
-    (each_cons P c (d ∷ e ∷ f ∷ g ∷ h ∷ []) r
-    (each_cons P d (e ∷ f ∷ g ∷ h ∷ []) s
-    (each_cons P e (f ∷ g ∷ h ∷ []) t
-    (each_cons P f (g ∷ h ∷ []) u
-    (each_cons P g (h ∷ []) v (each_one P h w)))))))
 
 pub opening_solid : (prelude : List (Entry Prototype)) → PreludeOk prelude → Solid (length all_entries) (opening prelude)
 unfolding opening

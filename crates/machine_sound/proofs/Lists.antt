@@ -156,3 +156,13 @@ last_splits {A = A} (y ∷ xs) x h = let e : suc (length xs) - 1 ≡ length xs =
     go : (y : A) (xs : List A) → slice_get (y ∷ xs) (length xs) ≡ Some x → y ∷ xs ≡ take (length xs) (y ∷ xs) ++ x ∷ []
     go y [] h = let k : Some y ≡ Some x = h in let e : y ≡ x = cc in ap (λ y. y ∷ []) e
     go y (z ∷ xs) h = ap (λ l. y ∷ l) (go z xs h)
+
+pub each_eight : {A : Type 0} (P : A → Type 0) (a b c d e f g h : A) → P a → P b → P c → P d → P e → P f → P g → P h → Each P (a ∷ b ∷ c ∷ d ∷ e ∷ f ∷ g ∷ h ∷ [])
+each_eight P a b c d e f g h p q r s t u v w =
+    each_cons P a (b ∷ c ∷ d ∷ e ∷ f ∷ g ∷ h ∷ []) p
+    (each_cons P b (c ∷ d ∷ e ∷ f ∷ g ∷ h ∷ []) q
+    (each_cons P c (d ∷ e ∷ f ∷ g ∷ h ∷ []) r
+    (each_cons P d (e ∷ f ∷ g ∷ h ∷ []) s
+    (each_cons P e (f ∷ g ∷ h ∷ []) t
+    (each_cons P f (g ∷ h ∷ []) u
+    (each_cons P g (h ∷ []) v (each_one P h w)))))))

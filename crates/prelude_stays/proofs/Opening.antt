@@ -10,7 +10,7 @@ use Rattle.library_rows.specs.Library.{Library, of_globals, of_coroutine, of_str
 use Rattle.lua_meaning.specs.Libraries.{environment_table, library_tables, plain_value, primitives_from, functions_from, primitive_values, constant_values, function_values, library_values, put_by_name, by_name, row_of_entry, table_of, is_in, library_table, is_named, first_of_each, environment, strings_meta}
 use Rattle.machine_core.specs.World.{Function, closed, fresh, World}
 use Rattle.machine_sound.specs.Sound.{Each}
-use Rattle.machine_sound.proofs.Lists.{each_none, each_one, each_cons, each_tail, each_append, each_push, each_filter, each_on, get_within, get_push_old, get_push_new, push_cases, map_get, get_map}
+use Rattle.machine_sound.proofs.Lists.{each_none, each_one, each_cons, each_tail, each_append, each_push, each_filter, each_on, get_within, get_push_old, get_push_new, push_cases, map_get, get_map, each_eight}
 use Rattle.machine_sound.proofs.Values.{both_of}
 use Rattle.list_laws.proofs.Items.{length_more}
 use Rattle.machine_runs.specs.Opening.{numbers, prelude_function, opening, nil_cells, main_cells, main_function, begun, handed_line}
@@ -115,16 +115,6 @@ module _ (prelude : List (Entry Prototype)) where
   meta_ok = record { rows = each_one (RowOk environment_table) (known (string (codes "__index")), object a_table 3) (tt, other_apart (object a_table 3) refl); metatable = tt }
 
 -- the world before a script
-
-each_eight : {A : Type 0} (P : A → Type 0) (a b c d e f g h : A) → P a → P b → P c → P d → P e → P f → P g → P h → Each P (a ∷ b ∷ c ∷ d ∷ e ∷ f ∷ g ∷ h ∷ [])
-each_eight P a b c d e f g h p q r s t u v w =
-    each_cons P a (b ∷ c ∷ d ∷ e ∷ f ∷ g ∷ h ∷ []) p
-    (each_cons P b (c ∷ d ∷ e ∷ f ∷ g ∷ h ∷ []) q
-    (each_cons P c (d ∷ e ∷ f ∷ g ∷ h ∷ []) r
-    (each_cons P d (e ∷ f ∷ g ∷ h ∷ []) s
-    (each_cons P e (f ∷ g ∷ h ∷ []) t
-    (each_cons P f (g ∷ h ∷ []) u
-    (each_cons P g (h ∷ []) v (each_one P h w)))))))
 
 abbrev pub guard_of : Entry Prototype → Guard
 guard_of e = guard_with (held_of e.entry e.entry false) e.entry.own.code
