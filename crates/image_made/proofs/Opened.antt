@@ -1,48 +1,18 @@
 -- Cells that are opened in a stack, one behind the other.
-use Rattle.std.proofs.Common.{◌≡◌, ℕ, ◌+◌, ◌<◌, ◌≤◌, ⊎_elim, List, [], ◌∷◌, ◌++◌, cond, Bool, true, false, Some, None, sym, ap, ◌∙◌, subst, arith}
-use Rattle.std.specs.Prelude.{◌&&◌, nat_eq, slice_get}
+use Rattle.std.proofs.Common.{◌≡◌, ℕ, ◌+◌, ◌<◌, ◌≤◌, ⊎_elim, List, [], true, false, Some, sym, ap, ◌∙◌, subst, arith}
+use Rattle.std.specs.Prelude.{nat_eq, slice_get}
 use Rattle.std.proofs.lemmas.Bool.Decides.{nat_tests}
-use Rattle.std.proofs.lemmas.Bool.{and_parts}
 use Rattle.table_core.specs.declared.value.CellId.{CellId}
 use Rattle.table_core.specs.declared.value.CoroId.{CoroId}
 use Rattle.lua_stack.specs.declared.frame.OpenCell.{OpenCell}
 use Rattle.lua_stack.specs.Frames.{KeptStack, cell_at, opened_at, top_number}
 use Rattle.lua_heap.specs.Cells.{IsOnce}
-use Rattle.lua_heap.proofs.Captured.{by_test, added_found, still_found, found_or_new}
+use Rattle.lua_heap.proofs.Captured.{by_test, added_found, still_found, found_or_new, once_in}
 use Rattle.image_made.specs.declared.stack.Opening.{Opening}
 use Rattle.image_made.specs.Stacks.{Lists, Opens}
 
--- a cell among those of a list that holds no register twice
-
-abbrev is_at : (frame register : ℕ) → OpenCell → Bool
-is_at frame register c = nat_eq c.frame frame && nat_eq c.register register
-
 same_number : (m n : ℕ) → nat_eq m n ≡ true → m ≡ n
 same_number m n h = grind (arith, nat_tests)
-
-number_same : (m n : ℕ) → m ≡ n → nat_eq m n ≡ true
-number_same m n h = grind (arith, nat_tests)
-
-at_other : (c d : OpenCell) → is_at d.frame d.register c ≡ true → is_at c.frame c.register d ≡ true
-at_other c d t =
-    let s = and_parts (nat_eq c.frame d.frame) (nat_eq c.register d.register) t in
-    ap (λ b. b && nat_eq d.register c.register) (number_same d.frame c.frame (sym (same_number _ _ s.0))) ∙ number_same d.register c.register (sym (same_number _ _ s.1))
-
-skips : (frame register : ℕ) (c : OpenCell) → is_at frame register c ≡ false → (cs ds : List OpenCell) → cell_at frame register (cs ++ c ∷ ds) ≡ cell_at frame register (cs ++ ds)
-skips frame register c t [] ds = ap (λ s. cond s (Some c.cell) (cell_at frame register ds)) t
-skips frame register c t (d ∷ cs) ds = ap (λ o. cond (is_at frame register d) (Some d.cell) o) (skips frame register c t cs ds)
-
-once_in : (before after : List OpenCell) (c : OpenCell) → IsOnce (before ++ after) → cell_at c.frame c.register (before ++ after) ≡ None → IsOnce (before ++ c ∷ after)
-once_in [] after c h free = (free, h)
-once_in (d ∷ ds) after c h free =
-    let not_at : is_at c.frame c.register d ≡ true → ⊥ = λ t.
-    let bad : Some d.cell ≡ None = sym (ap (λ s. cond s (Some d.cell) (cell_at c.frame c.register (ds ++ after))) t) ∙ free in
-    cc in
-    let later : cell_at c.frame c.register (ds ++ after) ≡ None =
-    by_test (is_at c.frame c.register d) (λ t. absurd (not_at t)) (λ t. sym (ap (λ s. cond s (Some d.cell) (cell_at c.frame c.register (ds ++ after))) t) ∙ free) in (
-      by_test (is_at d.frame d.register c) (λ t. absurd (not_at (at_other c d t))) (λ t. skips d.frame d.register c t ds after ∙ h.0),
-      once_in ds after c h.1 later,
-    )
 
 pub no_cells : (own : CoroId) (openings : List Opening) (from : ℕ) → Lists own openings from from []
 no_cells own openings from = record {

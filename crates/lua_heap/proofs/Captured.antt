@@ -100,7 +100,7 @@ at_other c d t =
     let s = at_is d.frame d.register c t in
     ap (λ f. nat_eq d.frame f && nat_eq d.register c.register) s.0 ∙ ap (λ r. nat_eq d.frame d.frame && nat_eq d.register r) s.1 ∙ self_at d
 
-once_in : (before after : List OpenCell) (c : OpenCell) → IsOnce (before ++ after) → cell_at c.frame c.register (before ++ after) ≡ None → IsOnce (before ++ c ∷ after)
+pub once_in : (before after : List OpenCell) (c : OpenCell) → IsOnce (before ++ after) → cell_at c.frame c.register (before ++ after) ≡ None → IsOnce (before ++ c ∷ after)
 once_in [] after c h free = (free, h)
 once_in (d ∷ ds) after c h free =
     let not_at : is_at c.frame c.register d ≡ true → ⊥ = λ t.
