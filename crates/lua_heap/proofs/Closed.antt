@@ -179,7 +179,7 @@ close_none co f r regs (open_at k g p ∷ cs) h =
     both_of_two true b h = (refl, h)
     both_of_two false b h = absurd (cc)
 
-below_at : (f r q : ℕ) (cs : List OpenCell) (id : CellId) → AllBelow f r cs → cell_at f q cs ≡ Some id → q < r
+pub below_at : (f r q : ℕ) (cs : List OpenCell) (id : CellId) → AllBelow f r cs → cell_at f q cs ≡ Some id → q < r
 below_at f r q [] id b e = absurd (cc)
 below_at f r q (c ∷ cs) id b e =
     by_test (is_at f q c)
@@ -205,6 +205,15 @@ top_is texts k below t e =
     let l = sym (length-map k.frames (frame_of (value texts))) ∙ ap length e ∙ length-append below (lua t ∷ []) in
     omega (arith, l)
 
+pub kept_open : (texts : List (List ℕ)) (c : KeptCell) (co : CoroId) (f q : ℕ) → cell texts c ≡ open_at co.0 f q → c ≡ Open co f q
+kept_open texts (Closed v) co f q e = absurd (cc)
+kept_open texts (Open k g p) co f q e =
+    let x : k.0 ≡ co.0 = cc in
+    let same : k ≡ co = ap (λ n. record { 0 = n }) x in
+    let y : g ≡ f = cc in
+    let z : p ≡ q = cc in
+    ap (λ (k : CoroId). Open k g p) same ∙ ap (λ g. Open co g p) y ∙ ap (λ p. Open co f p) z
+
 pub none_is_open : (W : Memory) (fuel : ℕ) (co : CoroId) (register : ℕ) (k : KeptStack) → CellsAreListed W → slice_get W.coros.objects co.0 ≡ Some (Running k) → NoneFrom k register
     → NoneIsOpen co.0 register (plain W fuel)
 none_is_open W fuel co register k a there none below t running =
@@ -218,15 +227,6 @@ none_is_open W fuel co register k a there none below t running =
     let id : CellId = record { 0 = n } in
     let found : cell_at (length below) q k.open_cells ≡ Some id = a.listed id co (length below) q k.open_cells own (c.1 ∙ ap (λ (c : KeptCell). Some c) kept) in
     below_at (length below) register q k.open_cells id (subst (λ f. AllBelow f register k.open_cells) top none.below) found)
-  where
-    kept_open : (texts : List (List ℕ)) (c : KeptCell) (co : CoroId) (f q : ℕ) → cell texts c ≡ open_at co.0 f q → c ≡ Open co f q
-    kept_open texts (Closed v) co f q e = absurd (cc)
-    kept_open texts (Open k g p) co f q e =
-        let x : k.0 ≡ co.0 = cc in
-        let same : k ≡ co = ap (λ n. record { 0 = n }) x in
-        let y : g ≡ f = cc in
-        let z : p ≡ q = cc in
-        ap (λ (k : CoroId). Open k g p) same ∙ ap (λ g. Open co g p) y ∙ ap (λ p. Open co f p) z
 
 module _ (W : Memory) (co : CoroId) (register : ℕ) (id : CellId) (v : Kept) (k : KeptStack) (d : Coro) (a : CellsAreListed W) (there : slice_get W.coros.objects co.0 ≡ Some (Running k))
     (o : TakesOnTop (Running k) d register id v) where

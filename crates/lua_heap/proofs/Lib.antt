@@ -11,4 +11,4 @@ mod Listed
 mod Placed
 pub mod Resumed
 pub mod Captured
-mod Closed
+pub mod Closed

@@ -21,6 +21,7 @@ use Rattle.lua_heap.specs.declared.world.World.{World as Memory}
 use Rattle.lua_heap.specs.Reading.{value}
 use Rattle.lua_heap.specs.Plain.{cell, coroutine, plain}
 use Rattle.lua_heap.specs.Cells.{AreListed, CellsAreListed, IsOnce, open_cells_in}
+use Rattle.lua_heap.proofs.Closed.{kept_open}
 use Rattle.move_laws.proofs.Running.{set_same}
 use Rattle.machine_coroutines.specs.Burying.{AreWithin, ClosesEach}
 
@@ -268,15 +269,6 @@ all_each texts co s (c ∷ cs) old new o p e =
     all_each texts co s cs mid new o.1 after e.2
     ∙ ap (all_closed_from co.0 0 fs) (map-set (cell texts) old c.cell.0 (Closed e.0))
     ∙ all_set co.0 0 fs (map (cell texts) old) c.cell.0 c.frame c.register c.frame (value texts e.0) (get_map (cell texts) old c.cell.0 (Open co c.frame c.register) (p 0 c refl)) (omega arith) (e.1.reads (value texts))
-
-kept_open : (texts : List (List ℕ)) (c : KeptCell) (co : CoroId) (f q : ℕ) → cell texts c ≡ open_at co.0 f q → c ≡ Open co f q
-kept_open texts (Closed v) co f q e = absurd (cc)
-kept_open texts (Open k g p) co f q e =
-    let x : k.0 ≡ co.0 = cc in
-    let same : k ≡ co = ap (λ n. record { 0 = n }) x in
-    let y : g ≡ f = cc in
-    let z : p ≡ q = cc in
-    ap (λ (k : CoroId). Open k g p) same ∙ ap (λ g. Open co g p) y ∙ ap (λ p. Open co f p) z
 
 all_closed : (texts : List (List ℕ)) (cells : List KeptCell) (lists : List (Option (List OpenCell))) (co : CoroId) (s : KeptStack) (a : AreListed cells lists) → slice_get lists co.0 ≡ Some (Some s.open_cells)
     → (new : List KeptCell) → ClosesEach s s.open_cells cells new → map (cell texts) new ≡ all_closed_from co.0 0 (frames (value texts) s) (map (cell texts) cells)

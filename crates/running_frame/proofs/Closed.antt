@@ -1,13 +1,13 @@
 -- From which register on nothing of the frame on top is open or still to be closed.
-use Rattle.std.proofs.Common.{◌≡◌, ℕ, ◌+◌, ◌-◌, ◌<◌, List, [], ◌∷◌, ◌++◌, length, map, Option, Some, None, refl, ap, sym, subst, ◌∙◌, arith, length-append}
-use Rattle.std.specs.Prelude.{IfNone, IfSome, cond}
+use Rattle.std.proofs.Common.{◌≡◌, ℕ, ◌+◌, ◌-◌, List, [], ◌∷◌, ◌++◌, length, map, Option, Some, None, refl, ap, sym, subst, ◌∙◌, arith, length-append}
+use Rattle.std.specs.Prelude.{IfNone, IfSome}
 use Rattle.std.proofs.lemmas.List.{length-map}
 use Rattle.lua_heap.specs.declared.world.Cell.{Cell}
 use Rattle.lua_heap.specs.Reading.{value}
-use Rattle.lua_heap.proofs.Captured.{at_is, by_test, is_at}
+use Rattle.lua_heap.proofs.Closed.{below_at}
 use Rattle.lua_stack.specs.declared.frame.OpenCell.{OpenCell}
 use Rattle.machine_sound.proofs.Lists.{last_push, some_is}
-use Rattle.lua_stack.specs.Frames.{AllBelow, KeptFrame, KeptStack, NoneFrom, OnTop, cell_at, frame_of, frames, kept_closing, kept_handler, kept_lua, kept_pcall, kept_xpcall, top_number}
+use Rattle.lua_stack.specs.Frames.{AllBelow, KeptFrame, KeptStack, NoneFrom, OnTop, frame_of, frames, kept_closing, kept_handler, kept_lua, kept_pcall, kept_xpcall, top_number}
 use Rattle.lua_stack.proofs.Ends.{map_more}
 use Rattle.machine_core.specs.Text.{last_pending}
 use Rattle.machine_core.specs.World.{Frame, LuaFrame, lua}
@@ -76,18 +76,6 @@ still_closed f s u below t v a b p l (Some register) h = record {
 }
 
 -- what the loop is told
-
-below_at : (f r q : ℕ) (cs : List OpenCell) (id : CellId) → AllBelow f r cs → cell_at f q cs ≡ Some id → q < r
-below_at f r q [] id b e = absurd (cc)
-below_at f r q (c ∷ cs) id b e =
-    by_test (is_at f q c)
-    (λ t.
-    let s = at_is f q c t in
-    let x = s.0 in
-    let y = s.1 in
-    let l = b.0.register_less (omega (arith, x)) in
-    omega (arith, l, y))
-    (λ t. below_at f r q cs id b.1 (sym (ap (λ s. cond s (Some c.cell) (cell_at f q cs)) t) ∙ e))
 
 pub closes_nothing : (g : Running) (k : Code) (s : KeptStack) (tables : List Contents) (cells : List Cell) (fuel : ℕ) (m : MayRun g k s tables cells fuel) (o : Option ℕ) → IfSome o (λ register. IsClosedFrom s register)
     → IfSome o (λ register. ClosesNothing g.around cells register)
