@@ -29,7 +29,7 @@ module _ (rows : ℕ → Row) where
   first_of n trapped again = refl
   first_of n (ends e W) again = again e W
 
-  last_of : (n : ℕ) (e : Ending) (W : World) → steps rows (suc n) e W ≡ and_then (steps rows n e W) (step rows)
+  pub last_of : (n : ℕ) (e : Ending) (W : World) → steps rows (suc n) e W ≡ and_then (steps rows n e W) (step rows)
   last_of zero e W = ended (step rows e W)
   last_of (suc n) e W = first_of n (step rows e W) (last_of n)
 

@@ -1,5 +1,5 @@
 -- CLOSE where no cell is open and nothing is to be closed is a step that only goes on.
-use Rattle.std.proofs.Common.{◌≡◌, ℕ, zero, suc, ◌+◌, ◌<◌, ◌≤◌, List, [], ◌∷◌, ◌++◌, length, map, Option, Some, None, refl, ap, sym, subst, ◌∙◌, arith, Bool, true, false}
+use Rattle.std.proofs.Common.{◌≡◌, ℕ, suc, ◌+◌, ◌<◌, ◌≤◌, List, [], ◌∷◌, ◌++◌, length, map, Option, Some, None, refl, ap, sym, subst, ◌∙◌, arith, Bool, true, false}
 use Rattle.std.specs.Prelude.{◌&&◌, not, cond, nat_eq, nat_lt, nat_le, slice_get, IfSome}
 use Rattle.std.proofs.lemmas.Bool.Decides.{nat_tests}
 use Rattle.code_core.specs.Check.{at}
@@ -15,11 +15,11 @@ use Rattle.lua_heap.specs.Reading.{value}
 use Rattle.lua_heap.specs.declared.world.Cell.{Cell as KeptCell}
 use Rattle.lua_heap.specs.declared.world.Cell.TheVariants.{Closed, Open}
 use Rattle.lua_heap.proofs.Captured.{by_test}
-use Rattle.machine_core.specs.World.{Cell, closed, open_at, for_close, World, close_from}
+use Rattle.machine_core.specs.World.{Cell, closed, open_at, for_close, close_from}
 use Rattle.machine_core.specs.Text.{close, close_cells, is_there, last_pending, own, read, see_pending, take_pending, Text, trap, value_if, written}
 use Rattle.machine_core.specs.InstructionRows.{is_true, next, row_of, text_at, text_by, then}
-use Rattle.machine_core.specs.MachineStep.{step, steps, and_then}
-use Rattle.machine_core.specs.Moves.{Ending, go, Row, Outcome, trapped, ends}
+use Rattle.machine_core.specs.MachineStep.{step, and_then}
+use Rattle.machine_core.specs.Moves.{go}
 use Rattle.machine_focus.specs.Focus.{Held, local}
 use Rattle.machine_focus.proofs.Here.{held_is_step}
 use Rattle.machine_sound.proofs.Lists.{map_get}
@@ -30,7 +30,7 @@ use Rattle.machine_view.proofs.Rows.{Comes, comes}
 use Rattle.table_core.specs.declared.value.CoroId.{CoroId}
 use Rattle.table_core.specs.declared.value.Value.{Value as Kept}
 use Rattle.machine_arms_tables.specs.Frame.{Code, Moment, moment, world_at, IsReadyAt, StepsOn}
-use Rattle.machine_arms_tables.proofs.Steps.{at_opcode}
+use Rattle.machine_arms_tables.proofs.Steps.{at_opcode, last_of}
 use Rattle.machine_loop.specs.Running.{ClosesNothing, PassesClose, Running}
 
 -- nothing is pending further on either
@@ -108,21 +108,6 @@ module _ (g : Around) (cells : List KeptCell) (register a : ℕ) (none : ClosesN
 -- what is left of the row once it is seen whether something is to be closed
 abbrev after_seen : ℕ → ℕ → Shape → Text
 after_seen a v there = cond (is_true there) (close (read v) (written nil) for_close (close_cells a ∷ take_pending a ∷ [])) (then (close_cells a) next)
-
--- one step more
-
-module _ (rows : ℕ → Row) where
-  ended : (o : Outcome) → and_then o (steps rows zero) ≡ o
-  ended trapped = refl
-  ended (ends e W) = refl
-
-  first_of : (n : ℕ) (o : Outcome) → ((e : Ending) (W : World) → steps rows (suc n) e W ≡ and_then (steps rows n e W) (step rows)) → and_then o (steps rows (suc n)) ≡ and_then (and_then o (steps rows n)) (step rows)
-  first_of n trapped again = refl
-  first_of n (ends e W) again = again e W
-
-  last_of : (n : ℕ) (e : Ending) (W : World) → steps rows (suc n) e W ≡ and_then (steps rows n e W) (step rows)
-  last_of zero e W = ended (step rows e W)
-  last_of (suc n) e W = first_of n (step rows e W) (last_of n)
 
 module _ (g : Running) (k : Code) (m : Moment) (here : IsReadyAt g.around g.string_metatable k m) (w : Instruction) where
   abbrev next_moment : ℕ → Moment
