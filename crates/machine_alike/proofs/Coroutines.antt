@@ -24,7 +24,7 @@ put_coroutine_same : (p : Pairs) (W X : World) (co co' : ℕ) (c d : Coroutine) 
 unfolding put_coroutine
 put_coroutine_same p W X co co' c d a h s = coroutine_agrees p W X co co' c d a h s
 
-chain_agrees : (p : Pairs) (W X : World) (cs ds : List ℕ) → AgreeInTurn p W X → AllZip (SameNumber p a_coroutine) cs ds → AgreeInTurn p (record W { chain = cs }) (record X { chain = ds })
+pub chain_agrees : (p : Pairs) (W X : World) (cs ds : List ℕ) → AgreeInTurn p W X → AllZip (SameNumber p a_coroutine) cs ds → AgreeInTurn p (record W { chain = cs }) (record X { chain = ds })
 chain_agrees p W X cs ds a h = record {
   objects = a.objects;
   roots = record {

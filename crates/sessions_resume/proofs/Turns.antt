@@ -14,6 +14,7 @@ use Rattle.machine_alike.proofs.Frames.{made_same, moving_agrees, coroutine_agre
 use Rattle.machine_alike.proofs.Calls.{enters_same}
 use Rattle.machine_alike.proofs.Rows.{outcome_on, rows_keep}
 use Rattle.machine_alike.proofs.Keeps.{steps_keep}
+use Rattle.machine_alike.proofs.Coroutines.{chain_agrees}
 use Rattle.machine_runs.specs.Runs.{resumed_main, after_waking, wakes, with_budget, turn}
 
 -- rows that make no function
@@ -35,27 +36,9 @@ resumed_none (refused text) = λ n t. λ n t. handed_none t
 
 -- main goes on
 
-chain_agrees : (p : Pairs) (W X : World) (i j : ℕ) → AgreeInTurn p W X → SameNumber p a_coroutine i j → AgreeInTurn p (record W { chain = W.chain ++ i ∷ [] }) (record X { chain = X.chain ++ j ∷ [] })
-chain_agrees p W X i j a h = record {
-  objects = a.objects;
-  roots = record {
-    globals = a.roots.globals;
-    string_metatable = a.roots.string_metatable;
-    prelude_environment = a.roots.prelude_environment;
-    prelude_functions = a.roots.prelude_functions;
-    special_key = a.roots.special_key;
-    max_depth = a.roots.max_depth;
-    main = a.roots.main;
-    chain = zip_append (SameNumber p a_coroutine) W.chain X.chain (i ∷ []) (j ∷ []) a.roots.chain (h, tt);
-  };
-  moving = a.moving;
-  printed = a.printed;
-  fuel = a.fuel;
-}
-
 into_agrees : (p : Pairs) (W X : World) (i j : ℕ) (fs gs : List Frame) → AgreeInTurn p W X → SameNumber p a_coroutine i j → SameFrames p fs gs → AgreeInTurn p (go_into W i fs) (go_into X j gs)
 unfolding go_into put_coroutine
-into_agrees p W X i j fs gs a h k = coroutine_agrees p (record W { chain = W.chain ++ i ∷ [] }) (record X { chain = X.chain ++ j ∷ [] }) i j _ _ (chain_agrees p W X i j a h) h (same_in_progress fs gs k)
+into_agrees p W X i j fs gs a h k = coroutine_agrees p (record W { chain = W.chain ++ i ∷ [] }) (record X { chain = X.chain ++ j ∷ [] }) i j _ _ (chain_agrees p W X (W.chain ++ i ∷ []) (X.chain ++ j ∷ []) a (zip_append (SameNumber p a_coroutine) W.chain X.chain (i ∷ []) (j ∷ []) a.roots.chain (h, tt))) h (same_in_progress fs gs k)
 
 refuses : (p : Pairs) (W X : World) (text : List ℕ) → AgreeInTurn p W X → Alike p ResumeShape (made W [] (refused text)) (made X [] (refused text))
 refuses p W X text a = made_same p p ResumeShape W X [] [] (refused text) (refused text) (extends_self p) a tt refl
