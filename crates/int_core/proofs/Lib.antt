@@ -5,4 +5,5 @@ pub mod SpellsLemmas
 pub mod RowsLemmas
 pub mod RowsLaws
 pub mod ValueLemmas
+pub mod BitLemmas
 pub mod Equality

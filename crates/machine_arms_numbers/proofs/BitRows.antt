@@ -1,27 +1,13 @@
--- The bits of integers, and the rounds of a numerical loop.
+-- The rounds of a numerical loop.
 use Rattle.std.proofs.Common.{◌≡◌, ℕ, zero, suc, ◌/◌, ◌^◌, ◌<◌, ◌≤◌, ◌∙◌, sym, ap, refl, arith, true, false}
 use Rattle.std.proofs.lemmas.Bool.Decides.{nat_tests}
-use Rattle.std.proofs.lemmas.Nat.{or_lt, xor_lt, and_le_l, div_below}
-use Rattle.std.specs.Prelude.{ℤ, pos, negsuc, neg_ℤ, ◌-ℤ◌, int_le, bit_and, bit_or, bit_xor}
-use Rattle.std.specs.Int.{w64, cast_signed, cast_unsigned, int_wrap}
-use Rattle.std.specs.Int.RustNames.{FitsSigned, unsigned_abs}
+use Rattle.std.proofs.lemmas.Nat.{div_below}
+use Rattle.std.specs.Prelude.{ℤ, pos, negsuc, neg_ℤ, ◌-ℤ◌, int_le}
+use Rattle.std.specs.Int.{w64, cast_signed, int_wrap}
+use Rattle.std.specs.Int.RustNames.{unsigned_abs}
 use Rattle.int_core.specs.Arithmetic.{wrapped, floor_over, floor_quotient}
-use Rattle.int_core.specs.Operations.{bitwise}
 use Rattle.int_core.proofs.WrappedLemmas.{wrapped-pos_below}
 use Rattle.machine_core.specs.InstructionRows.{rounds}
-
-bits_below : (a : ℤ) → FitsSigned w64 a → cast_unsigned w64 a < 2 ^ 64
-bits_below (pos n) fits = omega (arith, fits.sfits)
-bits_below (negsuc n) fits = omega arith
-
-pub and_is : (m n : ℤ) → FitsSigned w64 m → FitsSigned w64 n → cast_signed w64 (bit_and (cast_unsigned w64 m) (cast_unsigned w64 n)) ≡ bitwise bit_and m n
-and_is m n f g = sym (wrapped-pos_below (bit_and (cast_unsigned w64 m) (cast_unsigned w64 n)) (let l = bits_below m f in let k = and_le_l (cast_unsigned w64 m) (cast_unsigned w64 n) in omega (arith, l, k)))
-
-pub or_is : (m n : ℤ) → FitsSigned w64 m → FitsSigned w64 n → cast_signed w64 (bit_or (cast_unsigned w64 m) (cast_unsigned w64 n)) ≡ bitwise bit_or m n
-or_is m n f g = sym (wrapped-pos_below (bit_or (cast_unsigned w64 m) (cast_unsigned w64 n)) (or_lt 64 (cast_unsigned w64 m) (cast_unsigned w64 n) (bits_below m f) (bits_below n g)))
-
-pub xor_is : (m n : ℤ) → FitsSigned w64 m → FitsSigned w64 n → cast_signed w64 (bit_xor (cast_unsigned w64 m) (cast_unsigned w64 n)) ≡ bitwise bit_xor m n
-xor_is m n f g = sym (wrapped-pos_below (bit_xor (cast_unsigned w64 m) (cast_unsigned w64 n)) (xor_lt 64 (cast_unsigned w64 m) (cast_unsigned w64 n) (bits_below m f) (bits_below n g)))
 
 -- the rounds of a loop
 

@@ -1,6 +1,5 @@
 mod Fields
 mod Links
-mod Bits
 mod OperatorLemmas
 mod Storing
 mod Staying

@@ -2,7 +2,7 @@ use Rattle.std.proofs.Common.{◌∙◌}
 use Rattle.std.proofs.lemmas.Int.{to_z-of_z}
 use Rattle.std.specs.Int.{w64}
 use Rattle.std.specs.Int.RustNames.{FitsSigned}
-use Rattle.machine_arms_numbers.proofs.BitRows.{and_is, or_is, xor_is, up_so, down_so}
+use Rattle.int_core.proofs.BitLemmas.{xor_is}
 use Rattle.machine_arms_numbers.proofs.arithmetic.bits_of_one.Goals as goal
 
 pub returns : goal.returns

@@ -1,4 +1,4 @@
-use Rattle.meta_ops.proofs.Bits.{and_is}
+use Rattle.int_core.proofs.BitLemmas.{and_is}
 use Rattle.meta_ops.proofs.numbers.bits_of_both.Goals as goal
 
 pub returns : goal.returns

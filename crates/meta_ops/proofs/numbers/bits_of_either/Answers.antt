@@ -1,4 +1,4 @@
-use Rattle.meta_ops.proofs.Bits.{or_is}
+use Rattle.int_core.proofs.BitLemmas.{or_is}
 use Rattle.meta_ops.proofs.numbers.bits_of_either.Goals as goal
 
 pub returns : goal.returns

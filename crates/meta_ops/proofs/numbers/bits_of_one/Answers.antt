@@ -1,4 +1,4 @@
-use Rattle.meta_ops.proofs.Bits.{xor_is}
+use Rattle.int_core.proofs.BitLemmas.{xor_is}
 use Rattle.meta_ops.proofs.numbers.bits_of_one.Goals as goal
 
 pub returns : goal.returns
