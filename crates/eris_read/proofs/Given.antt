@@ -18,8 +18,8 @@ use Rattle.machine_sound.specs.Sound.{Each, Sizes, sizes, Valid, Solid}
 use Rattle.image_core.specs.Image.{PermKey, Perm, Item, plain, numbered, permanent, environment, Image, Record, table_record, function_record, closed_record, open_record, fresh_record, suspended_record, dead_record, failed_record, no_record}
 use Rattle.image_core.specs.Loading.{Target, kind_in, is_of, rank, new_number, numbered_value, value_made, table_made, function_made, coroutine_made, chosen, loaded}
 use Rattle.image_bytes.specs.Bytes.{Reader, is_sort, sort_at, sort_byte, with_sorts, read_image}
-use Rattle.image_bytes.specs.Format.{Got, read, refused, of_kind}
-use Rattle.image_sound.specs.Fitting.{IsReaderOf, reads, with_fits, all_fit}
+use Rattle.image_bytes.specs.Format.{read}
+use Rattle.image_sound.specs.Fitting.{IsReaderOf, reads}
 use Rattle.image_sound.specs.Reads.{All, ItemRead}
 use Rattle.image_sound.proofs.Given.{read_images_right, numbers_name_records}
 use Rattle.image_sound.specs.SoundImage.{Host, IsSoundImage, IsTarget}
@@ -29,11 +29,11 @@ use Rattle.image_saved.specs.Permanents.{same_key, object_named}
 use Rattle.image_records.specs.Names.{sort_of_object, perms_of, code_of as code_kept}
 use Rattle.image_records.specs.declared.known.Known.{Known}
 use Rattle.image_records.specs.declared.record.Image.{Image as KeptImage}
-use Rattle.image_reading.specs.Faults.{fault}
 use Rattle.image_reading.specs.Reader.{of_value, same_row_key, no_fault, row_key, reader, reader_of}
 use Rattle.image_reading.specs.Reads.{Reads as ReadsKnown}
 use Rattle.image_reading.specs.declared.fault.ReadFault.{ReadFault}
 use Rattle.image_reading.specs.declared.fault.ReadFault.TheVariants.{Refused, Memory as NoMemory}
+use Rattle.image_sound.proofs.Fitted.{fitted}
 use Rattle.lua_heap.specs.declared.world.World.{World as Memory}
 use Rattle.lua_heap.specs.Plain.{plain as shown}
 use Rattle.eris_read.specs.Known.{IsKnown}
@@ -127,14 +127,6 @@ sound_image primitives V perms I roots met bytes there e =
     accepted_is_sound (reader perms V.prelude_environment) (code_named V perms) (host primitives V perms I) roots met I bytes (is_reader primitives V perms I there) refl e
 
 -- the roots of what is loaded are there
-
-fitted : (code_named : PermKey → Option Prototype) (g : Got Image) (I : Image) (met : ℕ) → with_fits code_named g ≡ read I met [] → g ≡ read I met []
-fitted code_named (refused fault) I met e = absurd (cc)
-fitted code_named (read J m rest) I met e = by (all_fit code_named J.records) e
-  where
-    by : (b : Bool) → cond b (read J m rest) (refused (of_kind 9)) ≡ read I met [] → read J m rest ≡ read I met []
-    by true e = e
-    by false e = absurd (cc)
 
 module _ (T : Target) (rs : List Record) where
   yes_table : (r : Record) (t : Table) → table_made T rs r ≡ Some t → is_of a_table r ≡ true

@@ -15,12 +15,11 @@ use Rattle.image_core.specs.Image.{PermKey, Perm, Record, table_record, function
 use Rattle.image_core.specs.Loading.{is_of, Target, count_in, value_made, row_made, table_made, chosen, loaded}
 use Rattle.image_core.proofs.Lists.{get_split, chosen_from}
 use Rattle.image_core.proofs.Making.{table_yes, table_no}
-use Rattle.image_bytes.specs.Format.{Got, read, refused, of_kind}
 use Rattle.image_bytes.specs.Bytes.{Reader, sort_byte, with_sorts, read_image}
 use Rattle.image_load.specs.Session.{with_roots}
 use Rattle.image_reading.specs.Reader.{reader}
+use Rattle.image_sound.proofs.Fitted.{fitted}
 use Rattle.image_saved.specs.Permanents.{same_key, object_named}
-use Rattle.image_sound.specs.Fitting.{all_fit, with_fits}
 use Rattle.image_sound.specs.Reads.{All, RecordRead}
 use Rattle.session_images.specs.Laws.{IsLibrary}
 use Rattle.session_images.specs.Permanents.{by_keys, primitive_value, function_value, base_permanents}
@@ -29,15 +28,6 @@ use Rattle.tables_stay.specs.Laws.{AreTables}
 use Rattle.tables_load.specs.Laws.{IsHome, AcceptedHasTables, SessionsHaveTables}
 use Rattle.tables_load.proofs.NewKeys.{RowsNew, TablesRead, tables_read}
 use Rattle.tables_load.proofs.Keys.{are_rows}
-
--- what was accepted was read
-fitted : (code_named : PermKey → Option Prototype) (g : Got Image) (I : Image) (met : ℕ) → with_fits code_named g ≡ read I met [] → g ≡ read I met []
-fitted code_named (refused fault) I met e = absurd (cc)
-fitted code_named (read J m rest) I met e = by (all_fit code_named J.records) e
-  where
-    by : (b : Bool) → cond b (read J m rest) (refused (of_kind 9)) ≡ read I met [] → read J m rest ≡ read I met []
-    by true e = e
-    by false e = absurd (cc)
 
 all_at : {A : Type 0} (P : A → Type 0) (xs : List A) (n : ℕ) (x : A) → All P xs → slice_get xs n ≡ Some x → P x
 all_at P [] n x h e = absurd (cc)
