@@ -1,3 +1,3 @@
 pub mod Equal
-mod Names
+pub mod Names
 mod Saving

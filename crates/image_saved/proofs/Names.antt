@@ -15,14 +15,14 @@ some_so : {A : Type 0} {a b : A} → Some a ≡ Some b → a ≡ b
 some_so e = cc
 
 -- a permanent that gave a value its key
-record KeyFrom (ps : List Perm) (v : Value) (key : PermKey) : Type 0 where
-  at : ℕ
-  found : Perm
-  there : slice_get ps at ≡ Some found
-  object : found.object ≡ v
-  names : found.key ≡ key
+pub record KeyFrom (ps : List Perm) (v : Value) (key : PermKey) : Type 0 where
+  pub at : ℕ
+  pub found : Perm
+  pub there : slice_get ps at ≡ Some found
+  pub object : found.object ≡ v
+  pub names : found.key ≡ key
 
-key_found : (ps : List Perm) (v : Value) (key : PermKey) → key_of ps v ≡ Some key → KeyFrom ps v key
+pub key_found : (ps : List Perm) (v : Value) (key : PermKey) → key_of ps v ≡ Some key → KeyFrom ps v key
 key_found [] v key e = absurd (none_some key e)
 key_found (p ∷ ps) v key e = by (same p.object v) refl e (λ f. key_found ps v key f)
   where

@@ -35,6 +35,7 @@ use Rattle.image_sound.proofs.Savable.{open_cells_there}
 use Rattle.images_stand.specs.Standing.{IsObject, KeyFits, ArePermanents, PlainIsHeld, FieldIsHeld, IsItem, Knows, name, all_fields}
 use Rattle.images_stand.proofs.Items.{Refers, PlainStands, ItemStands}
 use Rattle.images_stand.proofs.Records.{Stand, RowStands, AreNew, WaitStands, LuaStands, ErrorStands, FrameStands, RecordStands, registers_bound}
+use Rattle.image_saved.proofs.Names.{KeyFrom, key_found}
 
 some_so : {A : Type 0} {a b : A} → Some a ≡ Some b → a ≡ b
 some_so e = cc
@@ -74,21 +75,6 @@ returned_few stack from zero size e = omega arith
 returned_few stack from (suc count) size e = omega (arith, e)
 
 -- names
-
-pub record KeyFrom (ps : List Perm) (v : Value) (key : PermKey) : Type 0 where
-  pub at : ℕ
-  pub found : Perm
-  pub there : slice_get ps at ≡ Some found
-  pub object : found.object ≡ v
-  pub names : found.key ≡ key
-
-key_found : (ps : List Perm) (v : Value) (key : PermKey) → key_of ps v ≡ Some key → KeyFrom ps v key
-key_found [] v key e = absurd (none_some key e)
-key_found (p ∷ ps) v key e = by (same p.object v) refl e (λ f. key_found ps v key f)
-  where
-    by : (b : Bool) → same p.object v ≡ b → cond b (Some p.key) (key_of ps v) ≡ Some key → (key_of ps v ≡ Some key → KeyFrom ps v key) → KeyFrom (p ∷ ps) v key
-    by true h e again = record { at = 0; found = p; there = refl; object = value_is p.object v h; names = some_so e }
-    by false h e again = let f = again e in record { at = suc f.at; found = f.found; there = f.there; object = f.object; names = f.names }
 
 module _ (env : ℕ) (perms : List Perm) where
   -- a value that has a name is the prelude's environment, or the object of a permanent
