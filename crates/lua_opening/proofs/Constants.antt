@@ -4,10 +4,7 @@ use Rattle.std.specs.List.{list_all}
 use Rattle.int_core.specs.Value.{known, string}
 use Rattle.code_core.specs.declared.proto.Const.{Const}
 use Rattle.code_core.specs.declared.proto.Const.TheVariants.{Nil, False, True, Int, Str as Text}
-use Rattle.code_core.specs.Prototype.{Parts, Prototype}
-use Rattle.code_core.specs.Check.{IsChecked}
-use Rattle.code_core.specs.Writable.{number_fits, name_fits, byte_fits, word_fits, constant_fits, lists_fit, parts_fit}
-use Rattle.code_core.proofs.CheckedLemmas.{first_of_two, rest_of, described_is_writable}
+use Rattle.code_core.specs.Writable.{constant_fits}
 use Rattle.machine_core.specs.Text.{constant}
 use Rattle.machine_sound.proofs.Values.{both_of, le_of}
 use Rattle.table_core.specs.declared.value.Value.{Value as Kept}
@@ -15,6 +12,7 @@ use Rattle.table_core.specs.declared.value.Value.TheVariants.{Nil as NilValue, B
 use Rattle.lua_heap.specs.declared.codes.Codes.{Codes}
 use Rattle.lua_heap.specs.Reading.{value}
 use Rattle.lua_heap.specs.Codes.{AreCodes}
+use Rattle.lua_heap.proofs.Growing.{constants_fit}
 use Rattle.lua_opening.proofs.Worlds.{still_read}
 
 constant_still : (texts more : List (List ℕ)) (v : Kept) (k : Const) → constant_fits k ≡ true → value texts v ≡ known (constant k) → value (texts ++ more) v ≡ known (constant k)
@@ -40,15 +38,6 @@ constants_still texts more (v ∷ vs) (k ∷ ks) f e =
     let rest : map (value texts) vs ≡ map (λ k. known (constant k)) ks = cc in
     let b = both_of _ _ f in
     ap (λ w. w ∷ map (value (texts ++ more)) vs) (constant_still texts more v k b.0 here) ∙ ap (λ l. known (constant k) ∷ l) (constants_still texts more vs ks b.1 rest)
-
-constants_fit : (p : Prototype) → IsChecked p → list_all constant_fits p.own.constants ≡ true
-constants_fit p h =
-    let own : Parts = p.own in
-    let parts : parts_fit own ≡ true = first_of_two (parts_fit own) _ (described_is_writable p h.code.described) in
-    let numbers = rest_of (number_fits own.last_line) (rest_of (number_fits own.line_defined) (rest_of (name_fits own.source) parts)) in
-    let bytes = rest_of (byte_fits own.stack) (rest_of (byte_fits own.params) numbers) in
-    let entries = rest_of (lists_fit own) bytes in
-    first_of_two (list_all constant_fits own.constants) _ (rest_of (list_all word_fits own.code) entries)
 
 pub codes_still : (texts more : List (List ℕ)) (codes : Codes) → AreCodes texts codes → AreCodes (texts ++ more) codes
 codes_still texts more codes h = record {
