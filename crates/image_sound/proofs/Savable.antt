@@ -7,6 +7,7 @@ use Rattle.int_core.specs.Heap.{Table}
 use Rattle.machine_core.specs.World.{Cell, closed, open_at, Wait, running, for_call, for_iterator, for_value, for_truth, dropped, for_concat, for_close, returning, leaving, Frame, lua, pcall, xpcall, handler, closing, Coroutine, fresh, suspended, in_progress, normal, dead, failed, World, frames_of, lua_frame, register_at}
 use Rattle.machine_sound.specs.Sound.{Each, Sizes, sizes, Valid, OptionOk, TableOk, FunctionOk, WaitOk, FrameOk, CoroutineOk, registers_in, registers_of, CellOk, Solid, apart, standing}
 use Rattle.machine_sound.proofs.Lists.{get_there}
+use Rattle.machine_sound.proofs.NewCoroutines.{coroutine_within}
 use Rattle.image_core.specs.Visit.{IsMet, greatest_count}
 use Rattle.image_core.specs.Image.{Item, open_record, closed_record}
 use Rattle.image_core.specs.Records.{Part, an_object, a_cell, same_part, Field, of_value, of_cell, of_coroutine, row_fields, metatable_value, table_fields, wait_fields, error_fields, frame_fields, coroutine_fields, present, cell_fields, if_there, fields, value_parts, unless_named, field_parts, parts, is_reached, parts_in_order, Naming, naming, item, record_of_table, record_of_function, record_of_coroutine, record_of_cell, or_none}
@@ -69,13 +70,6 @@ module _ (n : ℕ) (W : World) (s : Solid n W) where
               by_frame (Some (xpcall u)) k h = absurd (omega (arith, h))
               by_frame (Some handler) k h = absurd (omega (arith, h))
               by_frame (Some (closing u vs)) k h = absurd (omega (arith, h))
-
-  coroutine_there : (co g r : ℕ) → r < registers_of W.coroutines co g → co < length W.coroutines
-  coroutine_there co g r h = by_coroutine (slice_get W.coroutines co) refl h
-    where
-      by_coroutine : (o : Option Coroutine) → slice_get W.coroutines co ≡ o → r < elim (bind o frames_of) [ None ↦ 0 | Some frames ↦ registers_in frames g ] → co < length W.coroutines
-      by_coroutine None e h = absurd (omega (arith, h))
-      by_coroutine (Some c) e h = slice_get_within W.coroutines co c e
 
   -- values, cells and coroutines that an object names are there
   abbrev pub FieldOk : Field → Type 0
@@ -148,7 +142,7 @@ module _ (n : ℕ) (W : World) (s : Solid n W) where
       there = register_there co g r h
 
       go : (b : Bool) → Every FieldOk (cond b (of_coroutine co ∷ []) (of_value (present W (open_at co g r)) ∷ []))
-      go true = (coroutine_there co g r h, tt)
+      go true = (coroutine_within W.coroutines co g r h, tt)
       go false = (subst (Valid z) (sym (ap (λ o. unwrap_or o (known nil)) there.1)) there.2, tt)
 
   there_ok : {A : Type 0} (xs : List A) (P : A → Type 0) (f : A → List Field) → Each P xs → ((x : A) → P x → Every FieldOk (f x)) → (m : ℕ) → Every FieldOk (if_there f (slice_get xs m))

@@ -1,21 +1,22 @@
 -- The world of the libraries is sound, and stays so where a script begins in it and lines are handed over.
-use Rattle.std.proofs.Common.{ℕ, zero, suc, ◌+◌, ◌<◌, ◌≤◌, ◌≡◌, List, [], ◌∷◌, ◌++◌, Option, Some, None, refl, subst, sym, ap, length, map, filter, arith, Bool, true, false, cond, length-append}
+use Rattle.std.proofs.Common.{ℕ, zero, suc, ◌+◌, ◌<◌, ◌≤◌, ◌≡◌, List, [], ◌∷◌, ◌++◌, Some, refl, subst, sym, ap, length, map, filter, arith, Bool, true, false, cond, length-append}
 use Rattle.std.specs.Prelude.{slice_get, IsTrue, nat_le, nat_lt, codes, ◌&&◌}
 use Rattle.std.specs.List.{list_all, list_any}
 use Rattle.std.proofs.lemmas.List.{map-append}
-use Rattle.int_core.specs.Value.{Plain, nil, boolean, integer, string, primitive, a_table, a_function, a_coroutine, Value, known, object, greatest_string, bind}
+use Rattle.int_core.specs.Value.{Plain, nil, boolean, integer, string, primitive, a_table, a_function, a_coroutine, Value, known, object, greatest_string}
 use Rattle.int_core.specs.Operations.{before}
 use Rattle.code_core.specs.declared.proto.UpDesc.{UpDesc}
 use Rattle.code_core.specs.Prototype.{Prototype}
 use Rattle.code_core.specs.Check.{IsChecked}
 use Rattle.library_rows.specs.Library.{Library, of_globals, of_coroutine, of_string, of_table, of_math, of_utf8, Primitive, Entry, all_entries, constants}
-use Rattle.machine_core.specs.World.{Cell, closed, open_at, Coroutine, fresh, World, frames_of}
-use Rattle.machine_sound.specs.Sound.{Each, Sizes, sizes, Valid, TableOk, FunctionOk, CoroutineOk, standing, runs, resumed_another, ChainOk, CellOk, registers_in, registers_of, Solid, idle, Sound}
-use Rattle.machine_sound.proofs.Lists.{each_none, each_one, each_cons, each_tail, each_append, each_push, each_filter, each_on, get_within, get_push_old, get_push_new, get_front, each_eight}
+use Rattle.machine_core.specs.World.{Cell, closed, open_at, Coroutine, fresh, World}
+use Rattle.machine_sound.specs.Sound.{Each, Sizes, sizes, Valid, TableOk, FunctionOk, CoroutineOk, standing, runs, resumed_another, ChainOk, CellOk, registers_of, Solid, idle, Sound}
+use Rattle.machine_sound.proofs.Lists.{each_none, each_one, each_cons, each_tail, each_append, each_push, each_filter, each_on, get_push_old, get_push_new, get_front, each_eight}
 use Rattle.machine_sound.proofs.Values.{le_of, lt_of, both_of}
 use Rattle.machine_sound.proofs.Grow.{Grows, table_on, function_on, coroutine_on, valid_on}
 use Rattle.machine_sound.proofs.Chains.{chain_beside}
 use Rattle.machine_sound.proofs.Waits.{moving_solid}
+use Rattle.machine_sound.proofs.NewCoroutines.{coroutine_within}
 use Rattle.lua_meaning.specs.Libraries.{library_tables, plain_value, primitives_from, functions_from, primitive_values, constant_values, function_values, library_values, put_by_name, by_name, row_of_entry, table_of, is_in, library_table, is_named, first_of_each, environment, strings_meta}
 use Rattle.machine_runs.specs.Opening.{numbers, environment_cell, prelude_function, opening, nil_cells, main_cells, main_function, begun, handed_line}
 use Rattle.machine_runs.specs.Laws.{PreludeOk, MayTurn}
@@ -286,16 +287,9 @@ module _ (n : ℕ) (W : World) (main : Prototype) (s : Solid n W) (still : W.cha
     coroutines = (let l = length-append W.coroutines (fresh (object a_function (length W.functions)) ∷ []) in omega arith);
   }
 
-  within : (co g r : ℕ) → r < registers_of W.coroutines co g → co < length W.coroutines
-  within co g r h = from (slice_get W.coroutines co) refl h
-    where
-      from : (o : Option Coroutine) → slice_get W.coroutines co ≡ o → r < elim (bind o frames_of) as (λ _. ℕ) [ None ↦ 0 | Some frames ↦ registers_in frames g ] → co < length W.coroutines
-      from None e h = absurd (omega arith)
-      from (Some c) e h = get_within W.coroutines co c e
-
   cell_more : (c : Cell) → CellOk (sizes n W) W.coroutines c → CellOk (sizes n V) V.coroutines c
   cell_more (closed x) h = valid_on (sizes n W) (sizes n V) grows x h
-  cell_more (open_at co g r) h = subst (λ m. r < m) (sym (rw (get_front W.coroutines (fresh (object a_function (length W.functions)) ∷ []) co (within co g r h), registers_of) refl)) h
+  cell_more (open_at co g r) h = subst (λ m. r < m) (sym (rw (get_front W.coroutines (fresh (object a_function (length W.functions)) ∷ []) co (coroutine_within W.coroutines co g r h), registers_of) refl)) h
 
   function_new : FunctionOk (sizes n V) (main_function W main)
   function_new = record {

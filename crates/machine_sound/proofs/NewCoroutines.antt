@@ -31,6 +31,14 @@ same_under n (Some t) W V e h k f = record { all = k; top = ap (λ fs. top_shape
     same (Some handler) = refl
     same (Some (closing x left)) = refl
 
+-- a coroutine of which a frame has registers is there
+pub coroutine_within : (cs : List Coroutine) (co g r : ℕ) → r < registers_of cs co g → co < length cs
+coroutine_within cs co g r h = from (slice_get cs co) refl h
+  where
+    from : (o : Option Coroutine) → slice_get cs co ≡ o → r < elim (bind o frames_of) as (λ _. ℕ) [ None ↦ 0 | Some frames ↦ registers_in frames g ] → co < length cs
+    from None e h = absurd (omega arith)
+    from (Some c) e h = get_within cs co c e
+
 -- one more coroutine
 module _ (n : ℕ) (W : World) (s : Solid n W) (v : Value) (ok : Valid (sizes n W) v) (f : IsTrue (is_function v)) where
   abbrev V : World
@@ -39,16 +47,9 @@ module _ (n : ℕ) (W : World) (s : Solid n W) (v : Value) (ok : Valid (sizes n 
   more_grows : Grows (sizes n W) (sizes n V)
   more_grows = record { primitives = refl; tables = omega arith; some = omega arith; functions = λ i f e. e; cells = omega arith; coroutines = (let l = length-append W.coroutines (fresh v ∷ []) in omega arith) }
 
-  within : (co g r : ℕ) → r < registers_of W.coroutines co g → co < length W.coroutines
-  within co g r h = from (slice_get W.coroutines co) refl h
-    where
-      from : (o : Option Coroutine) → slice_get W.coroutines co ≡ o → r < elim (bind o frames_of) as (λ _. ℕ) [ None ↦ 0 | Some frames ↦ registers_in frames g ] → co < length W.coroutines
-      from None e h = absurd (omega arith)
-      from (Some c) e h = get_within W.coroutines co c e
-
   cell_more : (c : Cell) → CellOk (sizes n W) W.coroutines c → CellOk (sizes n V) V.coroutines c
   cell_more (closed x) h = valid_on (sizes n W) (sizes n V) more_grows x h
-  cell_more (open_at co g r) h = subst (λ m. r < m) (sym (rw (get_front W.coroutines (fresh v ∷ []) co (within co g r h), registers_of) refl)) h
+  cell_more (open_at co g r) h = subst (λ m. r < m) (sym (rw (get_front W.coroutines (fresh v ∷ []) co (coroutine_within W.coroutines co g r h), registers_of) refl)) h
 
   more_solid : Solid n V
   more_solid =
