@@ -30,11 +30,11 @@ use Rattle.graph_core.proofs.Named.{found, permanent_eq, read_same}
 abbrev pub key_eq : PermanentKey → PermanentKey → Bool
 key_eq = (key_impl.ghosts).eq
 
-number_in : PermKey → ℤ → ℤ
+pub number_in : PermKey → ℤ → ℤ
 number_in (number_key n) m = n
 number_in (text_key s) m = m
 
-text_in : PermKey → List ℕ → List ℕ
+pub text_in : PermKey → List ℕ → List ℕ
 text_in (text_key s) t = s
 text_in (number_key n) t = t
 
