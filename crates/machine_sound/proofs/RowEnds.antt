@@ -36,7 +36,7 @@ plain_size h n = h.plain n
 pub sized : {t : Top} {w : Instruction} {op : Opcode} → Here t w op → takes_list op w ≡ false → (i r : ℕ) → slice_get (registers op w) i ≡ Some r → r < t.size
 sized h n i r e = let a = (h.plain n).0 in let b = reg h i r e in omega arith
 
-there_within : {A : Type 0} (test : A → Bool) (xs : List A) (n : ℕ) → IsTrue (there test (slice_get xs n)) → n < length xs
+pub there_within : {A : Type 0} (test : A → Bool) (xs : List A) (n : ℕ) → IsTrue (there test (slice_get xs n)) → n < length xs
 there_within test xs n h = from (slice_get xs n) refl h
   where
     from : (o : Option _) → slice_get xs n ≡ o → IsTrue (there test o) → n < length xs

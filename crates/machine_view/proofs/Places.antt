@@ -1,5 +1,5 @@
 -- What the rules on code say of an instruction: the registers and constants that it names are there, and so are the places to which it goes.
-use Rattle.std.proofs.Common.{◌≡◌, ℕ, ◌+◌, ◌<◌, List, length, Option, Some, None, refl, ap, sym, ◌∙◌, subst, arith, Bool, false}
+use Rattle.std.proofs.Common.{◌≡◌, ℕ, ◌+◌, ◌<◌, List, length, Option, Some, None, refl, ap, sym, ◌∙◌, subst, arith, false}
 use Rattle.std.specs.Prelude.{ℤ, pos, negsuc, slice_get, IsTrue, nat_lt, cond, option_and_then}
 use Rattle.std.proofs.lemmas.List.{length-map}
 use Rattle.code_core.specs.Check.{at, there, lands, is_landing, constant_is, extra_at, goes_on, is_same}
@@ -13,19 +13,12 @@ use Rattle.code_core.specs.Prototype.{Prototype}
 use Rattle.int_core.specs.Value.{known}
 use Rattle.lua_heap.specs.Reading.{value}
 use Rattle.machine_core.specs.Text.{constant}
-use Rattle.machine_sound.proofs.Lists.{get_within, some_is}
+use Rattle.machine_sound.proofs.Lists.{some_is}
 use Rattle.machine_sound.proofs.Values.{lt_of, both_of, all_get}
 use Rattle.machine_sound.proofs.Rules.{RulesAt, rules_at, or_of}
-use Rattle.machine_sound.proofs.RowEnds.{second_at}
+use Rattle.machine_sound.proofs.RowEnds.{second_at, there_within}
 use Rattle.machine_view.specs.View.{IsAt}
 use Rattle.table_core.specs.declared.value.Value.{Value as Kept}
-
-there_within : {A : Type 0} (test : A → Bool) (xs : List A) (n : ℕ) → IsTrue (there test (slice_get xs n)) → n < length xs
-there_within test xs n h = from (slice_get xs n) refl h
-  where
-    from : (o : Option _) → slice_get xs n ≡ o → IsTrue (there test o) → n < length xs
-    from None e h = absurd (cc)
-    from (Some x) e h = get_within xs n x e
 
 extra_of : (p : Prototype) (pc : ℕ) (v : Instruction) → at p (pc + 1) ≡ Some v → opcode_of v ≡ Some ExtraArg → extra_at p pc ≡ Some (ax_of v)
 unfolding number_of
