@@ -4,23 +4,12 @@ use Rattle.std.specs.Prelude.{map}
 use Rattle.machine_sound.specs.Sound.{Each, Sizes, Valid, sizes, Sound}
 use Rattle.machine_sound.proofs.Lists.{each_tail}
 use Rattle.table_core.specs.declared.value.Value.{Value as Kept}
-use Rattle.table_core.specs.declared.value.Value.TheVariants.{Nil, Bool as Boolean, Int, Str, Prim, Table, Func, Coro}
 use Rattle.lua_heap.specs.declared.world.World.{World as Memory}
-use Rattle.lua_heap.specs.Errors.{HasText}
 use Rattle.lua_heap.specs.Law.{StringsAreThere}
 use Rattle.lua_heap.specs.Plain.{plain}
 use Rattle.lua_heap.specs.Reading.{value}
+use Rattle.lua_heap.proofs.TextsThere.{has_text}
 use Rattle.lua_session.specs.Report.{HaveTexts}
-
-has_text : StringsAreThere → (z : Sizes) (texts : List (List ℕ)) (v : Kept) → Valid z (value texts v) → HasText texts v
-has_text law z texts Nil h = tt
-has_text law z texts (Boolean b) h = tt
-has_text law z texts (Int n) h = tt
-has_text law z texts (Str id) h = law z texts id h
-has_text law z texts (Prim n) h = tt
-has_text law z texts (Table id) h = tt
-has_text law z texts (Func id) h = tt
-has_text law z texts (Coro id) h = tt
 
 have_texts : StringsAreThere → (z : Sizes) (texts : List (List ℕ)) (vs : List Kept) → Each (Valid z) (map (value texts) vs) → HaveTexts texts vs
 have_texts law z texts [] h = tt

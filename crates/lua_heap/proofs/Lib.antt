@@ -12,3 +12,4 @@ mod Placed
 pub mod Resumed
 pub mod Captured
 pub mod Closed
+pub mod TextsThere

@@ -10,10 +10,7 @@ use Rattle.machine_core.specs.Moves.{placed, Row, act, stop, Ending, raised, run
 use Rattle.machine_core.specs.MachineStep.{errs_at, error_row, level_in, wrong_type}
 use Rattle.machine_sound.specs.Sound.{Sizes, Each, Valid}
 use Rattle.table_core.specs.declared.value.Value.{Value as Kept}
-use Rattle.table_core.specs.declared.value.Value.TheVariants.{Nil, Bool, Int, Str, Prim, Table, Func, Coro}
 use Rattle.lua_heap.specs.declared.world.World.{World as Memory}
-use Rattle.lua_heap.specs.Errors.{HasText}
-use Rattle.lua_heap.specs.Law.{StringsAreThere}
 use Rattle.lua_heap.specs.Plain.{plain}
 use Rattle.lua_heap.specs.Reading.{value}
 use Rattle.move_laws.specs.Memory.{Leads, Makes, ReadsSame}
@@ -25,18 +22,6 @@ use Rattle.machine_errors.specs.Throwing.{level_of, Sends}
 use Rattle.machine_errors.proofs.Leaving.{with_moving, world_made}
 use Rattle.machine_errors.proofs.Handled.{takes_first}
 use Rattle.machine_errors.proofs.Calls.{blames_taken, next_behind, nth_behind, nth_first, nth_second, where_same}
-
--- strings among the values that move are there
-
-pub has_text : StringsAreThere → (z : Sizes) (texts : List (List ℕ)) (v : Kept) → Valid z (value texts v) → HasText texts v
-has_text law z texts Nil h = tt
-has_text law z texts (Bool b) h = tt
-has_text law z texts (Int n) h = tt
-has_text law z texts (Str id) h = law z texts id h
-has_text law z texts (Prim n) h = tt
-has_text law z texts (Table id) h = tt
-has_text law z texts (Func id) h = tt
-has_text law z texts (Coro id) h = tt
 
 pub first_valid : (z : Sizes) (texts : List (List ℕ)) (vs : List Kept) → Each (Valid z) (map (value texts) vs) → Valid z (value texts (first_of vs))
 first_valid z texts [] e = tt

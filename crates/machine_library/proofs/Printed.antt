@@ -9,12 +9,12 @@ use Rattle.machine_core.specs.MachineStep.{print_row}
 use Rattle.machine_core.specs.Moves.{Ending, Made, take_moving, add_printed, bytes_in, run}
 use Rattle.machine_sound.specs.Sound.{Each, Sizes, Valid, sizes}
 use Rattle.table_core.specs.declared.value.Value.{Value as Kept}
-use Rattle.table_core.specs.declared.value.Value.TheVariants.{Nil, Bool, Int, Str, Prim, Table, Func, Coro}
 use Rattle.lua_heap.specs.declared.world.World.{World as Memory}
 use Rattle.lua_heap.specs.Errors.{HasText}
 use Rattle.lua_heap.specs.Law.{StringsAreThere}
 use Rattle.lua_heap.specs.Plain.{plain}
 use Rattle.lua_heap.specs.Reading.{value}
+use Rattle.lua_heap.proofs.TextsThere.{has_text}
 use Rattle.move_laws.specs.Memory.{Makes, Leads, IsSound, HasStack}
 use Rattle.machine_library.specs.Answers.{IsFirst, PrintsValue}
 
@@ -22,18 +22,8 @@ first_valid : (z : Sizes) (texts : List (List ℕ)) (vs : List Kept) (v : Kept) 
 first_valid z texts [] v n h e = subst (Valid z) e n
 first_valid z texts (x ∷ vs) v n h e = subst (Valid z) e (h 0 (value texts x) refl)
 
-has_text : (z : Sizes) → StringsAreThere → (texts : List (List ℕ)) (v : Kept) → Valid z (value texts v) → HasText texts v
-has_text z law texts Nil h = tt
-has_text z law texts (Bool b) h = tt
-has_text z law texts (Int n) h = tt
-has_text z law texts (Str id) h = law z texts id h
-has_text z law texts (Prim n) h = tt
-has_text z law texts (Table id) h = tt
-has_text z law texts (Func id) h = tt
-has_text z law texts (Coro id) h = tt
-
 pub text_there : StringsAreThere → (W : Memory) (v : Kept) → IsSound W → IsFirst W.moving.items v → HasText W.strings v
-text_there law W v s f = let z = sizes s.primitives (plain W 0) in has_text z law W.strings v (first_valid z W.strings W.moving.items v tt s.sound.solid.moving (f W.strings))
+text_there law W v s f = let z = sizes s.primitives (plain W 0) in has_text law z W.strings v (first_valid z W.strings W.moving.items v tt s.sound.solid.moving (f W.strings))
 
 still_runs : (old printed : Memory) → HasStack old → printed ≡ record old { printed = printed.printed } → HasStack printed
 still_runs old printed h e = subst HasStack (sym e) (record { stack = h.stack; is = h.is })

@@ -5,6 +5,7 @@ use Rattle.int_core.specs.Value.{shape}
 use Rattle.lua_heap.specs.Errors.{HasText}
 use Rattle.lua_heap.specs.Plain.{plain}
 use Rattle.lua_heap.specs.Reading.{value}
+use Rattle.lua_heap.proofs.TextsThere.{has_text}
 use Rattle.machine_core.specs.FrameRows.{blames}
 use Rattle.machine_core.specs.MachineStep.{error_row, level_in, wrong_type}
 use Rattle.machine_core.specs.Moves.{placed}
@@ -15,7 +16,7 @@ use Rattle.machine_moves.proofs.OnTop.{if_ok}
 use Rattle.machine_errors.specs.declared.throwing.Level.TheVariants.{Of, Nowhere, Wrong}
 use Rattle.machine_errors.specs.Protected.{first_of}
 use Rattle.machine_errors.specs.Throwing.{level_of, Sends}
-use Rattle.machine_errors.proofs.Thrown.{first_valid, has_text, refuses, second_valid, throws, throws_placed}
+use Rattle.machine_errors.proofs.Thrown.{first_valid, refuses, second_valid, throws, throws_placed}
 use Rattle.machine_errors.proofs.throwing.error.Goals as goal
 
 pub level_of-requires : goal.level_of-requires
