@@ -1,7 +1,7 @@
 -- The definitions tried on the chunk that luac writes for `print("hi")` with its debug information stripped, whole and altered.
-use Rattle.std.proofs.Common.{◌≡◌, ℕ, true, List, [], ◌∷◌, Some, None, refl, drop}
+use Rattle.std.proofs.Common.{◌≡◌, ℕ, true, List, [], ◌∷◌, Some, refl, drop}
 use Rattle.code_core.specs.declared.proto.Const.TheVariants.{Str}
-use Rattle.code_core.specs.Prototype.{Prototype, none}
+use Rattle.code_core.specs.Prototype.{Prototype, none, stripped}
 use Rattle.code_core.specs.Writable.{is_writable}
 use Rattle.chunk_format.specs.Spelling.{chunk}
 use Rattle.chunk_format.specs.Reading.{read_function, chunk_kind}
@@ -9,24 +9,9 @@ use Rattle.chunk_format.specs.Grammar.{ChunkOf, WholeOf, BeginsWith}
 use Rattle.chunk_format.proofs.SpelledFunctions.{chunk_spelled, whole_spelled}
 
 unfoldable pub print_hi : Prototype
-print_hi = record {
-  own = record {
-    source = None;
-    line_defined = 0;
-    last_line = 0;
-    params = 0;
-    vararg = true;
-    stack = 2;
-    code = record { 0 = 0x51 } ∷ record { 0 = 0x0b } ∷ record { 0 = 0x8083 } ∷ record { 0 = 0x01020044 } ∷ record { 0 = 0x01010046 } ∷ [];
-    constants = Str (112 ∷ 114 ∷ 105 ∷ 110 ∷ 116 ∷ []) ∷ Str (104 ∷ 105 ∷ []) ∷ [];
-    upvalues = record { in_stack = true; index = 0; kind = 0 } ∷ [];
-    line_info = [];
-    abs_lines = [];
-    locals = [];
-    up_names = [];
-  };
-  inner = none;
-}
+print_hi =
+    stripped 0 true 2 (record { 0 = 0x51 } ∷ record { 0 = 0x0b } ∷ record { 0 = 0x8083 } ∷ record { 0 = 0x01020044 } ∷ record { 0 = 0x01010046 } ∷ [])
+    (Str (112 ∷ 114 ∷ 105 ∷ 110 ∷ 116 ∷ []) ∷ Str (104 ∷ 105 ∷ []) ∷ []) (record { in_stack = true; index = 0; kind = 0 } ∷ []) none
 
 abbrev pub print_hi_bytes : List ℕ
 print_hi_bytes =

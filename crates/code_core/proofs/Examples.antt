@@ -1,33 +1,16 @@
 -- The definitions tried on the code that luac writes for `print("hi")`, and on that code with one word changed.
-use Rattle.std.proofs.Common.{◌≡◌, ℕ, ◌+◌, true, cond, List, [], ◌∷◌, ◌++◌, None, refl}
+use Rattle.std.proofs.Common.{◌≡◌, ℕ, ◌+◌, true, cond, List, [], ◌∷◌, ◌++◌, refl}
 use Rattle.code_core.specs.declared.instruction.Instruction.{Instruction}
 use Rattle.code_core.specs.declared.proto.Const.TheVariants.{Str}
 use Rattle.code_core.specs.Opcode.{opcodes, number_of}
-use Rattle.code_core.specs.Prototype.{Prototype, none}
+use Rattle.code_core.specs.Prototype.{Prototype, none, stripped}
 use Rattle.code_core.specs.Check.{Rule, rules, is_sized, is_described}
 
 word : ℕ → Instruction
 word n = record { 0 = n }
 
 abbrev print_hi : List Instruction → Prototype
-print_hi code = record {
-  own = record {
-    source = None;
-    line_defined = 0;
-    last_line = 0;
-    params = 0;
-    vararg = true;
-    stack = 2;
-    code = code;
-    constants = Str (112 ∷ 114 ∷ 105 ∷ 110 ∷ 116 ∷ []) ∷ Str (104 ∷ 105 ∷ []) ∷ [];
-    upvalues = record { in_stack = true; index = 0; kind = 0 } ∷ [];
-    line_info = [];
-    abs_lines = [];
-    locals = [];
-    up_names = [];
-  };
-  inner = none;
-}
+print_hi code = stripped 0 true 2 code (Str (112 ∷ 114 ∷ 105 ∷ 110 ∷ 116 ∷ []) ∷ Str (104 ∷ 105 ∷ []) ∷ []) (record { in_stack = true; index = 0; kind = 0 } ∷ []) none
 
 abbrev broken : ℕ → List Rule → List (ℕ × ℕ)
 broken pc [] = []

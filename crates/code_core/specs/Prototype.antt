@@ -1,5 +1,5 @@
 -- A function's prototype as plain lists (lobject.h of Lua 5.4).
-use Rattle.std.specs.Prelude.{ℕ, ◌+◌, ℤ, Bool, List, [], ◌∷◌, Option, length}
+use Rattle.std.specs.Prelude.{ℕ, ◌+◌, ℤ, Bool, List, [], ◌∷◌, Option, None, length}
 use Rattle.code_core.specs.declared.instruction.Instruction.{Instruction}
 use Rattle.code_core.specs.declared.proto.Const.{Const}
 use Rattle.code_core.specs.declared.proto.UpDesc.{UpDesc}
@@ -34,6 +34,27 @@ pub record Prototype : Type 0 where
 abbrev pub prototypes : List Prototype → Prototypes
 prototypes [] = none
 prototypes (p ∷ ps) = more p.own p.inner (prototypes ps)
+
+-- a function of which no more is kept than what it does: without its source, lines and names
+abbrev pub stripped : (params : ℕ) (vararg : Bool) (stack : ℕ) (code : List Instruction) (constants : List Const) (upvalues : List UpDesc) (inner : Prototypes) → Prototype
+stripped params vararg stack code constants upvalues inner = record {
+  own = record {
+    source = None;
+    line_defined = 0;
+    last_line = 0;
+    params = params;
+    vararg = vararg;
+    stack = stack;
+    code = code;
+    constants = constants;
+    upvalues = upvalues;
+    line_info = [];
+    abs_lines = [];
+    locals = [];
+    up_names = [];
+  };
+  inner = inner;
+}
 
 abbrev pub list_of : Prototypes → List Prototype
 list_of none = []

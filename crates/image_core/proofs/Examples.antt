@@ -2,17 +2,14 @@
 use Rattle.std.proofs.Common.{ℕ, ◌≡◌, pos, List, [], ◌∷◌, Option, Some, None, refl, true, false}
 use Rattle.int_core.specs.Value.{nil, boolean, integer, string, primitive, a_table, a_function, a_coroutine, Value, known, object}
 use Rattle.int_core.specs.Heap.{Table}
-use Rattle.code_core.specs.Prototype.{Prototype, none}
+use Rattle.code_core.specs.Prototype.{Prototype, none, stripped}
 use Rattle.machine_core.specs.World.{closed, open_at, for_call, Frame, lua, pcall, suspended, World}
 use Rattle.image_core.specs.Image.{text_key, Perm, plain, numbered, permanent, lua_item, pcall_item, table_record, function_record, closed_record, open_record, suspended_record}
 use Rattle.image_core.specs.Records.{an_object, a_cell, named, parts_in_order, image_of}
 use Rattle.image_core.specs.Loading.{Target, loaded}
 
 abbrev code : Prototype
-code = record {
-  own = record { source = None; line_defined = 0; last_line = 0; params = 0; vararg = false; stack = 2; code = []; constants = []; upvalues = []; line_info = []; abs_lines = []; locals = []; up_names = [] };
-  inner = none;
-}
+code = stripped 0 false 2 [] [] [] none
 
 abbrev table : List (Value × Value) → Option ℕ → Table
 table rows m = record { rows = rows; metatable = m }

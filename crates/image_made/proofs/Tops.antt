@@ -5,7 +5,7 @@ use Rattle.std.specs.Option.{option_map}
 use Rattle.std.proofs.lemmas.Option.{slice_get_within}
 use Rattle.std.proofs.Math.Seq.{take-suc}
 use Rattle.std.proofs.lemmas.List.{length-map, map-append, take_all}
-use Rattle.code_core.specs.Prototype.{Prototype, none}
+use Rattle.code_core.specs.Prototype.{Prototype, none, stripped}
 use Rattle.int_core.specs.Value.{Value, fitted}
 use Rattle.machine_core.specs.Moves.{new_frame}
 use Rattle.machine_core.specs.World.{LuaFrame, Frame, lua, xpcall, closing}
@@ -24,24 +24,7 @@ use Rattle.image_made.specs.Stacks.{HasFrame, HasRoom, Pushes, Puts, begun, nils
 
 -- a prototype of a shape
 prototype : (params stack : ℕ) → Prototype
-prototype params stack = record {
-  own = record {
-    source = None;
-    line_defined = 0;
-    last_line = 0;
-    params = params;
-    vararg = true;
-    stack = stack;
-    code = [];
-    constants = [];
-    upvalues = [];
-    line_info = [];
-    abs_lines = [];
-    locals = [];
-    up_names = [];
-  };
-  inner = none;
-}
+prototype params stack = stripped params true stack [] [] [] none
 
 fitted_whole : (vs : List Value) → fitted (length vs) vs ≡ vs
 fitted_whole [] = refl

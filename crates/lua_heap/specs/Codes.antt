@@ -1,7 +1,7 @@
 -- Code in memory: the functions of prototypes in a list, and what is kept of each.
 use Rattle.std.specs.Prelude.{◌≡◌, ℕ, suc, ◌+◌, List, [], ◌∷◌, ◌++◌, Option, Some, None, false, length, map, take, slice_get}
 use Rattle.int_core.specs.Value.{known}
-use Rattle.code_core.specs.Prototype.{Prototype, Prototypes, none, more, prototypes, count}
+use Rattle.code_core.specs.Prototype.{Prototype, Prototypes, none, more, prototypes, count, stripped}
 use Rattle.code_core.specs.Check.{IsChecked}
 use Rattle.machine_core.specs.Text.{constant}
 use Rattle.lua_heap.specs.declared.codes.Code.{Code}
@@ -47,24 +47,7 @@ pub record AreCodes (texts : List (List ℕ)) (codes : Codes) : Type 0 where
 
 -- what stands for a function that is not there: no checked code is empty
 unfoldable pub no_code : Prototype
-no_code = record {
-  own = record {
-    source = None;
-    line_defined = 0;
-    last_line = 0;
-    params = 0;
-    vararg = false;
-    stack = 0;
-    code = [];
-    constants = [];
-    upvalues = [];
-    line_info = [];
-    abs_lines = [];
-    locals = [];
-    up_names = [];
-  };
-  inner = none;
-}
+no_code = stripped 0 false 0 [] [] [] none
 
 abbrev pub code_or_none : Option Prototype → Prototype
 code_or_none None = no_code

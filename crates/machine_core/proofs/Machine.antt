@@ -6,7 +6,7 @@ use Rattle.code_core.specs.declared.opcode.Opcode.TheVariants.{Move, LoadI, GetU
 use Rattle.code_core.specs.declared.proto.Const.{Const}
 use Rattle.code_core.specs.declared.proto.UpDesc.{UpDesc}
 use Rattle.code_core.specs.Instruction.{abc, abx, op_ax}
-use Rattle.code_core.specs.Prototype.{Prototype, prototypes}
+use Rattle.code_core.specs.Prototype.{Prototype, prototypes, stripped}
 use Rattle.int_core.specs.Value.{boolean, integer, string, primitive, a_table, a_function, a_coroutine, Value, known, object}
 use Rattle.int_core.specs.Heap.{Table, raw_set}
 use Rattle.machine_core.specs.World.{Function, Cell, closed, fresh, in_progress, World, put_frames, put_top, push, pop, write_cell}
@@ -20,24 +20,7 @@ abbrev pub primitives : ℕ → Row
 primitives n = elim (slice_get (pcall_row ∷ xpcall_row ∷ error_row ∷ resume_row ∷ yield_row ∷ close_row ∷ []) n) [ None ↦ traps | Some row ↦ row ]
 
 abbrev pub code : ℕ → Bool → ℕ → List Const → List UpDesc → List Prototype → List Instruction → Prototype
-code params vararg stack constants upvalues inner words = record {
-  own = record {
-    source = None;
-    line_defined = 0;
-    last_line = 0;
-    params = params;
-    vararg = vararg;
-    stack = stack;
-    code = words;
-    constants = constants;
-    upvalues = upvalues;
-    line_info = [];
-    abs_lines = [];
-    locals = [];
-    up_names = [];
-  };
-  inner = prototypes inner;
-}
+code params vararg stack constants upvalues inner words = stripped params vararg stack words constants upvalues (prototypes inner)
 
 -- a function without parameters
 abbrev pub plain : ℕ → List Instruction → Prototype

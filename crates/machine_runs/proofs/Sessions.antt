@@ -8,7 +8,7 @@ use Rattle.code_core.specs.declared.proto.Const.{Const}
 use Rattle.code_core.specs.declared.proto.Const.TheVariants.{Str}
 use Rattle.code_core.specs.Opcode.{opcodes, number_of}
 use Rattle.code_core.specs.Instruction.{abc, abx}
-use Rattle.code_core.specs.Prototype.{Prototype, none}
+use Rattle.code_core.specs.Prototype.{Prototype, none, stripped}
 use Prim.Native.String.{String}
 use Rattle.int_core.specs.Value.{nil, boolean, integer, string, primitive, Value, known, object, table_values}
 use Rattle.int_core.specs.Rows.{get}
@@ -23,24 +23,7 @@ use Rattle.machine_runs.specs.Opening.{opening, begun, handed_line}
 use Rattle.machine_runs.specs.Runs.{wakes, Close, has_returned, has_failed, has_spent, is_suspended, Run, run_from}
 
 abbrev function : (params stack : ℕ) → List Instruction → List Const → Prototype
-function params stack code constants = record {
-  own = record {
-    source = None;
-    line_defined = 0;
-    last_line = 0;
-    params = params;
-    vararg = false;
-    stack = stack;
-    code = code;
-    constants = constants;
-    upvalues = record { in_stack = true; index = 0; kind = 0 } ∷ [];
-    line_info = [];
-    abs_lines = [];
-    locals = [];
-    up_names = [];
-  };
-  inner = none;
-}
+function params stack code constants = stripped params false stack code constants (record { in_stack = true; index = 0; kind = 0 } ∷ []) none
 
 -- function print(s) out(s) end
 abbrev print_code : Prototype

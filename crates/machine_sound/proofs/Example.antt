@@ -7,7 +7,7 @@ use Rattle.code_core.specs.declared.opcode.Opcode.TheVariants.{ExtraArg, LoadI, 
 use Rattle.code_core.specs.declared.instruction.Instruction.{Instruction}
 use Rattle.code_core.specs.Opcode.{opcodes, number_of}
 use Rattle.code_core.specs.Instruction.{opcode_of, abc, abx}
-use Rattle.code_core.specs.Prototype.{Prototype, none}
+use Rattle.code_core.specs.Prototype.{Prototype, none, stripped}
 use Rattle.code_core.specs.Check.{IsChecked, AllHold, Rule, rules, at}
 use Rattle.machine_core.specs.World.{Function, running, LuaFrame, lua, in_progress, World, put_top, put_frames, pop, find_open}
 use Rattle.machine_core.specs.Text.{keep_pending, effect}
@@ -21,24 +21,7 @@ use Rattle.machine_sound.proofs.Lists.{each_none, each_one}
 use Rattle.machine_sound.proofs.Values.{both_of, each_nils}
 
 abbrev code : Prototype
-code = record {
-  own = record {
-    source = None;
-    line_defined = 0;
-    last_line = 0;
-    params = 0;
-    vararg = false;
-    stack = 2;
-    code = abx LoadI 0 65542 ∷ abc Return1 0 2 0 false ∷ [];
-    constants = [];
-    upvalues = [];
-    line_info = [];
-    abs_lines = [];
-    locals = [];
-    up_names = [];
-  };
-  inner = none;
-}
+code = stripped 0 false 2 (abx LoadI 0 65542 ∷ abc Return1 0 2 0 false ∷ []) [] [] none
 
 all_hold : (rs : List Rule) → IsTrue (list_all (λ r. r.1) rs) → AllHold rs
 all_hold [] h = tt
