@@ -1,11 +1,10 @@
 -- No function of a library pays, so none ends as spent.
 use Rattle.std.proofs.Common.{◌≡◌, ℕ, zero, suc, List, [], ◌∷◌, ◌++◌, Bool, true, false, Option, Some, None, length, refl, ap, sym, subst}
-use Rattle.std.specs.Prelude.{codes, ℤ, pos, negsuc, cond, drop, slice_get, ◌&&◌, nat_lt}
-use Rattle.int_core.specs.Limits.{greatest_resumes, stack_overflow}
-use Rattle.int_core.specs.Value.{nil, boolean, integer, string, primitive, a_table, a_function, a_coroutine, Value, known, object, Shape, is_known, is_object, bind}
-use Rattle.machine_core.specs.World.{Function, Coroutine, fresh, suspended, in_progress, normal, dead, failed, World, Stack, stack_of}
-use Rattle.machine_core.specs.Moves.{on_own, move_pc, open_register, outside, settle, enter, enter_tail, await, find_close, is_closable, begin_leaving, leave_frame, take_moving, look, give, give_with, blame, place_text, push_frame, call_value, see_top, see_catcher, pop_frame, take_closing, set_error, end_coroutine, fail_coroutine, suspend, create, consult, see_status, see_running, print, resume, begin_closing, make_loaded, Move, Told, Made, made, move, CallShape, is_entered, is_primitive, not_paid, not_entered, ResumeShape, resumed, refused, enters, has_room, push_all, new_frame, starts_in, can_start, resumes, wait_for_another, closes_in, closes_coroutine, go_into, coroutine_number, Ending, Row, traps, stop, only, act, Outcome, trapped, ends, run}
-use Rattle.machine_core.specs.World.{push, closing}
+use Rattle.std.specs.Prelude.{codes, ℤ, pos, negsuc, cond, drop}
+use Rattle.int_core.specs.Limits.{stack_overflow}
+use Rattle.int_core.specs.Value.{a_table, a_function, a_coroutine, Value, Shape, is_known, is_object}
+use Rattle.machine_core.specs.World.{World}
+use Rattle.machine_core.specs.Moves.{create, Told, Made, move, CallShape, is_entered, is_primitive, not_paid, not_entered, ResumeShape, resumed, refused, resumes, closes_coroutine, Ending, Row, traps, stop, only, act, Outcome, trapped, ends, run}
 use Rattle.machine_core.specs.Text.{Arg, read}
 use Rattle.machine_core.specs.FrameRows.{hand_over, blames, over_frame, closing_row}
 use Rattle.machine_core.specs.MachineStep.{gives_back, look_row, after_look, pcall_row, xpcall_row, error_row, level_in, errs_at, after_entry, after_resume, resume_row, yield_row, after_closing, close_row, can_call, wrong_type, create_row, sees_status, status_row, running_row, print_row}
@@ -23,126 +22,15 @@ use Rattle.move_laws.specs.Memory.{Leads}
 use Rattle.machine_primitives.specs.declared.primitives.Called.{Called}
 use Rattle.machine_primitives.specs.declared.primitives.Called.TheVariants.{Library, Error, Pcall, Xpcall, Close, Create, IsYieldable, Resume, Running, Status, Yield, Build, Print}
 use Rattle.machine_primitives.specs.Primitives.{row_by}
-use Rattle.machine_sound.proofs.Lists.{bind_some, some_is}
+use Rattle.machine_sound.proofs.Unpaid.{ResumedUnpaid, Tells, tells_so}
 use Rattle.move_laws.proofs.Order.{is_spent}
-
--- what a resume tells: it calls without paying
-
-abbrev pub Free : ResumeShape → Type 0
-Free (resumed not_paid) = ⊥
-Free (resumed is_entered) = Unit {0}
-Free (resumed (is_primitive n)) = Unit {0}
-Free (resumed (not_entered text)) = Unit {0}
-Free (refused text) = Unit {0}
-
-abbrev pub TellsSo : (m : Move) → Told m → Type 0
-TellsSo (resume x slot) s = Free s
-TellsSo (begin_closing x) s = Free s
-TellsSo m t = Unit {0}
-
-tells_of : {A : Type 0} (P : A → Type 0) (W : World) (vs : List Value) (t : A) (d : Made A) → made W vs t ≡ Some d → P t → P d.told
-tells_of {A} P W vs t d e p = subst (λ (d : Made A). P d.told) (some_is {o = made W vs t} refl e) p
-
-entered_free : (f : Value) (arguments : List Value) (W : World) (d : Made CallShape) → enters W f arguments ≡ Some d → Free (resumed d.told)
-entered_free (known nil) arguments W d e = absurd (cc)
-entered_free (known (boolean b)) arguments W d e = absurd (cc)
-entered_free (known (integer n)) arguments W d e = absurd (cc)
-entered_free (known (string s)) arguments W d e = absurd (cc)
-entered_free (known (primitive n)) arguments W d e = tells_of (λ s. Free (resumed s)) (record W { moving = arguments }) [] (is_primitive n) d e tt
-entered_free (object a_table n) arguments W d e = absurd (cc)
-entered_free (object a_coroutine n) arguments W d e = absurd (cc)
-entered_free (object a_function n) arguments W d e =
-    let f = bind_some (λ (f : Function). cond (has_room W 1) (made (push_all W (new_frame n f.code arguments ∷ [])) [] is_entered) (made W [] (not_entered stack_overflow))) (slice_get W.functions n) d e in
-    by (push_all W (new_frame n f.0.code arguments ∷ [])) (has_room W 1) f.2
-  where
-    by : (V : World) (room : Bool) → cond room (made V [] is_entered) (made W [] (not_entered stack_overflow)) ≡ Some d → Free (resumed d.told)
-    by V true e = tells_of (λ s. Free (resumed s)) V [] is_entered d e tt
-    by V false e = tells_of (λ s. Free (resumed s)) W [] (not_entered stack_overflow) d e tt
-
-starts_free : (c : Coroutine) (W : World) (co : ℕ) (arguments : List Value) (d : Made ResumeShape) → starts_in W co c arguments ≡ Some d → Free d.told
-starts_free (fresh body) W co arguments d e =
-    let x = bind_some (λ (x : Made CallShape). made x.world [] (resumed x.told)) (enters (go_into W co []) body arguments) d e in
-    tells_of Free x.0.world [] (resumed x.0.told) d x.2 (entered_free body arguments (go_into W co []) x.0 x.1)
-starts_free (suspended frames) W co arguments d e = tells_of Free _ [] (resumed is_entered) d e tt
-starts_free (in_progress frames) W co arguments d e = tells_of Free W [] (refused _) d e tt
-starts_free (normal frames) W co arguments d e = tells_of Free W [] (refused _) d e tt
-starts_free dead W co arguments d e = tells_of Free W [] (refused _) d e tt
-starts_free (failed v vs) W co arguments d e = tells_of Free W [] (refused _) d e tt
-
-resumes_free : (W : World) (s : Stack) (co : ℕ) (c : Coroutine) (arguments : List Value) (d : Made ResumeShape) → resumes W s co c arguments ≡ Some d → Free d.told
-resumes_free W s co c arguments d e = by (can_start c && nat_lt greatest_resumes (length W.chain)) e
-  where
-    by : (b : Bool) → cond b (made W [] (refused (codes "too many nested resumes"))) (starts_in (cond (can_start c) (wait_for_another W s) W) co c arguments) ≡ Some d → Free d.told
-    by true e = tells_of Free W [] (refused _) d e tt
-    by false e = starts_free c (cond (can_start c) (wait_for_another W s) W) co arguments d e
-
-closes_in_free : (W D : World) (s : Stack) (x : Option Value) (left : List Value) (d : Made ResumeShape) → closes_in W D s x left ≡ Some d → Free d.told
-closes_in_free W D s x left d e = by (has_room W 1) e
-  where
-    by : (b : Bool) → cond b (made (push D s (closing x left)) [] (resumed is_entered)) (made W [] (resumed (not_entered stack_overflow))) ≡ Some d → Free d.told
-    by true e = tells_of Free _ [] (resumed is_entered) d e tt
-    by false e = tells_of Free W [] (resumed (not_entered stack_overflow)) d e tt
-
-closes_free : (c : Coroutine) (W : World) (s : Stack) (co : ℕ) (d : Made ResumeShape) → closes_coroutine W s co c ≡ Some d → Free d.told
-closes_free (fresh body) W s co d e = closes_in_free W _ s None [] d e
-closes_free (suspended frames) W s co d e = closes_in_free W _ s None _ d e
-closes_free (in_progress frames) W s co d e = tells_of Free W [] (refused _) d e tt
-closes_free (normal frames) W s co d e = tells_of Free W [] (refused _) d e tt
-closes_free dead W s co d e = closes_in_free W W s None [] d e
-closes_free (failed x left) W s co d e = closes_in_free W _ s (Some x) left d e
-
-told_so : (m : Move) (env : List Value) (W : World) (d : Made (Told m)) → move m env W ≡ Some d → TellsSo m d.told
-told_so (resume x slot) env W d e =
-    let s = bind_some (λ s. bind (coroutine_number (Rattle.machine_core.specs.Text.arg env x)) (λ co. bind (slice_get W.coroutines co) (λ c. resumes W s co c (drop slot env)))) (stack_of W) d e in
-    let co = bind_some (λ co. bind (slice_get W.coroutines co) (λ c. resumes W s.0 co c (drop slot env))) (coroutine_number (Rattle.machine_core.specs.Text.arg env x)) d s.2 in
-    let c = bind_some (λ c. resumes W s.0 co.0 c (drop slot env)) (slice_get W.coroutines co.0) d co.2 in
-    resumes_free W s.0 co.0 c.0 (drop slot env) d c.2
-told_so (begin_closing x) env W d e =
-    let s = bind_some (λ s. bind (coroutine_number (Rattle.machine_core.specs.Text.arg env x)) (λ co. bind (slice_get W.coroutines co) (closes_coroutine W s co))) (stack_of W) d e in
-    let co = bind_some (λ co. bind (slice_get W.coroutines co) (closes_coroutine W s.0 co)) (coroutine_number (Rattle.machine_core.specs.Text.arg env x)) d s.2 in
-    let c = bind_some (closes_coroutine W s.0 co.0) (slice_get W.coroutines co.0) d co.2 in
-    closes_free c.0 W s.0 co.0 d c.2
-told_so (on_own x) env W d e = tt
-told_so (move_pc x) env W d e = tt
-told_so (open_register x) env W d e = tt
-told_so (outside x) env W d e = tt
-told_so (settle x y) env W d e = tt
-told_so (enter x y z w) env W d e = tt
-told_so (enter_tail x y) env W d e = tt
-told_so (await x y z w) env W d e = tt
-told_so (find_close x y) env W d e = tt
-told_so (is_closable x) env W d e = tt
-told_so (begin_leaving x) env W d e = tt
-told_so (leave_frame x) env W d e = tt
-told_so take_moving env W d e = tt
-told_so (look x) env W d e = tt
-told_so (give x) env W d e = tt
-told_so (give_with x y) env W d e = tt
-told_so (blame x) env W d e = tt
-told_so (place_text x y) env W d e = tt
-told_so (push_frame x) env W d e = tt
-told_so (call_value x y) env W d e = tt
-told_so see_top env W d e = tt
-told_so see_catcher env W d e = tt
-told_so pop_frame env W d e = tt
-told_so take_closing env W d e = tt
-told_so (set_error x) env W d e = tt
-told_so end_coroutine env W d e = tt
-told_so (fail_coroutine x) env W d e = tt
-told_so suspend env W d e = tt
-told_so (create x) env W d e = tt
-told_so (consult x y) env W d e = tt
-told_so (see_status x) env W d e = tt
-told_so see_running env W d e = tt
-told_so (print x) env W d e = tt
-told_so (make_loaded p x) env W d e = tt
 
 -- a row that never ends as spent
 abbrev pub Unspent : Row → Type 0
 Unspent traps = Unit {0}
 Unspent (stop e) = is_spent e → ⊥
 Unspent (only slot r) = Unspent r
-Unspent (act m k) = (n : ℕ) (t : Told m) → TellsSo m t → Unspent (k n t)
+Unspent (act m k) = (n : ℕ) (t : Told m) → Tells m t → Unspent (k n t)
 
 ending_in : Outcome → Ending
 ending_in trapped = Rattle.machine_core.specs.Moves.go
@@ -154,7 +42,7 @@ unspent_ends traps env W V e u h s = absurd (cc)
 unspent_ends (stop f) env W V e u h s = u (subst is_spent (sym (ap ending_in h)) s)
 unspent_ends (only slot r) env W V e u h s = unspent_ends r (drop slot env) W V e u h s
 unspent_ends (act m k) env W V e u h s =
-    by (λ d q h. unspent_ends (k (length env) d.told) (env ++ d.values) d.world V e (u (length env) d.told (told_so m env W d q)) h s) (move m env W) refl h
+    by (λ d q h. unspent_ends (k (length env) d.told) (env ++ d.values) d.world V e (u (length env) d.told (tells_so m env W d q)) h s) (move m env W) refl h
   where
     by : ((d : Made (Told m)) → move m env W ≡ Some d → run (k (length env) d.told) (env ++ d.values) d.world ≡ ends e V → ⊥)
         → (o : Option (Made (Told m))) → move m env W ≡ o → elim o as (λ _. Outcome) [ None ↦ trapped | Some d ↦ run (k (length env) d.told) (env ++ d.values) d.world ] ≡ ends e V → ⊥
@@ -204,13 +92,13 @@ errs_so n s (Some (negsuc k)) = λ a b c h. h
 error_so : Unspent error_row
 error_so n t c = λ m s d. errs_so n s (level_in s)
 
-entry_so : (s : CallShape) → Free (resumed s) → Unspent (after_entry s)
+entry_so : (s : CallShape) → ResumedUnpaid (resumed s) → Unspent (after_entry s)
 entry_so is_entered f = λ h. h
 entry_so (is_primitive n) f = λ h. h
 entry_so not_paid f = λ h. f
 entry_so (not_entered text) f = blames_so text
 
-resumes_so : (s : ResumeShape) → Free s → Unspent (after_resume s)
+resumes_so : (s : ResumeShape) → ResumedUnpaid s → Unspent (after_resume s)
 resumes_so (resumed is_entered) f = hands_over
 resumes_so (resumed (is_primitive n)) f = λ h. h
 resumes_so (resumed not_paid) f = λ h. f
@@ -235,7 +123,7 @@ closing_so n one_left c = λ a t d b u e h. h
 closing_so n all_closed c = λ a t d b u e. hands_over
 closing_so n closed_with_error c = λ a t d b u e. hands_over
 
-closes_so : (s : ResumeShape) → Free s → Unspent (after_closing s)
+closes_so : (s : ResumeShape) → ResumedUnpaid s → Unspent (after_closing s)
 closes_so (resumed is_entered) f = closing_so
 closes_so (resumed (is_primitive n)) f = λ h. h
 closes_so (resumed not_paid) f = λ h. f

@@ -40,4 +40,5 @@ pub mod Asking
 pub mod NewCoroutines
 pub mod NewFunctions
 pub mod Looks
+pub mod Unpaid
 pub mod LibrarySafe

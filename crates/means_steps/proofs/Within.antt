@@ -2,136 +2,17 @@
 use Rattle.code_core.specs.Prototype.{Prototype}
 use Rattle.lua_meaning.specs.Step.{Primitives}
 use Rattle.std.proofs.Common.{ℕ, ◌≡◌, List, [], ◌++◌, length, Option, Some, None, refl, sym, subst, Bool, true, false}
-use Rattle.std.specs.Prelude.{drop, slice_get, nat_lt, cond, ◌&&◌, codes}
-use Rattle.int_core.specs.Value.{Value, known, object, nil, boolean, integer, string, primitive, a_table, a_function, a_coroutine, Shape, is_known, is_object, bind}
-use Rattle.int_core.specs.Limits.{greatest_resumes, stack_overflow}
-use Rattle.list_laws.proofs.Items.{some_same}
-use Rattle.machine_core.specs.World.{Coroutine, fresh, suspended, in_progress, normal, dead, failed, World, Stack, stack_of}
-use Rattle.machine_core.specs.Text.{arg}
-use Rattle.machine_core.specs.Moves.{make_loaded, Made, made, Told, Move, on_own, move_pc, open_register, outside, settle, enter, enter_tail, await, find_close, is_closable, begin_leaving, leave_frame, take_moving, look, give, give_with, blame, place_text, push_frame, call_value, see_top, see_catcher, pop_frame, take_closing, set_error, end_coroutine, fail_coroutine, suspend, resume, begin_closing, consult, create, see_status, see_running, print, move, CallShape, is_entered, is_primitive, not_paid, not_entered, TopShape, lua_top, pcall_top, xpcall_top, handler_top, closing_top, no_top, ClosingShape, one_left, all_closed, closed_with_error, ResumeShape, resumed, refused, enters, has_room, starts_in, resumes, can_start, wait_for_another, closes_in, closes_coroutine, coroutine_number, Row, traps, stop, only, act, Ending, go, returned, asks, calls_primitive, raised, unwinding, spent, main_yielded, main_returned, main_failed, Outcome, trapped, ends, run}
+use Rattle.std.specs.Prelude.{drop, cond}
+use Rattle.int_core.specs.Value.{Value, a_table, a_function, a_coroutine, Shape, is_known, is_object}
+use Rattle.machine_core.specs.World.{World}
+use Rattle.machine_core.specs.Moves.{Made, Told, move, CallShape, is_entered, is_primitive, not_paid, not_entered, TopShape, lua_top, pcall_top, xpcall_top, handler_top, closing_top, no_top, ClosingShape, one_left, all_closed, closed_with_error, ResumeShape, resumed, refused, Row, traps, stop, only, act, Ending, go, returned, asks, calls_primitive, raised, unwinding, spent, main_yielded, main_returned, main_failed, Outcome, trapped, ends, run}
 use Rattle.machine_core.specs.FrameRows.{hand_over, handed, closing_by, handed_to, unwound, raised_row, raised_to, coroutine_fails}
 use Rattle.machine_core.specs.MachineStep.{after_entry, after_resume, after_closing, resumes as row_resumes, closes_coroutine as row_closes, resume_row, close_row}
+use Rattle.machine_sound.proofs.Unpaid.{Unpaid, ResumedUnpaid, Tells, tells_so}
 use Rattle.machine_means.specs.Joined.{TalkWorld}
 use Rattle.machine_means.specs.Laws.{GivesBack}
 use Rattle.machine_means.specs.Stands.{Stands, results_come, ComesTo}
 use Rattle.means_steps.specs.Steps.{EndsSo, Leads, GoesOn}
-
--- what a move of such a row tells
-
-abbrev pub Unpaid : CallShape → Type 0
-Unpaid not_paid = ⊥
-Unpaid _ = Unit {0}
-
-abbrev pub ResumedUnpaid : ResumeShape → Type 0
-ResumedUnpaid (resumed s) = Unpaid s
-ResumedUnpaid (refused text) = Unit {0}
-
-abbrev pub Tells : (m : Move) → Told m → Type 0
-Tells (resume x slot) told = ResumedUnpaid told
-Tells (begin_closing x) told = ResumedUnpaid told
-Tells _ told = Unit {0}
-
-bind_some : {A B : Type 0} (o : Option A) (f : A → Option B) (y : B) → bind o f ≡ Some y → (x : A) × (o ≡ Some x) × (f x ≡ Some y)
-bind_some None f y e = absurd (cc)
-bind_some (Some x) f y e = (x, refl, e)
-
-made_call : (W : World) (vs : List Value) (t : CallShape) (d : Made CallShape) → Unpaid t → made W vs t ≡ Some d → Unpaid d.told
-made_call W vs t d k e = subst (λ (d : Made CallShape). Unpaid d.told) (some_same _ d e) k
-
-made_resume : (W : World) (vs : List Value) (t : ResumeShape) (d : Made ResumeShape) → ResumedUnpaid t → made W vs t ≡ Some d → ResumedUnpaid d.told
-made_resume W vs t d k e = subst (λ (d : Made ResumeShape). ResumedUnpaid d.told) (some_same _ d e) k
-
-enters_unpaid : (W : World) (f : Value) (args : List Value) (d : Made CallShape) → enters W f args ≡ Some d → Unpaid d.told
-enters_unpaid W (known (primitive n)) args d e = made_call _ _ (is_primitive n) d tt e
-enters_unpaid W (known nil) args d e = absurd (cc)
-enters_unpaid W (known (boolean b)) args d e = absurd (cc)
-enters_unpaid W (known (integer i)) args d e = absurd (cc)
-enters_unpaid W (known (string t)) args d e = absurd (cc)
-enters_unpaid W (object a_table n) args d e = absurd (cc)
-enters_unpaid W (object a_coroutine n) args d e = absurd (cc)
-enters_unpaid W (object a_function n) args d e = let b = bind_some (slice_get W.functions n) _ d e in by _ _ _ _ (has_room W 1) b.2
-  where
-    by : (V V' : World) (vs vs' : List Value) (r : Bool) → cond r (made V vs is_entered) (made V' vs' (not_entered stack_overflow)) ≡ Some d → Unpaid d.told
-    by V V' vs vs' true e = made_call V vs is_entered d tt e
-    by V V' vs vs' false e = made_call V' vs' (not_entered stack_overflow) d tt e
-
-starts_unpaid : (W : World) (co : ℕ) (c : Coroutine) (args : List Value) (d : Made ResumeShape) → starts_in W co c args ≡ Some d → ResumedUnpaid d.told
-starts_unpaid W co (fresh body) args d e =
-    let b = bind_some (enters (Rattle.machine_core.specs.Moves.go_into W co []) body args) _ d e in
-    made_resume _ _ (resumed b.0.told) d (enters_unpaid _ body args b.0 b.1) b.2
-starts_unpaid W co (suspended frames) args d e = made_resume _ _ (resumed is_entered) d tt e
-starts_unpaid W co (in_progress frames) args d e = made_resume _ _ (refused _) d tt e
-starts_unpaid W co (normal frames) args d e = made_resume _ _ (refused _) d tt e
-starts_unpaid W co dead args d e = made_resume _ _ (refused _) d tt e
-starts_unpaid W co (failed v us) args d e = made_resume _ _ (refused _) d tt e
-
-resumes_unpaid : (W : World) (s : Stack) (co : ℕ) (c : Coroutine) (args : List Value) (d : Made ResumeShape) → resumes W s co c args ≡ Some d → ResumedUnpaid d.told
-resumes_unpaid W s co c args d e = by (can_start c && nat_lt greatest_resumes (length W.chain)) e
-  where
-    by : (b : Bool) → cond b (made W [] (refused (codes "too many nested resumes"))) (starts_in (cond (can_start c) (wait_for_another W s) W) co c args) ≡ Some d → ResumedUnpaid d.told
-    by true e = made_resume _ _ (refused (codes "too many nested resumes")) d tt e
-    by false e = starts_unpaid (cond (can_start c) (wait_for_another W s) W) co c args d e
-
-closes_unpaid : (W D : World) (s : Stack) (v : Option Value) (us : List Value) (d : Made ResumeShape) → closes_in W D s v us ≡ Some d → ResumedUnpaid d.told
-closes_unpaid W D s v us d e = by _ _ _ _ (has_room W 1) e
-  where
-    by : (V V' : World) (vs vs' : List Value) (r : Bool) → cond r (made V vs (resumed is_entered)) (made V' vs' (resumed (not_entered stack_overflow))) ≡ Some d → ResumedUnpaid d.told
-    by V V' vs vs' true e = made_resume V vs (resumed is_entered) d tt e
-    by V V' vs vs' false e = made_resume V' vs' (resumed (not_entered stack_overflow)) d tt e
-
-closing_unpaid : (W : World) (s : Stack) (co : ℕ) (c : Coroutine) (d : Made ResumeShape) → closes_coroutine W s co c ≡ Some d → ResumedUnpaid d.told
-closing_unpaid W s co (fresh body) d e = closes_unpaid W _ s None [] d e
-closing_unpaid W s co (suspended frames) d e = closes_unpaid W _ s None _ d e
-closing_unpaid W s co (failed v us) d e = closes_unpaid W _ s (Some v) us d e
-closing_unpaid W s co dead d e = closes_unpaid W W s None [] d e
-closing_unpaid W s co (in_progress frames) d e = made_resume _ _ (refused _) d tt e
-closing_unpaid W s co (normal frames) d e = made_resume _ _ (refused _) d tt e
-
-tells_so : (m : Move) (env : List Value) (W : World) (d : Made (Told m)) → move m env W ≡ Some d → Tells m d.told
-tells_so (resume x slot) env W d e =
-    let a = bind_some (stack_of W) _ d e in
-    let b = bind_some (coroutine_number (arg env x)) _ d a.2 in
-    let c = bind_some (slice_get W.coroutines b.0) _ d b.2 in
-    resumes_unpaid W a.0 b.0 c.0 (drop slot env) d c.2
-tells_so (begin_closing x) env W d e =
-    let a = bind_some (stack_of W) _ d e in
-    let b = bind_some (coroutine_number (arg env x)) _ d a.2 in
-    let c = bind_some (slice_get W.coroutines b.0) _ d b.2 in
-    closing_unpaid W a.0 b.0 c.0 d c.2
-tells_so (on_own m) env W d e = tt
-tells_so (move_pc z) env W d e = tt
-tells_so (open_register r) env W d e = tt
-tells_so (outside q) env W d e = tt
-tells_so (settle op xs) env W d e = tt
-tells_so (enter f slot wait ps) env W d e = tt
-tells_so (enter_tail f slot) env W d e = tt
-tells_so (await f slot wait ps) env W d e = tt
-tells_so (find_close v x) env W d e = tt
-tells_so (is_closable x) env W d e = tt
-tells_so (begin_leaving text) env W d e = tt
-tells_so (leave_frame x) env W d e = tt
-tells_so take_moving env W d e = tt
-tells_so (look x) env W d e = tt
-tells_so (give xs) env W d e = tt
-tells_so (give_with xs slot) env W d e = tt
-tells_so (blame text) env W d e = tt
-tells_so (place_text x level) env W d e = tt
-tells_so (push_frame over) env W d e = tt
-tells_so (call_value f slot) env W d e = tt
-tells_so see_top env W d e = tt
-tells_so see_catcher env W d e = tt
-tells_so pop_frame env W d e = tt
-tells_so take_closing env W d e = tt
-tells_so (set_error x) env W d e = tt
-tells_so end_coroutine env W d e = tt
-tells_so (fail_coroutine x) env W d e = tt
-tells_so suspend env W d e = tt
-tells_so (consult l slot) env W d e = tt
-tells_so (create x) env W d e = tt
-tells_so (see_status x) env W d e = tt
-tells_so see_running env W d e = tt
-tells_so (print x) env W d e = tt
-tells_so (make_loaded p x) env W d e = tt
 
 -- rows within a turn: they end none, and pay for nothing
 abbrev pub EndsNoTurn : Row → Type 0
