@@ -4,11 +4,12 @@ use Rattle.std.specs.Prelude.{slice_index_or, ◌||◌}
 use Rattle.std.proofs.lemmas.List.{drop_all, drop_more}
 use Rattle.tree_core.specs.declared.name.Declared.{Declared}
 use Rattle.tree_core.specs.declared.tree.Stat as Rust
-use Rattle.tree_core.specs.Tree.{Stats, EndStats, MoreStats, Stat, Empty, Local, LocalFunction, Assign, CallStat, Do, While, Repeat, If, IfElse, NumFor, NumForStep, GenFor, Label, Goto, Break, stats}
+use Rattle.tree_core.specs.Tree.{Stats, MoreStats, Stat, Empty, Local, LocalFunction, Assign, CallStat, Do, While, Repeat, If, IfElse, NumFor, NumForStep, GenFor, Label, Goto, Break, stats}
 use Rattle.tree_core.specs.Plain.{plain_stat}
 use Rattle.tree_terms.specs.Labels.{are_void}
 use Rattle.tree_activation.specs.Statements.{is_closed}
 use Rattle.code_of.specs.Levels.{has_closed, closing_after, closings_after}
+use Rattle.code_of.proofs.Marked.{all_closing}
 use Rattle.code_stat.specs.Forms.{is_void}
 use Rattle.code_stat.proofs.Going.{front}
 
@@ -21,28 +22,6 @@ pub closed_here :
 closed_here names i d all inside is e known = sym (ap has_closed (front names i d inside is) ∙ ap (λ b. b || has_closed (drop (i + 1) names)) e) ∙ known
 
 -- variables to be closed among statements
-
-still_closing : (s : Stat) → closing_after s true ≡ true
-still_closing (Empty line) = refl
-still_closing (Local line names es) = refl
-still_closing (LocalFunction line name body) = refl
-still_closing (Assign line targets es) = refl
-still_closing (CallStat line e) = refl
-still_closing (Do line block) = refl
-still_closing (While line e block) = refl
-still_closing (Repeat line block e) = refl
-still_closing (If line arms) = refl
-still_closing (IfElse line arms block) = refl
-still_closing (NumFor line name from limit block) = refl
-still_closing (NumForStep line name from limit step block) = refl
-still_closing (GenFor line names es block) = refl
-still_closing (Label line name) = refl
-still_closing (Goto line name) = refl
-still_closing (Break line) = refl
-
-all_closing : (ss : Stats) → closings_after ss true ≡ true
-all_closing EndStats = refl
-all_closing (MoreStats s ss) = ap (closings_after ss) (still_closing s) ∙ all_closing ss
 
 marked_front :
     (items : List Rust.Stat) (i : ℕ) (x : Rust.Stat) → i < length items → x ≡ slice_index_or items i x

@@ -10,6 +10,7 @@ use Rattle.code_of.specs.Stores.{stores_field}
 use Rattle.code_of.specs.Targets.{single_store}
 use Rattle.code_of.specs.Expressions.{made_by, made_in, made_in_fields}
 use Rattle.code_of.specs.Levels.{made_by_stat, made_in_arms, made_in_stats, made_in_block, closing_after, closings_after, may_hold, made_until, marked_in_block, may_hold_until}
+use Rattle.code_of.proofs.Marked.{all_closing}
 use Rattle.tree_terms.specs.Levels.{level_after, levels_after, levels_in}
 use Rattle.exp_laws.specs.Setting.{UnderAll, Setting, hiding, with_scope, scoped}
 use Rattle.exp_laws.specs.Placed.{Captures, Inner, IsPlaced, ArePlaced, FieldsArePlaced}
@@ -39,28 +40,6 @@ pub none_until : (block : Block) (e : Exp) → may_hold_until block e ≡ false 
 none_until block e h = none_counted (made_until block e) (first_false (nat_lt 0 (made_until block e)) (marked_in_block block) h)
 
 -- nor is a variable marked
-
-still_closing : (s : Stat) → closing_after s true ≡ true
-still_closing (Empty l) = refl
-still_closing (Local l names es) = refl
-still_closing (LocalFunction l name body) = refl
-still_closing (Assign l targets es) = refl
-still_closing (CallStat l e) = refl
-still_closing (Do l block) = refl
-still_closing (While l e block) = refl
-still_closing (Repeat l block e) = refl
-still_closing (If l arms) = refl
-still_closing (IfElse l arms block) = refl
-still_closing (NumFor l name from limit block) = refl
-still_closing (NumForStep l name from limit step block) = refl
-still_closing (GenFor l names es block) = refl
-still_closing (Label l name) = refl
-still_closing (Goto l name) = refl
-still_closing (Break l) = refl
-
-all_closing : (ss : Stats) → closings_after ss true ≡ true
-all_closing EndStats = refl
-all_closing (MoreStats s ss) = ap (closings_after ss) (still_closing s) ∙ all_closing ss
 
 -- where a variable is marked behind a statement, it is at the end
 not_yet : (b : Bool) (ss : Stats) → closings_after ss b ≡ false → b ≡ false
