@@ -1,5 +1,5 @@
 // The instruction word and its fields.
-ghost use Rattle.std.specs.Prelude.{◌≡◌, slice_get, ◌<◌, ◌^◌, ◌≤ℤ◌, pos, negsuc, Some};
+ghost use Rattle.std.specs.Prelude.{◌≡◌, slice_get, ◌<◌, ◌^◌, ◌≤ℤ◌, pos, negsuc, length, Some};
 ghost use Rattle.code_core.specs.Instruction.{abc, abx, op_ax, opcode_of, a_of, b_of, c_of, k_of, bx_of, sbx_of, ax_of, sj_of, sb_of, sc_of};
 
 use crate::opcode::{OPCODES, Opcode};
@@ -136,4 +136,13 @@ fn opcode_at(opcodes: &[Opcode], number: usize) -> Option<Opcode>
     ensures { result ≡ slice_get opcodes.now number }
 {
     opcodes.get(number).copied()
+}
+
+/// The instruction at a place.
+#[inline(always)]
+pub fn fetch(words: &[Instruction], pc: usize) -> Instruction
+    requires { pc < length words.now }
+    ensures { slice_get words.now pc ≡ Some result }
+{
+    words[pc]
 }

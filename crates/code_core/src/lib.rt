@@ -7,6 +7,6 @@ mod opcode;
 mod proto;
 
 pub use checked::Checked;
-pub use instruction::Instruction;
+pub use instruction::{Instruction, fetch};
 pub use opcode::{OPCODES, Opcode};
 pub use proto::{AbsLine, Const, LocVar, Proto, UpDesc};

@@ -4,8 +4,8 @@ ghost use Rattle.code_core.specs.declared.opcode.Opcode.TheVariants.{Move, LoadI
 ghost use Rattle.machine_arms_numbers.specs.Numbers.{cleared};
 ghost use Rattle.machine_view.specs.View.{IsAt, Goes};
 
-use crate::registers::{behind, constant, fetch, get_b, set_a, set_a_integer};
-use code_core::Instruction;
+use crate::registers::{behind, constant, get_b, set_a, set_a_integer};
+use code_core::{Instruction, fetch};
 use table_core::Value;
 
 /// MOVE: R[A] := R[B].

@@ -92,15 +92,6 @@ pub(crate) fn constant(constants: &[Value], n: usize) -> Value
     constants[n]
 }
 
-/// The instruction at a place.
-#[inline(always)]
-pub(crate) fn fetch(words: &[Instruction], pc: usize) -> Instruction
-    requires { pc < length words.now }
-    ensures { slice_get words.now pc ≡ Some result }
-{
-    words[pc]
-}
-
 /// The integer that a value is.
 #[inline(always)]
 pub fn integer(v: Value) -> Option<i64>

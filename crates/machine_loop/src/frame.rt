@@ -1,9 +1,9 @@
 // The loop over the instructions of the frame that runs.
-ghost use Rattle.std.specs.Prelude.{◌≡◌, ◌+◌, ◌<◌, IfSome, IfNone, Some, length, slice_get};
+ghost use Rattle.std.specs.Prelude.{◌≡◌, ◌+◌, ◌<◌, IfSome, IfNone, Some, length};
 ghost use Rattle.machine_arms_tables.specs.Frame.{IsReadyAt, AreOpenAlike, RunsTo, StepsOn, code, moment};
 ghost use Rattle.machine_loop.specs.Running.{ClosesNothing, PassesClose, Running};
 
-use code_core::{Instruction, Opcode};
+use code_core::{Instruction, Opcode, fetch};
 use lua_heap::{Cell, Strings};
 use machine_arms_tables::{Closure, run_instruction};
 use object_pool::Pool;
@@ -23,15 +23,6 @@ pub enum Out {
 pub struct Exit {
     pub pc: usize,
     pub out: Out,
-}
-
-/// The instruction at a place.
-#[inline(always)]
-fn fetch(words: &[Instruction], pc: usize) -> Instruction
-    requires { pc < length words.now }
-    ensures { slice_get words.now pc ≡ Some result }
-{
-    words[pc]
 }
 
 /// CLOSE A (Lua 5.4's lopcodes.h), where from a register on nothing is to be closed: it is passed where A is at that register or above.

@@ -8,8 +8,7 @@ ghost use Rattle.running_frame.specs.Returning.{HasKept, IsCaller, IsGiven, IsTa
 ghost use Rattle.running_frame.specs.Standing.{IsClosedFrom};
 
 use crate::calling::{is_call, one_less, register_of};
-use crate::upvalues::fetch;
-use code_core::{Instruction, Opcode};
+use code_core::{Instruction, Opcode, fetch};
 use lua_heap::{Codes, Func};
 use lua_stack::{LuaState, Stack, Wait};
 use object_pool::Pool;

@@ -5,7 +5,7 @@ ghost use Rattle.machine_arms_tables.specs.Frame.{code};
 ghost use Rattle.machine_loop.specs.Running.{Running};
 ghost use Rattle.running_frame.specs.Upvalues.{GoesOver, ListsOpen, RunsOver, StandsOpen, is_read};
 
-use code_core::{Instruction, Opcode};
+use code_core::{Instruction, Opcode, fetch};
 use lua_heap::Cell;
 use lua_stack::Stack;
 use machine_arms_tables::Closure;
@@ -77,15 +77,6 @@ pub(crate) fn cell_of(upvalues: &[CellId], upvalue: u8) -> Option<CellId>
     ensures { result ≡ slice_get upvalues.now upvalue }
 {
     upvalues.get(upvalue as usize).copied()
-}
-
-/// The instruction at a place.
-#[inline(always)]
-pub(crate) fn fetch(words: &[Instruction], pc: usize) -> Instruction
-    requires { pc < length words.now }
-    ensures { slice_get words.now pc ≡ Some result }
-{
-    words[pc]
 }
 
 /// Whether it is a GETUPVAL.
