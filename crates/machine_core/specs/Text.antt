@@ -9,19 +9,8 @@ use Rattle.code_core.specs.Check.{fixed, open_from, mark}
 use Rattle.int_core.specs.Value.{Plain, nil, boolean, integer, string, Value, known, Shape, is_known, shape, nth, range, write, write_all}
 use Rattle.machine_core.specs.World.{Wait, Activation}
 use Rattle.int_core.specs.Operations.{Operation}
-
--- a value that a row names: one of those that it has read, or one written out
-pub data Arg : Type 0 where
-  read : ℕ → Arg
-  written : Plain → Arg
-
-abbrev pub arg : List Value → Arg → Value
-arg env (read n) = nth env n
-arg env (written p) = known p
-
-abbrev pub args_of : List Value → List Arg → List Value
-args_of env [] = []
-args_of env (x ∷ xs) = arg env x ∷ args_of env xs
+-- a value that a row names, as in the rows of libraries
+pub use Rattle.library_rows.specs.Look.{Arg, read, written, arg, args_of}
 
 -- moves on the row's own activation. Slots are the places of values that were read
 pub data Own : Type 0 where
