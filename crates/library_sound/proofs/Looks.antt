@@ -11,7 +11,7 @@ use Rattle.library_rows.specs.Plainly.{too_large, fits_length, told_as, sees}
 use Rattle.library_rows.specs.Arguments.{argument, bad_argument, wrong_type, plain_of, is_absent, is_table, integer_argument, text_argument, with, with_look, one}
 use Rattle.library_rows.specs.Base
 use Rattle.library_rows.specs.Searches
-use Rattle.machine_sound.specs.Safe.{WrittenOk, RowArgsOk, LookOk}
+use Rattle.machine_sound.specs.Safe.{WrittenOk, ArgsOk, LookOk}
 use Rattle.machine_sound.proofs.Values.{le_of, both_of}
 
 -- values written out
@@ -39,7 +39,7 @@ all_fit : (ps : List Plain) → NoneIs ps → IsTrue (list_all fits_length ps) �
 all_fit [] i h = tt
 all_fit (p ∷ ps) i h = let b = both_of (fits_length p) (list_all fits_length ps) h in (fits_ok p i.0 b.0, all_fit ps i.1 b.1)
 
-args_ok : (ps : List Plain) → AllOk ps → RowArgsOk (map written ps)
+args_ok : (ps : List Plain) → AllOk ps → ArgsOk (map written ps)
 args_ok [] h = tt
 args_ok (p ∷ ps) h = (h.0, args_ok ps h.1)
 
@@ -89,7 +89,7 @@ sees_ok : (many at : ℕ) (k : List Shape → Look) → ((ss : List Shape) → L
 sees_ok zero at k h = h []
 sees_ok (suc many) at k h = ((tt, tt), λ s. sees_ok many (suc at) (λ ss. k (s ∷ ss)) (λ ss. h (s ∷ ss)))
 
-newest_ok : (n : ℕ) → RowArgsOk (Base.newest n)
+newest_ok : (n : ℕ) → ArgsOk (Base.newest n)
 newest_ok zero = tt
 newest_ok (suc n) = (tt, newest_ok n)
 

@@ -5,29 +5,19 @@ use Rattle.std.specs.Map.{keys_of}
 use Rattle.int_core.specs.Rows.{next, rows_after, is_filled}
 use Rattle.int_core.specs.Value.{nil, boolean, integer, string, primitive, a_table, a_function, a_coroutine, Value, known, object, same, table_values, nth, bind}
 use Rattle.int_core.specs.Heap.{Table, Heap, raw_get, metatable_of, add_table}
-use Rattle.library_rows.specs.Look.{Arg as RowArg, read as row_read, written as row_written, arg as row_arg, args_of as row_args, HeapOp, look, compare, read_field, write_field, read_metatable, write_metatable, border_of, row_after, make_table, or_nil, table_or_nil, put_field, put_metatable, put_meta, row_step, row_in, does_op, Look, gives, gives_all, refuses, raises, count, does, Done, done as came, refused as was_refused, raised as was_raised, looked}
+use Rattle.library_rows.specs.Look.{HeapOp, look, compare, read_field, write_field, read_metatable, write_metatable, border_of, row_after, make_table, or_nil, table_or_nil, put_field, put_metatable, put_meta, row_step, row_in, does_op, Look, gives, gives_all, refuses, raises, count, does, Done, done as came, refused as was_refused, raised as was_raised, looked, arg, args_of}
 use Rattle.machine_core.specs.World.{World}
 use Rattle.machine_core.specs.Moves.{consult, consulted}
 use Rattle.machine_sound.specs.Sound.{Each, sizes, Sizes, Valid, OptionOk, TableOk, Solid, StackWaits}
-use Rattle.machine_sound.specs.Safe.{waiting, Is, RowArgOk, RowArgsOk, LookOk, gave, refused_with, raised_with, MoveGood}
+use Rattle.machine_sound.specs.Safe.{waiting, Is, LookOk, gave, refused_with, raised_with, MoveGood}
 use Rattle.machine_sound.proofs.Lists.{each_none, each_cons, each_one, each_append, each_set, each_drop, each_tail, length_set}
-use Rattle.machine_sound.proofs.Values.{nth_ok, written_valid}
+use Rattle.machine_sound.proofs.Values.{nth_ok, arg_valid, args_valid}
 use Rattle.machine_sound.proofs.Grow.{Grows, grows_self, grows_then, values_on, each_waits_on}
 use Rattle.machine_sound.proofs.Heaps.{RowOk, HeapOk, HeapStays, stays_self, raw_get_ok, raw_set_ok}
 use Rattle.machine_sound.proofs.Outside.{heap_of, outside_solid, stays_ok, more_tables, new_table_valid}
 use Rattle.machine_sound.proofs.Moves.{made_so}
 use Rattle.machine_sound.proofs.WaitingMoves.{WaitingGood, stays}
 use Rattle.machine_sound.proofs.NewCoroutines.{same_under}
-
--- values that a row names
-
-row_arg_valid : (z : Sizes) (env : List Value) (x : RowArg) → Each (Valid z) env → RowArgOk x → Valid z (row_arg env x)
-row_arg_valid z env (row_read n) v k = nth_ok (Valid z) tt env n v
-row_arg_valid z env (row_written p) v k = written_valid z p k
-
-row_args_valid : (z : Sizes) (env : List Value) (xs : List RowArg) → Each (Valid z) env → RowArgsOk xs → Each (Valid z) (row_args env xs)
-row_args_valid z env [] v k = each_none (Valid z)
-row_args_valid z env (x ∷ xs) v k = each_cons (Valid z) (row_arg env x) (row_args env xs) (row_arg_valid z env x v k.0) (row_args_valid z env xs v k.1)
 
 -- the row after a key's row is one of the table's
 
@@ -178,15 +168,15 @@ later n W K (was_refused text) g x = tt
 later n W K (was_raised L v) g x = record { grows = grows_then (sizes n W) (sizes n (record W { heap = K })) (sizes n (record W { heap = L })) g x.grows; solid = x.solid; values = x.values }
 
 looked_ok : (n : ℕ) (l : Look) → LookOk l → (env : List Value) (W : World) → Solid n W → Each (Valid (sizes n W)) env → DoneOk n W (looked l env W.heap)
-looked_ok n (gives xs) k env W s v = same_now n W s (row_args env xs) (row_args_valid (sizes n W) env xs v k)
+looked_ok n (gives xs) k env W s v = same_now n W s (args_of env xs) (args_valid (sizes n W) env xs v k)
 looked_ok n (gives_all xs slot) k env W s v =
-    same_now n W s (row_args env xs ++ drop slot env) (each_append (Valid (sizes n W)) (row_args env xs) (drop slot env) (row_args_valid (sizes n W) env xs v k) (each_drop (Valid (sizes n W)) slot env v))
+    same_now n W s (args_of env xs ++ drop slot env) (each_append (Valid (sizes n W)) (args_of env xs) (drop slot env) (args_valid (sizes n W) env xs v k) (each_drop (Valid (sizes n W)) slot env v))
 looked_ok n (refuses text) k env W s v = tt
-looked_ok n (raises x) k env W s v = same_now n W s (row_arg env x ∷ []) (each_one (Valid (sizes n W)) (row_arg env x) (row_arg_valid (sizes n W) env x v k))
+looked_ok n (raises x) k env W s v = same_now n W s (arg env x ∷ []) (each_one (Valid (sizes n W)) (arg env x) (arg_valid (sizes n W) env x v k))
 looked_ok n (count slot c) k env W s v = looked_ok n (c (length (drop slot env))) (k (length (drop slot env))) env W s v
 looked_ok n (does op xs c) k env W s v =
-    let t = does_op op W.heap (row_args env xs) in
-    let o = op_ok n W s op (row_args env xs) (row_args_valid (sizes n W) env xs v k.0) in
+    let t = does_op op W.heap (args_of env xs) in
+    let o = op_ok n W s op (args_of env xs) (args_valid (sizes n W) env xs v k.0) in
     let V = record W { heap = t.heap } in
     later n W t.heap (looked (c t.told) (t.values ++ env) t.heap) o.grows
     (looked_ok n (c t.told) (k.1 t.told) (t.values ++ env) V o.solid (each_append (Valid (sizes n V)) t.values env o.values (values_on (sizes n W) (sizes n V) o.grows env v)))

@@ -13,7 +13,7 @@ use Rattle.machine_core.specs.World.{Wait, leaving, World}
 use Rattle.machine_core.specs.Text.{Arg, read, written, arg, constant, behind, is_there, Own, read_register, read_registers, read_list, read_constant, read_varargs, see, write_register, write_registers, write_list, write_nils, end_list, cut_from, close_cells, mark_pending, see_pending, drop_pending, keep_results, keep_pending, Quick, read_upvalue, write_upvalue, make_table, make_function, fill_table, pay, Given, results, thrown}
 use Rattle.machine_core.specs.Moves.{Over, over_xpcall, Move, on_own, move_pc, open_register, outside, settle, enter, enter_tail, await, find_close, is_closable, begin_leaving, leave_frame, take_moving, look, give, give_with, blame, place_text, push_frame, call_value, see_top, see_catcher, pop_frame, take_closing, set_error, end_coroutine, fail_coroutine, suspend, resume, begin_closing, consult, LookShape, is_given, is_refused, is_raised, create, see_status, see_running, print, make_loaded, Status, ClosingShape, one_left, all_closed, closed_with_error, ResumeShape, resumed, refused, SettledShape, is_found, is_asked, is_fault, CallShape, is_entered, is_primitive, not_paid, not_entered, TopShape, lua_top, closing_top, no_top, Told, place_from, top_shape, runs_main, Ending, go, returned, asks, calls_primitive, raised, unwinding, spent, main_yielded, main_returned, main_failed, Row, traps, stop, only, act, Outcome, trapped, ends, move, run}
 use Rattle.machine_core.specs.MachineStep.{can_call}
-use Rattle.library_rows.specs.Look.{Arg as RowArg, read as row_read, written as row_written, Look, gives as row_gives, gives_all as row_gives_all, refuses as row_refuses, raises as row_raises, count as row_count, does as row_does}
+use Rattle.library_rows.specs.Look.{Look, gives as row_gives, gives_all as row_gives_all, refuses as row_refuses, raises as row_raises, count as row_count, does as row_does}
 use Rattle.machine_sound.specs.Sound.{Each, sizes, Valid, waits_at, waiting_size, kept_below, Solid, Top, TopIs, FitsIfRuns, Settled, StackWaits}
 
 -- where a row stands: a Lua frame is on top, of which this is known, and all others wait; all frames wait, and what stands on top may be known;
@@ -76,21 +76,13 @@ ArgsOk (x ∷ xs) = ArgOk x × ArgsOk xs
 
 -- and so in a library row, whatever it is told
 
-abbrev pub RowArgOk : RowArg → Type 0
-RowArgOk (row_read n) = Unit {0}
-RowArgOk (row_written p) = WrittenOk p
-
-abbrev pub RowArgsOk : List RowArg → Type 0
-RowArgsOk [] = Unit {0}
-RowArgsOk (x ∷ xs) = RowArgOk x × RowArgsOk xs
-
 abbrev pub LookOk : Look → Type 0
-LookOk (row_gives xs) = RowArgsOk xs
-LookOk (row_gives_all xs slot) = RowArgsOk xs
+LookOk (row_gives xs) = ArgsOk xs
+LookOk (row_gives_all xs slot) = ArgsOk xs
 LookOk (row_refuses text) = Unit {0}
-LookOk (row_raises x) = RowArgOk x
+LookOk (row_raises x) = ArgOk x
 LookOk (row_count slot k) = (n : ℕ) → LookOk (k n)
-LookOk (row_does op xs k) = RowArgsOk xs × ((s : Shape) → LookOk (k s))
+LookOk (row_does op xs k) = ArgsOk xs × ((s : Shape) → LookOk (k s))
 
 abbrev pub GivenOk : Given → Type 0
 GivenOk (results slot) = Unit {0}
