@@ -7,7 +7,7 @@ use Rattle.std.specs.Map.{keys_of}
 use Rattle.int_core.specs.Rows.{get, set, border, next, rows_after, is_filled}
 use Rattle.int_core.specs.Value.{nil, boolean, integer, string, primitive, a_table, a_function, a_coroutine, Value, known, is_known, same, table_values, nth, bind}
 use Rattle.int_core.specs.Heap.{Table, Heap, raw_get, raw_set, metatable_of}
-use Rattle.library_rows.specs.Look.{Arg as RowArg, read as row_read, written as row_written, arg as row_arg, args_of as row_args, HeapOp, look, compare, read_field, write_field, read_metatable, write_metatable, border_of, row_after, make_table, Step, or_nil, table_or_nil, put_field, put_metatable, put_meta, border_told, border_in, row_step, row_in, does_op, Look, gives, gives_all, refuses, raises, count, does, Done, done as came, refused as was_refused, raised as was_raised, looked}
+use Rattle.library_rows.specs.Look.{HeapOp, look, compare, read_field, write_field, read_metatable, write_metatable, border_of, row_after, make_table, Step, or_nil, table_or_nil, put_field, put_metatable, put_meta, border_told, border_in, row_step, row_in, does_op, Look, gives, gives_all, refuses, raises, count, does, Done, done as came, refused as was_refused, raised as was_raised, looked, arg, args_of}
 use Rattle.machine_core.specs.World.{World}
 use Rattle.machine_core.specs.Moves.{consult, LookShape, is_given, is_refused, is_raised, consulted}
 use Rattle.machine_alike.specs.Agree.{Pairs, SameNumber, Each, SameValue, same_known, same_object, SameValues, SameRow, SameTable, OneToOne, objects_of, AgreeInTurn, Extends}
@@ -18,16 +18,7 @@ use Rattle.machine_alike.proofs.Tables.{equal_same, get_same, set_same, border_s
 use Rattle.machine_alike.proofs.Operations.{SameHeap, set_table_same}
 use Rattle.machine_alike.proofs.Grow.{object_new, table_pair, extends_table, add_table_same}
 use Rattle.machine_alike.proofs.Frames.{agree_grown, made_same, heap_of, heap_agrees}
-
--- values that a row names
-
-row_arg_same : (p : Pairs) (env other : List Value) (x : RowArg) → SameValues p env other → SameValue p (row_arg env x) (row_arg other x)
-row_arg_same p env other (row_read n) s = nth_same p env other n s
-row_arg_same p env other (row_written c) s = same_known c
-
-row_args_same : (p : Pairs) (env other : List Value) (xs : List RowArg) → SameValues p env other → SameValues p (row_args env xs) (row_args other xs)
-row_args_same p env other [] s = tt
-row_args_same p env other (x ∷ xs) s = (row_arg_same p env other x s, row_args_same p env other xs s)
+use Rattle.machine_alike.proofs.OwnMoves.{arg_same, args_same}
 
 module _ (p : Pairs) where
   -- the row after a key's row
@@ -221,18 +212,18 @@ later p q W X K L d e m (both_refused text) = both_refused text
 later p q W X K L d e m (both_raised r H I v w n a s) = both_raised r H I v w (extends_on p q r m n) a s
 
 looked_same : (l : Look) (p : Pairs) (env other : List Value) (W X : World) → AgreeInTurn p W X → SameValues p env other → DoneAlike p W X (looked l env W.heap) (looked l other X.heap)
-looked_same (gives xs) p env other W X a s = both_came p W.heap X.heap _ _ (extends_self p) a (row_args_same p env other xs s)
+looked_same (gives xs) p env other W X a s = both_came p W.heap X.heap _ _ (extends_self p) a (args_same p env other xs s)
 looked_same (gives_all xs slot) p env other W X a s =
-    both_came p W.heap X.heap _ _ (extends_self p) a (zip_append (SameValue p) (row_args env xs) (row_args other xs) (drop slot env) (drop slot other) (row_args_same p env other xs s) (zip_drop (SameValue p) slot env other s))
+    both_came p W.heap X.heap _ _ (extends_self p) a (zip_append (SameValue p) (args_of env xs) (args_of other xs) (drop slot env) (drop slot other) (args_same p env other xs s) (zip_drop (SameValue p) slot env other s))
 looked_same (refuses text) p env other W X a s = both_refused text
-looked_same (raises x) p env other W X a s = both_raised p W.heap X.heap _ _ (extends_self p) a (row_arg_same p env other x s)
+looked_same (raises x) p env other W X a s = both_raised p W.heap X.heap _ _ (extends_self p) a (arg_same p env other x s)
 looked_same (count slot k) p env other W X a s =
     subst (λ n. DoneAlike p W X (looked (k (length (drop slot env))) env W.heap) (looked (k n) other X.heap)) (zip_length (SameValue p) (drop slot env) (drop slot other) (zip_drop (SameValue p) slot env other s))
     (looked_same (k (length (drop slot env))) p env other W X a s)
 looked_same (does op xs k) p env other W X a s =
-    let d = does_op op W.heap (row_args env xs) in
-    let e = does_op op X.heap (row_args other xs) in
-    let o = op_same p W X op (row_args env xs) (row_args other xs) a (row_args_same p env other xs s) in
+    let d = does_op op W.heap (args_of env xs) in
+    let e = does_op op X.heap (args_of other xs) in
+    let o = op_same p W X op (args_of env xs) (args_of other xs) a (args_same p env other xs s) in
     subst (λ t. DoneAlike p W X (looked (k d.told) (d.values ++ env) d.heap) (looked (k t) (e.values ++ other) e.heap)) o.told
     (later p o.now W X d.heap e.heap _ _ o.more
     (looked_same (k d.told) o.now (d.values ++ env) (e.values ++ other) (record W { heap = d.heap }) (record X { heap = e.heap }) o.agree

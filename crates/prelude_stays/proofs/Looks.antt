@@ -4,23 +4,14 @@ use Rattle.std.specs.Prelude.{slice_get, slice_set}
 use Rattle.int_core.specs.Rows.{next}
 use Rattle.int_core.specs.Value.{nil, boolean, integer, string, primitive, a_table, a_function, a_coroutine, Value, known, object, table_values, nth, bind}
 use Rattle.int_core.specs.Heap.{Table, Heap, raw_get, metatable_of, add_table}
-use Rattle.library_rows.specs.Look.{Arg, read, written, arg, args_of, HeapOp, look, compare, read_field, write_field, read_metatable, write_metatable, border_of, row_after, make_table, or_nil, table_or_nil, put_field, put_metatable, put_meta, row_step, row_in, does_op, Look, gives, gives_all, refuses, raises, count, does, Done, done, refused, raised, looked}
+use Rattle.library_rows.specs.Look.{args_of, HeapOp, look, compare, read_field, write_field, read_metatable, write_metatable, border_of, row_after, make_table, or_nil, table_or_nil, put_field, put_metatable, put_meta, row_step, row_in, does_op, Look, gives, gives_all, refuses, raises, count, does, Done, done, refused, raised, looked}
 use Rattle.machine_sound.specs.Sound.{Each, OptionOk}
 use Rattle.machine_sound.proofs.Lists.{each_none, each_cons, each_one, each_append, each_push, each_drop, get_push_old, get_within}
 use Rattle.machine_sound.proofs.Values.{nth_ok}
 use Rattle.machine_sound.proofs.Looks.{next_ok}
 use Rattle.prelude_stays.specs.Kept.{Home, Apart, RowOk, MetaOk, TableOk, HeapOk}
 use Rattle.prelude_stays.proofs.Heaps.{raw_get_ok, raw_set_ok, put_table}
-
--- values that a row names
-
-pub arg_apart : (e : ℕ) (env : List Value) (x : Arg) → Each (Apart e) env → Apart e (arg env x)
-arg_apart e env (read n) v = nth_ok (Apart e) tt env n v
-arg_apart e env (written p) v = tt
-
-pub args_apart : (e : ℕ) (env : List Value) (xs : List Arg) → Each (Apart e) env → Each (Apart e) (args_of env xs)
-args_apart e env [] v = each_none (Apart e)
-args_apart e env (x ∷ xs) v = each_cons (Apart e) (arg env x) (args_of env xs) (arg_apart e env x v) (args_apart e env xs v)
+use Rattle.prelude_stays.proofs.Own.{arg_apart, args_apart}
 
 -- tables
 
