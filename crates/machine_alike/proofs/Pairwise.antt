@@ -6,6 +6,7 @@ use Rattle.std.proofs.lemmas.Bool.{cases_eq}
 use mathlib.Core.List.{reverse_aux}
 use Rattle.int_core.specs.Value.{bind, last, without_last}
 use Rattle.machine_alike.specs.Agree.{Both, Each}
+pub use Rattle.list_laws.proofs.Items.{get_set_same, get_set_other, get_old as get_push_old, get_new as get_push_new}
 
 pub each_bind : {A B C D : Type 0} (R : A → B → Type 0) (S : C → D → Type 0) (f : A → Option C) (g : B → Option D) → ((a : A) (b : B) → R a b → Each S (f a) (g b)) → (o : Option A) (o' : Option B) → Each R o o' → Each S (bind o f) (bind o' g)
 each_bind R S f g h None None r = tt
@@ -118,27 +119,6 @@ pub both_on : {A B : Type 0} (R S : A → B → Type 0) → ((a : A) (b : B) →
 both_on R S f None o h = absurd h
 both_on R S f (Some a) None h = absurd h
 both_on R S f (Some a) (Some b) h = f a b h
-
-pub get_set_same : {A : Type 0} (xs : List A) (i : ℕ) (y x : A) → slice_get xs i ≡ Some y → slice_get (slice_set xs i x) i ≡ Some x
-get_set_same [] i y x h = cc
-get_set_same (z ∷ xs) zero y x h = refl
-get_set_same (z ∷ xs) (suc i) y x h = get_set_same xs i y x h
-
-pub get_set_other : {A : Type 0} (xs : List A) (i j : ℕ) (x : A) → i ≢ j → slice_get (slice_set xs i x) j ≡ slice_get xs j
-get_set_other [] i j x h = refl
-get_set_other (z ∷ xs) zero zero x h = absurd (h refl)
-get_set_other (z ∷ xs) zero (suc j) x h = refl
-get_set_other (z ∷ xs) (suc i) zero x h = refl
-get_set_other (z ∷ xs) (suc i) (suc j) x h = get_set_other xs i j x (λ e. h (ap suc e))
-
-pub get_push_old : {A : Type 0} (xs ys : List A) (i : ℕ) (x : A) → slice_get xs i ≡ Some x → slice_get (xs ++ ys) i ≡ Some x
-get_push_old [] ys i x h = absurd (cc)
-get_push_old (z ∷ xs) ys zero x h = h
-get_push_old (z ∷ xs) ys (suc i) x h = get_push_old xs ys i x h
-
-pub get_push_new : {A : Type 0} (xs : List A) (x : A) → slice_get (xs ++ x ∷ []) (length xs) ≡ Some x
-get_push_new [] x = refl
-get_push_new (z ∷ xs) x = get_push_new xs x
 
 pub get_end : {A : Type 0} (xs : List A) → slice_get xs (length xs) ≡ None
 get_end [] = refl

@@ -1,34 +1,9 @@
 -- What holds of each item of a list, and items of lists.
-use Rattle.std.proofs.Common.{ℕ, zero, suc, ◌-◌, ◌<◌, ◌≡◌, ◌≢◌, ◌⊎◌, inl, inr, ⊎_elim, List, [], ◌∷◌, ◌++◌, Option, Some, None, refl, subst, ap, length, take, drop, map, arith, Bool, true, false, length-append}
+use Rattle.std.proofs.Common.{ℕ, zero, suc, ◌-◌, ◌<◌, ◌≡◌, ◌⊎◌, inl, inr, ⊎_elim, List, [], ◌∷◌, ◌++◌, Option, Some, None, refl, subst, ap, length, take, drop, map, arith, Bool, true, false, length-append}
 use Rattle.std.specs.Prelude.{slice_get, slice_set, cond, filter}
 use Rattle.int_core.specs.Value.{bind, last, without_last}
 use Rattle.machine_sound.specs.Sound.{Each}
-
-pub get_set_same : {A : Type 0} (xs : List A) (i : ℕ) (y x : A) → slice_get xs i ≡ Some y → slice_get (slice_set xs i x) i ≡ Some x
-get_set_same [] i y x h = absurd (cc)
-get_set_same (z ∷ xs) zero y x h = refl
-get_set_same (z ∷ xs) (suc i) y x h = get_set_same xs i y x h
-
-pub get_set_other : {A : Type 0} (xs : List A) (i j : ℕ) (x : A) → i ≢ j → slice_get (slice_set xs i x) j ≡ slice_get xs j
-get_set_other [] i j x h = refl
-get_set_other (z ∷ xs) zero zero x h = absurd (h refl)
-get_set_other (z ∷ xs) zero (suc j) x h = refl
-get_set_other (z ∷ xs) (suc i) zero x h = refl
-get_set_other (z ∷ xs) (suc i) (suc j) x h = get_set_other xs i j x (λ e. h (ap suc e))
-
-pub length_set : {A : Type 0} (xs : List A) (i : ℕ) (x : A) → length (slice_set xs i x) ≡ length xs
-length_set [] i x = refl
-length_set (y ∷ xs) zero x = refl
-length_set (y ∷ xs) (suc i) x = ap suc (length_set xs i x)
-
-pub get_push_old : {A : Type 0} (xs ys : List A) (i : ℕ) (x : A) → slice_get xs i ≡ Some x → slice_get (xs ++ ys) i ≡ Some x
-get_push_old [] ys i x h = absurd (cc)
-get_push_old (z ∷ xs) ys zero x h = h
-get_push_old (z ∷ xs) ys (suc i) x h = get_push_old xs ys i x h
-
-pub get_push_new : {A : Type 0} (xs : List A) (x : A) → slice_get (xs ++ x ∷ []) (length xs) ≡ Some x
-get_push_new [] x = refl
-get_push_new (z ∷ xs) x = get_push_new xs x
+pub use Rattle.list_laws.proofs.Items.{get_set_same, get_set_other, length_set, get_old as get_push_old, get_new as get_push_new}
 
 -- below the length of the front the item behind does not count
 pub get_front : {A : Type 0} (xs ys : List A) (i : ℕ) → i < length xs → slice_get (xs ++ ys) i ≡ slice_get xs i
