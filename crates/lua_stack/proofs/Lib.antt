@@ -19,3 +19,4 @@ pub mod Viewed
 pub mod Lent
 pub mod BelowTop
 pub mod Varargs
+pub mod Seen

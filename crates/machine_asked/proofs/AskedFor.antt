@@ -13,8 +13,9 @@ use Rattle.machine_core.specs.MachineStep.{from_world}
 use Rattle.machine_sound.proofs.Lists.{bind_some, get_map}
 use Rattle.table_core.specs.declared.value.Value.{Value as Kept}
 use Rattle.table_core.specs.declared.value.Value.TheVariants.{Nil}
-use Rattle.lua_stack.specs.Frames.{KeptLua, KeptFrame, kept_lua, kept_pcall, kept_xpcall, kept_handler, kept_closing, frame_of, lua_of, top_is}
+use Rattle.lua_stack.specs.Frames.{frame_of, lua_of}
 use Rattle.lua_stack.specs.declared.frame.Top.TheVariants.{Lua}
+use Rattle.lua_stack.proofs.Seen.{lua_seen}
 use Rattle.lua_heap.specs.declared.world.World.{World as Memory}
 use Rattle.lua_heap.specs.declared.world.Coro.TheVariants.{Running}
 use Rattle.lua_heap.specs.Plain.{plain, coroutine}
@@ -121,14 +122,6 @@ abbrev place_made : Stack → LuaFrame → Function → Place
 place_made s top f = record { stack = s; number = length s.frames - 1; top = top; function = f }
 
 -- a Lua frame that is seen on top is there with its function
-
-lua_seen : (o : Option KeptFrame) → Lua ≡ top_is o → (t : KeptLua) × (o ≡ Some (kept_lua t))
-lua_seen None e = absurd (cc)
-lua_seen (Some (kept_lua t)) e = (t, refl)
-lua_seen (Some kept_pcall) e = absurd (cc)
-lua_seen (Some (kept_xpcall h)) e = absurd (cc)
-lua_seen (Some kept_handler) e = absurd (cc)
-lua_seen (Some (kept_closing error left)) e = absurd (cc)
 
 pub frame_seen : (W : Memory) → IsSound W → TopIs W Lua → HasFrame W
 frame_seen W s h =

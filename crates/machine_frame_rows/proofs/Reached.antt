@@ -7,7 +7,8 @@ use Rattle.machine_core.specs.World.{Function, LuaFrame, lua, lua_frame, in_prog
 use Rattle.machine_core.specs.Moves.{Made, made, TopShape, top_shape, see_top, Row, act, Ending, Outcome, trapped, run}
 use Rattle.machine_sound.proofs.Lists.{bind_at, get_map}
 use Rattle.lua_stack.specs.declared.frame.Top.TheVariants.{Lua}
-use Rattle.lua_stack.specs.Frames.{KeptLua, KeptFrame, kept_lua, kept_pcall, kept_xpcall, kept_handler, kept_closing, frame_of, frames, lua_of, top_is}
+use Rattle.lua_stack.specs.Frames.{frame_of, frames, lua_of}
+use Rattle.lua_stack.proofs.Seen.{lua_seen}
 use Rattle.lua_heap.specs.declared.world.Coro.TheVariants.{Running}
 use Rattle.lua_heap.specs.declared.world.World.{World as Memory}
 use Rattle.lua_heap.specs.Plain.{plain, coroutine}
@@ -40,14 +41,6 @@ last_map : {A B : Type 0} (f : A → B) (xs : List A) → last (map f xs) ≡ op
 last_map f [] = refl
 last_map f (x ∷ []) = refl
 last_map f (x ∷ y ∷ xs) = last_map f (y ∷ xs)
-
-lua_seen : (o : Option KeptFrame) → Lua ≡ top_is o → (t : KeptLua) × (o ≡ Some (kept_lua t))
-lua_seen None e = absurd (cc)
-lua_seen (Some (kept_lua t)) e = (t, refl)
-lua_seen (Some kept_pcall) e = absurd (cc)
-lua_seen (Some (kept_xpcall h)) e = absurd (cc)
-lua_seen (Some kept_handler) e = absurd (cc)
-lua_seen (Some (kept_closing v left)) e = absurd (cc)
 
 abbrev place_at : Stack → LuaFrame → Function → Place
 place_at s top f = record { stack = s; number = length s.frames - 1; top = top; function = f }
