@@ -7,4 +7,4 @@ mod numeral;
 
 pub use arithmetic::{add, floor_div, floor_mod, mul, neg, shl, shr, sub};
 pub use list::{Bytes, Numbers};
-pub use numeral::{read_integer, write_integer};
+pub use numeral::{digits_of, read_integer, space_len, with_sign, write_integer};

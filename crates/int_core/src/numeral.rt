@@ -74,7 +74,7 @@ fn is_space(byte: u8) -> bool
 }
 
 /// How many bytes of white space a text begins with.
-fn space_len(text: &[u8]) -> usize
+pub fn space_len(text: &[u8]) -> usize
     ensures value { result ≡ prefix_len is_space text.now }
     ensures within { result ≤ length text.now }
 {
@@ -100,7 +100,7 @@ fn digits_len(text: &[u8], radix: u32) -> usize
 }
 
 /// The digits of a text that is digits and white space.
-fn digits_of(text: &[u8], radix: u32) -> Option<&[u8]>
+pub fn digits_of(text: &[u8], radix: u32) -> Option<&[u8]>
     requires least { 2 ≤ radix }
     requires most { radix ≤ 36 }
     ensures value { option_map (λ digits. digits.now) result ≡ digits_of radix text.now }
@@ -167,7 +167,8 @@ fn within_range(value: u64, negative: bool) -> Option<i64>
     }
 }
 
-fn with_sign(value: u64, negative: bool) -> i64
+/// The integer of a number modulo 2^64, with its sign.
+pub fn with_sign(value: u64, negative: bool) -> i64
     ensures { result ≡ wrapped (signed negative value) }
 {
     let bits = value.cast_signed();
